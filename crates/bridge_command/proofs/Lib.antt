@@ -10,6 +10,7 @@ pub mod NumberMoving
 pub mod FrameSpelling
 pub mod FrameBytes
 pub mod Texts
+pub mod ObjectTexts
 pub mod FrameReadingBack
 pub mod FramePackets
 pub mod ShowAgreeing

@@ -41,7 +41,7 @@ IsText text = list_all is_text text ≡ true
 text-cons : (byte : ℕ) (text : List ℕ) → is_text byte ≡ true → IsText text → IsText (byte ∷ text)
 text-cons byte text first others = and-true (is_text byte) (list_all is_text text) first others
 
-text-append : (front behind : List ℕ) → IsText front → IsText behind → IsText (front ++ behind)
+pub text-append : (front behind : List ℕ) → IsText front → IsText behind → IsText (front ++ behind)
 text-append front behind first second = list_all-append is_text front behind ∙ and-true (list_all is_text front) (list_all is_text behind) first second
 
 -- text that is cut is text
@@ -102,7 +102,7 @@ dash-text (byte ∷ bytes) are = hex-text (byte ∷ bytes) are
 
 -- Addresses
 
-v4-text : (a : List ℕ) → IsText (v4_text a)
+pub v4-text : (a : List ℕ) → IsText (v4_text a)
 v4-text a =
     let two : List ℕ = decimal (slice_index a 0) ++ codes "." ++ decimal (slice_index a 1) in
     let three : List ℕ = two ++ codes "." ++ decimal (slice_index a 2) in
@@ -129,7 +129,7 @@ groups-text (high ∷ low ∷ rest) are =
 groups-text (_ ∷ []) are = refl
 groups-text [] are = refl
 
-v6-text : (a : List ℕ) → AreBytes a → IsText (v6_text a)
+pub v6-text : (a : List ℕ) → AreBytes a → IsText (v6_text a)
 v6-text a are =
     text-append (group_text (slice_index a 0) (slice_index a 1)) (groups_text (drop 2 a))
     (group-text (slice_index a 0) (slice_index a 1) (each-byte a are 0) (each-byte a are 1)) (groups-text (drop 2 a) (bytes-drop 2 a are))
@@ -149,7 +149,7 @@ to-text (V6 from to) are = v6-text to are.1
 
 -- Headers
 
-type-text : (kind : PacketType) → IsText (type_name kind)
+pub type-text : (kind : PacketType) → IsText (type_name kind)
 type-text types.Request = refl
 type-text types.Response = refl
 type-text types.Data = refl
@@ -255,7 +255,7 @@ feature-text kind [] are = numbered (codes "option") kind [] refl refl
 feature-text kind (feature ∷ rest) are = numbered (option_name kind) feature rest (name-text kind) (other-bytes feature rest are)
 
 -- the forms are told by types that have them
-form-text : (kind : ℕ) (body : List ℕ) → AreBytes body → IsText (option_text kind body)
+pub form-text : (kind : ℕ) (body : List ℕ) → AreBytes body → IsText (option_text kind body)
 form-text kind body are =
     let has_feature : Bool = nat_le kinds.change_l kind && nat_le kind kinds.confirm_r in
     let has_data : Bool = nat_le kinds.init_cookie kind && nat_le kind kinds.data_checksum in
@@ -267,7 +267,7 @@ form-text kind body are =
     (worded (option_name kind) (codes " ") (hex_or_dash body) (name-text kind) refl (dash-text body are))
     (numbered (option_name kind) kind body (name-text kind) are)))
 
-mark-text : (mandatory : Bool) → IsText (mark_text mandatory)
+pub mark-text : (mandatory : Bool) → IsText (mark_text mandatory)
 mark-text true = refl
 mark-text false = refl
 
@@ -345,7 +345,7 @@ area-text area on_data are =
 
 -- Lines
 
-verdict-text : (verdict : Result (Unit {0}) SumFault) → IsText (sum_name verdict)
+pub verdict-text : (verdict : Result (Unit {0}) SumFault) → IsText (sum_name verdict)
 verdict-text (Ok done) = refl
 verdict-text (Err Wrong) = refl
 verdict-text (Err CoverageTooLarge) = refl

@@ -39,6 +39,7 @@ fn put_stamp(object: &mut Object, item: &Record<'_>) -> Result<(), NoMemory>
     object.number("length", u64::from(item.original))
 }
 
+#[tactic(auto, using(crate::proofs::ObjectTexts::skip_is_text))]
 fn put_skip(object: &mut Object, skip: Skip) -> Result<(), NoMemory>
     ensures { OnOk result (members_seen object.new ≡ with_judged (HoldsNone skip) (members_seen object.old)) }
 {
@@ -46,6 +47,7 @@ fn put_skip(object: &mut Object, skip: Skip) -> Result<(), NoMemory>
 }
 
 // Puts why bytes are no packet, or that bytes are missing.
+#[tactic(auto, using(crate::proofs::ObjectTexts::malformed_is_text))]
 fn put_fault(object: &mut Object, whole: bool, fault: Malformed) -> Result<(), NoMemory>
     ensures { OnOk result (members_seen object.new ≡ with_judged (judged_fault whole fault) (members_seen object.old)) }
 {

@@ -1,5 +1,7 @@
 //! Objects of JSON as they are put together, member by member.
-ghost use Rattle.std.specs.Prelude.{◌≡◌, ◌++◌, [], ◌∷◌, false, IfOk, OnOk};
+ghost use Rattle.std.specs.List.{list_all};
+ghost use Rattle.std.specs.Prelude.{◌≡◌, ◌++◌, [], ◌∷◌, false, true, IfOk, OnOk};
+ghost use Rattle.tool_words.specs.Lines.{is_text};
 ghost use Rattle.serde_json.specs.Data.{no_members, string, put as with_member};
 ghost use Rattle.serde_json.specs.Written.{members_have_float};
 ghost use Rattle.serde_json.specs.View.{view};
@@ -24,12 +26,14 @@ pub(crate) struct Texts {
     pub(crate) texts: Vec<Value>,
 }
 
-// A text as a value. No clause says that the pieces of a text are UTF-8, so they are checked.
+// A text as a value.
+#[tactic(auto, using(crate::proofs::ObjectTexts::text_is_utf8))]
 fn text_value(alloc: Global, text: &[u8]) -> Result<Value, NoMemory>
+    requires { list_all is_text text.now ≡ true }
     ensures { IfOk result (λ v. view v ≡ string text.now) }
 {
     let Ok(text) = str::from_utf8(text) else {
-        return Err(NoMemory);
+        unreachable!()
     };
     Ok(Value::try_from_str(alloc, text)?)
 }
@@ -48,6 +52,7 @@ impl Texts {
     /// Puts a text at the list's end. NoMemory comes where no memory was left, here and below.
     #[tactic(auto, using(crate::proofs::JsonLists::listed_so))]
     pub(crate) fn push(&mut self, text: &[u8]) -> Result<(), NoMemory>
+        requires { list_all is_text text.now ≡ true }
         ensures { OnOk result (listed self.new ≡ listed self.old ++ string text.now ∷ []) }
     {
         let value = text_value(self.alloc, text)?;
@@ -91,6 +96,7 @@ impl Object {
 
     /// Puts a text under this name.
     pub(crate) fn text(&mut self, name: &str, text: &[u8]) -> Result<(), NoMemory>
+        requires { list_all is_text text.now ≡ true }
         ensures { OnOk result (members_seen self.new ≡ with_text_named name.now text.now (members_seen self.old)) }
     {
         let value = text_value(self.alloc, text)?;

@@ -1,11 +1,15 @@
 //! A packet of DCCP as members of an object (RFC 4340, section 5; the names are own).
-ghost use Rattle.std.specs.Prelude.{◌≡◌, ◌≤◌, ◌++◌, [], ◌∷◌, length, not, OnOk};
+ghost use Rattle.std.specs.List.{list_all};
+ghost use Rattle.std.specs.Prelude.{◌≡◌, ◌≤◌, ◌++◌, [], ◌∷◌, length, not, true, OnOk};
 ghost use Rattle.dccp_options.specs.Grammar.{options_of};
 ghost use Rattle.dccp_options.specs.Left.{item_of};
 ghost use Rattle.dccp_packets.specs.Grammar.{is_long};
 ghost use Rattle.dccp_packets.specs.declared.header.Number.TheVariants.{Long};
+ghost use Rattle.hex.specs.Hex.{IsBytes};
 ghost use Rattle.packet_show.specs.Lines.{parts_by};
 ghost use Rattle.packet_show.specs.Network.{carried_by};
+ghost use Rattle.packet_show.specs.Text.{from_text, to_text};
+ghost use Rattle.tool_words.specs.Lines.{is_text};
 ghost use Rattle.serde_json.specs.Data.{string};
 ghost use Rattle.bridge_command.specs.Members.{listed, members_seen};
 ghost use Rattle.bridge_command.specs.Objects.{number_written, option_values, option_words, verdict_name, with_ack, with_addresses, with_code, with_ends, with_header_fields, with_kind, with_options, with_packet_fields, with_rest, with_service};
@@ -13,15 +17,33 @@ ghost use Rattle.bridge_command.specs.Objects.{number_written, option_values, op
 use crate::json::objects::{Object, Texts};
 use dccp_options::{Opt, OptFault, options};
 use dccp_packets::{Header, Kind, Number, Packet};
-use dccp_sum::check;
+use dccp_sum::{Pseudo, check};
 use packet_show::{Datagram, put_from, put_mark, put_option, put_to, sum_name, type_name};
 use seq_circle::{NoMemory, Seq48};
 use tool_text::put;
+
+// Each byte is below 256.
+fn items_are_bytes(bytes: &[u8])
+    ensures { IsBytes bytes.now }
+{}
+
+// Addresses are printed as text.
+#[tactic(auto, using(crate::proofs::ObjectTexts::v4_is_text, crate::proofs::ObjectTexts::v6_is_text))]
+fn addresses_are_text(pseudo: &Pseudo)
+    ensures from { list_all is_text (from_text pseudo.now) ≡ true }
+    ensures to { list_all is_text (to_text pseudo.now) ≡ true }
+{
+    if let Pseudo::V6 { from, to } = pseudo {
+        items_are_bytes(from);
+        items_are_bytes(to);
+    }
+}
 
 // Puts the addresses that a packet goes from and to.
 fn put_addresses(object: &mut Object, there: &Datagram<'_>) -> Result<(), NoMemory>
     ensures { OnOk result (members_seen object.new ≡ with_addresses (carried_by there.now) (members_seen object.old)) }
 {
+    addresses_are_text(&there.pseudo);
     let mut source = Vec::new(object.alloc);
     put_from(&mut source, &there.pseudo)?;
     object.text("source", &source)?;
@@ -55,6 +77,7 @@ fn is_short(number: Number) -> bool
 }
 
 // Puts the fields of the generic header.
+#[tactic(auto, using(crate::proofs::ObjectTexts::type_is_text))]
 fn put_header(object: &mut Object, header: &Header) -> Result<(), NoMemory>
     ensures { OnOk result (members_seen object.new ≡ with_header_fields header.now (members_seen object.old)) }
 {
@@ -131,10 +154,21 @@ fn put_option_words(text: &mut Vec<u8>, item: &Result<Opt<'_>, OptFault>) -> Res
     }
 }
 
+// An option is printed as text.
+#[tactic(auto, using(crate::proofs::ObjectTexts::option_is_text))]
+fn words_are_text(item: &Result<Opt<'_>, OptFault>)
+    ensures { list_all is_text (option_words (item_of item.now)) ≡ true }
+{
+    if let Ok(option) = item {
+        items_are_bytes(option.body);
+    }
+}
+
 // Puts one more option at a list's end.
 fn push_option(texts: &mut Texts, item: &Result<Opt<'_>, OptFault>) -> Result<(), NoMemory>
     ensures { OnOk result (listed texts.new ≡ listed texts.old ++ string (option_words (item_of item.now)) ∷ []) }
 {
+    words_are_text(item);
     let mut words = Vec::new(texts.alloc);
     put_option_words(&mut words, item)?;
     texts.push(&words)
@@ -166,10 +200,12 @@ fn put_options(object: &mut Object, packet: &Packet<'_>) -> Result<(), NoMemory>
 }
 
 // The verdict on the checksum; it is unknown where bytes are missing.
+#[tactic(auto, using(crate::proofs::ObjectTexts::verdict_is_text))]
 fn verdict_name(there: &Datagram<'_>) -> &'static [u8]
     requires low { 8 ≤ length there.now.bytes.now }
     requires high { length there.now.bytes.now ≤ 65535 }
-    ensures { result.now ≡ verdict_name (carried_by there.now) }
+    ensures value { result.now ≡ verdict_name (carried_by there.now) }
+    ensures text { list_all is_text result.now ≡ true }
 {
     if there.whole {
         return sum_name(check(&there.pseudo, there.bytes));

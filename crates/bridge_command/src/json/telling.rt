@@ -29,7 +29,7 @@ impl Model for Telling {
 }
 
 // The object of a fault, behind so many records.
-#[tactic(auto, unfolding(crate::specs::Telling::fault_members))]
+#[tactic(auto, unfolding(crate::specs::Telling::fault_members), using(crate::proofs::ObjectTexts::fault_is_text))]
 fn fault_object(alloc: Global, records: u64, fault: PieceFault) -> Result<Object, NoMemory>
     ensures { IfOk result (λ o. members_seen o ≡ fault_members records fault) }
 {
