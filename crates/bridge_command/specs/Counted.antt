@@ -2,7 +2,7 @@
 use Rattle.std.specs.Prelude.{ℕ, List, [], ◌∷◌, length}
 use Rattle.fault_campaign.specs.Reports.{nothing, settled_of, with_seen}
 use Rattle.fault_campaign.specs.declared.report.Report.{Report}
-use Rattle.tool_run.specs.Scenes.{Scene}
+use Rattle.tool_jobs.specs.Scenes.{Scene}
 use Rattle.ccid_two.specs.Kinds.{Both}
 use Rattle.two_ends.specs.Controlled.{Controlled}
 use Rattle.two_ends.specs.World.{half_of}

@@ -10,18 +10,11 @@ use Rattle.dccp_packets.specs.declared.header.Number.{Number}
 use Rattle.dccp_packets.specs.declared.header.Number.TheVariants.{Long, Short}
 use Rattle.dccp_endpoint.specs.Usual.{usual}
 use Rattle.dccp_endpoint.specs.declared.config.Config.{Config}
-use Rattle.dccp_states.specs.declared.phase.Role.{Role}
-use Rattle.dccp_states.specs.declared.phase.Role.TheVariants as role
+use Rattle.tool_jobs.specs.Ends.{role_of}
 use Rattle.world_events.specs.declared.event.Side.{Side}
-use Rattle.world_events.specs.declared.event.Side.TheVariants.{Client, Server}
 use Rattle.bridge_command.specs.declared.frames.mapping.NoFrame.{NoFrame}
 use Rattle.bridge_command.specs.declared.frames.mapping.NoFrame.TheVariants as none
 use Rattle.bridge_command.specs.declared.frames.mapping.UsualEnd.{UsualEnd}
-
--- the role that the end of a side is configured with
-abbrev pub role_of : Side → Role
-role_of Client = role.Client
-role_of Server = role.Server
 
 -- what of an end's configuration the packets that it gets depend on
 abbrev pub end_of_config : Config → UsualEnd

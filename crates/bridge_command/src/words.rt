@@ -1,11 +1,10 @@
 //! What the words after the program's name ask for.
 ghost use Rattle.std.specs.Prelude.{◌≡◌, IfOk, IfSome, IsOk, false};
 ghost use Rattle.bridge_command.specs.Words.{IsBridgeFormWithinBounds, asked_flow, asked_form, asked_seed, has_bridge_settings, stands_alone};
-ghost use Rattle.tool_forms.specs.Words.{is_word};
 
 use seq_circle::NoMemory;
 use std::alloc::Global;
-use tool_forms::{FlowSide, SeedRun, flow_side_of, seed_run_of};
+use tool_forms::{FlowSide, SeedRun, flow_side_of, is_word, seed_run_of};
 
 /// A job of the second tool (own).
 #[derive(Clone, Copy, Debug, PartialEq, Eq)]
@@ -25,12 +24,6 @@ pub enum Form {
 /// The line that answers words which are none of the forms (own). It names all forms.
 pub const USAGE: &[u8] =
     b"usage: dccp_bridge capture | unwrap | seed --seed S --events E | frames --flow F --side server|client | json\n";
-
-fn is_word(word: &String, text: &[u8]) -> bool
-    ensures { result ≡ is_word word.now text.now }
-{
-    word.as_bytes() == text
-}
 
 // No word may follow.
 fn stands_alone(form: Form, words: &[String]) -> Option<Form>

@@ -2,12 +2,12 @@
 use Rattle.std.specs.Prelude.{◌≡◌, ℕ, Bool, true, false, List, Option, Some, String}
 use Rattle.std.specs.declared.alloc.Global.{Global}
 use Rattle.dccp_command.specs.CampaignText.{campaign_text}
-use Rattle.tool_run.specs.Transcript.{transcript, is_refused, accepted_bytes}
-use Rattle.tool_replay.specs.Replay.{replay_text, replay_refused, replay_accepted}
-use Rattle.tool_replay.specs.Buffered.{buffered_text, buffered_refused, buffered_accepted}
-use Rattle.tool_listen.specs.Listen.{listen_text, listen_refused, listen_accepted}
+use Rattle.tool_jobs.specs.Transcript.{transcript, is_refused, accepted_bytes}
+use Rattle.tool_jobs.specs.Replay.{replay_text, replay_refused, replay_accepted}
+use Rattle.tool_jobs.specs.Buffered.{buffered_text, buffered_refused, buffered_accepted}
+use Rattle.tool_jobs.specs.Listen.{listen_text, listen_refused, listen_accepted}
 use Rattle.tool_show.specs.CaptureText.{capture_text, is_faulty, records_end}
-use Rattle.tool_ecn.specs.Play.{ecn_text, ecn_refused, ecn_accepted}
+use Rattle.tool_jobs.specs.Play.{ecn_text, ecn_refused, ecn_accepted}
 use Rattle.tool_forms.specs.Words.{form_of}
 use Rattle.tool_forms.specs.declared.words.Form.{Form}
 use Rattle.tool_forms.specs.declared.words.Form.TheVariants as form

@@ -1,7 +1,7 @@
 //! The tool's one call: a form of its words over a source and a sink.
 ghost use Rattle.std.specs.Prelude.{◌≡◌, ◌≢◌, ◌⊎◌, ℕ, List, Some, None, true, false};
 ghost use Rattle.dccp_io.specs.Counts.{Rose};
-ghost use Rattle.tool_run.specs.Transcript.{SafeThroughout};
+ghost use Rattle.tool_jobs.specs.Transcript.{SafeThroughout};
 ghost use Rattle.dccp_command.specs.CampaignText.{AnswersUnread, campaign_text};
 ghost use Rattle.dccp_command.specs.Forms.{OnInput, OnRead, form_accepted, form_reads_past, form_text, is_form_refused, reads_input};
 ghost use Rattle.tool_forms.specs.Words.{IsFormWithinBounds, OnRun, form_of, has_settings, usage};
@@ -12,12 +12,9 @@ use dccp_io::{Sink, Source, write_all};
 use fault_campaign::Gate;
 use std::alloc::Global;
 use std::thread::Threads;
-use tool_ecn::play_nonces;
 use tool_forms::{Campaign, Form, USAGE, form_of};
-use tool_listen::listen_to_peers;
+use tool_jobs::{listen_to_peers, play_nonces, replay_at_buffer, replay_frames, run_schedule};
 use tool_output::Status;
-use tool_replay::{replay_at_buffer, replay_frames};
-use tool_run::run_schedule;
 use tool_show::show_capture;
 
 /// Does what the words ask for (own), those after the program's name. `run` plays a schedule: it reads `input`, and

@@ -1,50 +1,34 @@
 -- What the functions that build, call and ask a command cite.
-use Rattle.std.proofs.Common.{◌≡◌, ◌∙◌, sym, ap, subst, true, false, List, [], ◌∷◌, map, Some, Result, Ok, IfOk, String, Global}
+use Rattle.std.proofs.Common.{arith, ◌≡◌, ◌∙◌, ap, subst, sym, ◌-◌, ◌≤◌, true, false, List, [], ◌∷◌, drop, length, take, map, Some, Result, Ok, IfOk, String, Global}
 use Rattle.std.specs.Prelude.{string_bytes}
+use Rattle.std.proofs.lemmas.List.{take_all}
+use lib.ListN.{get_or}
 use Rattle.clap.specs.Kinds.{FailsBy}
 use Rattle.clap.specs.Simple.{App, HasMatchesOf, built, is_simple, with_rule}
 use Rattle.clap.specs.Faults.{fault_of, is_free_app, is_simple_and_free}
 use Rattle.clap.specs.declared.error.Error.{Error}
 use Rattle.clap.specs.declared.parser.matches.ArgMatches.{ArgMatches}
 use Rattle.clap.proofs.WalkLemmas.{both}
-use Rattle.tool_forms.specs.Tables as table
+use Rattle.tool_forms.specs.declared.settings.Table.{Table}
 use Rattle.tool_forms.specs.declared.settings.Setting.{Setting}
-use Rattle.tool_forms.specs.declared.settings.Setting.TheVariants.{First, Seeds, Events, Workers, Side, Plain, Buffer, Most, Seed, Flow}
+use Rattle.tool_forms.specs.declared.settings.Setting.TheVariants.{First}
 use Rattle.tool_forms.specs.Settings.{settings_of}
 use Rattle.tool_forms.specs.Commands.{IsReadBy, bare_command, command_of, has_dashes, rule_for, with_settings}
 
--- one setting more
-one-with : (a b : App) (setting : Setting) (settings : List Setting) → b ≡ with_rule a (rule_for setting)
-    → with_settings a (setting ∷ settings) ≡ with_settings b settings
-one-with a b setting settings is = ap (λ (x : App). with_settings x settings) (sym is)
+-- a list that is not empty is its first element and the others
+pub first-of : (all : List Setting) → 1 ≤ length all → all ≡ get_or all 0 First ∷ take (length all - 1) (drop 1 all)
+first-of [] some = absurd (omega (arith, some))
+first-of (setting ∷ settings) some = ap (λ (others : List Setting). setting ∷ others) (sym (take_all (length (setting ∷ settings) - 1) settings (omega arith)))
 
-pub figures-are : (a b d e f : App) → a ≡ bare_command → b ≡ with_rule a (rule_for First) → d ≡ with_rule b (rule_for Seeds)
-    → e ≡ with_rule d (rule_for Events) → f ≡ with_rule e (rule_for Workers) → f ≡ command_of table.Campaign
-unfolding command_of
-figures-are a b d e f bare first seeds events workers =
-    sym (ap (λ (x : App). with_settings x (settings_of table.Campaign)) (sym bare) ∙ one-with a b First (Seeds ∷ (Events ∷ (Workers ∷ []))) first
-    ∙ one-with b d Seeds (Events ∷ (Workers ∷ [])) seeds ∙ one-with d e Events (Workers ∷ []) events ∙ one-with e f Workers [] workers)
+-- the first setting, and then the others
+pub one-more : (a b : App) (all : List Setting) (setting : Setting) (settings : List Setting) → all ≡ setting ∷ settings → b ≡ with_rule a (rule_for setting)
+    → with_settings a all ≡ with_settings b settings
+one-more a b all setting settings parts is = ap (with_settings a) parts ∙ ap (λ (x : App). with_settings x settings) (sym is)
 
-pub replay-is : (a b d e : App) → a ≡ bare_command → b ≡ with_rule a (rule_for Side) → d ≡ with_rule b (rule_for Buffer) → e ≡ with_rule d (rule_for Plain)
-    → e ≡ command_of table.Replay
+-- a form's command has the form's settings
+pub has-settings : (t : Table) (bare made : App) (settings : List Setting) → bare ≡ bare_command → settings ≡ settings_of t → made ≡ with_settings bare settings → made ≡ command_of t
 unfolding command_of
-replay-is a b d e bare side buffer plain =
-    sym (ap (λ (x : App). with_settings x (settings_of table.Replay)) (sym bare) ∙ one-with a b Side (Buffer ∷ (Plain ∷ [])) side
-    ∙ one-with b d Buffer (Plain ∷ []) buffer ∙ one-with d e Plain [] plain)
-
-pub listen-is : (a b : App) → a ≡ bare_command → b ≡ with_rule a (rule_for Most) → b ≡ command_of table.Listen
-unfolding command_of
-listen-is a b bare most = sym (ap (λ (x : App). with_settings x (settings_of table.Listen)) (sym bare) ∙ one-with a b Most [] most)
-
-pub seed-is : (a b d : App) → a ≡ bare_command → b ≡ with_rule a (rule_for Seed) → d ≡ with_rule b (rule_for Events) → d ≡ command_of table.Seed
-unfolding command_of
-seed-is a b d bare seed events =
-    sym (ap (λ (x : App). with_settings x (settings_of table.Seed)) (sym bare) ∙ one-with a b Seed (Events ∷ []) seed ∙ one-with b d Events [] events)
-
-pub frames-is : (a b d : App) → a ≡ bare_command → b ≡ with_rule a (rule_for Flow) → d ≡ with_rule b (rule_for Side) → d ≡ command_of table.Frames
-unfolding command_of
-frames-is a b d bare flow side =
-    sym (ap (λ (x : App). with_settings x (settings_of table.Frames)) (sym bare) ∙ one-with a b Flow (Side ∷ []) flow ∙ one-with b d Side [] side)
+has-settings t bare made settings is same settled = settled ∙ ap (λ (a : App). with_settings a settings) is ∙ ap (with_settings bare_command) same
 
 -- what a call of a command tells of words
 

@@ -7,7 +7,7 @@ use Rattle.clap.specs.Faults.{defaults_fault}
 use Rattle.world_events.specs.declared.event.Side.{Side as EndSide}
 use Rattle.tool_forms.specs.declared.bridge_words.FlowSide.{FlowSide}
 use Rattle.tool_forms.specs.declared.bridge_words.SeedRun.{SeedRun}
-use Rattle.tool_forms.specs.Tables as table
+use Rattle.tool_forms.specs.declared.settings.Table.TheVariants as table
 use Rattle.tool_forms.specs.declared.settings.Setting.{Setting}
 use Rattle.tool_forms.specs.declared.settings.Setting.TheVariants.{First, Seeds, Events, Workers, Side, Plain, Buffer, Most, Seed, Flow}
 use Rattle.tool_forms.specs.Given as value

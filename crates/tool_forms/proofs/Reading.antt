@@ -9,8 +9,8 @@ use Rattle.clap.specs.Lexer.{has_byte, long_of, short_of}
 use Rattle.clap.specs.Walk.{Row, Rule, Text, arg_by_id, arg_by_index, arg_by_long, arg_by_short, has_long, used}
 use Rattle.clap.specs.Simple.{Shape, built}
 use Rattle.clap.specs.Faults.{use_fault}
-use Rattle.tool_forms.specs.Tables.{Table}
-use Rattle.tool_forms.specs.Tables as table
+use Rattle.tool_forms.specs.declared.settings.Table.{Table}
+use Rattle.tool_forms.specs.declared.settings.Table.TheVariants as table
 use Rattle.tool_forms.specs.declared.settings.Setting.{Setting}
 use Rattle.tool_forms.specs.declared.settings.Setting.TheVariants.{First, Seeds, Events, Workers, Side, Plain, Buffer, Most, Seed, Flow}
 use Rattle.tool_forms.specs.declared.settings.Way.{Way}

@@ -10,8 +10,8 @@ use Rattle.clap.specs.Faults.{built_fault, fault_of, is_simple_and_free}
 use Rattle.clap.specs.Matches.{found_of}
 use Rattle.clap.specs.declared.error.kind.ErrorKind.{ErrorKind}
 use Rattle.clap.specs.declared.parser.matches.ArgMatches.{ArgMatches}
-use Rattle.tool_forms.specs.Tables.{Table}
-use Rattle.tool_forms.specs.Tables as table
+use Rattle.tool_forms.specs.declared.settings.Table.{Table}
+use Rattle.tool_forms.specs.declared.settings.Table.TheVariants as table
 use Rattle.tool_forms.specs.declared.settings.Setting.{Setting}
 use Rattle.tool_forms.specs.Given.{Assignment}
 use Rattle.tool_forms.specs.Settings.{all_given, preceded, settings_of}
@@ -131,46 +131,41 @@ module _ {X : Type 0} (judge : List Row → Option X) (t : Table) (means : Optio
       go false clear_of = rw clear_of (one-level judge t (map string_bytes words)
           ∙ all-agree judge t means none once ends (map string_bytes words) (clear (map string_bytes words) clear_of) [] tt tt)
 
-  form-judged : (app : App) (words : List (String Global)) (m : ArgMatches) → app ≡ command_of t → IsReadBy app words (Some m)
+  form-judged : (words : List (String Global)) (m : ArgMatches) → IsReadBy (command_of t) words (Some m)
       → judge (rows_of (found_of m)) ≡ means (all_given t (map string_bytes words))
-  form-judged app words m is read = judged-by judge app words m read
-      ∙ ap (λ (a : App). read_by a judge (map string_bytes words)) (is ∙ command-is t) ∙ all-read words
+  form-judged words m read = judged-by judge (command_of t) words m read
+      ∙ ap (λ (a : App). read_by a judge (map string_bytes words)) (command-is t) ∙ all-read words
 
-  form-refused : (app : App) (words : List (String Global)) → app ≡ command_of t → IsReadBy app words None → None ≡ means (all_given t (map string_bytes words))
-  form-refused app words is read = sym (refused-by judge app words read)
-      ∙ ap (λ (a : App). read_by a judge (map string_bytes words)) (is ∙ command-is t) ∙ all-read words
+  form-refused : (words : List (String Global)) → IsReadBy (command_of t) words None → None ≡ means (all_given t (map string_bytes words))
+  form-refused words read = sym (refused-by judge (command_of t) words read)
+      ∙ ap (λ (a : App). read_by a judge (map string_bytes words)) (command-is t) ∙ all-read words
 
-pub campaign-judged : (app : App) (words : List (String Global)) (m : ArgMatches) → app ≡ command_of table.Campaign → IsReadBy app words (Some m)
-    → campaign_in (rows_of (found_of m)) ≡ campaign_of words
+pub campaign-judged : (words : List (String Global)) (m : ArgMatches) → IsReadBy (command_of table.Campaign) words (Some m) → campaign_in (rows_of (found_of m)) ≡ campaign_of words
 campaign-judged = form-judged campaign_in table.Campaign campaign_means refl campaign-once campaign-ends
 
-pub campaign-refused : (app : App) (words : List (String Global)) → app ≡ command_of table.Campaign → IsReadBy app words None → None ≡ campaign_of words
+pub campaign-refused : (words : List (String Global)) → IsReadBy (command_of table.Campaign) words None → None ≡ campaign_of words
 campaign-refused = form-refused campaign_in table.Campaign campaign_means refl campaign-once campaign-ends
 
-pub replay-judged : (app : App) (words : List (String Global)) (m : ArgMatches) → app ≡ command_of table.Replay → IsReadBy app words (Some m)
-    → replay_in (rows_of (found_of m)) ≡ replay_of words
+pub replay-judged : (words : List (String Global)) (m : ArgMatches) → IsReadBy (command_of table.Replay) words (Some m) → replay_in (rows_of (found_of m)) ≡ replay_of words
 replay-judged = form-judged replay_in table.Replay replay_means refl replay-once replay-ends
 
-pub replay-refused : (app : App) (words : List (String Global)) → app ≡ command_of table.Replay → IsReadBy app words None → None ≡ replay_of words
+pub replay-refused : (words : List (String Global)) → IsReadBy (command_of table.Replay) words None → None ≡ replay_of words
 replay-refused = form-refused replay_in table.Replay replay_means refl replay-once replay-ends
 
-pub listen-judged : (app : App) (words : List (String Global)) (m : ArgMatches) → app ≡ command_of table.Listen → IsReadBy app words (Some m)
-    → listen_in (rows_of (found_of m)) ≡ listen_of words
+pub listen-judged : (words : List (String Global)) (m : ArgMatches) → IsReadBy (command_of table.Listen) words (Some m) → listen_in (rows_of (found_of m)) ≡ listen_of words
 listen-judged = form-judged listen_in table.Listen listen_means refl listen-once listen-ends
 
-pub listen-refused : (app : App) (words : List (String Global)) → app ≡ command_of table.Listen → IsReadBy app words None → None ≡ listen_of words
+pub listen-refused : (words : List (String Global)) → IsReadBy (command_of table.Listen) words None → None ≡ listen_of words
 listen-refused = form-refused listen_in table.Listen listen_means refl listen-once listen-ends
 
-pub seed-judged : (app : App) (words : List (String Global)) (m : ArgMatches) → app ≡ command_of table.Seed → IsReadBy app words (Some m)
-    → seed_run_in (rows_of (found_of m)) ≡ seed_run_of words
+pub seed-judged : (words : List (String Global)) (m : ArgMatches) → IsReadBy (command_of table.Seed) words (Some m) → seed_run_in (rows_of (found_of m)) ≡ seed_run_of words
 seed-judged = form-judged seed_run_in table.Seed seed_means refl seed-once seed-ends
 
-pub seed-refused : (app : App) (words : List (String Global)) → app ≡ command_of table.Seed → IsReadBy app words None → None ≡ seed_run_of words
+pub seed-refused : (words : List (String Global)) → IsReadBy (command_of table.Seed) words None → None ≡ seed_run_of words
 seed-refused = form-refused seed_run_in table.Seed seed_means refl seed-once seed-ends
 
-pub flow-judged : (app : App) (words : List (String Global)) (m : ArgMatches) → app ≡ command_of table.Frames → IsReadBy app words (Some m)
-    → flow_side_in (rows_of (found_of m)) ≡ flow_side_of words
+pub flow-judged : (words : List (String Global)) (m : ArgMatches) → IsReadBy (command_of table.Frames) words (Some m) → flow_side_in (rows_of (found_of m)) ≡ flow_side_of words
 flow-judged = form-judged flow_side_in table.Frames flow_means refl flow-once flow-ends
 
-pub flow-refused : (app : App) (words : List (String Global)) → app ≡ command_of table.Frames → IsReadBy app words None → None ≡ flow_side_of words
+pub flow-refused : (words : List (String Global)) → IsReadBy (command_of table.Frames) words None → None ≡ flow_side_of words
 flow-refused = form-refused flow_side_in table.Frames flow_means refl flow-once flow-ends

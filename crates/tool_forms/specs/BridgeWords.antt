@@ -4,7 +4,7 @@ use Rattle.std.specs.declared.alloc.Global.{Global}
 use Rattle.world_events.specs.declared.event.Side.{Side as EndSide}
 use Rattle.tool_forms.specs.declared.bridge_words.FlowSide.{FlowSide}
 use Rattle.tool_forms.specs.declared.bridge_words.SeedRun.{SeedRun}
-use Rattle.tool_forms.specs.Tables as table
+use Rattle.tool_forms.specs.declared.settings.Table.TheVariants as table
 use Rattle.tool_forms.specs.declared.settings.Setting.TheVariants.{Events, Side, Seed, Flow}
 use Rattle.tool_forms.specs.Settings.{given_once, words_give}
 use Rattle.tool_forms.specs.Words.{side_given}

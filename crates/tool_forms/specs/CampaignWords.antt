@@ -2,7 +2,7 @@
 use Rattle.std.specs.Prelude.{ℕ, ◌+◌, ◌^◌, ◌≤◌, nat_le, if◌then◌else◌, List, Option, Some, None, option_and_then, String}
 use Rattle.std.specs.declared.alloc.Global.{Global}
 use Rattle.tool_forms.specs.declared.campaign_words.Campaign.{Campaign}
-use Rattle.tool_forms.specs.Tables as table
+use Rattle.tool_forms.specs.declared.settings.Table.TheVariants as table
 use Rattle.tool_forms.specs.declared.settings.Setting.TheVariants.{First, Seeds, Events, Workers}
 use Rattle.tool_forms.specs.Settings.{given_once}
 

@@ -20,7 +20,7 @@ use Rattle.tool_forms.specs.declared.settings.Setting.{Setting}
 use Rattle.tool_forms.specs.declared.settings.Setting.TheVariants.{First, Seeds, Events, Workers, Side, Plain, Buffer, Most, Seed, Flow}
 use Rattle.tool_forms.specs.declared.settings.Way.{Way}
 use Rattle.tool_forms.specs.declared.settings.Way.TheVariants as way
-use Rattle.tool_forms.specs.Tables.{Table}
+use Rattle.tool_forms.specs.declared.settings.Table.{Table}
 use Rattle.tool_forms.specs.Settings.{bare_name, number_for, settings_of, side_in, way_of}
 use Rattle.tool_forms.specs.CampaignWords.{campaign_from}
 use Rattle.tool_forms.specs.BridgeWords.{flow_side_from, seed_run_from}

@@ -1,4 +1,3 @@
-pub mod Tables
 pub mod Given
 pub mod Settings
 pub mod CampaignWords

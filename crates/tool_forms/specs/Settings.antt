@@ -11,8 +11,8 @@ use Rattle.std.specs.declared.alloc.Global.{Global}
 use Rattle.tool_text.specs.Numbers.{number_below}
 use Rattle.world_events.specs.declared.event.Side.{Side as EndSide}
 use Rattle.world_events.specs.declared.event.Side.TheVariants.{Client, Server}
-use Rattle.tool_forms.specs.Tables.{Table}
-use Rattle.tool_forms.specs.Tables as table
+use Rattle.tool_forms.specs.declared.settings.Table.{Table}
+use Rattle.tool_forms.specs.declared.settings.Table.TheVariants as table
 use Rattle.tool_forms.specs.declared.settings.Setting.{Setting}
 use Rattle.tool_forms.specs.declared.settings.Setting.TheVariants.{First, Seeds, Events, Workers, Side, Plain, Buffer, Most, Seed, Flow}
 use Rattle.tool_forms.specs.declared.settings.Way.{Way}

@@ -3,7 +3,7 @@ use Rattle.std.specs.Prelude.{◌≡◌, ◌≤◌, ◌||◌, ℕ, Bool, false, 
 use Rattle.std.specs.Str.{bytes_eq}
 use Rattle.std.specs.declared.alloc.Global.{Global}
 use Rattle.world_events.specs.declared.event.Side.{Side}
-use Rattle.tool_forms.specs.Tables as table
+use Rattle.tool_forms.specs.declared.settings.Table.TheVariants as table
 use Rattle.tool_forms.specs.declared.settings.Setting.TheVariants as setting
 use Rattle.tool_forms.specs.Given.{Value}
 use Rattle.tool_forms.specs.Given as value
@@ -92,26 +92,3 @@ usage = codes "usage: dccp run | replay --side server|client [--plain] [--buffer
 -- For `run`, over a source that tells its bytes, something holds of them.
 abbrev pub OnRun : List (String Global) → Option (List ℕ) → (List ℕ → Type 0) → Type 0
 OnRun words told Holds = form_of words ≡ Some form.Run → (bytes : List ℕ) → told ≡ Some bytes → Holds bytes
-
--- the same for `replay` without a receive buffer, of a side with its offers or without
-abbrev pub OnReplay : List (String Global) → Option (List ℕ) → (Side → Bool → List ℕ → Type 0) → Type 0
-OnReplay words told Holds =
-    (side : Side) (plain : Bool) → form_of words ≡ Some (form.Replay side plain) → (bytes : List ℕ) → told ≡ Some bytes → Holds side plain bytes
-
--- and with one, for so many packets
-abbrev pub OnBuffered : List (String Global) → Option (List ℕ) → (Side → Bool → ℕ → List ℕ → Type 0) → Type 0
-OnBuffered words told Holds =
-    (side : Side) (plain : Bool) (capacity : ℕ) → form_of words ≡ Some (form.Buffered side plain capacity) → (bytes : List ℕ) → told ≡ Some bytes
-    → Holds side plain capacity bytes
-
--- and for `show`
-abbrev pub OnShow : List (String Global) → Option (List ℕ) → (List ℕ → Type 0) → Type 0
-OnShow words told Holds = form_of words ≡ Some form.Show → (bytes : List ℕ) → told ≡ Some bytes → Holds bytes
-
--- for `listen`, with so many flows at most
-abbrev pub OnListen : List (String Global) → Option (List ℕ) → (ℕ → List ℕ → Type 0) → Type 0
-OnListen words told Holds = (most : ℕ) → form_of words ≡ Some (form.Listen most) → (bytes : List ℕ) → told ≡ Some bytes → Holds most bytes
-
--- and for `ecn`
-abbrev pub OnEcn : List (String Global) → Option (List ℕ) → (List ℕ → Type 0) → Type 0
-OnEcn words told Holds = form_of words ≡ Some form.Ecn → (bytes : List ℕ) → told ≡ Some bytes → Holds bytes

@@ -4,8 +4,8 @@ ghost use Rattle.clap.specs.Words.{found_of, rows_of};
 ghost use Rattle.tool_forms.specs.BridgeWords.{IsFlowWithinBounds, IsRunWithinBounds, flow_side_of, seed_run_of};
 ghost use Rattle.tool_forms.specs.Commands.{flow_side_in, seed_run_in};
 
-use crate::commands::{figure_in, frames_command, read, seed_command, text_in};
-use crate::settings::{Setting, side_in};
+use crate::commands::{figure_in, read, text_in};
+use crate::settings::{Setting, Table, side_in};
 use clap::ArgMatches;
 use seq_circle::NoMemory;
 use std::alloc::Global;
@@ -48,8 +48,7 @@ pub fn seed_run_of(alloc: Global, words: &[String]) -> Result<Option<SeedRun>, N
     ensures value { IfOk result (λ run. run ≡ seed_run_of words.now) }
     ensures within { IfOk result (λ run. IfSome run IsRunWithinBounds) }
 {
-    let command = seed_command(alloc)?;
-    match read(command, words)? {
+    match read(alloc, Table::Seed, words)? {
         Some(matches) => Ok(seed_run_in(&matches)),
         None => Ok(None),
     }
@@ -72,8 +71,7 @@ pub fn flow_side_of(alloc: Global, words: &[String]) -> Result<Option<FlowSide>,
     ensures value { IfOk result (λ asked. asked ≡ flow_side_of words.now) }
     ensures within { IfOk result (λ asked. IfSome asked IsFlowWithinBounds) }
 {
-    let command = frames_command(alloc)?;
-    match read(command, words)? {
+    match read(alloc, Table::Frames, words)? {
         Some(matches) => Ok(flow_side_in(&matches)),
         None => Ok(None),
     }

@@ -4,8 +4,8 @@ ghost use Rattle.clap.specs.Words.{found_of, rows_of};
 ghost use Rattle.tool_forms.specs.CampaignWords.{IsWithinBounds, campaign_of};
 ghost use Rattle.tool_forms.specs.Commands.{campaign_in};
 
-use crate::commands::{campaign_command, figure_in, read};
-use crate::settings::Setting;
+use crate::commands::{figure_in, read};
+use crate::settings::{Setting, Table};
 use clap::ArgMatches;
 use seq_circle::NoMemory;
 use std::alloc::Global;
@@ -46,8 +46,7 @@ pub(crate) fn campaign_of(alloc: Global, words: &[String]) -> Result<Option<Camp
     ensures value { IfOk result (λ campaign. campaign ≡ campaign_of words.now) }
     ensures within { IfOk result (λ campaign. IfSome campaign IsWithinBounds) }
 {
-    let command = campaign_command(alloc)?;
-    match read(command, words)? {
+    match read(alloc, Table::Campaign, words)? {
         Some(matches) => Ok(campaign_in(&matches)),
         None => Ok(None),
     }

@@ -1,11 +1,10 @@
 //! The words of a form, read by a command of `clap`.
-ghost use Rattle.std.specs.Prelude.{◌≡◌, ◌≤◌, ◌↔◌, IfOk, IfSome, IsTrue, codes, false, true, map, option_map, string_bytes};
+ghost use Rattle.std.specs.Prelude.{◌≡◌, ◌≤◌, ◌↔◌, IfOk, IfSome, IsTrue, false, true, option_map};
 ghost use Rattle.clap.specs.Words.{app_of, first_of, found_of, is_simple_and_free, kind_of, rows_of, rule_of, with_rule};
-ghost use Rattle.tool_forms.specs.Commands.{IsReadBy, bare_command, chosen_in, command_of, figure_in, has_dashes, is_yes, rule_by, rule_for};
+ghost use Rattle.tool_forms.specs.Commands.{IsReadBy, bare_command, chosen_in, command_of, figure_in, has_dashes, is_yes, rule_by, rule_for, with_settings};
 ghost use Rattle.tool_forms.specs.Settings.{bare_name, least, most};
-ghost use Rattle.tool_forms.specs.Tables as table;
 
-use crate::settings::{Setting, Way};
+use crate::settings::{Setting, Table, Way};
 use clap::error::ErrorKind;
 use clap::{Arg, ArgAction, ArgMatches, Command, Error};
 use seq_circle::NoMemory;
@@ -80,46 +79,28 @@ fn bare_command<'a>(alloc: Global) -> Command<'a>
         .disable_help_flag(true)
 }
 
-/// The command that reads the words behind `campaign`.
-pub(crate) fn campaign_command<'a>(alloc: Global) -> Result<Command<'a>, AllocError>
-    ensures { IfOk result (λ c. app_of c ≡ command_of table.Campaign) }
+// The command with the arguments of these settings more.
+fn with_settings<'a>(
+    alloc: Global,
+    command: Command<'a>,
+    settings: &[Setting],
+) -> Result<Command<'a>, AllocError>
+    ensures { IfOk result (λ c. app_of c ≡ with_settings (app_of command.entry) settings.now) }
 {
-    let command = with_setting(alloc, bare_command(alloc), Setting::First)?;
-    let command = with_setting(alloc, command, Setting::Seeds)?;
-    let command = with_setting(alloc, command, Setting::Events)?;
-    with_setting(alloc, command, Setting::Workers)
+    match settings {
+        [] => Ok(command),
+        [setting, settings @ ..] => {
+            let command = with_setting(alloc, command, *setting)?;
+            with_settings(alloc, command, settings)
+        }
+    }
 }
 
-/// The command that reads the words behind `replay`.
-pub(crate) fn replay_command<'a>(alloc: Global) -> Result<Command<'a>, AllocError>
-    ensures { IfOk result (λ c. app_of c ≡ command_of table.Replay) }
+// The command that reads the words of a form.
+fn command_of<'a>(alloc: Global, table: Table) -> Result<Command<'a>, AllocError>
+    ensures { IfOk result (λ c. app_of c ≡ command_of table) }
 {
-    let command = with_setting(alloc, bare_command(alloc), Setting::Side)?;
-    let command = with_setting(alloc, command, Setting::Buffer)?;
-    with_setting(alloc, command, Setting::Plain)
-}
-
-/// The command that reads the words behind `listen`.
-pub(crate) fn listen_command<'a>(alloc: Global) -> Result<Command<'a>, AllocError>
-    ensures { IfOk result (λ c. app_of c ≡ command_of table.Listen) }
-{
-    with_setting(alloc, bare_command(alloc), Setting::Most)
-}
-
-/// The command that reads the words behind the second program's `seed`.
-pub(crate) fn seed_command<'a>(alloc: Global) -> Result<Command<'a>, AllocError>
-    ensures { IfOk result (λ c. app_of c ≡ command_of table.Seed) }
-{
-    let command = with_setting(alloc, bare_command(alloc), Setting::Seed)?;
-    with_setting(alloc, command, Setting::Events)
-}
-
-/// The command that reads the words behind the second program's `frames`.
-pub(crate) fn frames_command<'a>(alloc: Global) -> Result<Command<'a>, AllocError>
-    ensures { IfOk result (λ c. app_of c ≡ command_of table.Frames) }
-{
-    let command = with_setting(alloc, bare_command(alloc), Setting::Flow)?;
-    with_setting(alloc, command, Setting::Side)
+    with_settings(alloc, bare_command(alloc), table.settings())
 }
 
 // One of the words is `--`, which `clap` would take as the last word.
@@ -136,8 +117,8 @@ fn is_for_memory(error: &Error) -> bool
     matches!(error.kind(), ErrorKind::OutOfMemory)
 }
 
-/// What a command reads of these words, or None where they are not its own.
-pub(crate) fn read<'a>(
+// What a command reads of these words, or None where they are not its own.
+fn read_by<'a>(
     command: Command<'a>,
     words: &'a [String],
 ) -> Result<Option<ArgMatches<'a>>, NoMemory>
@@ -156,6 +137,18 @@ pub(crate) fn read<'a>(
     } else {
         Ok(None)
     }
+}
+
+/// What the words of a form give to its settings, or None where they are not its own.
+pub(crate) fn read<'a>(
+    alloc: Global,
+    table: Table,
+    words: &'a [String],
+) -> Result<Option<ArgMatches<'a>>, NoMemory>
+    ensures { IfOk result (IsReadBy (command_of table) words.entry.now) }
+{
+    let command = command_of(alloc, table)?;
+    read_by(command, words)
 }
 
 /// The text that the matches have for this setting.

@@ -1,10 +1,10 @@
 //! The settings that words give to a form.
 //!
 //! One table has the settings of `replay`, `campaign` and `listen`, and those of the second program's `seed` and
-//! `frames`: of each its name, how it is given, and the least and the most of its number. A further setting is a line
-//! in each function of the table, and one where its form's command is put together.
+//! `frames`: whose each is, its name, how it is given, and the least and the most of its number. A further setting is a
+//! line in each function of the table.
 ghost use Rattle.std.specs.Prelude.{◌≡◌, ◌≤◌, IfSome};
-ghost use Rattle.tool_forms.specs.Settings.{bare_name, least, most, number_for, side_in, way_of};
+ghost use Rattle.tool_forms.specs.Settings.{bare_name, least, most, number_for, settings_of, side_in, way_of};
 
 use tool_text::{is_text, number_up_to};
 use world_events::Side;
@@ -20,6 +20,16 @@ pub(crate) fn side_in(text: &[u8]) -> Option<Side>
         return Some(Side::Client);
     }
     None
+}
+
+/// Whose settings words are.
+#[derive(Clone, Copy)]
+pub(crate) enum Table {
+    Replay,
+    Campaign,
+    Listen,
+    Seed,
+    Frames,
 }
 
 /// What words may set.
@@ -46,6 +56,26 @@ pub(crate) enum Way {
     Chosen,
     /// By its name alone, and it may be left out.
     Mark,
+}
+
+impl Table {
+    /// The settings of the form.
+    pub(crate) fn settings(self) -> &'static [Setting]
+        ensures { result.now ≡ settings_of self }
+    {
+        match self {
+            Table::Replay => &[Setting::Side, Setting::Buffer, Setting::Plain],
+            Table::Campaign => &[
+                Setting::First,
+                Setting::Seeds,
+                Setting::Events,
+                Setting::Workers,
+            ],
+            Table::Listen => &[Setting::Most],
+            Table::Seed => &[Setting::Seed, Setting::Events],
+            Table::Frames => &[Setting::Flow, Setting::Side],
+        }
+    }
 }
 
 impl Setting {

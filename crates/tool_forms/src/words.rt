@@ -5,10 +5,8 @@ ghost use Rattle.tool_forms.specs.Commands.{listen_in, replay_in};
 ghost use Rattle.tool_forms.specs.Words.{IsFormWithinBounds, campaigns, form_of, has_settings, is_word, listen_of, replay_of, takes_no_word};
 
 use crate::campaign_words::{Campaign, campaign_of};
-use crate::commands::{
-    chosen_in, figure_in, is_given, listen_command, read, replay_command, text_in,
-};
-use crate::settings::{Setting, side_in};
+use crate::commands::{chosen_in, figure_in, is_given, read, text_in};
+use crate::settings::{Setting, Table, side_in};
 use clap::ArgMatches;
 use seq_circle::NoMemory;
 use std::alloc::Global;
@@ -53,7 +51,8 @@ pub enum Form {
 pub const USAGE: &[u8] =
     b"usage: dccp run | replay --side server|client [--plain] [--buffer C] | campaign --first F --seeds N --events E --workers W | show | listen --most M | ecn\n";
 
-fn is_word(word: &String, text: &[u8]) -> bool
+/// Tells whether a word is this text (own).
+pub fn is_word(word: &String, text: &[u8]) -> bool
     ensures { result ≡ is_word word.now text.now }
 {
     is_text(word.as_bytes(), text)
@@ -83,8 +82,7 @@ fn replay_of(alloc: Global, words: &[String]) -> Result<Option<Form>, NoMemory>
     ensures value { IfOk result (λ form. form ≡ replay_of words.now) }
     ensures within { IfOk result (λ form. IfSome form IsFormWithinBounds) }
 {
-    let command = replay_command(alloc)?;
-    match read(command, words)? {
+    match read(alloc, Table::Replay, words)? {
         Some(matches) => Ok(replay_in(&matches)),
         None => Ok(None),
     }
@@ -124,8 +122,7 @@ fn listen_of(alloc: Global, words: &[String]) -> Result<Option<Form>, NoMemory>
     ensures value { IfOk result (λ form. form ≡ listen_of words.now) }
     ensures within { IfOk result (λ form. IfSome form IsFormWithinBounds) }
 {
-    let command = listen_command(alloc)?;
-    match read(command, words)? {
+    match read(alloc, Table::Listen, words)? {
         Some(matches) => Ok(listen_in(&matches)),
         None => Ok(None),
     }

@@ -3,9 +3,10 @@ ghost use Rattle.std.specs.Prelude.{◌≡◌, IsTrue};
 ghost use Rattle.dccp_packets.specs.Grammar.{is_long, is_valid};
 ghost use Rattle.bridge_command.specs.Mapping as spec;
 
-use dccp_endpoint::{Config, Role};
+use dccp_endpoint::Config;
 use dccp_packets::{Header, Kind, Number};
 use seq_circle::{Seq24, Seq48};
+use tool_jobs::role_of;
 use world_events::Side;
 
 /// What of an end's configuration the packets that it gets depend on (own).
@@ -29,15 +30,6 @@ pub(crate) enum NoFrame {
     NumberUnknown,
     /// It has more than 2,044 bytes.
     FrameTooLong,
-}
-
-fn role_of(side: Side) -> Role
-    ensures { result ≡ spec.role_of side }
-{
-    match side {
-        Side::Client => Role::Client,
-        Side::Server => Role::Server,
-    }
 }
 
 /// The end that `replay` plays for a side.

@@ -4,9 +4,9 @@ ghost use Rattle.bridge_command.specs.Counted.{counted_report};
 ghost use Rattle.bridge_command.specs.Schedule.{seed_text};
 ghost use Rattle.fault_campaign.specs.Draws.{generator};
 ghost use Rattle.fault_campaign.specs.Seeded.{begun_run, seeded, seeded_events, seeded_report};
-ghost use Rattle.tool_run.specs.Scenes.{scene_events, scene_text};
-ghost use Rattle.tool_run.specs.Transcript.{is_refused, performed, transcript, world_at_first, world_of};
-ghost use Rattle.tool_run.specs.WorldLines.{end_lines};
+ghost use Rattle.tool_jobs.specs.Scenes.{scene_events, scene_text};
+ghost use Rattle.tool_jobs.specs.Transcript.{is_refused, performed, transcript, world_at_first, world_of};
+ghost use Rattle.tool_jobs.specs.WorldLines.{end_lines};
 
 use fault_campaign::drawn_events_happen;
 

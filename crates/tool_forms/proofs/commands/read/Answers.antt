@@ -1,12 +1,12 @@
--- A call that gives matches has no fault.
-use Rattle.std.proofs.Common.{rules, ◌≡◌, refl, true, false, Ok}
-use Rattle.clap.specs.Words.{app_of, is_simple_and_free}
-use Rattle.tool_forms.specs.Commands.{has_dashes}
-use Rattle.tool_forms.proofs.Asking.{some-read}
+-- What the form's command reads is what it gives.
+use Rattle.std.proofs.Common.{IfOk, subst}
+use Rattle.clap.specs.Simple.{App}
+use Rattle.tool_forms.specs.Commands.{IsReadBy}
+use Rattle.tool_forms.proofs.Taken.{command-simple}
 use Rattle.tool_forms.proofs.commands.read.Goals as goal
 
-pub returns-in-Ok : goal.returns-in-Ok
-returns-in-Ok c =
-    let simple : is_simple_and_free (app_of c.args.command) ≡ true = search rules in
-    let none : has_dashes c.args.words.now ≡ false = search rules in
-    some-read (app_of c.args.command) c.args.words.now c.in-Ok.matches (Ok c.in-Ok.matches) refl simple none c.in-Ok.ensures.kinds c.in-Ok.ensures.matches
+pub read_by-requires : goal.read_by-requires
+read_by-requires c = record { simple = command-simple c.args.table _ c.in_ok-command.ensures }
+
+pub returns : goal.returns
+returns c = subst (λ (app : App). IfOk c.read_by.result (IsReadBy app c.args.words.now)) c.in_ok-command.ensures c.read_by.ensures

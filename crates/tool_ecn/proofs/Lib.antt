@@ -1,2 +1,0 @@
-pub mod EcnRow
-pub mod Short

@@ -1,7 +1,0 @@
-use Rattle.tool_words.proofs.LineLaws.{line-accepted}
-use Rattle.tool_ecn.specs.Forms.{ecn_row}
-use Rattle.tool_ecn.proofs.EcnRow.{row-is}
-use Rattle.tool_ecn.proofs.laws.ecn_lines_are_their_forms.Goals as goal
-
-pub returns : goal.returns
-returns c = line-accepted ecn_row row-is

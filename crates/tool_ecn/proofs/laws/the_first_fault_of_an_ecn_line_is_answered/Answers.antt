@@ -1,7 +1,0 @@
-use Rattle.tool_words.proofs.LineLaws.{line-refused}
-use Rattle.tool_ecn.specs.Forms.{ecn_row}
-use Rattle.tool_ecn.proofs.EcnRow.{row-is}
-use Rattle.tool_ecn.proofs.laws.the_first_fault_of_an_ecn_line_is_answered.Goals as goal
-
-pub returns : goal.returns
-returns c = line-refused ecn_row row-is

@@ -1,3 +1,0 @@
-pub mod Forms
-pub mod Play
-pub mod SeenText

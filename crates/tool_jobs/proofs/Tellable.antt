@@ -1,0 +1,98 @@
+-- What a listener tells of a call: data that are delivered stand in the bytes that arrived, and the listener is left as it is computed.
+use Rattle.std.proofs.Common.{◌≡◌, sym, ap, ◌∙◌, subst, ℕ, List, [], Bool, true, false, Option, Some, None, Result, Ok, Err}
+use Rattle.std.specs.Prelude.{IfOk, OnOk}
+use Rattle.ccid_two.specs.Kinds.{Both, kinds_control}
+use Rattle.congestion_trait.specs.Control.{may_send}
+use Rattle.dccp_endpoint.specs.Calling.{aborts, closes, sends_payload}
+use Rattle.dccp_endpoint.specs.Controlled.{EndStep}
+use Rattle.dccp_endpoint.specs.Inputs.{Answer}
+use Rattle.dccp_listener.specs.Chain.{Deed, Arrives, Calls, Sends, Fires, Closes, Aborts, flow_step, fresh_end, is_flow}
+use Rattle.dccp_listener.specs.Listens.{Listened, fresh_met, is_table_full, listening_after, listens, listens_by}
+use Rattle.dccp_listener.specs.Peers.{FlowEnd, Flows, Listening, end_of_peer}
+use Rattle.dccp_listener.specs.Runs.{CallTold, CallTurn, IsTurn, IsTurnSo, Stepped, WasBusy, HadNoMemory, arrival, told_of}
+use Rattle.dccp_listener.specs.declared.calls.Heard.{Heard}
+use Rattle.dccp_listener.specs.declared.config.ListenConfig.{ListenConfig}
+use Rattle.dccp_listener.specs.declared.peer.Peer.{Peer}
+use Rattle.schedule_text.specs.Results.{IsSeenOf}
+use Rattle.seq_circle.specs.declared.memory.NoMemory.{NoMemory}
+use Rattle.two_ends.specs.World.{seen_of, seen_of_call}
+use Rattle.world_events.specs.Refusals.{send_refusal_of}
+use Rattle.world_events.specs.declared.event.Refusal.{Refusal}
+use Rattle.world_events.specs.declared.event.Refusal.TheVariants as refusal
+use Rattle.tool_jobs.proofs.Telling.{data-in-frame}
+use Rattle.tool_jobs.specs.Telling.{CanBeTold, arriving_bytes}
+
+-- a call tells no data
+call-told : {Fault : Type 0} (named : Fault → Refusal) (result : Result (Unit {0}) Fault) → IsSeenOf [] (seen_of_call named result)
+call-told named (Ok _) = tt
+call-told named (Err fault) = tt
+
+-- the step of an end
+step-told : (e : FlowEnd) (deed : Deed) → IsSeenOf (arriving_bytes deed) (seen_of (flow_step e deed).answer)
+step-told e (Arrives iss bytes) = data-in-frame e.state bytes
+step-told e (Calls (Sends payload)) = call-told send_refusal_of (sends_payload e.state payload (may_send kinds_control e.congestion)).answer
+step-told e (Calls (Fires timer)) = tt
+step-told e (Calls Closes) = call-told (λ fault. refusal.NotOpen) (closes e.state).answer
+step-told e (Calls Aborts) = call-told (λ fault. refusal.NotLive) (aborts e.state).answer
+
+met-told : (l : Listening) (peer : Peer) (iss : ℕ) (bytes : List ℕ) (step : EndStep Both Answer) (stays full : Bool) → IsSeenOf bytes (seen_of step.answer)
+    → CanBeTold bytes (fresh_met l peer iss bytes step stays full).told
+met-told l peer iss bytes step false full told = told
+met-told l peer iss bytes step true true told = tt
+met-told l peer iss bytes step true false told = told
+
+listens-told : (l : Listening) (peer : Peer) (found : Option FlowEnd) (deed : Deed) → CanBeTold (arriving_bytes deed) (listens_by l peer found deed).told
+listens-told l peer (Some e) deed = step-told e deed
+listens-told l peer None (Arrives iss bytes) =
+    let step : EndStep Both Answer = flow_step (fresh_end l.config peer iss bytes) (Arrives iss bytes) in
+    met-told l peer iss bytes step (is_flow step.after.state.phase) (is_table_full l) (step-told (fresh_end l.config peer iss bytes) (Arrives iss bytes))
+listens-told l peer None (Calls call) = tt
+
+-- what is told as it is computed can be told
+pub told_as : (l : Listening) (peer : Peer) (deed : Deed) (flows : Flows) (frame : Option (List ℕ)) (told : CallTold)
+    → record { flows = flows; frame = frame; told = told } ≡ listens l peer deed → CanBeTold (arriving_bytes deed) told
+told_as l peer deed flows frame told is =
+    subst (CanBeTold (arriving_bytes deed)) (sym (ap (λ (x : Listened). x.told) is)) (listens-told l peer (end_of_peer l.flows peer) deed)
+
+-- no call changes what the listener was made from
+same-config : (before after : Listening) (turn : CallTurn) (told : CallTold) → IsTurnSo before after turn told → after.config ≡ before.config
+same-config before after turn (Stepped it) is = is.same_config
+same-config before after turn WasBusy is = ap (λ (l : Listening). l.config) is
+same-config before after turn HadNoMemory is = ap (λ (l : Listening). l.config) is
+
+abbrev listening : ListenConfig → Flows → Listening
+listening config flows = record { config = config; flows = flows }
+
+pub left_as : (before after : Listening) (turn : CallTurn) (frame : Option (List ℕ)) (told : CallTold) → IsTurn before after turn
+    → record { flows = after.flows; frame = frame; told = told } ≡ listens before turn.peer turn.deed → after ≡ listening_after before turn.peer turn.deed
+left_as before after turn frame told turned is =
+    ap (λ (config : ListenConfig). listening config after.flows) (same-config before after turn turn.told turned)
+    ∙ ap (λ (x : Listened). listening before.config x.flows) is
+
+-- the four of them, of a datagram that was heard
+
+abbrev AsComputed : Listening → Listening → Peer → ℕ → List ℕ → Option (List ℕ) → Result Heard NoMemory → Type 0
+AsComputed before after peer iss bytes frame result =
+    IfOk result (λ heard. record { flows = after.flows; frame = frame; told = told_of (Ok heard) } ≡ listens before peer (Arrives iss bytes))
+
+pub heard-after : (before after : Listening) (peer : Peer) (iss : ℕ) (bytes : List ℕ) (frame : Option (List ℕ)) (result : Result Heard NoMemory)
+    → IsTurn before after (arrival peer iss bytes frame result) → AsComputed before after peer iss bytes frame result
+    → OnOk result (after ≡ listening_after before peer (Arrives iss bytes))
+heard-after before after peer iss bytes frame (Ok heard) turned is =
+    left_as before after (arrival peer iss bytes frame (Ok heard)) frame (told_of (Ok heard)) turned is
+heard-after before after peer iss bytes frame (Err fault) turned is = tt
+
+pub heard-sent : (before after : Listening) (peer : Peer) (iss : ℕ) (bytes : List ℕ) (frame : Option (List ℕ)) (result : Result Heard NoMemory)
+    → AsComputed before after peer iss bytes frame result → OnOk result (frame ≡ (listens before peer (Arrives iss bytes)).frame)
+heard-sent before after peer iss bytes frame (Ok heard) is = ap (λ (x : Listened). x.frame) is
+heard-sent before after peer iss bytes frame (Err fault) is = tt
+
+pub heard-told : (before after : Listening) (peer : Peer) (iss : ℕ) (bytes : List ℕ) (frame : Option (List ℕ)) (result : Result Heard NoMemory)
+    → AsComputed before after peer iss bytes frame result → IfOk result (λ heard. told_of (Ok heard) ≡ (listens before peer (Arrives iss bytes)).told)
+heard-told before after peer iss bytes frame (Ok heard) is = ap (λ (x : Listened). x.told) is
+heard-told before after peer iss bytes frame (Err fault) is = tt
+
+pub heard-tellable : (before after : Listening) (peer : Peer) (iss : ℕ) (bytes : List ℕ) (frame : Option (List ℕ)) (result : Result Heard NoMemory)
+    → AsComputed before after peer iss bytes frame result → IfOk result (λ heard. CanBeTold bytes (told_of (Ok heard)))
+heard-tellable before after peer iss bytes frame (Ok heard) is = told_as before peer (Arrives iss bytes) after.flows frame (told_of (Ok heard)) is
+heard-tellable before after peer iss bytes frame (Err fault) is = tt

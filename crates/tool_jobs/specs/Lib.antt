@@ -1,0 +1,16 @@
+pub mod Text
+pub mod EndLines
+pub mod Ends
+pub mod Replay
+pub mod Buffered
+pub mod WorldLines
+pub mod Scenes
+pub mod Transcript
+pub mod Versions
+pub mod Peers
+pub mod Calls
+pub mod Telling
+pub mod Listen
+pub mod Forms
+pub mod Play
+pub mod SeenText

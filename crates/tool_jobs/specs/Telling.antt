@@ -1,0 +1,67 @@
+-- What is written of what happens to a peer, and of the flows at the end (own).
+use Rattle.std.specs.Prelude.{ℕ, ◌++◌, List, [], length, flat_map, codes, decimal, Option, Some, None}
+use Rattle.hex.specs.Hex.{encode_lower}
+use Rattle.dccp_listener.specs.Chain.{Deed, Arrives, Calls}
+use Rattle.dccp_listener.specs.Listens.{listens}
+use Rattle.dccp_listener.specs.Peers.{FlowEnd, Flows, Listening}
+use Rattle.dccp_listener.specs.Runs.{CallTold, Stepped, WasBusy, HadNoMemory}
+use Rattle.dccp_listener.specs.declared.peer.Peer.{Peer}
+use Rattle.dccp_states.specs.declared.phase.Phase.{Phase}
+use Rattle.schedule_text.specs.Results.{IsSeenOf, result_text}
+use Rattle.tool_jobs.specs.Text.{phase_name}
+use Rattle.tool_text.specs.Text.{labelled_number}
+use Rattle.tool_jobs.specs.Peers.{peer_text}
+
+-- What a peer was answered, and the line's end. (Nothing is told of want of memory, which ends a run.)
+abbrev pub answer_text : List ℕ → CallTold → List ℕ
+answer_text bytes (Stepped (Some seen)) = result_text bytes seen
+answer_text bytes (Stepped None) = codes ": refused NoFlow\n"
+answer_text bytes WasBusy = codes ": busy\n"
+answer_text bytes HadNoMemory = []
+
+-- data that an answer delivers stand in the bytes that arrived
+abbrev pub CanBeTold : List ℕ → CallTold → Type 0
+CanBeTold bytes (Stepped (Some seen)) = IsSeenOf bytes seen
+CanBeTold bytes (Stepped None) = Unit {0}
+CanBeTold bytes WasBusy = Unit {0}
+CanBeTold bytes HadNoMemory = Unit {0}
+
+-- the line of the frame that goes to a peer, where one does
+abbrev pub frame_to_peer : Peer → Option (List ℕ) → List ℕ
+frame_to_peer peer None = []
+frame_to_peer peer (Some bytes) = codes "sent " ++ peer_text peer ++ codes " " ++ encode_lower bytes ++ codes "\n"
+
+-- the bytes that arrive, and none with a call
+abbrev pub arriving_bytes : Deed → List ℕ
+arriving_bytes (Arrives iss bytes) = bytes
+arriving_bytes (Calls call) = []
+
+-- Something that happens to a peer, under the number of its line, while the listener stands so.
+pub record Exchange : Type 0 where
+  pub number : ℕ
+  pub before : Listening
+  pub peer : Peer
+  pub deed : Deed
+
+-- Its lines, computed from it: what the peer is answered, and the frame that goes to it.
+abbrev pub exchange_text : Exchange → List ℕ
+exchange_text x =
+    decimal x.number ++ codes " " ++ peer_text x.peer ++ answer_text (arriving_bytes x.deed) (listens x.before x.peer x.deed).told
+    ++ frame_to_peer x.peer (listens x.before x.peer x.deed).frame
+
+-- the line of a peer whose end is in this phase
+abbrev pub peer_in_phase : Peer → Phase → List ℕ
+peer_in_phase peer phase = codes "flow " ++ peer_text peer ++ codes " " ++ phase_name phase ++ codes "\n"
+
+-- the line of a flow at the end
+abbrev pub flow_line : Peer × FlowEnd → List ℕ
+flow_line flow = peer_in_phase flow.0 flow.1.state.phase
+
+-- the line of a flow, where there is one
+abbrev pub flow_line_if : Option (Peer × FlowEnd) → List ℕ
+flow_line_if None = []
+flow_line_if (Some flow) = flow_line flow
+
+-- how many flows stand at the end, and each of them in the order of their peers
+abbrev pub flow_lines : Flows → List ℕ
+flow_lines flows = labelled_number (codes "flows ") (length flows) ++ codes "\n" ++ flat_map flow_line flows

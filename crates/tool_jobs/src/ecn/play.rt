@@ -1,0 +1,95 @@
+//! An input while it is played: the two ends, between which events take place.
+ghost use Rattle.std.specs.Prelude.{◌≡◌, ℕ, ◌≤◌, List, length, IfOk};
+ghost use Rattle.tool_lines.specs.Jobs.{Judges};
+ghost use Rattle.tool_jobs.specs.Play.{by_ecn_event, ecn_job, first_ecn_play, lacking_index};
+
+use crate::ecn::reading::read_ecn_line;
+use crate::ecn::seen_text::{put_ending, put_event_line};
+use dccp_ecn::{EcnEvent, EcnFault, EcnWorld};
+use seq_circle::NoMemory;
+use std::alloc::Global;
+use tool_lines::{LineJob, MOST_EVENTS};
+use tool_words::{LineFault, LineWhy, Words, whole_line};
+
+/// Where an input stands.
+#[derive(Drop)]
+pub(crate) struct EcnPlay {
+    /// How many events took place.
+    pub(crate) events: u32,
+    /// The two ends.
+    pub(crate) world: EcnWorld,
+}
+
+// The fault of a line whose packet or report is not there.
+fn lacking_index(line: &[u8]) -> LineFault
+    requires { length line.now ≤ 4096 }
+    ensures { result ≡ lacking_index line.now }
+{
+    LineFault {
+        column: Words::of(line).column_of(1),
+        why: LineWhy::NoSuchFrame,
+    }
+}
+
+impl EcnPlay {
+    /// Before all: nothing was sent.
+    pub(crate) fn new(alloc: Global) -> Result<EcnPlay, NoMemory>
+        ensures { IfOk result (λ play. play ≡ first_ecn_play) }
+    {
+        let world = EcnWorld::new(alloc)?;
+        Ok(EcnPlay { events: 0, world })
+    }
+
+    // The event of the line of this number takes place, if it can.
+    fn play(
+        &mut self,
+        number: u64,
+        line: &[u8],
+        event: EcnEvent,
+        text: &mut Vec<u8>,
+    ) -> Result<Result<(), LineFault>, NoMemory>
+        requires { length line.now ≤ 4096 }
+        ensures { IfOk result (λ answer. Judges ecn_job (by_ecn_event self.old number line.now event) text.old.items text.new.items self.new answer) }
+    {
+        if MOST_EVENTS <= self.events {
+            return Ok(Err(whole_line(LineWhy::TooManyEvents)));
+        }
+        match self.world.step(event) {
+            Ok(seen) => {
+                self.events += 1;
+                put_event_line(text, number, line, &self.world, seen)?;
+                Ok(Ok(()))
+            }
+            Err(EcnFault::NoSuchFrame) => Ok(Err(lacking_index(line))),
+            Err(EcnFault::Full) => Ok(Err(whole_line(LineWhy::TooManyEvents))),
+            Err(EcnFault::NoMemory) => Err(NoMemory),
+        }
+    }
+}
+
+impl LineJob for EcnPlay {
+    ghost Deed = { List ℕ };
+
+    ghost job = { ecn_job };
+
+    ghost keeps = { λ play number. Unit {0} };
+
+    #[tactic(auto, unfolding(crate::specs::Play::ecn_judged))]
+    fn judge(
+        &mut self,
+        _alloc: Global,
+        number: u64,
+        line: &[u8],
+        text: &mut Vec<u8>,
+    ) -> Result<Result<(), LineFault>, NoMemory> {
+        match read_ecn_line(line) {
+            Err(fault) => Ok(Err(fault)),
+            Ok(None) => Ok(Ok(())),
+            Ok(Some(event)) => self.play(number, line, event, text),
+        }
+    }
+
+    fn finish(&mut self, _alloc: Global, text: &mut Vec<u8>) -> Result<(), NoMemory> {
+        put_ending(text, &self.world)
+    }
+}

@@ -1,0 +1,64 @@
+//! Lines, read.
+ghost use Rattle.std.specs.Prelude.{◌≡◌, ◌≤◌, length, IfOk};
+ghost use Rattle.tool_jobs.specs.Forms as spec;
+
+use crate::ecn::names::Form;
+use dccp_ecn::EcnEvent;
+use tool_words::{Below, LineFault, Named, Row, Words, read_line, read_word};
+
+// Indices of packets and reports are below this (own).
+const INDEX_END: u64 = 1 << 47;
+
+// A nonce: 0 or 1.
+type ANonce = (Below<2>, ());
+
+// The index of a packet or a report.
+type AnIndex = (Below<INDEX_END>, ());
+
+// The words of a line.
+struct EcnLine;
+
+impl<'a> Row<'a> for EcnLine {
+    type Said = EcnEvent;
+
+    ghost said = { spec.ecn_row.said };
+
+    fn read(words: &mut Words<'a>) -> Result<EcnEvent, LineFault> {
+        match read_word::<Named<Form>>(words.next_word())? {
+            Form::Send => {
+                let (nonce, ()) = <ANonce>::read(words)?;
+                Ok(EcnEvent::Send(nonce == 1))
+            }
+            Form::Deliver => {
+                let (index, ()) = <AnIndex>::read(words)?;
+                Ok(EcnEvent::Deliver(index))
+            }
+            Form::Mark => {
+                let (index, ()) = <AnIndex>::read(words)?;
+                Ok(EcnEvent::Mark(index))
+            }
+            Form::Report => {
+                <() as Row>::read(words)?;
+                Ok(EcnEvent::Report)
+            }
+            Form::Check => {
+                let (index, ()) = <AnIndex>::read(words)?;
+                Ok(EcnEvent::Check(index))
+            }
+            Form::Forge => {
+                let (index, ()) = <AnIndex>::read(words)?;
+                Ok(EcnEvent::Forge(index))
+            }
+        }
+    }
+}
+
+/// The event that a line says, or None exactly where the line is empty or a comment; or the first of the line's faults
+/// in the order of `LineWhy`, with its column (own): LineTooLong, NotText, Missing, UnknownWord, BadNumber or Trailing.
+/// The line comes without its newline.
+pub(crate) fn read_ecn_line(line: &[u8]) -> Result<Option<EcnEvent>, LineFault>
+    ensures value { result ≡ spec.read_ecn_line line.now }
+    ensures short { IfOk result (λ said. length line.now ≤ 4096) }
+{
+    read_line::<EcnLine>(line)
+}

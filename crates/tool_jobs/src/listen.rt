@@ -1,0 +1,20 @@
+//! `listen`: what peers send and what is asked of their ends, handed to one listener, and the lines of what came of it
+//! (own).
+//!
+//! A line names a peer and says what happens to it. The listener serves each peer by an end; nothing here answers for
+//! an end itself, and no socket and no clock is opened. It takes memory where a peer gets an end, and for the text.
+
+mod calls;
+mod exchanges;
+mod flow_lines;
+mod laws;
+mod listening;
+mod peers;
+mod serving;
+mod telling;
+
+pub use crate::listen::laws::{
+    each_peer_is_answered_by_its_chain, lines_of_peers_are_their_forms,
+    the_first_fault_of_a_peer_line_is_answered,
+};
+pub use crate::listen::listening::listen_to_peers;

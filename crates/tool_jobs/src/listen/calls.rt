@@ -1,0 +1,93 @@
+//! Lines, read: a peer, and what happens to it.
+ghost use Rattle.std.specs.Prelude.{◌≡◌, IfOk, IfSome};
+ghost use Rattle.tool_words.specs.Left.{left_of};
+ghost use Rattle.tool_jobs.specs.Calls as spec;
+
+use crate::listen::peers::APeer;
+use dccp_listener::Peer;
+use schedule_text::{AFrame, ATimer, FrameLine, LineFault, Timer};
+use tool_words::{Digits, HexOrDash, Row, Words, read_line};
+
+/// What happens to a peer. A frame's bytes and data are decoded where they are wanted.
+#[derive(Drop)]
+pub(crate) enum PeerCall<'a> {
+    /// A frame of it arrives.
+    Frame(FrameLine<'a>),
+    /// These data are to go to it.
+    Send(Digits<'a>),
+    /// A timer of its end has run out.
+    Timer(Timer),
+    /// The connection is to end in order.
+    Close,
+    /// The connection is to end at once.
+    Abort,
+}
+
+fn send<'a>(words: &mut Words<'a>) -> Result<PeerCall<'a>, LineFault>
+    ensures { result ≡ spec.send_row.said (left_of words.old) }
+{
+    let (digits, ()) = <(HexOrDash, ())>::read(words)?;
+    Ok(PeerCall::Send(digits))
+}
+
+fn timer<'a>(words: &mut Words<'a>) -> Result<PeerCall<'a>, LineFault>
+    ensures { result ≡ spec.timer_row.said (left_of words.old) }
+{
+    let (timer, ()) = <(ATimer, ())>::read(words)?;
+    Ok(PeerCall::Timer(timer))
+}
+
+fn close<'a>(words: &mut Words<'a>) -> Result<PeerCall<'a>, LineFault>
+    ensures { result ≡ spec.close_row.said (left_of words.old) }
+{
+    <() as Row>::read(words)?;
+    Ok(PeerCall::Close)
+}
+
+fn abort<'a>(words: &mut Words<'a>) -> Result<PeerCall<'a>, LineFault>
+    ensures { result ≡ spec.abort_row.said (left_of words.old) }
+{
+    <() as Row>::read(words)?;
+    Ok(PeerCall::Abort)
+}
+
+fn arrival<'a>(words: &mut Words<'a>) -> Result<PeerCall<'a>, LineFault>
+    ensures { result ≡ spec.arrival_row.said (left_of words.old) }
+{
+    let frame = AFrame::read(words)?;
+    Ok(PeerCall::Frame(frame))
+}
+
+// The words behind a peer. Those of a frame have no word in front that says so.
+struct ACall;
+
+impl<'a> Row<'a> for ACall {
+    type Said = PeerCall<'a>;
+
+    ghost said = { spec.call_row.said };
+
+    fn read(words: &mut Words<'a>) -> Result<PeerCall<'a>, LineFault> {
+        let mut all = *words;
+        let first = words.next_word();
+        if first.text == b"send".as_slice() {
+            send(words)
+        } else if first.text == b"timer".as_slice() {
+            timer(words)
+        } else if first.text == b"close".as_slice() {
+            close(words)
+        } else if first.text == b"abort".as_slice() {
+            abort(words)
+        } else {
+            arrival(&mut all)
+        }
+    }
+}
+
+/// The peer of a line and what happens to it, or None exactly where the line is empty or a comment; or the first of the
+/// line's faults, with its column. The line comes without its newline.
+pub(crate) fn read_call(line: &[u8]) -> Result<Option<(Peer, PeerCall<'_>)>, LineFault>
+    ensures value { result ≡ spec.read_call line.now }
+    ensures seals { IfOk result (λ said. IfSome said (λ s. spec.SealsInFull s.1)) }
+{
+    read_line::<(APeer, ACall)>(line)
+}

@@ -1,0 +1,111 @@
+//! Where `listen` stands: one listener, and how much has happened.
+ghost use Rattle.std.specs.Prelude.{◌≡◌, ◌≤◌, [], ◌∷◌, IfOk, Ok};
+ghost use Rattle.tool_lines.specs.Jobs.{Judges, most_events};
+ghost use Rattle.tool_jobs.specs.Calls.{SealsInFull};
+ghost use Rattle.tool_jobs.specs.Listen.{by_call, first_serving, listen_config, listen_job};
+ghost use Rattle.tool_jobs.specs.Telling.{Exchange};
+
+use crate::listen::calls::{PeerCall, read_call};
+use crate::listen::exchanges::{OWN_ADDRESS, exchange};
+use crate::listen::flow_lines::put_flows;
+use arrayvec::ArrayVec;
+use dccp_endpoint::Lists;
+use dccp_listener::{ListenConfig, Listener, Peer};
+use seq_circle::NoMemory;
+use std::alloc::Global;
+use tool_lines::{LineJob, MOST_EVENTS};
+use tool_words::{LineFault, LineWhy, whole_line};
+
+// The Service Codes that are served.
+fn services() -> ArrayVec<u32, 16>
+    ensures { result.items ≡ 42 ∷ 43 ∷ [] }
+{
+    let mut services = ArrayVec::new();
+    services.push(42);
+    services.push(43);
+    services
+}
+
+// What the listener is made from.
+fn listen_config(most: u16) -> ListenConfig
+    ensures { result ≡ listen_config most }
+{
+    ListenConfig {
+        own_address: OWN_ADDRESS,
+        own_port: 5001,
+        services: services(),
+        lists: Lists::usual(),
+        most,
+    }
+}
+
+/// Where the lines stand.
+#[derive(Drop)]
+pub(crate) struct Serving {
+    /// What serves the peers.
+    pub(crate) listener: Listener,
+    /// By how many lines something happened.
+    pub(crate) events: u32,
+}
+
+impl Serving {
+    /// Before the first line: at most so many flows may stand, and none does.
+    pub(crate) fn new(alloc: Global, most: u16) -> Serving
+        requires least { 1 ≤ most }
+        requires most { most ≤ 1024 }
+        ensures { result ≡ first_serving most }
+    {
+        Serving {
+            listener: Listener::new(alloc, listen_config(most)),
+            events: 0,
+        }
+    }
+
+    // Something happens to the peer by the line of this number, unless it is one too many.
+    fn say(
+        &mut self,
+        number: u64,
+        peer: Peer,
+        said: &PeerCall<'_>,
+        text: &mut Vec<u8>,
+    ) -> Result<Result<(), LineFault>, NoMemory>
+        requires seals { SealsInFull said.now }
+        requires few { self.old.events ≤ most_events }
+        ensures verdict { IfOk result (λ answer. Judges listen_job (by_call self.old number peer said.now) text.old.items text.new.items self.new answer) }
+        ensures few { IfOk result (λ answer. answer ≡ Ok tt → self.new.events ≤ most_events) }
+    {
+        if MOST_EVENTS <= self.events {
+            return Ok(Err(whole_line(LineWhy::TooManyEvents)));
+        }
+        exchange(&mut self.listener, number, peer, said, text)?;
+        self.events += 1;
+        Ok(Ok(()))
+    }
+}
+
+impl LineJob for Serving {
+    ghost Deed = { Exchange };
+
+    ghost job = { listen_job };
+
+    ghost keeps = { λ serving number. serving.events ≤ most_events };
+
+    #[tactic(auto, unfolding(crate::specs::Listen::peer_line_judged))]
+    fn judge(
+        &mut self,
+        _alloc: Global,
+        number: u64,
+        line: &[u8],
+        text: &mut Vec<u8>,
+    ) -> Result<Result<(), LineFault>, NoMemory> {
+        match read_call(line) {
+            Err(fault) => Ok(Err(fault)),
+            Ok(None) => Ok(Ok(())),
+            Ok(Some((peer, said))) => self.say(number, peer, &said, text),
+        }
+    }
+
+    fn finish(&mut self, _alloc: Global, text: &mut Vec<u8>) -> Result<(), NoMemory> {
+        put_flows(text, &self.listener)
+    }
+}

@@ -1,0 +1,7 @@
+//! `replay`: an input's frames, handed to one end, and the lines of what the end did (own).
+
+mod buffered;
+mod replay;
+mod replaying;
+
+pub use crate::replay::replaying::{replay_at_buffer, replay_frames};

@@ -1,0 +1,68 @@
+//! `replay`: an input's frames, handed to one end.
+ghost use Rattle.std.specs.Prelude.{◌≡◌, ◌≢◌, ◌≤◌, ℕ, List, Some};
+ghost use Rattle.dccp_io.specs.Counts.{Rose};
+ghost use Rattle.tool_jobs.specs.Replay.{replay_text, replay_refused, replay_accepted};
+ghost use Rattle.tool_jobs.specs.Buffered.{buffered_accepted, buffered_refused, buffered_text};
+ghost use Rattle.tool_output.specs.Ends.{Answers, SinkFails, StopsWithin, EndsForCause};
+
+use crate::replay::buffered::BufferedReplay;
+use crate::replay::replay::Player;
+use dccp_io::{Sink, Source};
+use std::alloc::Global;
+use tool_lines::run_lines;
+use tool_output::Status;
+use world_events::Side;
+
+/// Hands the frames of an input to one end, new and of this side, with its offers or without (own): it reads the lines
+/// of `input` one by one, and writes to `output` a line for what the end answers and for each frame that it sends, and
+/// at last its state or the line of the first refusal. With status 0 or 1 the output is the text of the whole input,
+/// with another a front of it. Read comes where the source failed, Write where the sink did, and Memory where no memory
+/// was left.
+pub fn replay_frames<S: Source, K: Sink>(
+    alloc: Global,
+    side: Side,
+    plain: bool,
+    input: &mut S,
+    output: &mut K,
+) -> Status
+    ensures words { result ≢ Status.Words }
+    ensures replayed { (bytes : List ℕ) → S.left input.old ≡ Some bytes
+        → Answers (replay_text side plain bytes) (replay_refused side plain bytes) result (S.left input.new) (K.taken output.old) (K.taken output.new) }
+    ensures past { (bytes : List ℕ) → S.left input.old ≡ Some bytes
+        → StopsWithin 16384 (replay_accepted side plain bytes) bytes result (S.left input.new) }
+    ensures cause { EndsForCause result (Rose (S.faults input.old) (S.faults input.new)) (SinkFails K.faults K.empty_takes output.old output.new) }
+{
+    let mut text = Vec::new(alloc);
+    let Ok(mut replay) = Player::begin(alloc, side, plain, &mut text) else {
+        return Status::Memory;
+    };
+    run_lines(alloc, &mut replay, &mut text, input, output)
+}
+
+/// The same at an end with a receive buffer for so many packets, 1 to 1,024, of which an application reads (own). A
+/// line `read` takes the oldest data that are held, and after a line `stop` further data are dropped; each of both is
+/// such a line only where it is that word alone, and every other line is one of `replay_frames`. Data that were dropped
+/// are told by their Drop Code (RFC 4340, section 11.7).
+pub fn replay_at_buffer<S: Source, K: Sink>(
+    alloc: Global,
+    side: Side,
+    plain: bool,
+    capacity: u16,
+    input: &mut S,
+    output: &mut K,
+) -> Status
+    requires some { 1 ≤ capacity }
+    requires few { capacity ≤ 1024 }
+    ensures words { result ≢ Status.Words }
+    ensures replayed { (bytes : List ℕ) → S.left input.old ≡ Some bytes
+        → Answers (buffered_text side plain capacity bytes) (buffered_refused side plain capacity bytes) result (S.left input.new) (K.taken output.old) (K.taken output.new) }
+    ensures past { (bytes : List ℕ) → S.left input.old ≡ Some bytes
+        → StopsWithin 16384 (buffered_accepted side plain capacity bytes) bytes result (S.left input.new) }
+    ensures cause { EndsForCause result (Rose (S.faults input.old) (S.faults input.new)) (SinkFails K.faults K.empty_takes output.old output.new) }
+{
+    let mut text = Vec::new(alloc);
+    let Ok(mut replay) = BufferedReplay::begin(alloc, side, plain, capacity, &mut text) else {
+        return Status::Memory;
+    };
+    run_lines(alloc, &mut replay, &mut text, input, output)
+}

@@ -1,0 +1,123 @@
+//! `run`: a job over a schedule's lines.
+ghost use Rattle.std.specs.Prelude.{◌≡◌, ◌≢◌, ℕ, List, Some, IfOk, Ok};
+ghost use Rattle.dccp_io.specs.Counts.{Rose};
+ghost use Rattle.tool_output.specs.Ends.{IsAnswered, Answers, SinkFails, StopsWithin, EndsForCause};
+ghost use Rattle.tool_lines.specs.Jobs.{Judges};
+ghost use Rattle.tool_jobs.specs.Transcript.{IsPlayable, first_play, judged_line, run_job, transcript, is_refused, accepted_bytes, SafeThroughout};
+
+use crate::run::play::Play;
+use ccid_two::Kinds;
+use dccp_io::{Sink, Source};
+use schedule_text::{Line, read_line_into};
+use seq_circle::NoMemory;
+use std::alloc::Global;
+use std::marker::Model;
+use tool_lines::{LineJob, run_lines};
+use tool_output::Status;
+use tool_words::LineFault;
+use two_ends::every_run_is_safe;
+
+/// A schedule while it is played, with room for what one line says: for one that sends data by itself, since a line that
+/// becomes one of another kind is cleared with its room for data. Contracts see where the schedule stands.
+#[derive(Drop)]
+struct Schedule {
+    play: Play,
+    sending: Line,
+    other: Line,
+}
+
+impl Model for Schedule {
+    ghost use Rattle.tool_jobs.specs.declared.run.play.Play.{Play};
+
+    ghost Value = { Play };
+
+    ghost view = { λ s. s.play };
+}
+
+impl Schedule {
+    // Before the first line.
+    #[tactic(auto, using(crate::proofs::SchedulesRunning::playable_at_first))]
+    fn new() -> Schedule
+        ensures value { result ≡ first_play }
+        ensures playable { IsPlayable result }
+    {
+        Schedule {
+            play: Play::new(),
+            sending: Line::Nothing,
+            other: Line::Nothing,
+        }
+    }
+}
+
+impl LineJob for Schedule {
+    ghost use Rattle.std.specs.Prelude.{◌≡◌, ℕ, IfOk, Ok};
+    ghost use Rattle.tool_jobs.specs.Scenes.{Scene};
+    ghost use Rattle.tool_jobs.specs.Transcript.{IsPlayable, run_job};
+
+    ghost Deed = { Scene };
+
+    ghost job = { run_job };
+
+    ghost keeps = { λ play number. IsPlayable play };
+
+    fn judge(
+        &mut self,
+        alloc: Global,
+        number: u64,
+        line: &[u8],
+        text: &mut Vec<u8>,
+    ) -> Result<Result<(), LineFault>, NoMemory> {
+        // Which of the two rooms a line is read into changes nothing that is said of it.
+        match line {
+            [b's', b'e', b'n', ..] => {
+                judge_into(&mut self.sending, &mut self.play, alloc, number, line, text)
+            }
+            _ => judge_into(&mut self.other, &mut self.play, alloc, number, line, text),
+        }
+    }
+
+    fn finish(&mut self, alloc: Global, text: &mut Vec<u8>) -> Result<(), NoMemory> {
+        self.play.finish(alloc, text)
+    }
+}
+
+// Judges a line, by what it says, which is left in `said`.
+#[tactic(auto, unfolding(crate::specs::Transcript::judged_line))]
+fn judge_into(
+    said: &mut Line,
+    play: &mut Play,
+    alloc: Global,
+    number: u64,
+    line: &[u8],
+    text: &mut Vec<u8>,
+) -> Result<Result<(), LineFault>, NoMemory>
+    requires { IsPlayable play.old }
+    ensures verdict { IfOk result (λ answer. Judges run_job (judged_line play.old number line.now) text.old.items text.new.items play.new answer) }
+    ensures keeps_on { IfOk result (λ answer. answer ≡ Ok tt → IsPlayable play.new) }
+{
+    match read_line_into(line, said) {
+        Err(fault) => Ok(Err(play.in_place(fault))),
+        Ok(()) => play.say(alloc, number, said, text),
+    }
+}
+
+/// Plays a schedule (own): it reads the lines of `input` one by one, and writes to `output` a line for each event and
+/// for each frame that was sent, and at last the state of both ends or the line of the first refusal. With status 0 or
+/// 1 the output is the text of the whole input, and each event took place in a safe world and left a safe one; with
+/// another it is a front of that text. Read comes where the source failed, Write where the sink did, and Memory where
+/// no memory was left.
+pub fn run_schedule<S: Source, K: Sink>(alloc: Global, input: &mut S, output: &mut K) -> Status
+    ensures words { result ≢ Status.Words }
+    ensures transcript { (bytes : List ℕ) → S.left input.old ≡ Some bytes
+        → Answers (transcript bytes) (is_refused bytes) result (S.left input.new) (K.taken output.old) (K.taken output.new) }
+    ensures safe { (bytes : List ℕ) → S.left input.old ≡ Some bytes → IsAnswered result → SafeThroughout bytes }
+    ensures past { (bytes : List ℕ) → S.left input.old ≡ Some bytes
+        → StopsWithin 16384 (accepted_bytes bytes) bytes result (S.left input.new) }
+    ensures cause { EndsForCause result (Rose (S.faults input.old) (S.faults input.new)) (SinkFails K.faults K.empty_takes output.old output.new) }
+{
+    // The law, which `safe` follows from.
+    every_run_is_safe::<Kinds>();
+    let mut schedule = Schedule::new();
+    let mut text = Vec::new(alloc);
+    run_lines(alloc, &mut schedule, &mut text, input, output)
+}

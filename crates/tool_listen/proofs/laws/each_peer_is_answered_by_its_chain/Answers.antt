@@ -1,5 +1,0 @@
-use Rattle.tool_listen.proofs.Running.{each_peer_chained, every_input_runs}
-use Rattle.tool_listen.proofs.laws.each_peer_is_answered_by_its_chain.Goals as goal
-
-pub returns : goal.returns
-returns c = record { run = every_input_runs; chains = each_peer_chained }

@@ -1,7 +1,0 @@
-use Rattle.tool_words.proofs.LineLaws.{line-refused}
-use Rattle.tool_listen.specs.Calls.{peer_row}
-use Rattle.tool_listen.proofs.RowsAre.{peer-row-is}
-use Rattle.tool_listen.proofs.laws.the_first_fault_of_a_peer_line_is_answered.Goals as goal
-
-pub returns : goal.returns
-returns c = line-refused peer_row peer-row-is

@@ -1,4 +1,0 @@
-pub mod Peers
-pub mod Calls
-pub mod Telling
-pub mod Listen

@@ -1,3 +1,0 @@
-pub mod RowTexts
-pub mod Telling
-pub mod Buffering

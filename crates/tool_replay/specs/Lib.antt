@@ -1,4 +1,0 @@
-pub mod Text
-pub mod EndLines
-pub mod Replay
-pub mod Buffered

@@ -1,5 +1,0 @@
-use Rattle.tool_run.proofs.Room.{never-full}
-use Rattle.tool_run.proofs.laws.no_schedule_fills_a_world.Goals as goal
-
-pub returns : goal.returns
-returns c = never-full

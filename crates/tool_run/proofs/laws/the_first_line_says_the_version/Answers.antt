@@ -1,5 +1,0 @@
-use Rattle.tool_run.proofs.Versions.{version-first}
-use Rattle.tool_run.proofs.laws.the_first_line_says_the_version.Goals as goal
-
-pub returns : goal.returns
-returns c = version-first

@@ -1,4 +1,0 @@
-pub mod WorldLines
-pub mod Scenes
-pub mod Transcript
-pub mod Versions
