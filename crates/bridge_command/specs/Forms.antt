@@ -24,7 +24,8 @@ bridge_text (form.Seed run) bytes = seed_text run.seed run.events
 bridge_text (form.Frames asked) bytes = frames_text asked.flow asked.side bytes
 bridge_text form.Json bytes = json_text bytes
 
--- Whether a form refuses these bytes: a line of them, or a capture for its fault.
+-- Whether a form refuses these bytes: a line of them, or a capture for its fault. (Of `seed`, which reads none, the rows here
+-- and below are those of an empty input.)
 abbrev pub is_bridge_refused : Form → List ℕ → Bool
 is_bridge_refused form.Capture bytes = transcript_refused bytes
 is_bridge_refused form.Unwrap bytes = is_unwrapped_faulty bytes
