@@ -1,10 +1,10 @@
 -- Lines that are written while their events happen.
-use Rattle.std.proofs.Common.{◌≡◌, sym, ap, ap₂, subst, ◌∙◌, ℕ, suc, ◌+◌, ◌-◌, ◌*◌, ◌^◌, ◌≤◌, ◌<◌, List, ◌++◌, append_assoc, arith}
+use Rattle.std.proofs.Common.{◌≡◌, sym, ap, ap₂, subst, ◌∙◌, ℕ, suc, ◌+◌, ◌-◌, ◌*◌, ◌^◌, ◌≤◌, ◌<◌, List, ◌∷◌, ◌++◌, append_assoc, arith}
 use Rattle.std.proofs.lemmas.List.{append-nil}
 use Rattle.fault_campaign.specs.Draws.{behind_two, generator}
 use Rattle.fault_campaign.specs.Reports.{size}
-use Rattle.fault_campaign.specs.Seeded.{Running, begun_run, goes_on, next_event, next_events, opened_run, played, seeded_events}
-use Rattle.fault_campaign.proofs.Turns.{IsUnderWay, at-start, counts-little, one-turn, opened-few, starts-little}
+use Rattle.fault_campaign.specs.Seeded.{Running, begun_run, goes_on, next_event, next_events, played, seeded_events}
+use Rattle.fault_campaign.proofs.Turns.{IsUnderWay, at-start, counts-little, one-turn, starts-little}
 use Rattle.world_events.specs.declared.event.Event.{Event}
 use Rattle.world_events.specs.declared.event.Event.TheVariants.{Open}
 use Rattle.bridge_command.specs.Schedule.{event_line, event_lines}
@@ -50,18 +50,18 @@ told-all all done first run before now over told =
 
 -- ---- all lines of a seed
 
-pub begun-little : (seed : ℕ) (run : Running) → run ≡ begun_run (generator seed) → size run.report < 2 ^ 62
-begun-little seed run is = let little = starts-little (generator seed) 0 run (omega arith) is in omega (arith, little)
+pub begun-few : (seed events : ℕ) (run : Running) → events ≤ 4096 → run ≡ begun_run (generator seed) → size run.report + 2 * events < 2 ^ 62
+begun-few seed events run most is = starts-little (generator seed) events run most is
 
-pub opened-little : (seed events : ℕ) (run opened : Running) → 1 ≤ events → events ≤ 4096 → run ≡ begun_run (generator seed) → opened ≡ played run Open
-    → size opened.report + 2 * (events - 1) < 2 ^ 62
-opened-little seed events run opened some most is opens =
-    opened-few events run opened some (starts-little (generator seed) events run most is) opens
-
-pub all-told : (seed events : ℕ) (run opened : Running) (before text after : List ℕ) → run ≡ begun_run (generator seed) → opened ≡ played run Open
-    → text ≡ before ++ event_line Open → after ≡ text ++ event_lines (next_events (events - 1) opened)
-    → after ≡ before ++ event_lines (seeded_events seed events)
-all-told seed events run opened before text after is opens put more =
+pub opened-told : (events : ℕ) (run opened : Running) (before text after : List ℕ) → opened ≡ played run Open → text ≡ before ++ event_line Open
+    → after ≡ text ++ event_lines (next_events (events - 1) opened)
+    → after ≡ before ++ event_lines (Open ∷ next_events (events - 1) (played run Open))
+opened-told events run opened before text after opens put more =
     more
-    ∙ ap₂ (λ (t : List ℕ) (r : Running). t ++ event_lines (next_events (events - 1) r)) put (opens ∙ ap (λ (r : Running). played r Open) is)
-    ∙ append_assoc before (event_line Open) (event_lines (next_events (events - 1) (opened_run seed)))
+    ∙ ap₂ (λ (t : List ℕ) (r : Running). t ++ event_lines (next_events (events - 1) r)) put opens
+    ∙ append_assoc before (event_line Open) (event_lines (next_events (events - 1) (played run Open)))
+
+pub seed-told : (seed events : ℕ) (run : Running) (before after : List ℕ) → run ≡ begun_run (generator seed)
+    → after ≡ before ++ event_lines (Open ∷ next_events (events - 1) (played run Open)) → after ≡ before ++ event_lines (seeded_events seed events)
+seed-told seed events run before after is told =
+    told ∙ ap (λ (r : Running). before ++ event_lines (Open ∷ next_events (events - 1) (played r Open))) is

@@ -189,10 +189,10 @@ impl Framing {
     {
         let header = &packet.header;
         let number = self.flows.number(&there.pseudo, header.from, header.to)?;
-        if number == self.flow {
-            self.pass_by_sender(record, there, packet, text)?;
+        if number != self.flow {
+            return Ok(());
         }
-        Ok(())
+        self.pass_by_sender(record, there, packet, text)
     }
 
     // A record of raw IP.

@@ -1,6 +1,6 @@
 //! Objects of JSON as they are put together, member by member.
 ghost use Rattle.std.specs.List.{list_all};
-ghost use Rattle.std.specs.Prelude.{◌≡◌, ◌++◌, [], ◌∷◌, false, true, IfOk, OnOk};
+ghost use Rattle.std.specs.Prelude.{◌≡◌, ◌++◌, [], ◌∷◌, codes, false, true, IfOk, OnOk};
 ghost use Rattle.tool_words.specs.Lines.{is_text};
 ghost use Rattle.serde_json.specs.Data.{no_members, string, put as with_member};
 ghost use Rattle.serde_json.specs.Written.{members_have_float};
@@ -36,6 +36,14 @@ fn text_value(alloc: Global, text: &[u8]) -> Result<Value, NoMemory>
         unreachable!()
     };
     Ok(Value::try_from_str(alloc, text)?)
+}
+
+// Puts a line and its newline.
+fn put_with_newline(text: &mut Vec<u8>, line: &[u8]) -> Result<(), NoMemory>
+    ensures { OnOk result (text.new.items ≡ text.old.items ++ (line.now ++ codes "\n")) }
+{
+    put_bytes(text, line)?;
+    put_bytes(text, b"\n")
 }
 
 impl Texts {
@@ -116,7 +124,6 @@ impl Object {
         ensures { OnOk result (text.new.items ≡ text.old.items ++ object_line (members_seen self)) }
     {
         let line = Value::Object(self.members).to_vec(self.alloc)?;
-        put_bytes(text, &line)?;
-        put_bytes(text, b"\n")
+        put_with_newline(text, &line)
     }
 }

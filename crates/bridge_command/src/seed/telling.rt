@@ -1,8 +1,8 @@
 //! The lines of a seed's schedule, written while the seed is run.
-ghost use Rattle.std.specs.Prelude.{◌≡◌, ◌≢◌, ◌+◌, ◌*◌, ◌^◌, ◌<◌, ◌≤◌, ◌++◌, [], false, IfOk, OnOk, Some};
+ghost use Rattle.std.specs.Prelude.{◌≡◌, ◌≢◌, ◌+◌, ◌-◌, ◌*◌, ◌^◌, ◌<◌, ◌≤◌, ◌++◌, [], ◌∷◌, false, IfOk, OnOk, Some};
 ghost use Rattle.bridge_command.specs.Schedule.{event_line, event_lines, number_line, number_lines, seed_text};
 ghost use Rattle.fault_campaign.specs.Reports.{size};
-ghost use Rattle.fault_campaign.specs.Seeded.{next_events, seeded_events};
+ghost use Rattle.fault_campaign.specs.Seeded.{next_events, played, seeded_events};
 ghost use Rattle.tool_output.specs.Ends.{Answers, EndsForCause, SinkFails};
 
 use dccp_io::{Sink, write_all};
@@ -50,15 +50,24 @@ fn put_next_events(text: &mut Vec<u8>, run: &mut Run, more: u32) -> Result<(), N
     Ok(())
 }
 
+// Puts the lines of so many events of a run that begins, the opening of the connection first.
+fn put_begun_events(text: &mut Vec<u8>, run: &mut Run, events: u32) -> Result<(), NoMemory>
+    requires some { 1 ≤ events }
+    requires few { size run.old.report + 2 * events < 2 ^ 62 }
+    ensures { OnOk result (text.new.items ≡ text.old.items ++ event_lines (Event.Open ∷ next_events (events - 1) (played run.old Event.Open))) }
+{
+    put_event_line(text, &Event::Open)?;
+    run.play(&Event::Open)?;
+    put_next_events(text, run, events - 1)
+}
+
 // Puts the lines of all events of a seed.
 fn put_events(alloc: Global, text: &mut Vec<u8>, seed: u64, events: u32) -> Result<(), NoMemory>
     requires events { 1 ≤ events × events ≤ 4096 }
     ensures { OnOk result (text.new.items ≡ text.old.items ++ event_lines (seeded_events seed events)) }
 {
     let mut run = Run::of_seed(alloc, seed)?;
-    put_event_line(text, &Event::Open)?;
-    run.play(&Event::Open)?;
-    put_next_events(text, &mut run, events - 1)
+    put_begun_events(text, &mut run, events)
 }
 
 #[tactic(auto, unfolding(crate::specs::Schedule::seed_text))]
