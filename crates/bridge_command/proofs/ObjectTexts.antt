@@ -1,5 +1,5 @@
 -- The texts of an object are text, which is ASCII and so UTF-8.
-use Rattle.std.proofs.Common.{arith, ◌≡◌, ◌<◌, ◌++◌, refl, ℕ, zero, suc, nat_le, Bool, List, [], ◌∷◌, codes, Result, Ok, Err}
+use Rattle.std.proofs.Common.{arith, ◌++◌, refl, ℕ, zero, suc, nat_le, Bool, List, [], ◌∷◌, Result}
 use Rattle.std.proofs.lemmas.Bool.{leb-true}
 use Rattle.std.proofs.lemmas.Str.{IsUtf8-from_ascii}
 use Rattle.std.specs.List.{list_all}

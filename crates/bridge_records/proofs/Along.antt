@@ -1,5 +1,5 @@
 -- On the way through an input: what was written, what stands in the text and what is left make the whole.
-use Rattle.std.proofs.Common.{arith, ◌≡◌, refl, sym, ap, ◌∙◌, subst, inl, inr, ℕ, ◌+◌, ◌≤◌, ◌<◌, true, false, nat_lt, Bool, List, [], ◌∷◌, ◌++◌, length, length-append, take, drop, Option, Some, None, Ok, IfSome, append_assoc}
+use Rattle.std.proofs.Common.{arith, ◌≡◌, refl, sym, ap, ◌∙◌, subst, inr, ℕ, ◌+◌, ◌≤◌, true, false, nat_lt, Bool, List, [], ◌∷◌, ◌++◌, length, length-append, take, drop, Option, Some, None, Ok, append_assoc}
 use Rattle.std.proofs.lemmas.Bool.{le-ltb}
 use Rattle.std.proofs.lemmas.Grind.{flat_map-append}
 use Rattle.std.proofs.lemmas.List.{append-nil, drop-drop, take-append-le, drop-append-le}
@@ -9,7 +9,7 @@ use Rattle.dccp_io.specs.Fronts.{GivesAtMost}
 use Rattle.tool_output.specs.Ends.{HasBegun, IsCutOff, IsMovedOut}
 use Rattle.tool_output.specs.declared.status.Status.{Status}
 use Rattle.tool_output.specs.declared.status.Status.TheVariants as status
-use Rattle.tool_output.proofs.Ending.{answers-early, append-none, append-twice, begun-behind, begun-longer, none-left, not-both}
+use Rattle.tool_output.proofs.Ending.{answers-early, append-none, append-twice, begun-behind, begun-longer, not-both}
 use Rattle.capture_reader.proofs.Opening.{passed-ahead}
 use Rattle.bridge_records.specs.Pieces.{Goes, GoesThroughPieces, Judgement, JudgesPiece, Piece, PieceWork, Stops, Taken, by_next_piece, done_by, unended, in_front, most_piece_bytes, next_piece, piece_text, pieces_from, pieces_of, taken_by, taken_so_far, text_of_pieces, end_piece}
 use Rattle.bridge_records.specs.Turns.{LeavesText}

@@ -1,5 +1,5 @@
 -- The turns of the loop over pieces, and its ends.
-use Rattle.std.proofs.Common.{arith, ◌≡◌, refl, sym, ap, ◌∙◌, subst, inl, inr, ℕ, ◌+◌, ◌≤◌, ◌^◌, false, true, List, [], ◌++◌, length, drop, take, Option, Some, None, Result, Ok, IfSome, OnOk, OnErr}
+use Rattle.std.proofs.Common.{arith, ◌≡◌, refl, sym, ap, ◌∙◌, subst, inl, inr, ℕ, ◌+◌, ◌≤◌, false, true, List, [], ◌++◌, length, drop, Option, Some, None, Result, Ok, IfSome, OnOk, OnErr}
 use Rattle.std.proofs.lemmas.Option.{IfSome_then}
 use Rattle.std.specs.Prelude.{is_err, is_some}
 use Rattle.dccp_io.specs.Ahead.{BytesAhead, ahead_of}

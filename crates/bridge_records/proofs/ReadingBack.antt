@@ -5,9 +5,9 @@ use Rattle.std.proofs.lemmas.Bool.{le-ltb}
 use Rattle.std.proofs.lemmas.List.Elements.{All-head, All-tail}
 use Rattle.byteorder.specs.Endian.{big_bytes, big_number}
 use Rattle.byteorder.specs.Numbers.{big_number-reads_back}
-use Rattle.capture_reader.specs.Capture.{HasRecords, IsCapture, IsRecord, Opened, captured_length}
+use Rattle.capture_reader.specs.Capture.{HasRecords, IsRecord, Opened, captured_length}
 use Rattle.capture_reader.specs.Format.{opened}
-use Rattle.capture_reader.specs.Records.{RecordParts, captured}
+use Rattle.capture_reader.specs.Records.{captured}
 use Rattle.capture_reader.specs.declared.format.Format.{Format}
 use Rattle.capture_reader.specs.declared.format.Order.TheVariants.{Big}
 use Rattle.capture_reader.proofs.Capture.{capture-read}

@@ -1,5 +1,5 @@
 -- What the turns of the loop over pieces do (own).
-use Rattle.std.specs.Prelude.{◌≡◌, ℕ, ◌+◌, ◌≤◌, ◌<◌, Bool, true, false, is_some, List, [], length, drop, take, Option, Some, None, IfSome, Result, Ok, Err}
+use Rattle.std.specs.Prelude.{◌≡◌, ℕ, ◌+◌, ◌≤◌, ◌<◌, Bool, true, false, List, [], length, drop, take, Option, Some, None, IfSome, Result, Ok, Err}
 use Rattle.dccp_io.specs.Ahead.{BytesAhead, ahead_of}
 use Rattle.dccp_io.specs.Counts.{Rose}
 use Rattle.seq_circle.specs.declared.memory.NoMemory as no_memory
@@ -7,7 +7,6 @@ use Rattle.tool_output.specs.Ends.{HasBegun, HasTaken, IsAnswered, IsCutOff}
 use Rattle.tool_output.specs.declared.status.Status.{Status}
 use Rattle.tool_output.specs.declared.status.Status.TheVariants as status
 use Rattle.bridge_records.specs.Pieces.{JudgesPiece, PieceWork, Stops, by_next_piece, most_piece_bytes, next_piece}
-use Rattle.bridge_records.specs.declared.pieces.fault.PieceFault.{PieceFault}
 use Rattle.bridge_records.specs.declared.pieces.turns.Turn.{Turn}
 use Rattle.bridge_records.specs.declared.pieces.turns.Turn.TheVariants as turn
 

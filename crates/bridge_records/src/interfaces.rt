@@ -1,5 +1,5 @@
 //! The interfaces of a section, and how they count time.
-ghost use Rattle.std.specs.Prelude.{◌≡◌, ◌+◌, ◌-◌, ◌*◌, ◌/◌, ◌%◌, ◌^◌, ◌≤◌, ◌<◌, length, IfSome};
+ghost use Rattle.std.specs.Prelude.{◌≡◌, ◌+◌, ◌-◌, ◌*◌, ◌/◌, ◌%◌, ◌≤◌, ◌<◌, length, IfSome};
 ghost use Rattle.bridge_records.specs.Interfaces as spec;
 ghost use Rattle.bridge_records.specs.Interfaces.{link_in, needs_nanos, units_of, seconds_of, nanos_of, fraction_of};
 

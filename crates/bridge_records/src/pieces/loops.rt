@@ -1,6 +1,5 @@
 //! The loop over the pieces of an input.
 ghost use Rattle.std.specs.Prelude.{◌≡◌, ◌≢◌, ℕ, ◌++◌, List, [], is_some, Some, IfSome};
-ghost use Rattle.dccp_io.specs.Ahead.{ahead_of};
 ghost use Rattle.dccp_io.specs.Counts.{Rose};
 ghost use Rattle.tool_output.specs.Ends.{EndsForCause, SinkFails};
 ghost use Rattle.bridge_records.specs.Pieces.{GoesThroughPieces};
