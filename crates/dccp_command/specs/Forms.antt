@@ -3,7 +3,7 @@ use Rattle.std.specs.Prelude.{◌≡◌, ℕ, Bool, true, false, List, Option, S
 use Rattle.std.specs.declared.alloc.Global.{Global}
 use Rattle.dccp_command.specs.CampaignText.{campaign_text}
 use Rattle.tool_jobs.specs.Transcript.{transcript, is_refused, accepted_bytes}
-use Rattle.tool_jobs.specs.Replay.{replay_text, replay_refused, replay_accepted}
+use Rattle.tool_jobs.specs.Bare.{replay_text, replay_refused, replay_accepted}
 use Rattle.tool_jobs.specs.Buffered.{buffered_text, buffered_refused, buffered_accepted}
 use Rattle.tool_jobs.specs.Listen.{listen_text, listen_refused, listen_accepted}
 use Rattle.tool_show.specs.CaptureText.{capture_text, is_faulty, records_end}

@@ -2,6 +2,7 @@ pub mod Text
 pub mod EndLines
 pub mod Ends
 pub mod Replay
+pub mod Bare
 pub mod Buffered
 pub mod WorldLines
 pub mod Scenes

@@ -1,7 +1,8 @@
 //! `replay`: an input's frames, handed to one end, and the lines of what the end did (own).
 
+mod bare;
 mod buffered;
-mod replay;
+mod player;
 mod replaying;
 
 pub use crate::replay::replaying::{replay_at_buffer, replay_frames};

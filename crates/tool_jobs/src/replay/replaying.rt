@@ -1,15 +1,15 @@
 //! `replay`: an input's frames, handed to one end.
 ghost use Rattle.std.specs.Prelude.{◌≡◌, ◌≢◌, ◌≤◌, ℕ, List, Some};
 ghost use Rattle.dccp_io.specs.Counts.{Rose};
-ghost use Rattle.tool_jobs.specs.Replay.{replay_text, replay_refused, replay_accepted};
+ghost use Rattle.tool_jobs.specs.Bare.{replay_text, replay_refused, replay_accepted};
 ghost use Rattle.tool_jobs.specs.Buffered.{buffered_accepted, buffered_refused, buffered_text};
 ghost use Rattle.tool_output.specs.Ends.{Answers, SinkFails, StopsWithin, EndsForCause};
 
-use crate::replay::buffered::BufferedReplay;
-use crate::replay::replay::Player;
+use crate::replay::bare::bare_end;
+use crate::replay::buffered::buffered_end;
+use crate::replay::player::replay_at;
 use dccp_io::{Sink, Source};
 use std::alloc::Global;
-use tool_lines::run_lines;
 use tool_output::Status;
 use world_events::Side;
 
@@ -32,11 +32,10 @@ pub fn replay_frames<S: Source, K: Sink>(
         → StopsWithin 16384 (replay_accepted side plain bytes) bytes result (S.left input.new) }
     ensures cause { EndsForCause result (Rose (S.faults input.old) (S.faults input.new)) (SinkFails K.faults K.empty_takes output.old output.new) }
 {
-    let mut text = Vec::new(alloc);
-    let Ok(mut replay) = Player::begin(alloc, side, plain, &mut text) else {
+    let Ok(end) = bare_end(alloc, side, plain) else {
         return Status::Memory;
     };
-    run_lines(alloc, &mut replay, &mut text, input, output)
+    replay_at(alloc, side, end, input, output)
 }
 
 /// The same at an end with a receive buffer for so many packets, 1 to 1,024, of which an application reads (own). A
@@ -60,9 +59,8 @@ pub fn replay_at_buffer<S: Source, K: Sink>(
         → StopsWithin 16384 (buffered_accepted side plain capacity bytes) bytes result (S.left input.new) }
     ensures cause { EndsForCause result (Rose (S.faults input.old) (S.faults input.new)) (SinkFails K.faults K.empty_takes output.old output.new) }
 {
-    let mut text = Vec::new(alloc);
-    let Ok(mut replay) = BufferedReplay::begin(alloc, side, plain, capacity, &mut text) else {
+    let Ok(end) = buffered_end(alloc, side, plain, capacity) else {
         return Status::Memory;
     };
-    run_lines(alloc, &mut replay, &mut text, input, output)
+    replay_at(alloc, side, end, input, output)
 }

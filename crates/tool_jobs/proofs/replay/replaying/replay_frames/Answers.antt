@@ -1,13 +1,21 @@
--- How far the input was read, from where the replay begins.
+-- What was written and how far the input was read, from where the end begins.
 use Rattle.std.proofs.Common.{subst}
-use Rattle.tool_lines.specs.Jobs.{gone_through}
-use Rattle.tool_output.specs.Ends.{StopsWithin}
-use Rattle.tool_jobs.specs.Replay.{replay_job}
-use Rattle.tool_jobs.specs.declared.replay.replay.Replay.{Replay}
+use Rattle.std.specs.Prelude.{is_some}
+use Rattle.ccid_two.specs.Kinds.{Both}
+use Rattle.dccp_endpoint.specs.Controlled.{End}
+use Rattle.tool_output.specs.Ends.{Answers, StopsWithin}
+use Rattle.tool_jobs.specs.Bare.{bare_acts}
+use Rattle.tool_jobs.specs.Replay.{replay_of_input, text_of_replay}
 use Rattle.tool_jobs.proofs.replay.replaying.replay_frames.Goals as goal
+
+pub returns-clause-replayed : goal.returns-clause-replayed
+returns-clause-replayed g c = λ bytes told.
+    subst (λ (end : End Both). Answers (text_of_replay bare_acts c.args.side end bytes) (is_some (replay_of_input bare_acts c.args.side end bytes).refusal)
+    c.replay_at.result (g.S.Source.left c.replay_at.new.input) (g.K.Sink.taken c.args.output.now) (g.K.Sink.taken c.replay_at.new.output))
+    c.in-Ok.ensures (c.replay_at.ensures.replayed bytes told)
 
 pub returns-clause-past : goal.returns-clause-past
 returns-clause-past g c = λ bytes told.
-    subst (λ (first : Replay). StopsWithin 16384 (gone_through replay_job first bytes).accepted bytes c.run_lines.result
-    (g.S.Source.left c.run_lines.new.input))
-    c.in-Ok.ensures.value (c.run_lines.ensures.through bytes told).past
+    subst (λ (end : End Both). StopsWithin 16384 (replay_of_input bare_acts c.args.side end bytes).accepted bytes c.replay_at.result
+    (g.S.Source.left c.replay_at.new.input))
+    c.in-Ok.ensures (c.replay_at.ensures.past bytes told)

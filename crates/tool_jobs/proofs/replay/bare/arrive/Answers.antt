@@ -1,5 +1,5 @@
 use Rattle.tool_jobs.proofs.Telling.{answer_is_told}
-use Rattle.tool_jobs.proofs.replay.replay.arrive.Goals as goal
+use Rattle.tool_jobs.proofs.replay.bare.arrive.Goals as goal
 
 pub returns-clause-told : goal.returns-clause-told
 returns-clause-told c =
