@@ -1,11 +1,11 @@
 -- What each form of the second tool's words makes of the input that it reads (own).
 use Rattle.std.specs.Prelude.{◌≡◌, ℕ, Bool, true, false, List, Option, Some, String}
 use Rattle.std.specs.declared.alloc.Global.{Global}
-use Rattle.bridge_capture.specs.Capturing.{frames_capture, transcript_accepted, transcript_refused}
-use Rattle.bridge_frames.specs.Framing.{frames_pieces, frames_text, is_frames_faulty}
-use Rattle.bridge_json.specs.Telling.{is_json_faulty, json_pieces, json_text}
-use Rattle.bridge_seed.specs.Schedule.{seed_text}
-use Rattle.bridge_unwrap.specs.Unwrapping.{is_unwrapped_faulty, unwrapped_pieces, unwrapped_text}
+use Rattle.bridge_command.specs.Capturing.{frames_capture, transcript_accepted, transcript_refused}
+use Rattle.bridge_command.specs.Framing.{frames_pieces, frames_text, is_frames_faulty}
+use Rattle.bridge_command.specs.Telling.{is_json_faulty, json_pieces, json_text}
+use Rattle.bridge_command.specs.Schedule.{seed_text}
+use Rattle.bridge_command.specs.Unwrapping.{is_unwrapped_faulty, unwrapped_pieces, unwrapped_text}
 use Rattle.bridge_command.specs.Words.{asked_form}
 use Rattle.bridge_command.specs.declared.words.Form.{Form}
 use Rattle.bridge_command.specs.declared.words.Form.TheVariants as form
@@ -24,7 +24,8 @@ bridge_text (form.Seed run) bytes = seed_text run.seed run.events
 bridge_text (form.Frames asked) bytes = frames_text asked.flow asked.side bytes
 bridge_text form.Json bytes = json_text bytes
 
--- Whether a form refuses these bytes: a line of them, or a capture for its fault.
+-- Whether a form refuses these bytes: a line of them, or a capture for its fault. (Of `seed`, which reads none, the rows here
+-- and below are those of an empty input.)
 abbrev pub is_bridge_refused : Form → List ℕ → Bool
 is_bridge_refused form.Capture bytes = transcript_refused bytes
 is_bridge_refused form.Unwrap bytes = is_unwrapped_faulty bytes

@@ -20,16 +20,20 @@ asked_seed words = option_and_then (λ run. Some (form.Seed run)) (seed_run_of w
 abbrev pub asked_flow : List (String Global) → Option Form
 asked_flow words = option_and_then (λ asked. Some (form.Frames asked)) (flow_side_of words)
 
--- The form that the words have: `capture`, `unwrap`, `seed`, `frames` or `json`.
-unfoldable pub asked_form : List (String Global) → Option Form
-asked_form [] = None
-asked_form (first ∷ words) =
+-- The form that words have behind their first: `capture`, `unwrap`, `seed`, `frames` or `json`.
+unfoldable pub form_behind : String Global → List (String Global) → Option Form
+form_behind first words =
     if is_word first (codes "capture") then stands_alone form.Capture words
     else if is_word first (codes "unwrap") then stands_alone form.Unwrap words
     else if is_word first (codes "seed") then asked_seed words
     else if is_word first (codes "frames") then asked_flow words
     else if is_word first (codes "json") then stands_alone form.Json words
     else None
+
+-- The form that the words have.
+abbrev pub asked_form : List (String Global) → Option Form
+asked_form [] = None
+asked_form (first ∷ words) = form_behind first words
 
 -- the numbers of a form are within their bounds
 abbrev pub IsBridgeFormWithinBounds : Form → Type 0
@@ -40,9 +44,13 @@ IsBridgeFormWithinBounds (form.Frames asked) = IsFlowWithinBounds asked
 IsBridgeFormWithinBounds form.Json = Unit {0}
 
 -- Only the words behind `seed` and `frames` are settings.
+abbrev pub has_settings_behind : String Global → Bool
+has_settings_behind first = is_word first (codes "seed") || is_word first (codes "frames")
+
+-- Some word may be a setting.
 abbrev pub has_bridge_settings : List (String Global) → Bool
 has_bridge_settings [] = false
-has_bridge_settings (first ∷ words) = is_word first (codes "seed") || is_word first (codes "frames")
+has_bridge_settings (first ∷ words) = has_settings_behind first
 
 -- The line that answers all other words.
 abbrev pub bridge_usage : List ℕ

@@ -1,13 +1,32 @@
 //! The second tool's one call: what its words ask for, done over a source and a sink (own).
 //!
-//! It makes captures of what the tool tells, and the schedules of seeds, which it runs as `campaign` does. It opens no
-//! file, socket or clock, and reads and writes nothing but the source and the sink that it is lent.
+//! It makes captures of what the tool tells, lines and objects of captures, and the schedules of seeds, which it runs as
+//! `campaign` does. It opens no file, socket or clock, and reads and writes nothing but the source and the sink that it
+//! is lent.
 #![tactic(auto)]
 
+mod capture;
+mod frames;
+mod json;
+mod seed;
 mod top;
+mod unwrap;
 mod words;
 
+pub use crate::capture::{
+    a_capture_has_each_frame, a_frame_stands_in_its_record, a_refusal_is_no_record,
+    addresses_are_the_usual_ones,
+};
+pub use crate::frames::{
+    a_frame_is_its_packet, acknowledgements_keep_their_distance, each_packet_reads_back,
+    lines_read_back,
+};
+pub use crate::json::{
+    each_record_is_told, each_record_told_is_unwrapped, what_show_shows_is_told,
+};
+pub use crate::seed::a_schedule_is_the_run_of_its_seed;
 pub use crate::top::bridge;
+pub use crate::unwrap::{each_record_is_unwrapped, what_show_shows_stays};
 pub use crate::words::{Form, USAGE, form_of};
 pub use tool_forms::{FlowSide, SeedRun};
 pub use tool_output::Status;

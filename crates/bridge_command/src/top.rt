@@ -1,17 +1,17 @@
 //! The second tool's one call: a form of its words over a source and a sink.
 ghost use Rattle.std.specs.Prelude.{◌≡◌, ◌≢◌, ◌⊎◌, [], Some, None, false, true};
 ghost use Rattle.dccp_io.specs.Counts.{Rose};
-ghost use Rattle.bridge_seed.specs.Schedule.{seed_text};
+ghost use Rattle.bridge_command.specs.Schedule.{seed_text};
 ghost use Rattle.bridge_command.specs.Forms.{OnBridgeInput, OnBridgeRead, bridge_accepted, bridge_reads_past, bridge_text, has_input, is_bridge_refused};
 ghost use Rattle.bridge_command.specs.Words.{IsBridgeFormWithinBounds, OnSeed, asked_form, bridge_usage, has_bridge_settings};
 ghost use Rattle.tool_output.specs.Ends.{SinkFails, IsWritten, Answers, StopsWithin, EndsForCause};
 
+use crate::capture::capture_frames;
+use crate::frames::frame_flow;
+use crate::json::json_records;
+use crate::seed::tell_seed;
+use crate::unwrap::unwrap_capture;
 use crate::words::{Form, USAGE, form_of};
-use bridge_capture::capture_frames;
-use bridge_frames::frame_flow;
-use bridge_json::json_records;
-use bridge_seed::tell_seed;
-use bridge_unwrap::unwrap_capture;
 use dccp_io::{Sink, Source, write_all};
 use std::alloc::Global;
 use tool_output::Status;

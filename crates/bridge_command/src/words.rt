@@ -1,6 +1,6 @@
 //! What the words after the program's name ask for.
 ghost use Rattle.std.specs.Prelude.{◌≡◌, IfOk, IfSome, IsOk, false};
-ghost use Rattle.bridge_command.specs.Words.{IsBridgeFormWithinBounds, asked_flow, asked_form, asked_seed, has_bridge_settings, stands_alone};
+ghost use Rattle.bridge_command.specs.Words.{IsBridgeFormWithinBounds, asked_flow, asked_form, asked_seed, form_behind, has_bridge_settings, has_settings_behind, stands_alone};
 
 use seq_circle::NoMemory;
 use std::alloc::Global;
@@ -56,21 +56,41 @@ fn asked_flow(alloc: Global, words: &[String]) -> Result<Option<Form>, NoMemory>
     }
 }
 
+// The job that the words behind their first ask for.
+#[tactic(auto, unfolding(crate::specs::Words::form_behind))]
+fn form_behind(alloc: Global, first: &String, words: &[String]) -> Result<Option<Form>, NoMemory>
+    ensures value { IfOk result (λ form. form ≡ form_behind first.now words.now) }
+    ensures within { IfOk result (λ form. IfSome form IsBridgeFormWithinBounds) }
+    ensures memory { has_settings_behind first.now ≡ false → IsOk result }
+{
+    if is_word(first, b"capture") {
+        return Ok(stands_alone(Form::Capture, words));
+    }
+    if is_word(first, b"unwrap") {
+        return Ok(stands_alone(Form::Unwrap, words));
+    }
+    if is_word(first, b"seed") {
+        return asked_seed(alloc, words);
+    }
+    if is_word(first, b"frames") {
+        return asked_flow(alloc, words);
+    }
+    if is_word(first, b"json") {
+        return Ok(stands_alone(Form::Json, words));
+    }
+    Ok(None)
+}
+
 /// The job that these words ask for, those after the program's name, or None where they are none of the forms (own).
 /// NoMemory comes only for words behind `seed` and `frames`, whose settings are read by a command of `clap`, and then
 /// says nothing of them.
-#[tactic(auto, unfolding(crate::specs::Words::asked_form))]
 pub fn form_of(alloc: Global, words: &[String]) -> Result<Option<Form>, NoMemory>
     ensures value { IfOk result (λ form. form ≡ asked_form words.now) }
     ensures within { IfOk result (λ form. IfSome form IsBridgeFormWithinBounds) }
     ensures memory { has_bridge_settings words.now ≡ false → IsOk result }
 {
     match words {
-        [first, words @ ..] if is_word(first, b"capture") => Ok(stands_alone(Form::Capture, words)),
-        [first, words @ ..] if is_word(first, b"unwrap") => Ok(stands_alone(Form::Unwrap, words)),
-        [first, words @ ..] if is_word(first, b"seed") => asked_seed(alloc, words),
-        [first, words @ ..] if is_word(first, b"frames") => asked_flow(alloc, words),
-        [first, words @ ..] if is_word(first, b"json") => Ok(stands_alone(Form::Json, words)),
-        _ => Ok(None),
+        [first, words @ ..] => form_behind(alloc, first, words),
+        [] => Ok(None),
     }
 }

@@ -13,20 +13,29 @@ use Rattle.capture_reader.specs.declared.format.Format.{Format}
 use Rattle.capture_reader.specs.declared.format.Order.{Order}
 use Rattle.capture_reader.specs.declared.format.Order.TheVariants.{Big, Little}
 use Rattle.capture_reader.proofs.Capture.{read-capture}
-use Rattle.capture_writer.specs.declared.headers.RecordHeader.{RecordHeader}
-use Rattle.bridge_pieces.specs.Pieces.{Goes, GoesThroughPieces, Judgement, PieceNext, PieceWork, Taken, by_next_piece, done_by, in_front, pieces_from, taken_by}
-use Rattle.bridge_pieces.proofs.Along.{piece-there}
-use Rattle.bridge_pieces.proofs.FirstPiece.{pieces-cut}
-use Rattle.bridge_pieces.specs.declared.fault.PieceFault.{PieceFault}
+use Rattle.bridge_records.specs.declared.writing.headers.RecordHeader.{RecordHeader}
+use Rattle.bridge_records.specs.Pieces.{Goes, GoesThroughPieces, Judgement, PieceNext, PieceWork, Taken, by_next_piece, done_by, in_front, pieces_from, taken_by}
+use Rattle.bridge_records.proofs.Along.{piece-there}
+use Rattle.bridge_records.proofs.FirstPiece.{pieces-cut}
+use Rattle.bridge_records.specs.declared.pieces.fault.PieceFault.{PieceFault}
 use Rattle.tool_output.specs.declared.status.Status.{Status}
 use Rattle.dccp_io.specs.Counts.{one_more}
 use Rattle.bridge_records.specs.Blocks.{section_block, section_order}
 use Rattle.bridge_records.specs.Classic.{any_format, head_in}
 use Rattle.bridge_records.specs.Reading.{FileState, by_format, by_header, by_section, by_start, first_file}
-use Rattle.bridge_records.specs.Recording.{RecordWork, RecordsState, by_judged, deeds_along, deeds_from, first_reading, numbered_entry, reading_at, records_of, records_work}
+use Rattle.bridge_records.specs.Recording.{RecordWork, RecordsState, by_judged, first_reading, numbered_entry, reading_at, records_of, records_work}
 use Rattle.bridge_records.specs.declared.reading.Place.{Place}
 use Rattle.bridge_records.specs.declared.reading.Place.TheVariants as place
 use Rattle.bridge_records.proofs.Opening.{IsTaken, header-taken}
+
+-- what a job does with these records, one behind the other
+abbrev pub deeds_along : {P V : Type 0} → RecordWork P V → V → List RecordParts → List P
+deeds_along work job [] = []
+deeds_along work job (entry ∷ entries) = done_by (work.passed job entry).deed ++ deeds_along work (work.passed job entry).next entries
+
+-- what it does with a capture of them, whose fractions are nanoseconds or microseconds
+abbrev pub deeds_from : {P V : Type 0} → RecordWork P V → V → Bool → List RecordParts → List P
+deeds_from work first nanos entries = done_by (work.begun first nanos).deed ++ deeds_along work (work.begun first nanos).next entries
 
 -- where a job begins may be said otherwise
 module _ {P V : Type 0} (job : PieceWork P V) where

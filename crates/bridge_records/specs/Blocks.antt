@@ -4,8 +4,8 @@ use Rattle.std.specs.Prelude.{ℕ, ◌+◌, ◌-◌, ◌%◌, ◌&&◌, ◌||◌
 use Rattle.capture_reader.specs.Format.{ordered_number_at}
 use Rattle.capture_reader.specs.declared.format.Order.{Order}
 use Rattle.capture_reader.specs.declared.format.Order.TheVariants.{Big, Little}
-use Rattle.bridge_pieces.specs.declared.fault.PieceFault.{PieceFault}
-use Rattle.bridge_pieces.specs.declared.fault.PieceFault.TheVariants as why
+use Rattle.bridge_records.specs.declared.pieces.fault.PieceFault.{PieceFault}
+use Rattle.bridge_records.specs.declared.pieces.fault.PieceFault.TheVariants as why
 use Rattle.bridge_records.specs.declared.blocks.BlockHead.{BlockHead}
 
 -- 0a0d0d0a: the first block of a section, which reads alike in either byte order

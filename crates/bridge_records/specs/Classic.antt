@@ -4,9 +4,9 @@ use Rattle.capture_reader.specs.Format.{is_version, magic_in, microseconds, nano
 use Rattle.capture_reader.specs.declared.format.Format.{Format}
 use Rattle.capture_reader.specs.declared.format.Order.{Order}
 use Rattle.capture_reader.specs.declared.format.Order.TheVariants.{Big, Little}
-use Rattle.capture_writer.specs.declared.headers.RecordHeader.{RecordHeader}
-use Rattle.bridge_pieces.specs.declared.fault.PieceFault.{PieceFault}
-use Rattle.bridge_pieces.specs.declared.fault.PieceFault.TheVariants as why
+use Rattle.bridge_records.specs.declared.writing.headers.RecordHeader.{RecordHeader}
+use Rattle.bridge_records.specs.declared.pieces.fault.PieceFault.{PieceFault}
+use Rattle.bridge_records.specs.declared.pieces.fault.PieceFault.TheVariants as why
 
 -- the link types: 0 and 108 begin with an address family, 1 is Ethernet, 12 and 101 are raw IP, 113 and 276 those of
 -- the "any" device of Linux, 228 is IPv4 and 229 IPv6

@@ -4,3 +4,6 @@ pub mod Interfaces
 pub mod Packets
 pub mod Reading
 pub mod Recording
+pub mod Writing
+pub mod Pieces
+pub mod Turns

@@ -5,10 +5,10 @@ use Rattle.capture_reader.specs.Format.{ordered_number_at}
 use Rattle.capture_reader.specs.declared.format.Format.{Format}
 use Rattle.capture_reader.specs.declared.format.Order.{Order}
 use Rattle.capture_reader.specs.declared.format.Order.TheVariants.{Big}
-use Rattle.capture_writer.specs.declared.headers.RecordHeader.{RecordHeader}
-use Rattle.bridge_pieces.specs.Pieces.{Goes, Judgement, Stops}
-use Rattle.bridge_pieces.specs.declared.fault.PieceFault.{PieceFault}
-use Rattle.bridge_pieces.specs.declared.fault.PieceFault.TheVariants as why
+use Rattle.bridge_records.specs.declared.writing.headers.RecordHeader.{RecordHeader}
+use Rattle.bridge_records.specs.Pieces.{Goes, Judgement, Stops}
+use Rattle.bridge_records.specs.declared.pieces.fault.PieceFault.{PieceFault}
+use Rattle.bridge_records.specs.declared.pieces.fault.PieceFault.TheVariants as why
 use Rattle.bridge_records.specs.Classic.{any_format, head_in}
 use Rattle.bridge_records.specs.Blocks.{block_head, block_order, ends_block, enhanced_block, interface_block, is_read_block, is_section_version, length_fault, section_block, section_order, simple_block}
 use Rattle.bridge_records.specs.Interfaces.{interface_of, needs_nanos}

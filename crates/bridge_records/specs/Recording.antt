@@ -1,9 +1,9 @@
 -- What a job makes of the records of a capture, classic or pcapng (own).
-use Rattle.std.specs.Prelude.{ℕ, Bool, false, List, [], ◌∷◌, ◌++◌, Option, Some, None}
+use Rattle.std.specs.Prelude.{ℕ, Bool, false, List, Option, Some, None}
 use Rattle.capture_reader.specs.Records.{RecordParts}
-use Rattle.capture_writer.specs.declared.headers.RecordHeader.{RecordHeader}
-use Rattle.bridge_pieces.specs.Pieces.{Goes, Judgement, PieceWork, Stops, Taken, done_by, pieces_of}
-use Rattle.bridge_pieces.specs.declared.fault.PieceFault.{PieceFault}
+use Rattle.bridge_records.specs.declared.writing.headers.RecordHeader.{RecordHeader}
+use Rattle.bridge_records.specs.Pieces.{Goes, Judgement, PieceWork, Stops, Taken, pieces_of}
+use Rattle.bridge_records.specs.declared.pieces.fault.PieceFault.{PieceFault}
 use Rattle.bridge_records.specs.Reading.{FileState, bytes_held, file_judged, first_file, is_between, is_untold, next_length}
 use Rattle.bridge_records.specs.declared.found.Found.{Found}
 use Rattle.bridge_records.specs.declared.found.Found.TheVariants as found
@@ -78,12 +78,3 @@ records_work work = record {
 -- What the records of an input come to, from the job's first state.
 abbrev pub records_of : {P V : Type 0} → RecordWork P V → V → List ℕ → Taken P (RecordsState V)
 records_of work first input = pieces_of (records_work work) (first_reading first) input
-
--- what a job does with these records, one behind the other
-abbrev pub deeds_along : {P V : Type 0} → RecordWork P V → V → List RecordParts → List P
-deeds_along work job [] = []
-deeds_along work job (entry ∷ entries) = done_by (work.passed job entry).deed ++ deeds_along work (work.passed job entry).next entries
-
--- what it does with a capture of them, whose fractions are nanoseconds or microseconds
-abbrev pub deeds_from : {P V : Type 0} → RecordWork P V → V → Bool → List RecordParts → List P
-deeds_from work first nanos entries = done_by (work.begun first nanos).deed ++ deeds_along work (work.begun first nanos).next entries

@@ -3,7 +3,7 @@ ghost use Rattle.std.specs.Prelude.{◌≡◌, ◌+◌, ◌%◌, ◌≤◌, leng
 ghost use Rattle.bridge_records.specs.Blocks as spec;
 
 use crate::numbers::{read_u16, read_u32};
-use bridge_pieces::PieceFault;
+use crate::pieces::PieceFault;
 use capture_reader::Order;
 
 /// What the first twelve bytes of a block say.

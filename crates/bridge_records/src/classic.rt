@@ -3,13 +3,9 @@ ghost use Rattle.std.specs.Prelude.{◌≡◌, ◌≤◌, length};
 ghost use Rattle.bridge_records.specs.Classic as spec;
 
 use crate::numbers::{read_u16, read_u32};
-use bridge_pieces::PieceFault;
+use crate::pieces::PieceFault;
+use crate::writing::{MICROSECONDS, NANOSECONDS, RecordHeader};
 use capture_reader::{Format, Order};
-use capture_writer::RecordHeader;
-
-const MICROSECONDS: u32 = 0xa1b2_c3d4;
-
-const NANOSECONDS: u32 = 0xa1b2_3c4d;
 
 /// The link types whose records may carry IP.
 pub(crate) fn is_known_link(link: u32) -> bool

@@ -1,5 +1,5 @@
 //! What a piece of a capture holds.
-use capture_writer::RecordHeader;
+use crate::writing::RecordHeader;
 
 /// What a piece of a capture holds (own).
 #[derive(Clone, Copy, Debug, PartialEq, Eq)]

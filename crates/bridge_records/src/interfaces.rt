@@ -1,11 +1,11 @@
 //! The interfaces of a section, and how they count time.
-ghost use Rattle.std.specs.Prelude.{◌≡◌, ◌+◌, ◌-◌, ◌*◌, ◌/◌, ◌%◌, ◌^◌, ◌≤◌, ◌<◌, length, IfSome};
+ghost use Rattle.std.specs.Prelude.{◌≡◌, ◌+◌, ◌-◌, ◌*◌, ◌/◌, ◌%◌, ◌≤◌, ◌<◌, length, IfSome};
 ghost use Rattle.bridge_records.specs.Interfaces as spec;
 ghost use Rattle.bridge_records.specs.Interfaces.{link_in, needs_nanos, units_of, seconds_of, nanos_of, fraction_of};
 
 use crate::classic::is_known_link;
 use crate::numbers::{read_u16, read_u32, read_u64};
-use bridge_pieces::PieceFault;
+use crate::pieces::PieceFault;
 use capture_reader::{Order, behind};
 
 /// An interface of a section.

@@ -4,8 +4,8 @@ ghost use Rattle.bridge_records.specs.Packets as spec;
 
 use crate::interfaces::{Interface, fraction_of, seconds_of, units_of};
 use crate::numbers::read_u32;
+use crate::writing::RecordHeader;
 use capture_reader::Order;
-use capture_writer::RecordHeader;
 
 // The time of a packet, in units of its interface.
 fn ticks_in(order: Order, bytes: &[u8]) -> u64

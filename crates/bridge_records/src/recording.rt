@@ -1,6 +1,6 @@
 //! A job over the records of a capture.
 ghost use Rattle.std.specs.Prelude.{◌≡◌, ◌≢◌, ◌+◌, ◌≤◌, ◌++◌, ℕ, List, length, OnOk, Some};
-ghost use Rattle.bridge_pieces.specs.Pieces.{GoesThroughPieces, piece_text};
+ghost use Rattle.bridge_records.specs.Pieces.{GoesThroughPieces, piece_text};
 ghost use Rattle.capture_reader.specs.Records.{entry_of};
 ghost use Rattle.dccp_io.specs.Counts.{Rose, one_more};
 ghost use Rattle.tool_output.specs.Ends.{EndsForCause, SinkFails};
@@ -8,10 +8,10 @@ ghost use Rattle.bridge_records.specs.Reading.{bytes_held};
 ghost use Rattle.bridge_records.specs.Recording.{RecordWork, first_reading, held_passed, numbered_entry, reading_at, records_work};
 
 use crate::found::Found;
+use crate::pieces::{PieceFault, PieceJob, run_pieces};
 use crate::reading::CaptureFile;
-use bridge_pieces::{PieceFault, PieceJob, run_pieces};
+use crate::writing::RecordHeader;
 use capture_reader::Record;
-use capture_writer::RecordHeader;
 use dccp_io::{Sink, Source};
 use seq_circle::NoMemory;
 use std::alloc::Global;

@@ -1,4 +1,0 @@
-pub mod Capturing
-pub mod Lines
-pub mod Reading
-pub mod Records

@@ -1,0 +1,66 @@
+-- `unwrap` and `json` go through a capture side by side: where the one makes a record, the other tells it.
+use Rattle.std.proofs.Common.{◌≡◌, refl, ap, Bool, false, ℕ, zero, suc, ◌+◌, ◌-◌, List, [], ◌∷◌, map, Some, None}
+use Rattle.capture_reader.specs.Records.{RecordParts}
+use Rattle.bridge_records.specs.Writing.{RawRecord}
+use Rattle.bridge_records.specs.Pieces.{Goes, Judgement, Piece, PieceEnd, PieceNext, PieceWrong, Stops, Taken, by_next_piece, next_piece, pieces_from, taken_by}
+use Rattle.bridge_records.specs.Reading.{FileState, bytes_held, file_judged, first_file, next_length}
+use Rattle.bridge_records.specs.Recording.{RecordsState, by_judged, numbered_entry, reading_at, records_work}
+use Rattle.bridge_records.specs.declared.found.Found.{Found}
+use Rattle.bridge_records.specs.declared.found.Found.TheVariants as found
+use Rattle.bridge_command.specs.Unwrapping.{CapturePart, records_among, unwrap_work, unwrapped_entry, unwrapped_pieces}
+use Rattle.bridge_command.specs.Telling.{json_pieces, json_work}
+use Rattle.dccp_io.specs.Counts.{one_more}
+
+-- where reading stands, of either
+abbrev State : Type 0
+State = RecordsState (Unit {0})
+
+abbrev at : FileState → Bool → ℕ → State
+at file nanos n = reading_at file nanos n tt
+
+-- the records that were made are those that were told, and both end alike
+record AreSame (made : Taken CapturePart State) (told : Taken RecordParts State) : Type 0 where
+  records : records_among made.deeds ≡ map unwrapped_entry told.deeds
+  refusal : made.refusal ≡ told.refusal
+
+module _ (file : FileState) (nanos : Bool) (n given : ℕ) (made : State → Taken CapturePart State) (told : State → Taken RecordParts State)
+    (later : (next : FileState) (nanos : Bool) (n : ℕ) → AreSame (made (at next nanos n)) (told (at next nanos n))) where
+  -- what a piece holds
+  abbrev both : Judgement CapturePart State → Judgement RecordParts State → Type 0
+  both one other = AreSame (taken_by (at file nanos n) given one made) (taken_by (at file nanos n) given other told)
+
+  judged-same : (piece : List ℕ) (judged : Judgement Found FileState)
+      → both (by_judged unwrap_work (at file nanos n) piece judged) (by_judged json_work (at file nanos n) piece judged)
+  judged-same piece (Stops fault) = record { records = refl; refusal = refl }
+  judged-same piece (Goes None next) = later next nanos n
+  judged-same piece (Goes (Some (found.Begins other)) next) =
+      let more = later next other n in record { records = more.records; refusal = more.refusal }
+  judged-same piece (Goes (Some (found.Holds link head start)) next) =
+      let more = later next nanos (one_more n) in
+      let entry : RecordParts = numbered_entry (one_more n) nanos link head (bytes_held head start piece) in
+      record { records = ap (λ (all : List RawRecord). unwrapped_entry entry ∷ all) more.records; refusal = more.refusal }
+
+  -- what stands next
+  next-same : (next : PieceNext)
+      → both (by_next_piece (records_work unwrap_work) (at file nanos n) next) (by_next_piece (records_work json_work) (at file nanos n) next)
+  next-same PieceEnd = later file nanos n
+  next-same (Piece piece) = judged-same piece (file_judged file piece)
+  next-same (PieceWrong why) = record { records = refl; refusal = refl }
+
+all-same : (skip given : ℕ) (file : FileState) (nanos : Bool) (n : ℕ) (bytes : List ℕ)
+    → AreSame (pieces_from (records_work unwrap_work) skip (at file nanos n) given bytes)
+    (pieces_from (records_work json_work) skip (at file nanos n) given bytes)
+all-same skip given file nanos n [] = record { records = refl; refusal = refl }
+all-same (suc skip) given file nanos n (byte ∷ bytes) = all-same skip given file nanos n bytes
+all-same zero given file nanos n (byte ∷ bytes) =
+    next-same file nanos n given
+    (λ next. pieces_from (records_work unwrap_work) (next_length file.place - 1) next (given + next_length file.place) bytes)
+    (λ next. pieces_from (records_work json_work) (next_length file.place - 1) next (given + next_length file.place) bytes)
+    (λ next other m. all-same (next_length file.place - 1) (given + next_length file.place) next other m bytes)
+    (next_piece (records_work unwrap_work) (at file nanos n) given (byte ∷ bytes))
+
+pub told-and-unwrapped : (input : List ℕ)
+    → (records_among (unwrapped_pieces input).deeds ≡ map unwrapped_entry (json_pieces input).deeds)
+    × ((unwrapped_pieces input).refusal ≡ (json_pieces input).refusal)
+told-and-unwrapped input =
+    let same = all-same 0 0 first_file false 0 input in (same.records, same.refusal)

@@ -1,0 +1,5 @@
+-- How far the input was read.
+use Rattle.bridge_command.proofs.unwrap.unwrapping.unwrap_capture.Goals as goal
+
+pub returns-clause-past : goal.returns-clause-past
+returns-clause-past g c = λ bytes told. (c.run_records.ensures.through bytes told).past

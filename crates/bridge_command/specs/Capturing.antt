@@ -1,0 +1,51 @@
+-- What `capture` writes of a transcript: a capture with a record for each frame that was sent (own).
+use Rattle.std.specs.Prelude.{ℕ, Bool, false, is_some, List, [], ◌++◌, Option, Some, None, Result, Ok, Err}
+use Rattle.bridge_records.specs.Writing.{file_header, raw_record}
+use Rattle.tool_lines.specs.Jobs.{Accepted, Gone, Job, Refused, Verdict, gone_through, text_of_job}
+use Rattle.tool_words.specs.declared.faults.LineFault.{LineFault}
+use Rattle.world_events.specs.declared.event.Side.{Side}
+use Rattle.bridge_command.specs.declared.capture.capturing.Clock.{Clock}
+use Rattle.bridge_command.specs.declared.capture.lines.Told.{Told}
+use Rattle.bridge_command.specs.declared.capture.lines.Told.TheVariants as told
+use Rattle.bridge_command.specs.TranscriptLines.{told_of_line}
+use Rattle.bridge_command.specs.FrameRecords.{TimedFrame, frame_record}
+
+-- before the first line
+abbrev pub first_clock : Clock
+first_clock = record { seconds = 0 }
+
+-- a frame that is sent at this time
+abbrev pub timed : Clock → Side → List ℕ → TimedFrame
+timed clock from frame = record { seconds = clock.seconds; from = from; frame = frame }
+
+-- A line with a number sets the time, one with a frame has its record, and any other does nothing.
+abbrev pub by_told : Clock → Result (Option Told) LineFault → Verdict TimedFrame Clock
+by_told clock (Err fault) = Refused fault
+by_told clock (Ok None) = Accepted None clock
+by_told clock (Ok (Some told.Other)) = Accepted None clock
+by_told clock (Ok (Some (told.Number number))) = Accepted None (record { seconds = number })
+by_told clock (Ok (Some (told.Sent from frame))) = Accepted (Some (timed clock from frame)) clock
+
+-- A line of a transcript, without its newline.
+unfoldable pub transcript_judged : Clock → ℕ → List ℕ → Verdict TimedFrame Clock
+transcript_judged clock number line = by_told clock (told_of_line line)
+
+-- What `capture` makes of the lines: a frame's text is its record, and nothing stands behind the last.
+abbrev pub capture_job : Job TimedFrame Clock
+capture_job = record { judged = transcript_judged; told = λ f. raw_record (frame_record f); ending = λ clock. [] }
+
+-- what the lines of a transcript come to
+abbrev pub transcript_gone : List ℕ → Gone TimedFrame Clock
+transcript_gone input = gone_through capture_job first_clock input
+
+-- What `capture` writes of an input: the file header, the records, and where a line is refused the line of that.
+abbrev pub frames_capture : List ℕ → List ℕ
+frames_capture input = file_header false ++ text_of_job capture_job (transcript_gone input)
+
+-- The input is refused at some line.
+abbrev pub transcript_refused : List ℕ → Bool
+transcript_refused input = is_some (transcript_gone input).refusal
+
+-- How many bytes of an input its accepted lines have, those before the first that is refused.
+abbrev pub transcript_accepted : List ℕ → ℕ
+transcript_accepted input = (transcript_gone input).accepted

@@ -1,0 +1,143 @@
+-- What `frames` makes of a capture, classic or pcapng: lines of a replay for the packets of one flow that go to one of
+-- its sides (own).
+use Rattle.std.specs.Prelude.{◌≡◌, ℕ, ◌==◌, ◌++◌, Bool, false, true, not, is_some, if◌then◌else◌, List, [], codes, Option, Some, None, Result, Ok, Err}
+use Rattle.capture_reader.specs.Records.{RecordParts}
+use Rattle.dccp_packets.specs.Grammar.{Parts, decoded}
+use Rattle.dccp_packets.specs.declared.header.Number.{Number}
+use Rattle.dccp_packets.specs.declared.header.Number.TheVariants.{Long, Short}
+use Rattle.dccp_packets.specs.declared.reading.Malformed.{Malformed}
+use Rattle.packet_show.specs.Flows.{AddressAndPort, Flow, flow_number, flow_of, from_end, same_end, with_flow}
+use Rattle.packet_show.specs.Lines.{packet_line}
+use Rattle.packet_show.specs.Network.{DatagramParts, carried}
+use Rattle.bridge_records.specs.Pieces.{Taken, text_of_pieces}
+use Rattle.bridge_records.specs.Recording.{RecordStep, RecordWork, RecordsState, records_of, records_work}
+use Rattle.bridge_command.specs.Links.{ip_bytes}
+use Rattle.bridge_command.specs.Unwrapping.{unwrap_closing}
+use Rattle.schedule_text.specs.Frames.{frame_line, read_frame}
+use Rattle.schedule_text.specs.declared.line.FrameLine.{FrameLine}
+use Rattle.world_events.specs.declared.event.Side.{Side}
+use Rattle.world_events.specs.declared.event.Side.TheVariants.{Client, Server}
+use Rattle.bridge_command.specs.Mapping.{frame_for, usual_end}
+use Rattle.bridge_command.specs.FrameLines.{comment_line, packet_frame_line, packet_frame_words}
+use Rattle.bridge_command.specs.declared.frames.framing.Framing.{Framing}
+use Rattle.bridge_command.specs.declared.frames.framing.Met.{Met}
+use Rattle.bridge_command.specs.declared.frames.mapping.NoFrame.{NoFrame}
+
+-- A packet of the flow that goes to the side: its line of `show`, and its frame, or why it has none.
+pub record FlowPacket : Type 0 where
+  pub line : List ℕ
+  pub frame : Result (List ℕ) NoFrame
+
+-- its two lines: a comment, and the frame
+abbrev pub flow_packet_text : FlowPacket → List ℕ
+flow_packet_text p = comment_line p.line ++ packet_frame_line p.frame
+
+-- the frame that its second line says, whose checksum is to be set, if it has one
+abbrev pub frame_said : Result (List ℕ) NoFrame → Option FrameLine
+frame_said (Ok bytes) = Some (frame_line true bytes)
+frame_said (Err why) = None
+
+-- `replay` reads its two lines: the first says nothing, and the second its frame, or nothing where it has none.
+pub record IsReadBack (p : FlowPacket) : Type 0 where
+  pub comment : List ℕ
+  pub is_line : comment_line p.line ≡ comment ++ codes "\n"
+  pub nothing : read_frame comment ≡ Ok None
+  pub frame : read_frame (packet_frame_words p.frame) ≡ Ok (frame_said p.frame)
+
+-- before the first record, where this flow is asked for
+abbrev pub first_framing : ℕ → Side → Framing
+first_framing flow side =
+    record { flow = flow; side = side; end = usual_end side; flows = []; met = None }
+
+-- a record as `show` finds it behind `unwrap`: raw IP
+abbrev pub record_behind : RecordParts → RecordParts
+record_behind e = record e { link = 101; bytes = ip_bytes e.link e.bytes }
+
+-- what is known of the flow at a packet that this end sent: whose packet comes first is the client
+abbrev pub met_by : Option Met → AddressAndPort → Met
+met_by (Some met) from = met
+met_by None from = record { client = from; initial = None }
+
+-- the captured end's initial number: the first of 48 bits that it sent
+abbrev pub initial_by : Option ℕ → Number → Option ℕ
+initial_by (Some initial) number = Some initial
+initial_by None (Long number) = Some number
+initial_by None (Short number) = None
+
+-- the same of the flow, once the captured end sent this number
+abbrev pub met_number : Met → Number → Met
+met_number met number = record { client = met.client; initial = initial_by met.initial number }
+
+-- a packet goes to this side where the other sent it
+abbrev pub goes_to : Side → Bool → Bool
+goes_to Client by_client = not by_client
+goes_to Server by_client = by_client
+
+-- the state with this known of the flow
+abbrev pub with_met : Framing → Met → Framing
+with_met s met = record s { met = Some met }
+
+-- the two lines of a packet that goes to the side
+abbrev pub flow_packet : Framing → Met → RecordParts → DatagramParts → Parts → FlowPacket
+flow_packet s met entry there packet =
+    record { line = packet_line entry there packet s.flow; frame = frame_for s.end met.initial packet }
+
+-- nothing is written of a record
+abbrev pub passed_over : Framing → RecordStep FlowPacket Framing
+passed_over s = record { deed = None; next = s }
+
+-- a packet that goes to the side has its lines, and of one that the captured end sent the number is noted
+abbrev pub by_direction : Framing → Met → RecordParts → DatagramParts → Parts → Bool → RecordStep FlowPacket Framing
+by_direction s met entry there packet goes =
+    if goes then record { deed = Some (flow_packet s met entry there packet); next = with_met s met }
+    else passed_over (with_met s (met_number met packet.header.number))
+
+-- the same by who sent it
+abbrev pub by_sender : Framing → RecordParts → DatagramParts → Parts → AddressAndPort → RecordStep FlowPacket Framing
+by_sender s entry there packet from =
+    by_direction s (met_by s.met from) entry there packet (goes_to s.side (same_end from (met_by s.met from).client))
+
+-- a packet of the flow that is asked for is looked at, and one of another flow isn't
+abbrev pub by_number : Framing → ℕ → RecordParts → DatagramParts → Parts → RecordStep FlowPacket Framing
+by_number s number entry there packet =
+    if number == s.flow then by_sender s entry there packet (from_end there.pseudo packet.header.from) else passed_over s
+
+-- a packet's flow is numbered as `show` numbers it
+abbrev pub by_flow : Framing → RecordParts → DatagramParts → Parts → Flow → RecordStep FlowPacket Framing
+by_flow s entry there packet flow =
+    by_number (record s { flows = with_flow flow s.flows }) (flow_number flow s.flows) entry there packet
+
+-- DCCP bytes that are no packet are passed over
+abbrev pub by_decoded : Framing → RecordParts → DatagramParts → Result Parts Malformed → RecordStep FlowPacket Framing
+by_decoded s entry there (Ok packet) = by_flow s entry there packet (flow_of there.pseudo packet.header.from packet.header.to)
+by_decoded s entry there (Err why) = passed_over s
+
+-- so is a record that carries no DCCP
+abbrev pub by_carried : Framing → RecordParts → Option DatagramParts → RecordStep FlowPacket Framing
+by_carried s entry None = passed_over s
+by_carried s entry (Some there) = by_decoded s entry there (decoded there.bytes)
+
+-- what a record comes to
+unfoldable pub framed_record : Framing → RecordParts → RecordStep FlowPacket Framing
+framed_record s entry = by_carried s entry (carried entry.link entry.bytes)
+
+-- What `frames` makes of the records of a capture. Behind the last stands nothing, or the line of the fault.
+abbrev pub frames_work : RecordWork FlowPacket Framing
+frames_work = record {
+  begun = λ s nanos. passed_over s;
+  passed = λ s e. framed_record s (record_behind e);
+  told = flow_packet_text;
+  closing = λ untold records end. unwrap_closing false records end;
+}
+
+-- what the pieces of an input come to, for this flow and side
+abbrev pub frames_pieces : ℕ → Side → List ℕ → Taken FlowPacket (RecordsState Framing)
+frames_pieces flow side input = records_of frames_work (first_framing flow side) input
+
+-- What `frames` writes of an input.
+abbrev pub frames_text : ℕ → Side → List ℕ → List ℕ
+frames_text flow side input = text_of_pieces (records_work frames_work) (frames_pieces flow side input)
+
+-- The capture has a fault.
+abbrev pub is_frames_faulty : ℕ → Side → List ℕ → Bool
+is_frames_faulty flow side input = is_some (frames_pieces flow side input).refusal

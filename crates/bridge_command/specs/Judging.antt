@@ -1,0 +1,41 @@
+-- What a record holds, as `show` finds it in the IP packet that `unwrap` makes of it (own).
+use Rattle.std.specs.Prelude.{ℕ, Bool, true, false, List, Option, Some, None, Result, Ok, Err}
+use Rattle.dccp_packets.specs.Grammar.{Parts, decoded}
+use Rattle.dccp_packets.specs.declared.reading.Malformed.{Malformed}
+use Rattle.packet_show.specs.Network.{DatagramParts, carried}
+use Rattle.packet_show.specs.declared.flows.Shown.{Shown}
+use Rattle.packet_show.specs.declared.flows.Shown.TheVariants.{Line, Skipped}
+use Rattle.bridge_command.specs.Skips.{ip_skip}
+use Rattle.bridge_command.specs.declared.json.skips.Skip.{Skip}
+use Rattle.bridge_command.specs.declared.json.skips.Skip.TheVariants as skip
+
+-- What a record holds: a packet, bytes that are none though all of them are there, or nothing that can be read.
+pub data Judged : Type 0 where
+  HoldsPacket : (there : DatagramParts) (packet : Parts) → Judged
+  HoldsMalformed : (why : Malformed) → Judged
+  HoldsNone : (why : Skip) → Judged
+
+-- bytes that are no packet, which are there to the IP length or not
+abbrev pub judged_fault : Bool → Malformed → Judged
+judged_fault true why = HoldsMalformed why
+judged_fault false why = HoldsNone skip.CutShort
+
+-- the bytes of DCCP, which may be a packet or not
+abbrev pub judged_bytes : DatagramParts → Result Parts Malformed → Judged
+judged_bytes there (Ok packet) = HoldsPacket there packet
+judged_bytes there (Err why) = judged_fault there.whole why
+
+-- these bytes, if any were found in the IP packet
+abbrev pub judged_carried : List ℕ → Option DatagramParts → Judged
+judged_carried ip None = HoldsNone (ip_skip ip)
+judged_carried ip (Some there) = judged_bytes there (decoded there.bytes)
+
+-- what an IP packet holds; link type 101 begins with IP
+abbrev pub judged_ip : List ℕ → Judged
+judged_ip ip = judged_carried ip (carried 101 ip)
+
+-- `show` has a line for what is held
+abbrev pub shown_of : Judged → Shown
+shown_of (HoldsPacket there packet) = Line
+shown_of (HoldsMalformed why) = Line
+shown_of (HoldsNone why) = Skipped

@@ -1,0 +1,80 @@
+-- What `unwrap` makes of a capture, classic or pcapng: a classic one of raw IP, a record for each record (own).
+use Rattle.std.specs.Prelude.{ℕ, ◌-◌, ◌++◌, Bool, false, is_some, if◌then◌else◌, List, [], ◌∷◌, drop, map, codes, decimal, Option, Some, None}
+use Rattle.capture_reader.specs.Records.{RecordParts}
+use Rattle.bridge_records.specs.Writing.{RawRecord, file_header, raw_record}
+use Rattle.bridge_records.specs.Pieces.{Taken, text_of_pieces}
+use Rattle.bridge_records.specs.declared.pieces.fault.PieceFault.{PieceFault}
+use Rattle.bridge_records.specs.declared.pieces.fault.PieceFault.TheVariants as why
+use Rattle.bridge_records.specs.Recording.{RecordWork, RecordsState, records_of, records_work}
+use Rattle.bridge_command.specs.Links.{ip_start}
+
+-- What the beginning of a capture or a record makes: the file header, or a record.
+pub data CapturePart : Type 0 where
+  Begins : (nanos : Bool) → CapturePart
+  Holds : (r : RawRecord) → CapturePart
+
+-- a part as it is written
+abbrev pub capture_part_text : CapturePart → List ℕ
+capture_part_text (Begins nanos) = file_header nanos
+capture_part_text (Holds r) = raw_record r
+
+-- the record of the packet that begins at this place of a record's bytes, at the same time; an empty one where there is
+-- none
+abbrev pub unwrapped_at : RecordParts → Option ℕ → RawRecord
+unwrapped_at e None = record { seconds = e.seconds; fraction = e.fraction; original = 0; bytes = [] }
+unwrapped_at e (Some start) = record { seconds = e.seconds; fraction = e.fraction; original = e.original - start; bytes = drop start e.bytes }
+
+-- the record that is made of one
+unfoldable pub unwrapped_entry : RecordParts → RawRecord
+unwrapped_entry e = unwrapped_at e (ip_start e.link e.bytes)
+
+-- what is made of such records: the file header, and a record for each
+abbrev pub unwrapped_parts : Bool → List RecordParts → List CapturePart
+unwrapped_parts nanos entries = Begins nanos ∷ map (λ e. Holds (unwrapped_entry e)) entries
+
+-- the word for why a capture is refused
+abbrev pub piece_fault_name : PieceFault → List ℕ
+piece_fault_name why.BadMagic = codes "BadMagic"
+piece_fault_name why.BadVersion = codes "BadVersion"
+piece_fault_name why.BadLink = codes "BadLink"
+piece_fault_name why.CutShort = codes "CutShort"
+piece_fault_name why.TooLong = codes "RecordTooLong"
+piece_fault_name why.BadBlock = codes "BadBlock"
+piece_fault_name why.TooLarge = codes "TooLarge"
+
+-- the file header of a capture without an interface, which has no records
+abbrev pub untold_header : Bool → List ℕ
+untold_header untold = if untold then file_header false else []
+
+-- the records among the parts of a capture
+abbrev pub records_among : List CapturePart → List RawRecord
+records_among [] = []
+records_among (Begins nanos ∷ parts) = records_among parts
+records_among (Holds r ∷ parts) = r ∷ records_among parts
+
+-- what stands behind the last record: nothing, but for a file header that was not written yet, or the line of the
+-- fault, with how many records stand before it
+abbrev pub unwrap_closing : Bool → ℕ → Option PieceFault → List ℕ
+unwrap_closing untold records None = untold_header untold
+unwrap_closing untold records (Some fault) = codes "capture " ++ piece_fault_name fault ++ codes " after " ++ codes "record " ++ decimal records ++ codes "\n"
+
+-- What `unwrap` makes of the records of a capture; it keeps nothing of them.
+abbrev pub unwrap_work : RecordWork CapturePart (Unit {0})
+unwrap_work = record {
+  begun = λ job nanos. record { deed = Some (Begins nanos); next = job };
+  passed = λ job e. record { deed = Some (Holds (unwrapped_entry e)); next = job };
+  told = capture_part_text;
+  closing = unwrap_closing;
+}
+
+-- what the pieces of an input come to
+abbrev pub unwrapped_pieces : List ℕ → Taken CapturePart (RecordsState (Unit {0}))
+unwrapped_pieces input = records_of unwrap_work tt input
+
+-- What `unwrap` writes of an input.
+abbrev pub unwrapped_text : List ℕ → List ℕ
+unwrapped_text input = text_of_pieces (records_work unwrap_work) (unwrapped_pieces input)
+
+-- The capture has a fault.
+abbrev pub is_unwrapped_faulty : List ℕ → Bool
+is_unwrapped_faulty input = is_some (unwrapped_pieces input).refusal

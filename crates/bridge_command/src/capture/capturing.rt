@@ -1,0 +1,96 @@
+//! `capture`: a job over a transcript's lines.
+ghost use Rattle.std.specs.Prelude.{◌≡◌, ◌≢◌, ℕ, List, Some};
+ghost use Rattle.dccp_io.specs.Counts.{Rose};
+ghost use Rattle.tool_output.specs.Ends.{Answers, SinkFails, StopsWithin, EndsForCause};
+ghost use Rattle.bridge_command.specs.Capturing.{first_clock, frames_capture, transcript_refused, transcript_accepted};
+
+use crate::capture::lines::{Told, told_of_line};
+use crate::capture::records::put_record;
+use bridge_records::put_file_header;
+use dccp_io::{Sink, Source};
+use seq_circle::NoMemory;
+use std::alloc::Global;
+use tool_lines::{LineJob, run_lines};
+use tool_output::Status;
+use tool_words::LineFault;
+
+/// When frames are sent: the number of the line that was answered last, as seconds.
+#[derive(Drop)]
+pub(crate) struct Clock {
+    pub(crate) seconds: u32,
+}
+
+impl Clock {
+    // Before the first line.
+    fn new() -> Clock
+        ensures { result ≡ first_clock }
+    {
+        Clock { seconds: 0 }
+    }
+}
+
+impl LineJob for Clock {
+    ghost use Rattle.std.specs.Prelude.{ℕ, ⊤};
+    ghost use Rattle.bridge_command.specs.FrameRecords.{TimedFrame};
+    ghost use Rattle.bridge_command.specs.Capturing.{capture_job};
+
+    ghost Deed = { TimedFrame };
+
+    ghost job = { capture_job };
+
+    ghost keeps = { λ clock number. ⊤ };
+
+    #[tactic(auto, unfolding(crate::specs::Capturing::transcript_judged))]
+    fn judge(
+        &mut self,
+        _alloc: Global,
+        _number: u64,
+        line: &[u8],
+        text: &mut Vec<u8>,
+    ) -> Result<Result<(), LineFault>, NoMemory> {
+        match told_of_line(line) {
+            Err(fault) => Ok(Err(fault)),
+            Ok(None) => Ok(Ok(())),
+            Ok(Some(Told::Other)) => Ok(Ok(())),
+            Ok(Some(Told::Number(number))) => {
+                self.seconds = number;
+                Ok(Ok(()))
+            }
+            Ok(Some(Told::Sent { from, frame })) => {
+                put_record(text, self.seconds, from, &frame)?;
+                Ok(Ok(()))
+            }
+        }
+    }
+
+    fn finish(&mut self, _alloc: Global, _text: &mut Vec<u8>) -> Result<(), NoMemory> {
+        Ok(())
+    }
+}
+
+/// Makes a capture of a transcript's frames (own): it reads the lines of `input` one by one, and writes to `output` a
+/// classic capture of link type 101 with a record for each line `sent NAME HEX`, in their order: an IPv4 packet between
+/// the addresses of the usual ends. Its time is the number of the line that was answered with it, in seconds. Records
+/// go out in blocks, and before more of the input is asked for. Where a line is refused, the line that says so stands
+/// behind the records; it is no record, to any reader. With status 0 or 1 the output is that of the whole input, with
+/// another a front of it. Read comes where the source failed, Write where the sink did, and Memory where no memory was
+/// left.
+pub(crate) fn capture_frames<S: Source, K: Sink>(
+    alloc: Global,
+    input: &mut S,
+    output: &mut K,
+) -> Status
+    ensures words { result ≢ Status.Words }
+    ensures captured { (bytes : List ℕ) → S.left input.old ≡ Some bytes
+        → Answers (frames_capture bytes) (transcript_refused bytes) result (S.left input.new) (K.taken output.old) (K.taken output.new) }
+    ensures past { (bytes : List ℕ) → S.left input.old ≡ Some bytes
+        → StopsWithin 16384 (transcript_accepted bytes) bytes result (S.left input.new) }
+    ensures cause { EndsForCause result (Rose (S.faults input.old) (S.faults input.new)) (SinkFails K.faults K.empty_takes output.old output.new) }
+{
+    let mut text = Vec::new(alloc);
+    if put_file_header(&mut text, false).is_err() {
+        return Status::Memory;
+    }
+    let mut clock = Clock::new();
+    run_lines(alloc, &mut clock, &mut text, input, output)
+}

@@ -1,0 +1,273 @@
+//! `frames`: a job over the records of a capture.
+ghost use Rattle.std.specs.Prelude.{◌≡◌, ◌≢◌, ◌≤◌, ◌++◌, ℕ, List, length, IsTrue, OnOk, Some};
+ghost use Rattle.bridge_records.specs.Pieces.{piece_text};
+ghost use Rattle.bridge_records.specs.Recording.{records_work};
+ghost use Rattle.capture_reader.specs.Records.{entry_of};
+ghost use Rattle.dccp_io.specs.Counts.{Rose};
+ghost use Rattle.dccp_packets.specs.Grammar.{is_valid};
+ghost use Rattle.packet_show.specs.Flows.{flow_of, from_end, same_end};
+ghost use Rattle.packet_show.specs.Lines.{parts_by};
+ghost use Rattle.packet_show.specs.Network.{carried_by};
+ghost use Rattle.tool_output.specs.Ends.{Answers, EndsForCause, SinkFails, StopsWithin};
+ghost use Rattle.bridge_command.specs.Framing as spec;
+ghost use Rattle.bridge_command.specs.Framing.{first_framing, flow_packet_text, framed_record, frames_pieces, frames_text, frames_work, is_frames_faulty};
+
+use crate::frames::lines::{put_comment, put_frame};
+use crate::frames::mapping::{UsualEnd, usual_end};
+use crate::unwrap::{ip_bytes, put_fault};
+use bridge_records::{PieceFault, RAW_IP, RecordJob, run_records};
+use capture_reader::Record;
+use dccp_io::{Sink, Source};
+use dccp_packets::{Number, Packet, decode};
+use packet_show::{Datagram, FlowEnd, Flows, carried, from_end};
+use seq_circle::{NoMemory, Seq48};
+use std::alloc::Global;
+use tool_output::Status;
+use world_events::Side;
+
+/// What is known of the flow, once a packet of it came.
+#[derive(Clone, Copy)]
+pub(crate) struct Met {
+    /// The end that sent the first packet.
+    pub(crate) client: FlowEnd,
+    /// The captured end's initial number, once it sent one of 48 bits.
+    pub(crate) initial: Option<Seq48>,
+}
+
+/// A capture while the packets of a flow are sought.
+#[derive(Drop)]
+pub(crate) struct Framing {
+    /// The number of the flow.
+    pub(crate) flow: u64,
+    /// The side that the packets go to.
+    pub(crate) side: Side,
+    /// The usual end of that side.
+    pub(crate) end: UsualEnd,
+    /// The flows that were seen.
+    pub(crate) flows: Flows,
+    /// What is known of the flow.
+    pub(crate) met: Option<Met>,
+}
+
+// The captured end's initial number, once it sent this one.
+fn initial_by(initial: Option<Seq48>, number: Number) -> Option<Seq48>
+    ensures { result ≡ spec.initial_by initial number }
+{
+    match (initial, number) {
+        (Some(initial), _) => Some(initial),
+        (None, Number::Long(number)) => Some(number),
+        (None, Number::Short(_)) => None,
+    }
+}
+
+fn met_by(met: Option<Met>, from: FlowEnd) -> Met
+    ensures { result ≡ spec.met_by met from }
+{
+    match met {
+        Some(met) => met,
+        None => Met {
+            client: from,
+            initial: None,
+        },
+    }
+}
+
+fn same_end(a: FlowEnd, b: FlowEnd) -> bool
+    ensures { result ≡ same_end a b }
+{
+    a.0 == b.0 && a.1 == b.1
+}
+
+fn goes_to(side: Side, by_client: bool) -> bool
+    ensures { result ≡ spec.goes_to side by_client }
+{
+    match side {
+        Side::Client => !by_client,
+        Side::Server => by_client,
+    }
+}
+
+// What is known of the flow, once the captured end sent this number.
+fn met_number(met: &Met, number: Number) -> Met
+    ensures { result ≡ spec.met_number met.now number }
+{
+    Met {
+        client: met.client,
+        initial: initial_by(met.initial, number),
+    }
+}
+
+// A record as `show` finds it behind `unwrap`.
+fn record_behind<'a>(record: &Record<'a>) -> Record<'a>
+    ensures { entry_of result ≡ spec.record_behind (entry_of record.now) }
+{
+    Record {
+        link: RAW_IP,
+        bytes: ip_bytes(record.link, record.bytes),
+        ..*record
+    }
+}
+
+impl Framing {
+    // Before the first record.
+    fn new(alloc: Global, flow: u64, side: Side) -> Framing
+        ensures { result ≡ first_framing flow side }
+    {
+        Framing {
+            flow,
+            side,
+            end: usual_end(side),
+            flows: Flows::new(alloc),
+            met: None,
+        }
+    }
+
+    // Puts the lines of a packet that goes to the side.
+    fn put_lines(
+        &self,
+        met: &Met,
+        record: &Record<'_>,
+        there: &Datagram<'_>,
+        packet: &Packet<'_>,
+        text: &mut Vec<u8>,
+    ) -> Result<(), NoMemory>
+        requires low { 8 ≤ length there.now.bytes.now }
+        requires high { length there.now.bytes.now ≤ 65535 }
+        requires options { length packet.now.options.now ≤ 1008 }
+        requires valid { IsTrue (is_valid packet.now.header) }
+        ensures { OnOk result (text.new.items ≡ text.old.items
+            ++ flow_packet_text (spec.flow_packet self.now met.now (entry_of record.now) (carried_by there.now) (parts_by packet.now))) }
+    {
+        put_comment(text, record, there, packet, self.flow)?;
+        put_frame(text, &self.end, met.initial, packet)
+    }
+
+    // A packet of the flow.
+    fn pass_by_sender(
+        &mut self,
+        record: &Record<'_>,
+        there: &Datagram<'_>,
+        packet: &Packet<'_>,
+        text: &mut Vec<u8>,
+    ) -> Result<(), NoMemory>
+        requires low { 8 ≤ length there.now.bytes.now }
+        requires high { length there.now.bytes.now ≤ 65535 }
+        requires options { length packet.now.options.now ≤ 1008 }
+        requires valid { IsTrue (is_valid packet.now.header) }
+        ensures text { OnOk result (text.new.items ≡ text.old.items ++ piece_text (records_work frames_work)
+            (spec.by_sender self.old (entry_of record.now) (carried_by there.now) (parts_by packet.now) (from_end there.now.pseudo packet.now.header.from)).deed) }
+        ensures next { OnOk result (self.new
+            ≡ (spec.by_sender self.old (entry_of record.now) (carried_by there.now) (parts_by packet.now) (from_end there.now.pseudo packet.now.header.from)).next) }
+    {
+        let from = from_end(&there.pseudo, packet.header.from);
+        let met = met_by(self.met, from);
+        if goes_to(self.side, same_end(from, met.client)) {
+            self.put_lines(&met, record, there, packet, text)?;
+            self.met = Some(met);
+        } else {
+            self.met = Some(met_number(&met, packet.header.number));
+        }
+        Ok(())
+    }
+
+    // A packet, whose flow is numbered.
+    fn pass_packet(
+        &mut self,
+        record: &Record<'_>,
+        there: &Datagram<'_>,
+        packet: &Packet<'_>,
+        text: &mut Vec<u8>,
+    ) -> Result<(), NoMemory>
+        requires low { 8 ≤ length there.now.bytes.now }
+        requires high { length there.now.bytes.now ≤ 65535 }
+        requires options { length packet.now.options.now ≤ 1008 }
+        requires valid { IsTrue (is_valid packet.now.header) }
+        ensures text { OnOk result (text.new.items ≡ text.old.items ++ piece_text (records_work frames_work)
+            (spec.by_flow self.old (entry_of record.now) (carried_by there.now) (parts_by packet.now) (flow_of there.now.pseudo packet.now.header.from packet.now.header.to)).deed) }
+        ensures next { OnOk result (self.new
+            ≡ (spec.by_flow self.old (entry_of record.now) (carried_by there.now) (parts_by packet.now) (flow_of there.now.pseudo packet.now.header.from packet.now.header.to)).next) }
+    {
+        let header = &packet.header;
+        let number = self.flows.number(&there.pseudo, header.from, header.to)?;
+        if number != self.flow {
+            return Ok(());
+        }
+        self.pass_by_sender(record, there, packet, text)
+    }
+
+    // A record of raw IP.
+    #[tactic(auto, unfolding(crate::specs::Framing::framed_record))]
+    fn pass_ip(&mut self, record: &Record<'_>, text: &mut Vec<u8>) -> Result<(), NoMemory>
+        ensures text { OnOk result (text.new.items ≡ text.old.items ++ piece_text (records_work frames_work) (framed_record self.old (entry_of record.now)).deed) }
+        ensures next { OnOk result (self.new ≡ (framed_record self.old (entry_of record.now)).next) }
+    {
+        let Some(there) = carried(record.link, record.bytes) else {
+            return Ok(());
+        };
+        match decode(there.bytes) {
+            Ok(packet) => self.pass_packet(record, &there, &packet, text),
+            Err(_) => Ok(()),
+        }
+    }
+}
+
+impl RecordJob for Framing {
+    ghost use Rattle.bridge_command.specs.Framing.{FlowPacket, frames_work};
+
+    ghost Deed = { FlowPacket };
+
+    ghost work = { frames_work };
+
+    fn begin(&mut self, _nanos: bool, _text: &mut Vec<u8>) -> Result<(), NoMemory> {
+        Ok(())
+    }
+
+    fn pass(&mut self, record: &Record<'_>, text: &mut Vec<u8>) -> Result<(), NoMemory> {
+        self.pass_ip(&record_behind(record), text)
+    }
+
+    fn finish(
+        &self,
+        _untold: bool,
+        records: u64,
+        end: Option<PieceFault>,
+        text: &mut Vec<u8>,
+    ) -> Result<(), NoMemory> {
+        match end {
+            None => Ok(()),
+            Some(fault) => put_fault(text, records, fault),
+        }
+    }
+}
+
+/// Makes lines of a replay of a captured flow (own): for each packet of the flow of this number, as `show` numbers
+/// flows, that goes to this side, the line that `show` has for it as a comment, and then `seal` and a frame: the packet
+/// with the ports, the Service Code and, where it acknowledges, the number that `replay`'s end of that side would find
+/// in it. An acknowledgement number is as far above that end's initial number as it was above the captured end's, which
+/// is the first number of 48 bits that this sent (RFC 4340, section 7.2); Ack Vectors count from it and stay, as
+/// sequence numbers, options and data do. Whose packet comes first in the flow is its client. A packet without a frame
+/// has a comment in its place: NumberUnknown where the captured end sent no such number before it, FrameTooLong where
+/// it has more than 2,044 bytes. Where no packet of the flow goes to the side, nothing is written. The frames show what
+/// the end answers to these packets, and no other connection.
+///
+/// The capture is one that `unwrap` takes, and its packets are found as by `show` behind `unwrap`. Input comes where it
+/// has a fault, and then its line stands behind the others. With status 0 or 1 the output is that of the whole input,
+/// with another a front of it. Read comes where the source failed, Write where the sink did, and Memory where no memory
+/// was left.
+pub(crate) fn frame_flow<S: Source, K: Sink>(
+    alloc: Global,
+    flow: u64,
+    side: Side,
+    input: &mut S,
+    output: &mut K,
+) -> Status
+    ensures words { result ≢ Status.Words }
+    ensures framed { (bytes : List ℕ) → S.left input.old ≡ Some bytes
+        → Answers (frames_text flow side bytes) (is_frames_faulty flow side bytes) result (S.left input.new) (K.taken output.old) (K.taken output.new) }
+    ensures past { (bytes : List ℕ) → S.left input.old ≡ Some bytes
+        → StopsWithin 524288 (frames_pieces flow side bytes).accepted bytes result (S.left input.new) }
+    ensures cause { EndsForCause result (Rose (S.faults input.old) (S.faults input.new)) (SinkFails K.faults K.empty_takes output.old output.new) }
+{
+    let job = Framing::new(alloc, flow, side);
+    run_records(alloc, job, input, output)
+}

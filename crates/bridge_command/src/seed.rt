@@ -1,0 +1,11 @@
+//! `seed`: the schedule of a campaign's seed, as `run` reads it (own).
+//!
+//! An event is drawn by how many frames there are, so the seed is run as `campaign` runs it, and each event is written
+//! as a line. A schedule holds all that a seed draws: its ends are the usual ones but for their initial sequence
+//! numbers, so no list and no offer is said.
+
+mod laws;
+mod telling;
+
+pub use crate::seed::laws::a_schedule_is_the_run_of_its_seed;
+pub(crate) use crate::seed::telling::tell_seed;

@@ -1,0 +1,13 @@
+//! `unwrap`: a capture of any of nine link types, classic or pcapng, as a classic one of raw IP, record for record
+//! (own).
+//!
+//! It finds the IP packet of a record behind the header of its link and up to two VLAN tags, and looks no further into
+//! it.
+
+mod laws;
+mod links;
+mod unwrapping;
+
+pub use crate::unwrap::laws::{each_record_is_unwrapped, what_show_shows_stays};
+pub(crate) use crate::unwrap::links::{ip_bytes, read_u16};
+pub(crate) use crate::unwrap::unwrapping::{fault_name, put_fault, unwrap_capture};

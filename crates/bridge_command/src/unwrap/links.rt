@@ -1,0 +1,171 @@
+//! Where the IP packet of a record begins, by the link type.
+ghost use Rattle.std.specs.Prelude.{◌≡◌, ◌+◌, ◌≤◌, ◌<◌, length, IfSome};
+ghost use Rattle.dccp_packets.specs.Grammar.{number_at};
+ghost use Rattle.bridge_command.specs.Links as spec;
+
+use byteorder::{BigEndian, ByteOrder, LittleEndian};
+
+// The types of Ethernet.
+const IPV4: u16 = 0x0800;
+
+const IPV6: u16 = 0x86dd;
+
+const VLAN: u16 = 0x8100;
+
+const SERVICE_VLAN: u16 = 0x88a8;
+
+/// The number of 16 bits that stands there, the most significant byte first.
+pub(crate) fn read_u16(bytes: &[u8], place: usize) -> u16
+    requires { place + 2 ≤ length bytes.now }
+    ensures { result ≡ number_at place 2 bytes.now }
+{
+    BigEndian::read_u16(&bytes[place..])
+}
+
+// IP of this version begins here.
+fn ip_at(version: u8, start: usize, bytes: &[u8]) -> Option<usize>
+    ensures value { result ≡ spec.ip_at version start bytes.now }
+    ensures within { IfSome result (λ n. n < length bytes.now) }
+{
+    if start < bytes.len() && bytes[start] / 16 == version {
+        return Some(start);
+    }
+    None
+}
+
+// IP of either version begins with the record.
+fn ip_at_first(bytes: &[u8]) -> Option<usize>
+    ensures value { result ≡ spec.ip_at_first bytes.now }
+    ensures within { IfSome result (λ n. n < length bytes.now) }
+{
+    match ip_at(4, 0, bytes) {
+        Some(start) => Some(start),
+        None => ip_at(6, 0, bytes),
+    }
+}
+
+// What follows here has this type.
+fn ip_of_type(kind: u16, next: usize, bytes: &[u8]) -> Option<usize>
+    ensures value { result ≡ spec.ip_of_type kind next bytes.now }
+    ensures within { IfSome result (λ n. n < length bytes.now) }
+{
+    match kind {
+        IPV4 => ip_at(4, next, bytes),
+        IPV6 => ip_at(6, next, bytes),
+        _ => None,
+    }
+}
+
+fn is_tag(kind: u16) -> bool
+    ensures { result ≡ spec.is_tag kind }
+{
+    kind == VLAN || kind == SERVICE_VLAN
+}
+
+// The same behind a tag, of whose four bytes the last two are the next type.
+fn ip_behind_tag(kind: u16, next: usize, bytes: &[u8]) -> Option<usize>
+    requires { next ≤ 64 }
+    ensures value { result ≡ spec.ip_behind_tag kind next bytes.now }
+    ensures within { IfSome result (λ n. n < length bytes.now) }
+{
+    if !is_tag(kind) {
+        return ip_of_type(kind, next, bytes);
+    }
+    if bytes.len() < next + 4 {
+        return None;
+    }
+    ip_of_type(read_u16(bytes, next + 2), next + 4, bytes)
+}
+
+// The same behind up to two tags.
+fn ip_behind_tags(kind: u16, next: usize, bytes: &[u8]) -> Option<usize>
+    requires { next ≤ 32 }
+    ensures value { result ≡ spec.ip_behind_tags kind next bytes.now }
+    ensures within { IfSome result (λ n. n < length bytes.now) }
+{
+    if !is_tag(kind) {
+        return ip_of_type(kind, next, bytes);
+    }
+    if bytes.len() < next + 4 {
+        return None;
+    }
+    ip_behind_tag(read_u16(bytes, next + 2), next + 4, bytes)
+}
+
+// The type stands at one place of the link's header, and what follows behind the header.
+fn ip_by_type(place: usize, header: usize, bytes: &[u8]) -> Option<usize>
+    requires place { place + 2 ≤ header }
+    requires header { header ≤ 32 }
+    ensures value { result ≡ spec.ip_by_type place header bytes.now }
+    ensures within { IfSome result (λ n. n < length bytes.now) }
+{
+    if bytes.len() < header {
+        return None;
+    }
+    ip_behind_tags(read_u16(bytes, place), header, bytes)
+}
+
+// The address families of IP: 2 of IPv4, and 10, 24, 28 or 30 of IPv6, by the system that captured.
+fn ip_of_family(family: u32, bytes: &[u8]) -> Option<usize>
+    ensures value { result ≡ spec.ip_of_family family bytes.now }
+    ensures within { IfSome result (λ n. n < length bytes.now) }
+{
+    match family {
+        2 => ip_at(4, 4, bytes),
+        10 | 24 | 28 | 30 => ip_at(6, 4, bytes),
+        _ => None,
+    }
+}
+
+// The family stands first, with the most significant byte first.
+fn ip_in_loop(bytes: &[u8]) -> Option<usize>
+    ensures value { result ≡ spec.ip_in_loop bytes.now }
+    ensures within { IfSome result (λ n. n < length bytes.now) }
+{
+    if bytes.len() < 4 {
+        return None;
+    }
+    ip_of_family(BigEndian::read_u32(bytes), bytes)
+}
+
+// The family stands first, in the byte order of the system that captured.
+fn ip_in_null(bytes: &[u8]) -> Option<usize>
+    ensures value { result ≡ spec.ip_in_null bytes.now }
+    ensures within { IfSome result (λ n. n < length bytes.now) }
+{
+    if bytes.len() < 4 {
+        return None;
+    }
+    match ip_of_family(BigEndian::read_u32(bytes), bytes) {
+        Some(start) => Some(start),
+        None => ip_of_family(LittleEndian::read_u32(bytes), bytes),
+    }
+}
+
+/// Where the IP packet begins in a record of this link type, or None where it has none.
+pub(crate) fn ip_start(link: u32, bytes: &[u8]) -> Option<usize>
+    ensures value { result ≡ spec.ip_start link bytes.now }
+    ensures within { IfSome result (λ n. n < length bytes.now) }
+{
+    match link {
+        0 => ip_in_null(bytes),
+        1 => ip_by_type(12, 14, bytes),
+        108 => ip_in_loop(bytes),
+        113 => ip_by_type(14, 16, bytes),
+        228 => ip_at(4, 0, bytes),
+        229 => ip_at(6, 0, bytes),
+        276 => ip_by_type(0, 20, bytes),
+        _ => ip_at_first(bytes),
+    }
+}
+
+/// The IP packet in a record of this link type, or no bytes where it has none (the link-layer header types of libpcap;
+/// IEEE 802.1Q). Link types that are not known are taken for raw IP.
+pub(crate) fn ip_bytes(link: u32, bytes: &[u8]) -> &[u8]
+    ensures { result.now ≡ spec.ip_bytes link bytes.now }
+{
+    match ip_start(link, bytes) {
+        Some(start) => &bytes[start..],
+        None => &[],
+    }
+}

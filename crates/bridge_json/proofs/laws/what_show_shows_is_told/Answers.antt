@@ -1,8 +1,0 @@
-use Rattle.bridge_json.proofs.Agreeing.{ethernet-agrees, raw-agrees}
-use Rattle.bridge_json.proofs.laws.what_show_shows_is_told.Goals as goal
-
-pub returns-clause-raw : goal.returns-clause-raw
-returns-clause-raw c = raw-agrees
-
-pub returns-clause-ethernet : goal.returns-clause-ethernet
-returns-clause-ethernet c = ethernet-agrees

@@ -1,3 +1,0 @@
-pub mod Along
-pub mod FirstPiece
-pub mod Looping

@@ -1,0 +1,29 @@
+-- What stands next in an input, and the pieces behind it.
+use Rattle.std.proofs.Common.{arith, ◌≡◌, refl, sym, ap, ◌∙◌, ℕ, zero, suc, ◌+◌, ◌-◌, ◌≤◌, ◌<◌, List, [], ◌∷◌, length, drop}
+use Rattle.bridge_records.specs.Pieces.{Goes, Judgement, PieceWork, Stops, Taken, by_next_piece, done_by, in_front, next_piece, pieces_from, taken_by}
+
+-- the first bytes belong to the piece before
+skipped-bytes : {P V : Type 0} (job : PieceWork P V) (skip : ℕ) (state : V) (given : ℕ) (bytes : List ℕ)
+    → pieces_from job skip state given bytes ≡ pieces_from job 0 state given (drop skip bytes)
+skipped-bytes job zero state given bytes = refl
+skipped-bytes job (suc skip) state given [] = refl
+skipped-bytes job (suc skip) state given (byte ∷ bytes) = skipped-bytes job skip state given bytes
+
+-- what follows an accepted piece may be said otherwise
+followed-by : {P V : Type 0} (state : V) (given : ℕ) (judgement : Judgement P V) (rest other : V → Taken P V) → ((next : V) → rest next ≡ other next)
+    → taken_by state given judgement rest ≡ taken_by state given judgement other
+followed-by state given (Goes deed next) rest other same = ap (in_front (done_by deed)) (same next)
+followed-by state given (Stops why) rest other same = refl
+
+-- where some bytes are left, what stands next is judged, and then the pieces behind it
+pub pieces-cut : {P V : Type 0} (job : PieceWork P V) (state : V) (given : ℕ) (bytes : List ℕ) → 0 < length bytes → 1 ≤ job.wanted state
+    → pieces_from job 0 state given bytes
+    ≡ taken_by state given (by_next_piece job state (next_piece job state given bytes))
+    (λ next. pieces_from job 0 next (given + job.wanted state) (drop (job.wanted state) bytes))
+pieces-cut job state given [] none some = absurd (omega (arith, none))
+pieces-cut job state given (byte ∷ bytes) none some =
+    let wanted = job.wanted state in
+    let one : wanted ≡ suc (wanted - 1) = omega (arith, some) in
+    let behind : drop (wanted - 1) bytes ≡ drop wanted (byte ∷ bytes) = sym (ap (λ (n : ℕ). drop n (byte ∷ bytes)) one) in
+    followed-by state given (by_next_piece job state (next_piece job state given (byte ∷ bytes))) _ _
+    (λ next. skipped-bytes job (wanted - 1) next (given + wanted) bytes ∙ ap (pieces_from job 0 next (given + wanted)) behind)

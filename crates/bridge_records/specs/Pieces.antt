@@ -1,0 +1,116 @@
+-- What a job makes of the pieces of an input, and what is written of it (own).
+use Rattle.std.specs.Prelude.{◌≡◌, ℕ, zero, suc, ◌+◌, ◌-◌, ◌^◌, ◌++◌, nat_lt, Bool, is_some, if◌then◌else◌, List, [], ◌∷◌, length, take, flat_map, Option, Some, None, Result, Ok, Err}
+use Rattle.tool_output.specs.Ends.{Answers, StopsWithin}
+use Rattle.tool_output.specs.declared.status.Status.{Status}
+use Rattle.bridge_records.specs.declared.pieces.fault.PieceFault.{PieceFault}
+use Rattle.bridge_records.specs.declared.pieces.fault.PieceFault.TheVariants.{CutShort, TooLarge}
+
+-- What a piece comes to: the job goes on, with what the piece does, if it does anything, and the state behind it, or it
+-- stops.
+pub data Judgement (P V : Type 0) : Type 0 where
+  Goes : (deed : Option P) (next : V) → Judgement P V
+  Stops : (why : PieceFault) → Judgement P V
+
+-- A job over pieces: how long the next is and whether the input may end before it, by the state; what it comes to; the
+-- text of what it does; and the text behind the last, at the input's end or for a fault.
+pub record PieceWork (P V : Type 0) : Type 0 where
+  pub wanted : V → ℕ
+  pub may_end : V → Bool
+  pub judged : V → List ℕ → Judgement P V
+  pub told : P → List ℕ
+  pub closing : V → Option PieceFault → List ℕ
+
+-- the text of a piece that was accepted
+abbrev pub piece_text : {P V : Type 0} → PieceWork P V → Option P → List ℕ
+piece_text job None = []
+piece_text job (Some deed) = job.told deed
+
+-- A piece was judged so: an accepted one leaves its text at the text's end and leads on, a refused one leaves all as it
+-- was.
+abbrev pub JudgesPiece : {P V : Type 0} → PieceWork P V → V → Judgement P V → List ℕ → List ℕ → V → Result (Unit {0}) PieceFault → Type 0
+JudgesPiece job state (Goes deed next) old new after answer = (new ≡ old ++ piece_text job deed) × (after ≡ next) × (answer ≡ Ok tt)
+JudgesPiece job state (Stops why) old new after answer = (new ≡ old) × (after ≡ state) × (answer ≡ Err why)
+
+-- the most bytes of an input
+abbrev pub most_piece_bytes : ℕ
+most_piece_bytes = 2 ^ 32
+
+-- What stands next: the end, a piece, or why there is none.
+pub data PieceNext : Type 0 where
+  PieceEnd : PieceNext
+  Piece : (piece : List ℕ) → PieceNext
+  PieceWrong : (why : PieceFault) → PieceNext
+
+-- the end of an input, if it may be there
+abbrev pub end_piece : Bool → PieceNext
+end_piece may = if may then PieceEnd else PieceWrong CutShort
+
+-- so many bytes of those that are left, behind `given` of the input
+abbrev pub piece_in : ℕ → ℕ → List ℕ → PieceNext
+piece_in wanted given bytes =
+    if nat_lt most_piece_bytes (given + wanted) then PieceWrong TooLarge
+    else if nat_lt (length bytes) wanted then PieceWrong CutShort
+    else Piece (take wanted bytes)
+
+-- what stands next in the bytes that are left
+abbrev pub next_piece : {P V : Type 0} → PieceWork P V → V → ℕ → List ℕ → PieceNext
+next_piece job state given [] = end_piece (job.may_end state)
+next_piece job state given (byte ∷ bytes) = piece_in (job.wanted state) given (byte ∷ bytes)
+
+-- what it comes to; at the end nothing is done
+abbrev pub by_next_piece : {P V : Type 0} → PieceWork P V → V → PieceNext → Judgement P V
+by_next_piece job state PieceEnd = Goes None state
+by_next_piece job state (Piece piece) = job.judged state piece
+by_next_piece job state (PieceWrong why) = Stops why
+
+-- What the pieces of an input come to: what they did, the state behind them, how many bytes they have, and why the
+-- input is refused behind them, if it is.
+pub record Taken (P V : Type 0) : Type 0 where
+  pub deeds : List P
+  pub last : V
+  pub accepted : ℕ
+  pub refusal : Option PieceFault
+
+-- one deed, or none
+abbrev pub done_by : {P : Type 0} → Option P → List P
+done_by None = []
+done_by (Some deed) = deed ∷ []
+
+-- deeds in front of those of the pieces that follow
+abbrev pub in_front : {P V : Type 0} → List P → Taken P V → Taken P V
+in_front deeds rest = record rest { deeds = deeds ++ rest.deeds }
+
+-- no further piece counts
+abbrev pub taken_so_far : {P V : Type 0} → V → ℕ → Option PieceFault → Taken P V
+taken_so_far state given refusal = record { deeds = []; last = state; accepted = given; refusal = refusal }
+
+-- the pieces that follow count behind an accepted one; a refused one is the last
+abbrev pub taken_by : {P V : Type 0} → V → ℕ → Judgement P V → (V → Taken P V) → Taken P V
+taken_by state given (Goes deed next) rest = in_front (done_by deed) (rest next)
+taken_by state given (Stops why) rest = taken_so_far state given (Some why)
+
+-- why an input is refused at its end, if it may not end there
+abbrev pub unended : Bool → Option PieceFault
+unended may = if may then None else Some CutShort
+
+-- What the pieces come to behind `given` bytes; the first `skip` bytes belong to the piece before.
+abbrev pub pieces_from : {P V : Type 0} → PieceWork P V → ℕ → V → ℕ → List ℕ → Taken P V
+pieces_from job skip state given [] = taken_so_far state given (unended (job.may_end state))
+pieces_from job (suc skip) state given (byte ∷ bytes) = pieces_from job skip state given bytes
+pieces_from job zero state given (byte ∷ bytes) =
+    taken_by state given (by_next_piece job state (next_piece job state given (byte ∷ bytes)))
+    (λ next. pieces_from job (job.wanted state - 1) next (given + job.wanted state) bytes)
+
+-- What a whole input comes to, from the job's first state.
+abbrev pub pieces_of : {P V : Type 0} → PieceWork P V → V → List ℕ → Taken P V
+pieces_of job first input = pieces_from job 0 first 0 input
+
+-- What is written of an input: the text of each deed, and the text behind the last piece.
+abbrev pub text_of_pieces : {P V : Type 0} → PieceWork P V → Taken P V → List ℕ
+text_of_pieces job taken = flat_map job.told taken.deeds ++ job.closing taken.last taken.refusal
+
+-- The pieces of an input were gone through: what was written and how it ended, and how far the input was read past the
+-- last accepted piece where it was refused.
+pub record GoesThroughPieces {P V : Type 0} (job : PieceWork P V) (first : V) (input : List ℕ) (result : Status) (left before after : Option (List ℕ)) : Type 0 where
+  pub answers : Answers (text_of_pieces job (pieces_of job first input)) (is_some (pieces_of job first input).refusal) result left before after
+  pub past : StopsWithin 524288 (pieces_of job first input).accepted input result left

@@ -1,0 +1,40 @@
+//! What a job makes of pieces.
+ghost use Rattle.std.specs.Prelude.{◌≡◌, ◌≤◌, ◌++◌, length, IfOk, OnOk};
+ghost use Rattle.bridge_records.specs.Pieces.{JudgesPiece, PieceWork};
+
+use crate::pieces::fault::PieceFault;
+use seq_circle::NoMemory;
+
+/// A job over the pieces of an input (own). Contracts see what a piece does, and what the job makes of pieces: how long
+/// the next is and what it comes to, by the job's state, the text of what it does, and the text behind the last.
+pub(crate) trait PieceJob {
+    // What a piece does.
+    ghost Deed: { Type 0 };
+    // What the job makes of pieces.
+    ghost job: { PieceWork Deed Self };
+
+    /// How many bytes the next piece has: 1 to 524,288.
+    fn wanted(&self) -> usize
+        ensures value { result ≡ job.wanted self.now }
+        ensures some { 1 ≤ result }
+        ensures fits { result ≤ 524288 };
+
+    /// Tells whether the input may end before the next piece.
+    fn may_end(&self) -> bool
+        ensures { result ≡ job.may_end self.now };
+
+    /// Judges the next piece. An accepted one leaves the text of what it does at the text's end; a refused one leaves
+    /// text and state as they were. NoMemory comes where no memory was left.
+    fn judge(
+        &mut self,
+        piece: &[u8],
+        text: &mut Vec<u8>,
+    ) -> Result<Result<(), PieceFault>, NoMemory>
+        requires { length piece.now ≡ job.wanted self.old }
+        ensures { IfOk result (λ answer. JudgesPiece job self.old (job.judged self.old piece.now) text.old.items text.new.items self.new answer) };
+
+    /// Puts the text behind the last piece: at the input's end, or where it is refused. NoMemory comes where no memory
+    /// was left.
+    fn finish(&self, end: Option<PieceFault>, text: &mut Vec<u8>) -> Result<(), NoMemory>
+        ensures { OnOk result (text.new.items ≡ text.old.items ++ job.closing self.now end) };
+}

@@ -1,0 +1,91 @@
+//! The loop over the pieces of an input.
+ghost use Rattle.std.specs.Prelude.{◌≡◌, ◌≢◌, ℕ, ◌++◌, List, [], is_some, Some, IfSome};
+ghost use Rattle.dccp_io.specs.Counts.{Rose};
+ghost use Rattle.tool_output.specs.Ends.{EndsForCause, SinkFails};
+ghost use Rattle.bridge_records.specs.Pieces.{GoesThroughPieces};
+ghost use Rattle.bridge_records.specs.Turns.{LeavesText};
+
+use crate::pieces::fault::PieceFault;
+use crate::pieces::job::PieceJob;
+use crate::pieces::turns::{Turn, flush_if_due, take_turn};
+use dccp_io::{ReadAhead, Sink, Source, write_all};
+use seq_circle::NoMemory;
+use std::alloc::Global;
+use tool_output::{Status, answered, cut_off};
+
+// The bytes of the block.
+const BLOCK: usize = 524_288;
+
+// Writes the rest of the text, and what stands behind the last piece.
+fn close<J: PieceJob, K: Sink>(
+    job: &J,
+    output: &mut K,
+    text: &mut Vec<u8>,
+    end: Option<PieceFault>,
+) -> Status
+    ensures words { result ≢ Status.Words }
+    ensures read { result ≢ Status.Read }
+    ensures leaves { LeavesText (text.old.items ++ J.job.closing job.now end) (is_some end) result (K.taken output.old) (K.taken output.new) }
+    ensures write { result ≡ Status.Write → SinkFails K.faults K.empty_takes output.old output.new }
+{
+    if job.finish(end, text).is_err() {
+        return Status::Memory;
+    }
+    match write_all(output, text) {
+        Err(_) => Status::Write,
+        Ok(()) => answered(end.is_some()),
+    }
+}
+
+// The loop. What it works on is lent, so that none of its ends has anything to drop.
+fn take_pieces<J: PieceJob, S: Source, K: Sink>(
+    job: &mut J,
+    source: &mut S,
+    ahead: &mut ReadAhead,
+    output: &mut K,
+    text: &mut Vec<u8>,
+) -> Status
+    requires ahead { ahead.old ≡ record { pending = []; size = 524288 } }
+    requires text { text.old.items ≡ [] }
+    ensures words { result ≢ Status.Words }
+    ensures through { IfSome (S.left source.old) (λ bytes. GoesThroughPieces J.job job.old bytes result (S.left source.new) (K.taken output.old) (K.taken output.new)) }
+    ensures cause { EndsForCause result (Rose (S.faults source.old) (S.faults source.new)) (SinkFails K.faults K.empty_takes output.old output.new) }
+{
+    let mut given = 0;
+    loop {
+        if flush_if_due(job, ahead, output, text).is_err() {
+            return Status::Write;
+        }
+        match take_turn(job, source, ahead, given, text) {
+            Ok(Turn::Read) => {}
+            Ok(Turn::Taken(used)) => given += used as u64,
+            Ok(Turn::Over(end)) => return close(job, output, text, end),
+            Ok(Turn::Failed) => return cut_off(output, text, Status::Read),
+            Err(NoMemory) => return Status::Memory,
+        }
+    }
+}
+
+/// Does a job over the pieces of an input, one by one as they are read (own): it writes the text of what each does, and
+/// at last the text at the input's end or of the fault for which it is refused. Text goes out in blocks of 65,536
+/// bytes, and before the source is asked for more. A piece that ends behind the input's first 4,294,967,296 bytes is
+/// refused as TooLarge, and an input that ends inside a piece, or where the job does not let it, as CutShort. With
+/// status 0 or 1 the output is that of the whole input, with another a front of it. Read comes where the source failed,
+/// Write where the sink did, and Memory where no memory was left.
+pub(crate) fn run_pieces<J: PieceJob, S: Source, K: Sink>(
+    alloc: Global,
+    job: &mut J,
+    input: &mut S,
+    output: &mut K,
+) -> Status
+    ensures words { result ≢ Status.Words }
+    ensures through { (bytes : List ℕ) → S.left input.old ≡ Some bytes
+        → GoesThroughPieces J.job job.old bytes result (S.left input.new) (K.taken output.old) (K.taken output.new) }
+    ensures cause { EndsForCause result (Rose (S.faults input.old) (S.faults input.new)) (SinkFails K.faults K.empty_takes output.old output.new) }
+{
+    let mut text = Vec::new(alloc);
+    let Ok(mut ahead) = ReadAhead::new(alloc, BLOCK) else {
+        return Status::Memory;
+    };
+    take_pieces(job, input, &mut ahead, output, &mut text)
+}

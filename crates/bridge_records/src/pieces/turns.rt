@@ -1,0 +1,140 @@
+//! One turn of the loop over pieces.
+ghost use Rattle.std.specs.Prelude.{◌≡◌, ◌+◌, ◌≤◌, ◌<◌, ◌==◌, ◌&&◌, [], length, OnOk, OnErr};
+ghost use Rattle.dccp_io.specs.Fronts.{TakesFront};
+ghost use Rattle.tool_output.specs.Ends.{IsMovedOut, SinkFails};
+ghost use Rattle.bridge_records.specs.Pieces.{unended, most_piece_bytes};
+ghost use Rattle.bridge_records.specs.Turns.{KeepsBlock, TurnsPiece};
+
+use crate::pieces::fault::PieceFault;
+use crate::pieces::job::PieceJob;
+use dccp_io::{Failed, ReadAhead, Sink, Source};
+use seq_circle::NoMemory;
+use tool_output::{flush, flush_if_full};
+
+/// The most bytes of an input.
+const MOST_BYTES: u64 = 4_294_967_296;
+
+/// What one turn came to.
+pub(crate) enum Turn {
+    /// More of the input was read.
+    Read,
+    /// A piece of so many bytes was accepted.
+    Taken(usize),
+    /// The input is at its end, or refused.
+    Over(Option<PieceFault>),
+    /// The source failed.
+    Failed,
+}
+
+/// Writes the text before the source is asked for more, and where it has a block's length.
+pub(crate) fn flush_if_due<J: PieceJob, K: Sink>(
+    job: &J,
+    ahead: &ReadAhead,
+    output: &mut K,
+    text: &mut Vec<u8>,
+) -> Result<(), Failed>
+    ensures moved { OnOk result (IsMovedOut (K.taken output.old) (K.taken output.new) text.old.items text.new.items) }
+    ensures written { OnOk result (length ahead.now.pending < J.job.wanted job.now → text.new.items ≡ []) }
+    ensures front { OnErr result (TakesFront (K.taken output.old) (K.taken output.new) text.old.items) }
+    ensures never_falls { K.faults output.old ≤ K.faults output.new }
+    ensures takes_never_fall { K.empty_takes output.old ≤ K.empty_takes output.new }
+    ensures cause { OnErr result (SinkFails K.faults K.empty_takes output.old output.new) }
+{
+    if ahead.len() < job.wanted() {
+        flush(output, text)
+    } else {
+        flush_if_full(output, text)
+    }
+}
+
+// Why the input is refused at its end, if it is: no byte may be left, and the job has to allow it.
+fn end_of<J: PieceJob>(job: &J, held: usize) -> Option<PieceFault>
+    ensures { result ≡ unended (held == 0 && J.job.may_end job.now) }
+{
+    if held == 0 && job.may_end() {
+        None
+    } else {
+        Some(PieceFault::CutShort)
+    }
+}
+
+// Reads once behind the bytes that are held, which are fewer than the next piece has.
+fn read_more<J: PieceJob, S: Source>(
+    job: &mut J,
+    source: &mut S,
+    ahead: &mut ReadAhead,
+    given: u64,
+    text: &mut Vec<u8>,
+) -> Result<Turn, NoMemory>
+    requires size { ahead.old.size ≡ 524288 }
+    requires short { length ahead.old.pending < J.job.wanted job.old }
+    requires wanted { J.job.wanted job.old ≤ 524288 }
+    requires room { 0 < length ahead.old.pending → given + J.job.wanted job.old ≤ most_piece_bytes }
+    requires written { text.old.items ≡ [] }
+    ensures keeps { KeepsBlock S.faults (record { source = source.old; ahead = ahead.old; state = job.old; text = text.old.items })
+        (record { source = source.new; ahead = ahead.new; state = job.new; text = text.new.items }) }
+    ensures turn { TurnsPiece S.left S.faults J.job given (record { source = source.old; ahead = ahead.old; state = job.old; text = text.old.items })
+        (record { source = source.new; ahead = ahead.new; state = job.new; text = text.new.items }) result }
+{
+    let held = ahead.len();
+    match ahead.refill(source) {
+        Err(Failed) => Ok(Turn::Failed),
+        Ok(0) => Ok(Turn::Over(end_of(job, held))),
+        Ok(_) => Ok(Turn::Read),
+    }
+}
+
+// Judges the next piece, which is held whole.
+fn judge_piece<J: PieceJob, S: Source>(
+    job: &mut J,
+    source: &mut S,
+    ahead: &mut ReadAhead,
+    given: u64,
+    text: &mut Vec<u8>,
+) -> Result<Turn, NoMemory>
+    requires some { 1 ≤ J.job.wanted job.old }
+    requires there { J.job.wanted job.old ≤ length ahead.old.pending }
+    requires room { given + J.job.wanted job.old ≤ most_piece_bytes }
+    ensures keeps { KeepsBlock S.faults (record { source = source.old; ahead = ahead.old; state = job.old; text = text.old.items })
+        (record { source = source.new; ahead = ahead.new; state = job.new; text = text.new.items }) }
+    ensures turn { TurnsPiece S.left S.faults J.job given (record { source = source.old; ahead = ahead.old; state = job.old; text = text.old.items })
+        (record { source = source.new; ahead = ahead.new; state = job.new; text = text.new.items }) result }
+{
+    let wanted = job.wanted();
+    let answer = job.judge(&ahead.pending()[..wanted], text)?;
+    match answer {
+        Ok(()) => {
+            ahead.pass(wanted);
+            Ok(Turn::Taken(wanted))
+        }
+        Err(fault) => Ok(Turn::Over(Some(fault))),
+    }
+}
+
+/// Reads on where the next piece is not held whole, and judges it where it is. Where that asks the source for more,
+/// nothing is unwritten.
+pub(crate) fn take_turn<J: PieceJob, S: Source>(
+    job: &mut J,
+    source: &mut S,
+    ahead: &mut ReadAhead,
+    given: u64,
+    text: &mut Vec<u8>,
+) -> Result<Turn, NoMemory>
+    requires size { ahead.old.size ≡ 524288 }
+    requires within { given ≤ most_piece_bytes }
+    requires written { length ahead.old.pending < J.job.wanted job.old → text.old.items ≡ [] }
+    ensures keeps { KeepsBlock S.faults (record { source = source.old; ahead = ahead.old; state = job.old; text = text.old.items })
+        (record { source = source.new; ahead = ahead.new; state = job.new; text = text.new.items }) }
+    ensures turn { TurnsPiece S.left S.faults J.job given (record { source = source.old; ahead = ahead.old; state = job.old; text = text.old.items })
+        (record { source = source.new; ahead = ahead.new; state = job.new; text = text.new.items }) result }
+{
+    let wanted = job.wanted();
+    let held = ahead.len();
+    if 0 < held && MOST_BYTES - given < wanted as u64 {
+        return Ok(Turn::Over(Some(PieceFault::TooLarge)));
+    }
+    if held < wanted {
+        return read_more(job, source, ahead, given, text);
+    }
+    judge_piece(job, source, ahead, given, text)
+}

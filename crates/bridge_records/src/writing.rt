@@ -1,0 +1,13 @@
+//! The bytes of a classic capture of link type 101, raw IP (the savefile format of libpcap): its file header and the
+//! headers of its records, put behind a text. The most significant byte stands first.
+//!
+//! What is written is read again by capture_reader.
+
+mod headers;
+mod laws;
+
+pub(crate) use crate::writing::headers::{MICROSECONDS, NANOSECONDS};
+pub use crate::writing::headers::{
+    RAW_IP, RecordHeader, put_file_header, put_record_header, put_u16,
+};
+pub use crate::writing::laws::what_is_written_is_read;

@@ -1,4 +1,0 @@
-pub mod Told
-pub mod Reading
-pub mod Drawn
-pub mod Played

@@ -1,5 +1,0 @@
-use Rattle.bridge_seed.proofs.Told.{IsTold}
-use Rattle.bridge_seed.proofs.telling.put_next_events.Given as goal
-
-abbrev pub invariant-loop : goal.invariant-loop
-invariant-loop l = IsTold l.fn.more l.counter l.fn.run l.run l.fn.text.items l.text.items

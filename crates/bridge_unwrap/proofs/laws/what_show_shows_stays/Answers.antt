@@ -1,8 +1,0 @@
-use Rattle.bridge_unwrap.proofs.Showing.{ethernet-stays, raw-stays}
-use Rattle.bridge_unwrap.proofs.laws.what_show_shows_stays.Goals as goal
-
-pub returns-clause-raw : goal.returns-clause-raw
-returns-clause-raw c = raw-stays
-
-pub returns-clause-ethernet : goal.returns-clause-ethernet
-returns-clause-ethernet c = ethernet-stays

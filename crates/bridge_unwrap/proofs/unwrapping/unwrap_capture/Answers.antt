@@ -1,5 +1,0 @@
--- How far the input was read.
-use Rattle.bridge_unwrap.proofs.unwrapping.unwrap_capture.Goals as goal
-
-pub returns-clause-past : goal.returns-clause-past
-returns-clause-past g c = λ bytes told. (c.run_records.ensures.through bytes told).past
