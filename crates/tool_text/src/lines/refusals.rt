@@ -3,8 +3,8 @@ ghost use Rattle.std.specs.Prelude.{◌≡◌, ◌++◌, OnOk};
 ghost use Rattle.tool_text.specs.Refusals.{refusal_line};
 ghost use Rattle.tool_text.specs.Jobs.{too_long};
 
+use crate::text::{put, put_number};
 use crate::words::{LineFault, LineWhy, line_why_name};
-use crate::{put, put_number};
 use seq_circle::NoMemory;
 
 /// The fault of a line with a 4,097th byte, at that byte.

@@ -7,7 +7,7 @@ ghost use Rattle.tool_text.specs.Kinds as spec;
 ghost use Rattle.tool_text.specs.Digits.{digits_flaw};
 ghost use Rattle.tool_text.specs.Left.{word_of};
 
-use crate::number_up_to;
+use crate::numbers::number_up_to;
 use crate::words::digits::{Digits, flaw_in_digits};
 use crate::words::faults::{LineFault, LineWhy};
 use crate::words::split::Word;

@@ -5,12 +5,12 @@ use Rattle.capture_reader.specs.declared.fault.CaptureFault.TheVariants.{ReadFau
 use Rattle.capture_reader.specs.Records.{RecordParts, Captured}
 use Rattle.capture_reader.specs.State.{CapturesState, Advances, Passed}
 use Rattle.seq_circle.specs.declared.memory.NoMemory as no_memory
-use Rattle.tool_show.specs.declared.show.Tally.{Tally}
-use Rattle.tool_show.specs.declared.show.Turn.{Turn}
-use Rattle.tool_show.specs.declared.show.Turn.TheVariants as turn
+use Rattle.packet_show.specs.declared.show.Tally.{Tally}
+use Rattle.packet_show.specs.declared.show.Turn.{Turn}
+use Rattle.packet_show.specs.declared.show.Turn.TheVariants as turn
 use Rattle.tool_output.specs.declared.status.Status.{Status}
 use Rattle.tool_output.specs.declared.status.Status.TheVariants as status
-use Rattle.tool_show.specs.CaptureText.{tallied, record_text, fault_line, first_tally, text_from, size_of}
+use Rattle.packet_show.specs.CaptureText.{tallied, record_text, fault_line, first_tally, text_from, size_of}
 use Rattle.tool_output.specs.Ends.{IsAnswered, IsCutOff, HasTaken, HasBegun, Answers}
 
 -- One turn: the record that stands next was read, tallied and put; or the records ended, and nothing else changed.

@@ -2,8 +2,8 @@
 use Rattle.std.proofs.Common.{◌≡◌, ◌+◌, ◌-◌, ◌*◌, ◌≤◌, ◌^◌, None, IfSome}
 use Rattle.capture_reader.specs.Records.{records_from}
 use Rattle.capture_reader.specs.State.{rest}
-use Rattle.tool_show.proofs.Showing.{Along}
-use Rattle.tool_show.proofs.show.show_all.Given as goal
+use Rattle.packet_show.proofs.Showing.{Along}
+use Rattle.packet_show.proofs.show.show_all.Given as goal
 
 abbrev pub invariant-loop-captures : goal.invariant-loop-captures
 invariant-loop-captures g l = record {

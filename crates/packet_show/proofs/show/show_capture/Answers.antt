@@ -3,11 +3,11 @@ use Rattle.std.proofs.Common.{rules, ◌≡◌, ℕ, List, Option, Some, Ok, IfS
 use Rattle.capture_reader.specs.Format.{opened}
 use Rattle.capture_reader.specs.Records.{records_from}
 use Rattle.capture_reader.specs.State.{Passed, rest}
-use Rattle.tool_show.specs.CaptureText.{capture_text, is_faulty, records_end}
-use Rattle.tool_show.specs.Show.{ShowsRecords}
+use Rattle.packet_show.specs.CaptureText.{capture_text, is_faulty, records_end}
+use Rattle.packet_show.specs.Show.{ShowsRecords}
 use Rattle.tool_output.specs.Ends.{Answers}
-use Rattle.tool_show.proofs.Showing.{refuses, passed-whole}
-use Rattle.tool_show.proofs.show.show_capture.Goals as goal
+use Rattle.packet_show.proofs.Showing.{refuses, passed-whole}
+use Rattle.packet_show.proofs.show.show_capture.Goals as goal
 
 pub returns-in-Err-clause-text : goal.returns-in-Err-clause-text
 returns-in-Err-clause-text g c = λ bytes told.

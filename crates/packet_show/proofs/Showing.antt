@@ -18,12 +18,12 @@ use Rattle.packet_show.specs.declared.flows.Shown.{Shown}
 use Rattle.packet_show.specs.declared.flows.Shown.TheVariants.{Line, Skipped}
 use Rattle.packet_show.specs.Flows.{Flow}
 use Rattle.packet_show.specs.Lines.{shows}
-use Rattle.tool_show.specs.declared.show.Tally.{Tally}
-use Rattle.tool_show.specs.declared.show.Turn.TheVariants as turn
+use Rattle.packet_show.specs.declared.show.Tally.{Tally}
+use Rattle.packet_show.specs.declared.show.Turn.TheVariants as turn
 use Rattle.tool_output.specs.declared.status.Status.{Status}
 use Rattle.tool_output.specs.declared.status.Status.TheVariants as status
-use Rattle.tool_show.specs.CaptureText.{first_tally, counted_record, tallied, record_text, last_line, fault_line, text_from, size_of, end_of_records, capture_text, is_faulty, records_end}
-use Rattle.tool_show.specs.Show.{Turns, Closes, ShowsHeaderFault, ShowsRecords, shown_text}
+use Rattle.packet_show.specs.CaptureText.{first_tally, counted_record, tallied, record_text, last_line, fault_line, text_from, size_of, end_of_records, capture_text, is_faulty, records_end}
+use Rattle.packet_show.specs.Show.{Turns, Closes, ShowsHeaderFault, ShowsRecords, shown_text}
 use Rattle.tool_output.specs.Ends.{HasBegun, IsCutOff, Answers, IsMovedOut}
 use Rattle.tool_output.proofs.Ending.{append-none, append-twice, begun-longer, begun-behind, none-left, not-both, answers-early, on-ok, unwritten}
 

@@ -9,7 +9,7 @@ use Rattle.packet_show.specs.declared.flows.Shown.TheVariants.{Line, Skipped}
 use Rattle.packet_show.specs.Flows.{Flow}
 use Rattle.packet_show.specs.Lines.{shows}
 use Rattle.tool_text.specs.Text.{labelled_number}
-use Rattle.tool_show.specs.declared.show.Tally.{Tally}
+use Rattle.packet_show.specs.declared.show.Tally.{Tally}
 
 -- the word for the fault that ended a capture
 abbrev pub fault_name : CaptureFault → List ℕ

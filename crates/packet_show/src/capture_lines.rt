@@ -1,7 +1,7 @@
 //! The last line that `show` writes. It is written by itself, behind all others, so that none of them is lost where
 //! memory for it runs out.
 ghost use Rattle.std.specs.Prelude.{◌≡◌, ◌++◌, OnOk};
-ghost use Rattle.tool_show.specs.CaptureText.{CountsFit, fault_name, counts_line, fault_line, last_line};
+ghost use Rattle.packet_show.specs.CaptureText.{CountsFit, fault_name, counts_line, fault_line, last_line};
 
 use crate::show::Tally;
 use capture_reader::CaptureFault;

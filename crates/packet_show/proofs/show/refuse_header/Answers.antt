@@ -1,10 +1,10 @@
 -- A fault of the header's bytes.
 use Rattle.std.proofs.Common.{◌≡◌, ◌∙◌, ap, ◌++◌, List, ℕ, Some, subst}
-use Rattle.tool_show.specs.declared.show.Tally.{Tally}
-use Rattle.tool_show.specs.CaptureText.{last_line, fault_line, first_tally}
-use Rattle.tool_show.specs.Show.{Closes}
-use Rattle.tool_show.proofs.Showing.{refused-as}
-use Rattle.tool_show.proofs.show.refuse_header.Goals as goal
+use Rattle.packet_show.specs.declared.show.Tally.{Tally}
+use Rattle.packet_show.specs.CaptureText.{last_line, fault_line, first_tally}
+use Rattle.packet_show.specs.Show.{Closes}
+use Rattle.packet_show.proofs.Showing.{refused-as}
+use Rattle.packet_show.proofs.show.refuse_header.Goals as goal
 
 pub returns-in_default : goal.returns-in_default
 returns-in_default g c =

@@ -3,14 +3,14 @@ use Rattle.std.proofs.Common.{arith, sym, ◌∙◌, refl, subst, inl, inr, Ok}
 use Rattle.std.proofs.lemmas.Option.{IfSome_then}
 use Rattle.capture_reader.specs.Records.{records_from}
 use Rattle.capture_reader.specs.State.{rest}
-use Rattle.tool_show.specs.declared.show.Turn.{Turn}
+use Rattle.packet_show.specs.declared.show.Turn.{Turn}
 use Rattle.tool_output.specs.declared.status.Status.TheVariants as status
-use Rattle.tool_show.specs.Show.{Turns}
+use Rattle.packet_show.specs.Show.{Turns}
 use Rattle.tool_output.specs.Ends.{HasBegun}
 use Rattle.dccp_io.specs.Fronts.{TakesFront}
 use Rattle.tool_output.proofs.Ending.{on-err}
-use Rattle.tool_show.proofs.Showing.{turned, along-flushed, shown-early, over, tallied-one}
-use Rattle.tool_show.proofs.show.show_all.Goals as goal
+use Rattle.packet_show.proofs.Showing.{turned, along-flushed, shown-early, over, tallied-one}
+use Rattle.packet_show.proofs.show.show_all.Goals as goal
 
 pub loop-captures-preserved : goal.loop-captures-preserved
 loop-captures-preserved g c =

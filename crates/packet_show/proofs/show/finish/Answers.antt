@@ -1,10 +1,10 @@
 -- The last write failed: a front of the last line stands behind the text.
 use Rattle.std.proofs.Common.{rules, ◌≡◌, ◌∙◌, ap, ◌++◌, [], List, ℕ, subst}
 use Rattle.std.specs.Io.KnownBytes.{append_known}
-use Rattle.tool_show.specs.CaptureText.{last_line}
+use Rattle.packet_show.specs.CaptureText.{last_line}
 use Rattle.tool_output.specs.Ends.{HasBegun}
-use Rattle.tool_show.proofs.Showing.{closes-cut}
-use Rattle.tool_show.proofs.show.finish.Goals as goal
+use Rattle.packet_show.proofs.Showing.{closes-cut}
+use Rattle.packet_show.proofs.show.finish.Goals as goal
 
 pub returns-in-Err-clause-closes : goal.returns-in-Err-clause-closes
 returns-in-Err-clause-closes g c =
