@@ -1,6 +1,6 @@
-//! The phases of an end and what a packet's type does in each of them: the tables of RFC 4340, section 8.5, steps 2 to
-//! 4, 7 and 9 to 15, under this project's profile. And what an end's calls answer: what became of a packet, why a call
-//! was refused, and the timers that a call names (sections 7 and 8).
+//! The phases of an end, what a packet's type does in each of them, and what an end's calls answer: the tables of RFC
+//! 4340, section 8.5, steps 2 to 4, 7 and 9 to 15, under this project's profile; what became of a packet, why a call was
+//! refused, and the timers that a call names (sections 7 and 8).
 //!
 //! Nothing here looks at a packet's numbers or options, sends anything or takes memory: each call is one table. The
 //! answers are types alone, so that who reads or prints them needs no end.

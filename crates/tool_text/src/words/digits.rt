@@ -1,4 +1,4 @@
-//! Bytes as digits in hexadecimal.
+//! Digits of a word in hexadecimal, and the bytes that they spell.
 ghost use Rattle.std.specs.Prelude.{◌≡◌, ◌+◌, ◌*◌, ◌≤◌, ◌<◌, ◌==◌, not, None, [], length, slice_index, IfSome};
 ghost use Rattle.hex.specs.Hex.{is_hex_digit};
 ghost use Rattle.tool_text.specs.Digits.{digits_flaw, digit_value, bytes_of_digits, ArePairs};
