@@ -67,7 +67,7 @@ pub mod Confirmed
 pub mod Staying
 pub mod MarkFrames
 pub mod MarkFacts
-pub mod Marks
+pub mod MarkKeeping
 pub mod Listing
 pub mod MarkVectors
 pub mod Told

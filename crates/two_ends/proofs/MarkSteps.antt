@@ -6,7 +6,7 @@ use Rattle.two_ends.specs.MarkMoves.MarkMove.{Begins, Begins_shut, Joins, Repeat
 use Rattle.two_ends.specs.MarkMoves.ReachedByMarks.{Starts, Server_moves, Client_moves}
 use Rattle.two_ends.specs.MarkFacts.{AreSoundNumbers, IsHeeded}
 use Rattle.two_ends.proofs.MarkFacts.{IsListed, IsTelling}
-use Rattle.two_ends.proofs.Marks as marks
+use Rattle.two_ends.proofs.MarkKeeping as marks
 use Rattle.two_ends.proofs.Listing.{joined_listed, fresh_listed}
 use Rattle.two_ends.proofs.MarkVectors as vectors
 use Rattle.two_ends.proofs.Told.{AreSettled, more_heard, more_sent, placed_still, join_settled, raise_settled}
