@@ -3,3 +3,5 @@ pub mod Lines
 pub mod Names
 pub mod Network
 pub mod Text
+pub mod CaptureText
+pub mod Show

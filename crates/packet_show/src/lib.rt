@@ -1,10 +1,11 @@
-//! The lines of a capture: for each record that carries a DCCP packet, what the packet says (RFC 4340; the lines are
-//! own).
+//! The lines of a capture: for each record that carries a DCCP packet, what the packet says, and at last how many
+//! records there were or why they end early (RFC 4340; the lines are own).
 //!
 //! It finds DCCP in Ethernet, IPv4 and IPv6, and answers for no end. Memory is taken for flows that were not seen
 //! before, and for the text, which grows in place.
 #![tactic(auto)]
 
+mod capture_lines;
 mod flows;
 mod laws;
 mod names;
@@ -12,6 +13,7 @@ mod network;
 mod numbers;
 mod options;
 mod packet;
+mod show;
 
 pub use crate::flows::{FlowEnd, Flows, Shown, from_end};
 pub use crate::laws::a_flow_has_both_directions;
@@ -20,3 +22,4 @@ pub use crate::network::{Datagram, carried};
 pub use crate::numbers::{put_from, put_to};
 pub use crate::options::{put_mark, put_option};
 pub use crate::packet::put_packet;
+pub use crate::show::show_capture;

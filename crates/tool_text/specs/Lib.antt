@@ -1,3 +1,15 @@
 pub mod Names
 pub mod Numbers
 pub mod Text
+pub mod Columns
+pub mod Digits
+pub mod Kinds
+pub mod Left
+pub mod Lines
+pub mod Refusals
+pub mod Rest
+pub mod Rows
+pub mod Words
+pub mod Ends
+pub mod Jobs
+pub mod Turns

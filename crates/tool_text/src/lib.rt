@@ -1,16 +1,27 @@
-//! The pieces that the tool's texts are put together from, and numbers as texts have them (own).
+//! What the tool writes and reads as text (own): numbers, digits and names, the words of lines, output in blocks, and
+//! jobs over lines.
 //!
-//! Each function puts at a text's end. After NoMemory all that stood there before still stands there first, so that a
-//! writer of a whole line cuts the text there again.
+//! Each function that puts a piece puts it at a text's end. After NoMemory all that stood there before still stands
+//! there first, so that a writer of a whole line cuts the text there again.
 #![tactic(auto)]
 
 mod hexadecimal;
+mod lines;
 mod names;
 mod numbers;
+mod output;
 mod text;
+mod words;
 
+pub use crate::lines::{LineJob, MOST_EVENTS, run_lines};
 pub use crate::names::malformed_name;
 pub use crate::numbers::number_up_to;
+pub use crate::output::{Status, answered, cut_off, flush, flush_if_full};
 pub use crate::text::{
     is_text, put, put_counted, put_hex, put_hex_or_dash, put_named, put_number, put_v4,
+};
+pub use crate::words::{
+    Below, Digits, Flag, Flaw, Hex, HexOrDash, LineFault, LineWhy, MaybeFlag, Name, Named, Row,
+    Word, WordKind, Words, clean, first_piece, found_or, line_why_name, read_line, read_word,
+    says_nothing, whole_line, words_stand_at_their_columns,
 };

@@ -14,3 +14,17 @@ pub mod Remembered
 pub mod Numbered
 pub mod Preferred
 pub mod Shared
+pub mod FeatureView
+pub mod FeatureMoves
+pub mod FeatureAgreement
+pub mod FeatureExchanges
+pub mod FeatureRows
+pub mod EachFeature
+pub mod FeatureFacts
+pub mod FeaturePackets
+pub mod MarkView
+pub mod MarkMoves
+pub mod MarkFacts
+pub mod MarkLaws
+pub mod MarkExchange
+pub mod MarkSets

@@ -9,18 +9,34 @@
 #![tactic(auto)]
 
 mod far;
+mod features;
 mod frames;
 mod half;
 mod laws;
+mod marks;
 mod sides;
 mod world;
 
+pub use crate::features::{
+    every_feature_agrees, exchanges_settle, hearing_keeps_a_row, location_decides,
+    negotiating_stays_reachable, numbers_count_frames, offering_is_a_move, preferring_is_a_move,
+    reachable_sides_agree, reachable_sides_are_truthful, remote_rows_confirm_what_was_told,
+    row_steps_reach, row_steps_stay_reachable, rows_stay_begun, sending_is_a_move,
+    taking_a_change_is_a_move, taking_a_confirm_is_a_move, taking_a_packet_is_moves,
+    valid_changes_are_understood, values_were_given, what_rows_say_is_whole,
+    where_nothing_is_shared_the_value_stays, whole_confirms_have_lists,
+};
 pub use crate::frames::{FrameBytes, SentFrame};
 pub use crate::laws::{
     few_frames_are_never_far, frames_spell_their_numbers, last_lists_are_active,
     no_number_is_processed_again, settled_features_are_alike, values_change_by_shared_lists,
     values_come_from_both_sides, vectors_tell_what_was_processed, what_is_reported_arrived,
     what_none_asked_for_stays, what_none_told_is_far_behind, what_was_asked_last_is_wanted,
+};
+pub use crate::marks::{
+    acknowledged_frames_were_taken, each_frame_is_processed_once, exchanges_tell,
+    marking_stays_reachable, marks_are_what_was_processed, sets_follow_moves, vectors_are_truthful,
+    what_falls_below_the_floor_is_settled, what_is_reported_was_processed,
 };
 pub use crate::world::{
     World, data_are_delivered_once, every_run_is_safe, every_run_numbers_its_frames,

@@ -1,8 +1,0 @@
-use Rattle.feature_agreement.proofs.ByFeature.{feature_agrees, feature_given}
-use Rattle.feature_agreement.proofs.features.every_feature_agrees.Goals as goal
-
-pub returns-clause-agree : goal.returns-clause-agree
-returns-clause-agree c = feature_agrees
-
-pub returns-clause-given : goal.returns-clause-given
-returns-clause-given c = feature_given

@@ -1,8 +1,0 @@
-use Rattle.feature_agreement.proofs.Reachable.{reachable_agree, reachable_given}
-use Rattle.feature_agreement.proofs.laws.reachable_sides_agree.Goals as goal
-
-pub returns-clause-agree : goal.returns-clause-agree
-returns-clause-agree c = reachable_agree
-
-pub returns-clause-given : goal.returns-clause-given
-returns-clause-given c = reachable_given

@@ -1,8 +1,0 @@
-use Rattle.feature_agreement.proofs.Truthful.{server_truthful, client_truthful}
-use Rattle.feature_agreement.proofs.laws.reachable_sides_are_truthful.Goals as goal
-
-pub returns-clause-servers : goal.returns-clause-servers
-returns-clause-servers c = server_truthful
-
-pub returns-clause-clients : goal.returns-clause-clients
-returns-clause-clients c = client_truthful

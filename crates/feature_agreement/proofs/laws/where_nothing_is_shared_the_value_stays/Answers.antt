@@ -1,5 +1,0 @@
-use Rattle.feature_agreement.proofs.Staying.{value_stays}
-use Rattle.feature_agreement.proofs.laws.where_nothing_is_shared_the_value_stays.Goals as goal
-
-pub returns : goal.returns
-returns c = value_stays

@@ -1,9 +1,0 @@
-use Rattle.std.proofs.Common.{[]}
-use Rattle.feature_agreement.proofs.OpeningLines.{offer_moves, offer_drops}
-use Rattle.feature_agreement.proofs.lines.offering_is_a_move.Goals as goal
-
-pub returns-clause-opens : goal.returns-clause-opens
-returns-clause-opens c = λ iss greatest row there frames confirmed fits few sound. offer_moves iss greatest row there frames fits few sound confirmed
-
-pub returns-clause-drops : goal.returns-clause-drops
-returns-clause-drops c = λ iss greatest row frames. offer_drops iss greatest row [] frames

@@ -1,8 +1,0 @@
-use Rattle.feature_agreement.proofs.OpeningLines.{prefer_moves, preference_waits}
-use Rattle.feature_agreement.proofs.lines.preferring_is_a_move.Goals as goal
-
-pub returns-clause-opens : goal.returns-clause-opens
-returns-clause-opens c = λ iss greatest row there frames wish fits few. prefer_moves iss greatest row there frames fits few wish
-
-pub returns-clause-waits : goal.returns-clause-waits
-returns-clause-waits c = preference_waits

@@ -1,8 +1,0 @@
-use Rattle.feature_agreement.proofs.OpeningLines.{send_moves, plain_moves}
-use Rattle.feature_agreement.proofs.lines.sending_is_a_move.Goals as goal
-
-pub returns-clause-due : goal.returns-clause-due
-returns-clause-due c = send_moves
-
-pub returns-clause-nothing : goal.returns-clause-nothing
-returns-clause-nothing c = plain_moves

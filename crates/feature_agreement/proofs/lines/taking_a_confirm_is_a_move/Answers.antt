@@ -1,5 +1,0 @@
-use Rattle.feature_agreement.proofs.ConfirmLine.{confirm_moves}
-use Rattle.feature_agreement.proofs.lines.taking_a_confirm_is_a_move.Goals as goal
-
-pub returns : goal.returns
-returns c = λ iss greatest count row there frames body ack newer. confirm_moves iss greatest count row there frames newer body ack

@@ -1,8 +1,0 @@
-use Rattle.feature_agreement.proofs.Saying.{wish_valid, change_understood}
-use Rattle.feature_agreement.proofs.lines.valid_changes_are_understood.Goals as goal
-
-pub returns-clause-sent : goal.returns-clause-sent
-returns-clause-sent c = wish_valid
-
-pub returns-clause-understood : goal.returns-clause-understood
-returns-clause-understood c = change_understood

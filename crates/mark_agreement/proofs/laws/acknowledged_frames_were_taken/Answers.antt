@@ -1,8 +1,0 @@
-use Rattle.mark_agreement.proofs.Reachable.{servers_heeded, clients_heeded}
-use Rattle.mark_agreement.proofs.laws.acknowledged_frames_were_taken.Goals as goal
-
-pub returns-clause-servers : goal.returns-clause-servers
-returns-clause-servers c = servers_heeded
-
-pub returns-clause-clients : goal.returns-clause-clients
-returns-clause-clients c = clients_heeded

@@ -1,8 +1,0 @@
-use Rattle.mark_agreement.proofs.Reachable.{servers_heard, clients_heard}
-use Rattle.mark_agreement.proofs.laws.what_is_reported_was_processed.Goals as goal
-
-pub returns-clause-servers : goal.returns-clause-servers
-returns-clause-servers c = servers_heard
-
-pub returns-clause-clients : goal.returns-clause-clients
-returns-clause-clients c = clients_heard

@@ -1,0 +1,19 @@
+-- The last write failed: a front of the last line stands behind the text.
+use Rattle.std.proofs.Common.{rules, ◌≡◌, ◌∙◌, ap, ◌++◌, [], List, ℕ, subst}
+use Rattle.std.specs.Io.KnownBytes.{append_known}
+use Rattle.packet_show.specs.CaptureText.{last_line}
+use Rattle.tool_output.specs.Ends.{HasBegun}
+use Rattle.packet_show.proofs.Showing.{closes-cut}
+use Rattle.packet_show.proofs.show.finish.Goals as goal
+
+pub returns-in-Err-clause-closes : goal.returns-in-Err-clause-closes
+returns-in-Err-clause-closes g c =
+    let last = last_line c.args.tally.now c.args.end in
+    let taken : g.K.Sink.taken c.flush.new.output ≡ append_known (g.K.Sink.taken c.args.output.now) c.args.text.now.items = search rules in
+    let empty : c.flush.new.text.items ≡ [] = search rules in
+    let put : c.put_last_line.new.text.items ≡ c.flush.new.text.items ++ last = search rules in
+    let line : c.deref.result.now ≡ last = c.deref.ensures.value ∙ put ∙ ap (λ (front : List ℕ). front ++ last) empty in
+    let front = c.in-Err.ensures.front in
+    closes-cut c.args.text.now.items last c.args.end (g.K.Sink.taken c.args.output.now) (g.K.Sink.taken c.flush.new.output)
+    (g.K.Sink.taken c.write_all.new.sink) taken
+    (subst (HasBegun (g.K.Sink.taken c.flush.new.output) (g.K.Sink.taken c.write_all.new.sink)) line (front.0, front.2))

@@ -1,0 +1,54 @@
+-- What the steps of `show` do (own).
+use Rattle.std.specs.Prelude.{◌≡◌, ◌≢◌, ℕ, ◌++◌, false, true, List, drop, Option, Some, None, is_some, Result, Ok, Err}
+use Rattle.capture_reader.specs.declared.fault.CaptureFault.{CaptureFault}
+use Rattle.capture_reader.specs.declared.fault.CaptureFault.TheVariants.{ReadFault, NoMemory}
+use Rattle.capture_reader.specs.Records.{RecordParts, Captured}
+use Rattle.capture_reader.specs.State.{CapturesState, Advances, Passed}
+use Rattle.seq_circle.specs.declared.memory.NoMemory as no_memory
+use Rattle.packet_show.specs.declared.show.Tally.{Tally}
+use Rattle.packet_show.specs.declared.show.Turn.{Turn}
+use Rattle.packet_show.specs.declared.show.Turn.TheVariants as turn
+use Rattle.tool_output.specs.declared.status.Status.{Status}
+use Rattle.tool_output.specs.declared.status.Status.TheVariants as status
+use Rattle.packet_show.specs.CaptureText.{tallied, record_text, fault_line, first_tally, text_from, size_of}
+use Rattle.tool_output.specs.Ends.{IsAnswered, IsCutOff, HasTaken, HasBegun, Answers}
+
+-- One turn: the record that stands next was read, tallied and put; or the records ended, and nothing else changed.
+-- Where memory was not found, the text stays as it was.
+abbrev pub Turns : {S : Type 0} → (S → Option (List ℕ)) → (S → ℕ) → (S → ℕ) → CapturesState S → CapturesState S → Tally → Tally → List ℕ → List ℕ
+    → Result Turn no_memory.NoMemory → Type 0
+Turns left faults lender old new tally after text written (Ok turn.Shown) =
+    (entry : RecordParts) × Advances left faults lender old new (Ok (Some entry)) × (after ≡ tallied tally entry) × (written ≡ text ++ record_text tally entry)
+Turns left faults lender old new tally after text written (Ok (turn.Ended None)) =
+    Advances left faults lender old new (Ok None) × (after ≡ tally) × (written ≡ text)
+Turns left faults lender old new tally after text written (Ok (turn.Ended (Some why))) =
+    (why ≢ ReadFault) × Advances left faults lender old new (Err why) × (after ≡ tally) × (written ≡ text)
+Turns left faults lender old new tally after text written (Ok turn.Failed) =
+    Advances left faults lender old new (Err ReadFault) × (written ≡ text)
+Turns left faults lender old new tally after text written (Err _) = (lender new.source ≡ lender old.source) × (written ≡ text)
+
+-- Behind a capture's records: the text and the last line were written, whole with an answer and otherwise a front of
+-- both.
+pub record Closes (text : List ℕ) (end : Option CaptureFault) (result : Status) (before after : Option (List ℕ)) : Type 0 where
+  pub whole : IsAnswered result → HasTaken before after text
+  pub front : IsCutOff result → HasBegun before after text
+  pub done : result ≡ status.Done → is_some end ≡ false
+  pub input : result ≡ status.Input → is_some end ≡ true
+
+-- A file header was refused: the line of its fault was written as the only one, or nothing where the source failed or
+-- memory was not found.
+abbrev pub ShowsHeaderFault : CaptureFault → Status → Option (List ℕ) → Option (List ℕ) → Type 0
+ShowsHeaderFault ReadFault result before after = (result ≡ status.Read) × (after ≡ before)
+ShowsHeaderFault NoMemory result before after = (result ≡ status.Memory) × (after ≡ before)
+ShowsHeaderFault why result before after =
+    (result ≢ status.Words) × (result ≢ status.Read) × Closes (fault_line first_tally why) (Some why) result before after
+
+-- all that `show` writes of a capture whose records are these
+abbrev pub shown_text : Captured → List ℕ
+shown_text whole = text_from first_tally whole.records whole.end
+
+-- The records of an input behind its file header were shown: what was written, how it ended, and, where a fault ended
+-- them, how far the input was read past the last whole record.
+pub record ShowsRecords (whole : Captured) (input : List ℕ) (result : Status) (left before after : Option (List ℕ)) : Type 0 where
+  pub answers : Answers (shown_text whole) (is_some whole.end) result left before after
+  pub past : result ≡ status.Input → Passed 262160 (Some (drop (size_of whole.records) input)) left

@@ -1,9 +1,0 @@
-//! How the tool's jobs end, and their texts, which go out in blocks (own). A job knows its source and its sink by their
-//! counts alone.
-#![tactic(auto)]
-
-mod blocks;
-mod status;
-
-pub use crate::blocks::{cut_off, flush, flush_if_full};
-pub use crate::status::{Status, answered};

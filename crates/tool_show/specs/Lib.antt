@@ -1,2 +1,0 @@
-pub mod CaptureText
-pub mod Show

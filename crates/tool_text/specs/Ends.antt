@@ -1,0 +1,64 @@
+-- What the tool's one call may leave written, and why it ends (own).
+use Rattle.std.specs.Prelude.{◌≡◌, ◌⊎◌, ℕ, Bool, true, false, List, [], ◌++◌, take, drop, Option, Some}
+use Rattle.std.specs.Io.KnownBytes.{append_known}
+use Rattle.dccp_io.specs.Counts.{Rose}
+use Rattle.dccp_io.specs.Fronts.{GivesAtMost}
+use Rattle.tool_text.specs.declared.output.status.Status.{Status}
+use Rattle.tool_text.specs.declared.output.status.Status.TheVariants as status
+
+-- A sink that tells what it took has taken this text.
+abbrev pub HasTaken : Option (List ℕ) → Option (List ℕ) → List ℕ → Type 0
+HasTaken before after text = after ≡ append_known before text
+
+-- It has taken the first bytes of this text, some or none or all.
+abbrev pub HasBegun : Option (List ℕ) → Option (List ℕ) → List ℕ → Type 0
+HasBegun before after text = (n : ℕ) × (after ≡ append_known before (take n text))
+
+-- A front of the text was moved into what a sink has taken.
+abbrev pub IsMovedOut : Option (List ℕ) → Option (List ℕ) → List ℕ → List ℕ → Type 0
+IsMovedOut before after text kept = (moved : List ℕ) × (after ≡ append_known before moved) × (text ≡ moved ++ kept)
+
+-- A text is written once it has so many bytes.
+abbrev pub block_length : ℕ
+block_length = 65536
+
+-- A sink's counts show that it failed, or took no byte of a piece that was not empty.
+abbrev pub SinkFailed : ℕ → ℕ → ℕ → ℕ → Type 0
+SinkFailed faults faults_after takes takes_after = Rose faults faults_after ⊎ Rose takes takes_after
+
+-- The same for one sink, from a call's beginning to its end.
+abbrev pub SinkFails : {K : Type 0} → (K → ℕ) → (K → ℕ) → K → K → Type 0
+SinkFails faults empty_takes before after = SinkFailed (faults before) (faults after) (empty_takes before) (empty_takes after)
+
+-- A text was written as far as the sink took it, and whole unless the sink failed.
+pub record IsWritten (text : List ℕ) (before after : Option (List ℕ)) (sink_failed : Type 0) : Type 0 where
+  pub front : HasBegun before after text
+  pub whole : (sink_failed → ⊥) → HasTaken before after text
+
+-- The whole job was done, or the input was refused: both write all that there is to write.
+abbrev pub IsAnswered : Status → Type 0
+IsAnswered result = (result ≡ status.Done) ⊎ (result ≡ status.Input)
+
+-- A fault or want of memory ended the job.
+abbrev pub IsCutOff : Status → Type 0
+IsCutOff result = (result ≡ status.Read) ⊎ ((result ≡ status.Write) ⊎ (result ≡ status.Memory))
+
+-- Where an input is refused, at most so many bytes were read behind those that were accepted.
+abbrev pub StopsWithin : ℕ → ℕ → List ℕ → Status → Option (List ℕ) → Type 0
+StopsWithin most accepted bytes result left = result ≡ status.Input → GivesAtMost most (Some (drop accepted bytes)) left
+
+-- What a form that reads its input owes, where that input has this text and is refused or not: an answer is the whole
+-- text, what was cut off is a front of it, Done leaves nothing to read, and Done and Input say whether the input was
+-- refused.
+pub record Answers (text : List ℕ) (is_refused : Bool) (result : Status) (left before after : Option (List ℕ)) : Type 0 where
+  pub whole : IsAnswered result → HasTaken before after text
+  pub front : IsCutOff result → HasBegun before after text
+  pub done : result ≡ status.Done → (is_refused ≡ false) × (left ≡ Some [])
+  pub input : result ≡ status.Input → is_refused ≡ true
+
+-- Why a form ends: with Read only where the source failed, with Write only where the sink did, and where neither failed
+-- with an answer, if memory is found.
+pub record EndsForCause (result : Status) (source_failed sink_failed : Type 0) : Type 0 where
+  pub read : result ≡ status.Read → source_failed
+  pub write : result ≡ status.Write → sink_failed
+  pub complete : (source_failed → ⊥) → (sink_failed → ⊥) → IsAnswered result ⊎ (result ≡ status.Memory)

@@ -1,0 +1,102 @@
+-- What a job makes of the lines of an input, and what is written of it (own).
+use Rattle.std.specs.Prelude.{ℕ, ◌+◌, ◌++◌, is_some, List, [], ◌∷◌, length, flat_map, Option, Some, None, Result, Ok, Err, ◌≡◌}
+use Rattle.dccp_io.specs.Lines.{Next, End, Line, Long, Much, lines_of, next_in_lines, text_of}
+use Rattle.tool_text.specs.Ends.{Answers, IsAnswered, StopsWithin}
+use Rattle.tool_text.specs.declared.output.status.Status.{Status}
+use Rattle.tool_text.specs.Refusals.{refusal_line, whole_line}
+use Rattle.tool_text.specs.declared.words.faults.LineFault.{LineFault}
+use Rattle.tool_text.specs.declared.words.faults.LineWhy.TheVariants as why
+
+-- What a line comes to: it is accepted, with what it does, if it does anything, and the state behind it, or it is
+-- refused.
+pub data Verdict (P V : Type 0) : Type 0 where
+  Accepted : (deed : Option P) (next : V) → Verdict P V
+  Refused : (fault : LineFault) → Verdict P V
+
+-- A job over lines: what a line without its newline comes to, by the state and its number; the text of what it does;
+-- and the text at the input's end.
+pub record Job (P V : Type 0) : Type 0 where
+  pub judged : V → ℕ → List ℕ → Verdict P V
+  pub told : P → List ℕ
+  pub ending : V → List ℕ
+
+-- the text of a line that was accepted
+abbrev pub line_text : {P V : Type 0} → Job P V → Option P → List ℕ
+line_text job None = []
+line_text job (Some deed) = job.told deed
+
+-- A line was judged so: an accepted one leaves its text at the text's end and leads on, a refused one leaves the text
+-- as it was.
+abbrev pub Judges : {P V : Type 0} → Job P V → Verdict P V → List ℕ → List ℕ → V → Result (Unit {0}) LineFault → Type 0
+Judges job (Accepted deed next) old new after answer = (new ≡ old ++ line_text job deed) × (after ≡ next) × (answer ≡ Ok tt)
+Judges job (Refused fault) old new after answer = (new ≡ old) × (answer ≡ Err fault)
+
+-- So many events a job over lines of events plays at most (own).
+abbrev pub most_events : ℕ
+most_events = 16384
+
+-- The fault of a line with a 4,097th byte, at that byte.
+abbrev pub too_long : LineFault
+too_long = record { column = 4097; why = why.LineTooLong }
+
+-- What stands next in an input comes to this: a line as the job judges it, and one that is too long, or too much for an
+-- input, is refused. Where no line stands next, nothing is done.
+abbrev pub by_next : {P V : Type 0} → Job P V → V → ℕ → Next → Verdict P V
+by_next job state number (Line line) = job.judged state number (text_of line)
+by_next job state number (Long front) = Refused too_long
+by_next job state number Much = Refused (whole_line why.TooMuchInput)
+by_next job state number End = Accepted None state
+
+-- What the lines of an input come to: what they did, the state behind them, the number of the line behind the last that
+-- was accepted, how many bytes the accepted ones have, and why the line behind them is refused, if it is.
+pub record Gone (P V : Type 0) : Type 0 where
+  pub deeds : List P
+  pub last : V
+  pub number : ℕ
+  pub accepted : ℕ
+  pub refusal : Option LineFault
+
+-- one deed, or none
+abbrev pub deeds_of : {P : Type 0} → Option P → List P
+deeds_of None = []
+deeds_of (Some deed) = deed ∷ []
+
+-- deeds in front of those of the lines that follow
+abbrev pub onto : {P V : Type 0} → List P → Gone P V → Gone P V
+onto deeds rest = record rest { deeds = deeds ++ rest.deeds }
+
+-- no further line counts
+abbrev pub gone_so_far : {P V : Type 0} → V → ℕ → ℕ → Option LineFault → Gone P V
+gone_so_far state number given refusal = record { deeds = []; last = state; number = number; accepted = given; refusal = refusal }
+
+-- the lines that follow count behind an accepted line; a refused one is the last
+abbrev pub gone_by : {P V : Type 0} → V → ℕ → ℕ → Verdict P V → (V → Gone P V) → Gone P V
+gone_by state number given (Accepted deed next) rest = onto (deeds_of deed) (rest next)
+gone_by state number given (Refused fault) rest = gone_so_far state number given (Some fault)
+
+-- What these lines come to, behind so many bytes that were given; the first has this number.
+abbrev pub gone_from : {P V : Type 0} → Job P V → V → ℕ → ℕ → List (List ℕ) → Gone P V
+gone_from job state number given [] = gone_so_far state number given None
+gone_from job state number given (line ∷ lines) =
+    gone_by state number given (by_next job state number (next_in_lines given (line ∷ lines))) (λ next. gone_from job next (number + 1) (given + length line) lines)
+
+-- What a whole input comes to, from the job's first state.
+abbrev pub gone_through : {P V : Type 0} → Job P V → V → List ℕ → Gone P V
+gone_through job first input = gone_from job first 1 0 (lines_of input)
+
+-- what stands last: the text at the input's end, or the line of the refusal
+abbrev pub last_lines : {P V : Type 0} → Job P V → V → ℕ → Option LineFault → List ℕ
+last_lines job last number None = job.ending last
+last_lines job last number (Some fault) = refusal_line number fault
+
+-- What is written of an input: the text of each deed, and the last lines.
+abbrev pub text_of_job : {P V : Type 0} → Job P V → Gone P V → List ℕ
+text_of_job job gone = flat_map job.told gone.deeds ++ last_lines job gone.last gone.number gone.refusal
+
+-- The lines of an input were gone through behind a text that stood first: what was written and how it ended, how far
+-- the input was read past the last accepted line where one was refused, and what holds of the last state.
+pub record GoesThrough {P V : Type 0} (job : Job P V) (Keeps : V → ℕ → Type 0) (first : V) (front input : List ℕ) (result : Status)
+    (left before after : Option (List ℕ)) : Type 0 where
+  pub answers : Answers (front ++ text_of_job job (gone_through job first input)) (is_some (gone_through job first input).refusal) result left before after
+  pub past : StopsWithin 16384 (gone_through job first input).accepted input result left
+  pub kept : IsAnswered result → (number : ℕ) × Keeps (gone_through job first input).last number

@@ -1,0 +1,41 @@
+//! What a job makes of lines.
+ghost use Rattle.std.specs.Prelude.{◌≡◌, ℕ, ◌+◌, ◌≤◌, ◌++◌, IfOk, OnOk, Ok};
+ghost use Rattle.tool_text.specs.Jobs.{Job, Judges};
+
+use crate::words::LineFault;
+use seq_circle::NoMemory;
+use std::alloc::Global;
+
+/// So many events a job over lines of events plays at most (own): what comes behind is refused as TooManyEvents.
+pub const MOST_EVENTS: u32 = 16_384;
+
+/// A job over the lines of an input (own). Contracts see what a line does, and what a job makes of lines: what each
+/// comes to by the job's state, the text of what it does, and the text at the input's end.
+pub trait LineJob {
+    // What a line does.
+    ghost Deed: { Type 0 };
+    // What the job makes of lines.
+    ghost job: { Job Deed Self };
+    // What holds of its state before the line of this number.
+    ghost keeps: { Self → ℕ → Type 0 };
+
+    /// Judges the line of this number, counted from 1, without its newline: at most 4,096 bytes. An accepted line
+    /// leaves the text of what it does at the text's end; a refused one leaves the text as it was. NoMemory comes where
+    /// no memory was left.
+    fn judge(
+        &mut self,
+        alloc: Global,
+        number: u64,
+        line: &[u8],
+        text: &mut Vec<u8>,
+    ) -> Result<Result<(), LineFault>, NoMemory>
+        requires kept { keeps self.old number }
+        requires number { number ≤ 16777217 }
+        ensures verdict { IfOk result (λ answer. Judges job (job.judged self.old number line.now) text.old.items text.new.items self.new answer) }
+        ensures keeps_on { IfOk result (λ answer. answer ≡ Ok tt → keeps self.new (number + 1)) };
+
+    /// Puts the text at the input's end. NoMemory comes where no memory was left.
+    fn finish(&mut self, alloc: Global, text: &mut Vec<u8>) -> Result<(), NoMemory>
+        requires { (number : ℕ) × keeps self.old number }
+        ensures { OnOk result (text.new.items ≡ text.old.items ++ job.ending self.old) };
+}

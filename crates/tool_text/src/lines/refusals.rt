@@ -1,0 +1,31 @@
+//! The line of a refusal.
+ghost use Rattle.std.specs.Prelude.{◌≡◌, ◌++◌, OnOk};
+ghost use Rattle.tool_text.specs.Refusals.{refusal_line};
+ghost use Rattle.tool_text.specs.Jobs.{too_long};
+
+use crate::text::{put, put_number};
+use crate::words::{LineFault, LineWhy, line_why_name};
+use seq_circle::NoMemory;
+
+/// The fault of a line with a 4,097th byte, at that byte.
+pub(crate) fn too_long() -> LineFault
+    ensures { result ≡ too_long }
+{
+    LineFault {
+        column: 4097,
+        why: LineWhy::LineTooLong,
+    }
+}
+
+/// Puts the line of a refusal, under the number of the line that is refused.
+pub(crate) fn put_refusal(text: &mut Vec<u8>, number: u64, fault: LineFault) -> Result<(), NoMemory>
+    ensures { OnOk result (text.new.items ≡ text.old.items ++ refusal_line number fault) }
+{
+    put(text, b"line ")?;
+    put_number(text, number)?;
+    put(text, b" column ")?;
+    put_number(text, u64::from(fault.column))?;
+    put(text, b": ")?;
+    put(text, line_why_name(fault.why))?;
+    put(text, b"\n")
+}

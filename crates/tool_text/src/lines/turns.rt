@@ -1,0 +1,92 @@
+//! One turn of the loop over lines.
+ghost use Rattle.std.specs.Prelude.{◌≡◌, ◌≤◌, [], false, None, OnOk, OnErr};
+ghost use Rattle.dccp_io.specs.Fronts.{TakesFront};
+ghost use Rattle.dccp_io.specs.Lines.{holds_next};
+ghost use Rattle.tool_text.specs.Ends.{IsMovedOut, SinkFails};
+ghost use Rattle.tool_text.specs.Turns.{TakesTurn, judged_turn, stopped_turn};
+
+use crate::lines::job::LineJob;
+use crate::lines::refusals::too_long;
+use crate::output::{flush, flush_if_full};
+use crate::words::{LineFault, LineWhy, whole_line};
+use dccp_io::{Failed, Lines, Sink, Source, Stop};
+use seq_circle::NoMemory;
+use std::alloc::Global;
+
+/// What one turn came to.
+pub(crate) enum Turn {
+    /// A line was accepted.
+    Accepted,
+    /// The input is at its end.
+    Ended,
+    /// A line is refused.
+    Refused(LineFault),
+    /// The source failed.
+    Failed,
+}
+
+// The turn in which the reader stopped: a line that is too long, or too much for an input, is refused.
+fn stopped_turn(stop: Stop) -> Turn
+    ensures { result ≡ stopped_turn stop }
+{
+    match stop {
+        Stop::TooLong => Turn::Refused(too_long()),
+        Stop::TooMuch => Turn::Refused(whole_line(LineWhy::TooMuchInput)),
+        Stop::Failed => Turn::Failed,
+    }
+}
+
+// The turn in which a line was judged.
+fn judged_turn(answer: Result<(), LineFault>) -> Turn
+    ensures { result ≡ judged_turn answer }
+{
+    match answer {
+        Ok(()) => Turn::Accepted,
+        Err(fault) => Turn::Refused(fault),
+    }
+}
+
+/// Writes the text before the reader asks its source for more, and where it has a block's length. So whoever sends the
+/// lines has the answers to all that were read while more is waited for.
+pub(crate) fn flush_if_due<S: Source + Drop, K: Sink>(
+    lines: &Lines<S>,
+    output: &mut K,
+    text: &mut Vec<u8>,
+) -> Result<(), Failed>
+    ensures moved { OnOk result (IsMovedOut (K.taken output.old) (K.taken output.new) text.old.items text.new.items) }
+    ensures written { OnOk result (holds_next lines.now ≡ false → text.new.items ≡ []) }
+    ensures front { OnErr result (TakesFront (K.taken output.old) (K.taken output.new) text.old.items) }
+    ensures never_falls { K.faults output.old ≤ K.faults output.new }
+    ensures takes_never_fall { K.empty_takes output.old ≤ K.empty_takes output.new }
+    ensures cause { OnErr result (SinkFails K.faults K.empty_takes output.old output.new) }
+{
+    if lines.holds_next() {
+        flush_if_full(output, text)
+    } else {
+        flush(output, text)
+    }
+}
+
+/// Reads the next line and has it judged, under its number. Where that asks the source for more, nothing is unwritten.
+pub(crate) fn judge_next<J: LineJob, S: Source + Drop>(
+    alloc: Global,
+    job: &mut J,
+    number: u64,
+    lines: &mut Lines<S>,
+    text: &mut Vec<u8>,
+) -> Result<Turn, NoMemory>
+    requires kept { J.keeps job.old number }
+    requires number { number ≤ 16777217 }
+    requires unstopped { lines.old.stop ≡ None }
+    requires written { holds_next lines.old ≡ false → text.old.items ≡ [] }
+    ensures { TakesTurn S.left S.faults S.lender J.job J.keeps number lines.old lines.new job.old job.new text.old.items text.new.items result }
+{
+    match lines.find() {
+        Err(stop) => Ok(stopped_turn(stop)),
+        Ok(false) => Ok(Turn::Ended),
+        Ok(true) => {
+            let answer = job.judge(alloc, number, lines.text(), text)?;
+            Ok(judged_turn(answer))
+        }
+    }
+}

@@ -1,0 +1,8 @@
+//! How the tool's jobs end, and their texts, which go out in blocks (own). A job knows its source and its sink by their
+//! counts alone.
+
+mod blocks;
+mod status;
+
+pub use crate::output::blocks::{cut_off, flush, flush_if_full};
+pub use crate::output::status::{Status, answered};

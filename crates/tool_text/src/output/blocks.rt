@@ -1,0 +1,55 @@
+//! Text that goes out in blocks.
+ghost use Rattle.std.specs.Prelude.{◌≡◌, ◌≤◌, ◌<◌, [], length, OnOk, OnErr};
+ghost use Rattle.std.specs.Io.KnownBytes.{append_known};
+ghost use Rattle.dccp_io.specs.Fronts.{TakesFront};
+ghost use Rattle.tool_text.specs.Ends.{SinkFailed, HasBegun, HasTaken, IsMovedOut, block_length};
+
+use crate::output::status::Status;
+use dccp_io::{Failed, Sink, write_all};
+
+// A text of so many bytes is written.
+const BLOCK: usize = 65_536;
+
+/// Writes the text and lets it go (own). Failed comes only where the sink failed, or took no byte of a piece that was
+/// not empty; then a front was written, and the text is kept.
+pub fn flush<K: Sink>(output: &mut K, text: &mut Vec<u8>) -> Result<(), Failed>
+    ensures taken { OnOk result (K.taken output.new ≡ append_known (K.taken output.old) text.old.items) }
+    ensures empty { OnOk result (text.new.items ≡ []) }
+    ensures front { OnErr result (TakesFront (K.taken output.old) (K.taken output.new) text.old.items) }
+    ensures kept { OnErr result (text.new.items ≡ text.old.items) }
+    ensures never_falls { K.faults output.old ≤ K.faults output.new }
+    ensures takes_never_fall { K.empty_takes output.old ≤ K.empty_takes output.new }
+    ensures cause { OnErr result (SinkFailed (K.faults output.old) (K.faults output.new) (K.empty_takes output.old) (K.empty_takes output.new)) }
+{
+    write_all(output, text)?;
+    text.clear();
+    Ok(())
+}
+
+/// Writes the text and lets it go where it has a block's length, 65,536 bytes (own). Failed comes as from `flush`.
+pub fn flush_if_full<K: Sink>(output: &mut K, text: &mut Vec<u8>) -> Result<(), Failed>
+    ensures moved { OnOk result (IsMovedOut (K.taken output.old) (K.taken output.new) text.old.items text.new.items) }
+    ensures full { block_length ≤ length text.old.items → OnOk result (text.new.items ≡ []) }
+    ensures short { length text.old.items < block_length → text.new.items ≡ text.old.items }
+    ensures front { OnErr result (TakesFront (K.taken output.old) (K.taken output.new) text.old.items) }
+    ensures kept { OnErr result (text.new.items ≡ text.old.items) }
+    ensures never_falls { K.faults output.old ≤ K.faults output.new }
+    ensures takes_never_fall { K.empty_takes output.old ≤ K.empty_takes output.new }
+    ensures cause { OnErr result (SinkFailed (K.faults output.old) (K.faults output.new) (K.empty_takes output.old) (K.empty_takes output.new)) }
+{
+    if text.len() < BLOCK {
+        return Ok(());
+    }
+    flush(output, text)
+}
+
+/// Writes the lines that are whole, so that none is lost where the job ends early, and answers why it does (own). All
+/// are written unless the sink failed.
+pub fn cut_off<K: Sink>(output: &mut K, text: &[u8], why: Status) -> Status
+    ensures same { result ≡ why }
+    ensures front { HasBegun (K.taken output.old) (K.taken output.new) text.now }
+    ensures whole { (SinkFailed (K.faults output.old) (K.faults output.new) (K.empty_takes output.old) (K.empty_takes output.new) → ⊥) → HasTaken (K.taken output.old) (K.taken output.new) text.now }
+{
+    let _ = write_all(output, text);
+    why
+}

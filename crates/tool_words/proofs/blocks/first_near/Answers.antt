@@ -1,6 +1,0 @@
-use Rattle.std.proofs.Common.{take}
-use Rattle.tool_words.proofs.BlockLaws.{none_there}
-use Rattle.tool_words.proofs.blocks.first_near.Goals as goal
-
-pub far_from-front-requires-clause-without : goal.far_from-front-requires-clause-without
-far_from-front-requires-clause-without g c = none_there (g.S.Sought.sought c.args.what.now) (take c.min-near.result c.args.text.now) c.in-None.ensures.first

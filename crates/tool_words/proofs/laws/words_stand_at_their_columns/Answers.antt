@@ -1,5 +1,0 @@
-use Rattle.tool_words.proofs.Placed.{words-placed}
-use Rattle.tool_words.proofs.laws.words_stand_at_their_columns.Goals as goal
-
-pub returns : goal.returns
-returns c = words-placed

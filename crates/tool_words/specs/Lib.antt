@@ -1,9 +1,0 @@
-pub mod Columns
-pub mod Digits
-pub mod Kinds
-pub mod Left
-pub mod Lines
-pub mod Refusals
-pub mod Rest
-pub mod Rows
-pub mod Words
