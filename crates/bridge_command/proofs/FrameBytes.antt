@@ -9,7 +9,7 @@ use Rattle.std.specs.Int.{byte_at}
 use Rattle.std.specs.List.{list_all}
 use Rattle.byteorder.specs.Endian.{big_bytes}
 use Rattle.hex.specs.Hex.{IsBytes}
-use Rattle.tool_words.proofs.Bytes.{and-true, both-true}
+use Rattle.tool_text.proofs.Bytes.{and-true, both-true}
 use Rattle.dccp_packets.specs.Grammar.{Parts, ack_bytes, code_of, common_bytes, data_offset_bytes, decoded, decoded_as, decoded_by, fixed_length, has_form, has_long_numbers, header_bytes, header_length, is_long, kind_bytes, kind_of, long_ack_bytes, number_bytes, packet_type, padded, parts_of, spelling, type_byte, type_code, type_of}
 use Rattle.dccp_packets.specs.declared.header.Header.{Header}
 use Rattle.dccp_packets.specs.declared.header.Kind.{Kind}

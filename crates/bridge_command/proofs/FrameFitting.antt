@@ -6,17 +6,17 @@ use Rattle.std.proofs.lemmas.List.{append-nil}
 use Rattle.std.proofs.lemmas.List.Elements.{All-append, All-cons, All-head, All-nil, All-tail}
 use Rattle.std.specs.Str.{bytes_eq}
 use Rattle.dccp_io.specs.Lines.{Next, End, Line, Long, Much, next_in_lines, lines_of, text_of}
-use Rattle.tool_lines.specs.Jobs.{Accepted, Gone, Refused, Verdict, by_next, deeds_of, gone_by, gone_from, last_lines}
+use Rattle.tool_text.specs.Jobs.{Accepted, Gone, Refused, Verdict, by_next, deeds_of, gone_by, gone_from, last_lines}
 use Rattle.tool_text.specs.Numbers.{number_below}
-use Rattle.tool_words.proofs.Numerals.{number-spelled}
-use Rattle.tool_words.specs.Kinds.{found_or, hex_kind, read_at, word_read}
-use Rattle.tool_words.specs.Lines.{clean, says_nothing, text_read, words_read}
-use Rattle.tool_words.specs.Refusals.{fault_at}
-use Rattle.tool_words.specs.Rows.{◌>>=◌, ◌>>◌, ended, then_row}
-use Rattle.tool_words.specs.Words.{WordAt, WordsLeft, first_word, later, word_at, words_of}
-use Rattle.tool_words.specs.declared.faults.LineFault.{LineFault}
-use Rattle.tool_words.specs.declared.faults.LineWhy.TheVariants as why
-use Rattle.tool_words.specs.declared.kinds.Flaw.{Flaw}
+use Rattle.tool_text.proofs.Numerals.{number-spelled}
+use Rattle.tool_text.specs.Kinds.{found_or, hex_kind, read_at, word_read}
+use Rattle.tool_text.specs.Lines.{clean, says_nothing, text_read, words_read}
+use Rattle.tool_text.specs.Refusals.{fault_at}
+use Rattle.tool_text.specs.Rows.{◌>>=◌, ◌>>◌, ended, then_row}
+use Rattle.tool_text.specs.Words.{WordAt, WordsLeft, first_word, later, word_at, words_of}
+use Rattle.tool_text.specs.declared.words.faults.LineFault.{LineFault}
+use Rattle.tool_text.specs.declared.words.faults.LineWhy.TheVariants as why
+use Rattle.tool_text.specs.declared.words.kinds.Flaw.{Flaw}
 use Rattle.world_events.specs.declared.event.Side.{Side}
 use Rattle.bridge_command.specs.Capturing.{by_told, capture_job, first_clock, frames_capture, timed, transcript_gone, transcript_judged}
 use Rattle.bridge_command.specs.TranscriptLines.{frame_name_read, frame_told, is_other, line_said, numbered, sent_said, told_first, told_of_line, without_colon}

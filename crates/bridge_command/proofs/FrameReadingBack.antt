@@ -7,8 +7,8 @@ use Rattle.std.specs.List.{list_all}
 use Rattle.std.specs.Prelude.{IsTrue, codes, take}
 use Rattle.hex.specs.Hex.{IsBytes, encode_lower, encode_with}
 use Rattle.hex.proofs.HexLemmas.{IsDigits-lower_digits}
-use Rattle.tool_words.specs.Digits.{AreDigitsOf}
-use Rattle.tool_words.specs.Lines.{is_text}
+use Rattle.tool_text.specs.Digits.{AreDigitsOf}
+use Rattle.tool_text.specs.Lines.{is_text}
 use Rattle.schedule_text.specs.Frames.{read_frame}
 use Rattle.schedule_text.proofs.FrameForms.{spelled-frame}
 use Rattle.dccp_packets.specs.Grammar.{HeaderFits, Parts, decoded, header_bytes, header_length, is_long, is_valid, packet_type, padded, spelling}

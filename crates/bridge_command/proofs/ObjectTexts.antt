@@ -7,8 +7,8 @@ use Rattle.std.specs.Str.{IsAscii, IsUtf8}
 use Rattle.hex.specs.Hex.{IsBytes}
 use Rattle.tool_text.specs.Names.{malformed_name}
 use Rattle.tool_text.specs.Text.{v4_text}
-use Rattle.tool_words.proofs.Bytes.{both-true}
-use Rattle.tool_words.specs.Lines.{is_text}
+use Rattle.tool_text.proofs.Bytes.{both-true}
+use Rattle.tool_text.specs.Lines.{is_text}
 use Rattle.dccp_packets.specs.declared.header.PacketType.{PacketType}
 use Rattle.dccp_packets.specs.declared.reading.Malformed.{Malformed}
 use Rattle.dccp_packets.specs.declared.reading.Malformed.TheVariants as malformed

@@ -11,9 +11,9 @@ use Rattle.capture_reader.specs.Records.{most_captured}
 use Rattle.capture_reader.specs.declared.format.Order.{Order}
 use Rattle.capture_reader.specs.declared.format.Order.TheVariants.{Big, Little}
 use Rattle.tool_text.specs.Numbers.{is_digit}
-use Rattle.tool_words.proofs.Bytes.{all-weaker, and-true, both-true, decimal-digits}
-use Rattle.tool_words.specs.Refusals.{line_why_name, refusal_line}
-use Rattle.tool_words.specs.declared.faults.LineFault.{LineFault}
+use Rattle.tool_text.proofs.Bytes.{all-weaker, and-true, both-true, decimal-digits}
+use Rattle.tool_text.specs.Refusals.{line_why_name, refusal_line}
+use Rattle.tool_text.specs.declared.words.faults.LineFault.{LineFault}
 
 -- a byte that is no control character
 abbrev is_shown : ℕ → Bool

@@ -8,8 +8,8 @@ use Rattle.std.proofs.lemmas.List.Elements.{All-cons, All-nil}
 use Rattle.std.proofs.lemmas.Nat.{mod_below}
 use Rattle.byteorder.specs.Endian.{big_bytes}
 use Rattle.byteorder.specs.Numbers.{length-bytes_high_first}
-use Rattle.end_answers.specs.declared.calls.Timer.{Timer}
-use Rattle.end_answers.specs.declared.calls.Timer.TheVariants as timer
+use Rattle.dccp_states.specs.declared.calls.Timer.{Timer}
+use Rattle.dccp_states.specs.declared.calls.Timer.TheVariants as timer
 use Rattle.fault_campaign.specs.Draws.{drawn, drawn_delivery, drawn_index, drawn_timer, ending, event_numbered, preference, sending}
 use Rattle.fault_campaign.proofs.Drawing.{index-below}
 use Rattle.feature_lists.specs.Features.{feature_number}
@@ -23,7 +23,7 @@ use Rattle.schedule_text.specs.Printing.{event_text, frame_name, values_text}
 use Rattle.schedule_text.specs.Range.{AreValues, IsPrintable}
 use Rattle.schedule_text.proofs.RowsAre.{feature-length, name-length, place-length, side-length, timer-length, values-length}
 use Rattle.tool_text.specs.Text.{hex_or_dash}
-use Rattle.tool_words.proofs.Bytes.{joined-length}
+use Rattle.tool_text.proofs.Bytes.{joined-length}
 use Rattle.world_events.specs.declared.event.Event.{Event}
 use Rattle.world_events.specs.declared.event.Event.TheVariants as event
 use Rattle.world_events.specs.declared.event.Side.{Side}

@@ -19,16 +19,16 @@ use Rattle.schedule_text.specs.declared.line.Line as words
 use Rattle.schedule_text.specs.declared.line.Line.TheVariants as line
 use Rattle.schedule_text.proofs.LineForms.{event-read, spelled-line}
 use Rattle.schedule_text.proofs.RowsAre.{number-length, side-length}
-use Rattle.tool_lines.specs.Jobs.{Gone, Verdict, Accepted, Refused, gone_by, gone_from, most_events}
+use Rattle.tool_text.specs.Jobs.{Gone, Verdict, Accepted, Refused, gone_by, gone_from, most_events}
 use Rattle.tool_jobs.proofs.SchedulesRunning.{every-run, run-last, run-text}
 use Rattle.tool_jobs.specs.Scenes.{Scene, scene_events, scene_text}
 use Rattle.tool_jobs.specs.Transcript.{by_line, by_scene, by_step, event_shown, first_play, is_refused, judged_line, performed, run_job, says_event, starts, transcript, with_header, with_iss, world_at_first, world_of, world_or_start}
 use Rattle.tool_jobs.specs.WorldLines.{end_lines}
-use Rattle.tool_words.specs.Refusals.{whole_line}
-use Rattle.tool_words.specs.Words.{joined}
-use Rattle.tool_words.specs.declared.faults.LineFault.{LineFault}
-use Rattle.tool_words.specs.declared.faults.LineWhy.TheVariants as why
-use Rattle.tool_words.proofs.Bytes.{if-true, joined-length}
+use Rattle.tool_text.specs.Refusals.{whole_line}
+use Rattle.tool_text.specs.Words.{joined}
+use Rattle.tool_text.specs.declared.words.faults.LineFault.{LineFault}
+use Rattle.tool_text.specs.declared.words.faults.LineWhy.TheVariants as why
+use Rattle.tool_text.proofs.Bytes.{if-true, joined-length}
 use Rattle.two_ends.specs.Controlled.{Controlled, ControlledStep, happens_to}
 use Rattle.two_ends.specs.World.{half_of}
 use Rattle.world_events.specs.declared.event.Event.{Event}

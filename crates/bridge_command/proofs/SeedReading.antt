@@ -9,11 +9,11 @@ use Rattle.std.proofs.lemmas.List.{take_all}
 use Rattle.dccp_io.specs.Lines.{Next, Line, Long, Much, before_line, by_length, ends_within, first_line, lines_of, most_input_bytes, newline, next_in_lines, one_too_many, text_length, text_of}
 use Rattle.schedule_text.specs.Reading.{read_clean, read_line}
 use Rattle.schedule_text.specs.declared.line.Line as words
-use Rattle.tool_lines.specs.Jobs.{Job, by_next, gone_by, gone_from}
-use Rattle.tool_words.specs.Lines.{clean, is_text}
-use Rattle.tool_words.proofs.Bytes.{both-true, if-false, if-true}
-use Rattle.tool_words.proofs.LineLaws.{IsClean, clean-ok}
-use Rattle.tool_words.proofs.RowLaws.{then-ok}
+use Rattle.tool_text.specs.Jobs.{Job, by_next, gone_by, gone_from}
+use Rattle.tool_text.specs.Lines.{clean, is_text}
+use Rattle.tool_text.proofs.Bytes.{both-true, if-false, if-true}
+use Rattle.tool_text.proofs.LineLaws.{IsClean, clean-ok}
+use Rattle.tool_text.proofs.RowLaws.{then-ok}
 
 -- a text that is read is clean
 pub read-clean : (text : List ℕ) (said : words.Line) → read_line text ≡ Ok said → IsClean text

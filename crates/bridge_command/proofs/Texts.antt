@@ -9,8 +9,8 @@ use Rattle.std.specs.List.{list_all}
 use Rattle.std.specs.Prelude.{codes}
 use Rattle.hex.specs.Hex.{encode_lower, encode_with, lower_digits}
 use Rattle.tool_text.specs.Text.{hex_or_dash, v4_text}
-use Rattle.tool_words.proofs.Bytes.{and-true, both-true}
-use Rattle.tool_words.specs.Lines.{is_text}
+use Rattle.tool_text.proofs.Bytes.{and-true, both-true}
+use Rattle.tool_text.specs.Lines.{is_text}
 use Rattle.capture_reader.specs.Records.{RecordParts}
 use Rattle.dccp_options.specs.Grammar.{Entry, Listed, Mandatory, Padding, Part, RawOption, bytes_after, counted_body, counted_options, entry_then, is_ignored_on_data, is_one_byte, marked_entries, option_body, options_of, part_of, raw_options, raw_then}
 use Rattle.dccp_options.specs.Kinds as kinds

@@ -1,8 +1,8 @@
 -- What `capture` writes of a transcript: a capture with a record for each frame that was sent (own).
 use Rattle.std.specs.Prelude.{ℕ, Bool, false, is_some, List, [], ◌++◌, Option, Some, None, Result, Ok, Err}
 use Rattle.bridge_records.specs.Writing.{file_header, raw_record}
-use Rattle.tool_lines.specs.Jobs.{Accepted, Gone, Job, Refused, Verdict, gone_through, text_of_job}
-use Rattle.tool_words.specs.declared.faults.LineFault.{LineFault}
+use Rattle.tool_text.specs.Jobs.{Accepted, Gone, Job, Refused, Verdict, gone_through, text_of_job}
+use Rattle.tool_text.specs.declared.words.faults.LineFault.{LineFault}
 use Rattle.world_events.specs.declared.event.Side.{Side}
 use Rattle.bridge_command.specs.declared.capture.capturing.Clock.{Clock}
 use Rattle.bridge_command.specs.declared.capture.lines.Told.{Told}

@@ -4,7 +4,7 @@ use Rattle.fault_campaign.specs.Draws.{behind_two, generator, initial_number}
 use Rattle.fault_campaign.specs.Seeded.{seeded_events}
 use Rattle.schedule_text.specs.Printing.{event_text, line_words}
 use Rattle.schedule_text.specs.declared.line.Line.TheVariants as line
-use Rattle.tool_words.specs.Words.{joined}
+use Rattle.tool_text.specs.Words.{joined}
 use Rattle.world_events.specs.declared.event.Event.{Event}
 use Rattle.world_events.specs.declared.event.Side.{Side}
 use Rattle.world_events.specs.declared.event.Side.TheVariants.{Client, Server}

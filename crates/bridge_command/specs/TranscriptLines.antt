@@ -2,14 +2,14 @@
 use Rattle.std.specs.Prelude.{ℕ, ◌^◌, ◌-◌, ◌==◌, ◌||◌, ◌&&◌, nat_lt, Bool, if◌then◌else◌, List, [], ◌∷◌, length, take, slice_index, codes, Option, Result, Ok, Err}
 use Rattle.std.specs.Str.{bytes_eq}
 use Rattle.tool_text.specs.Numbers.{number_below}
-use Rattle.tool_words.specs.declared.faults.LineFault.{LineFault}
-use Rattle.tool_words.specs.declared.faults.LineWhy.TheVariants as why
-use Rattle.tool_words.specs.declared.kinds.Flaw.{Flaw}
-use Rattle.tool_words.specs.Kinds.{flaw_behind, found_or, hex_kind, word_read}
-use Rattle.tool_words.specs.Lines.{line_read}
-use Rattle.tool_words.specs.Refusals.{fault_at}
-use Rattle.tool_words.specs.Rows.{◌>>=◌, ended, then_row}
-use Rattle.tool_words.specs.Words.{WordsLeft, first_word, later, word_at}
+use Rattle.tool_text.specs.declared.words.faults.LineFault.{LineFault}
+use Rattle.tool_text.specs.declared.words.faults.LineWhy.TheVariants as why
+use Rattle.tool_text.specs.declared.words.kinds.Flaw.{Flaw}
+use Rattle.tool_text.specs.Kinds.{flaw_behind, found_or, hex_kind, word_read}
+use Rattle.tool_text.specs.Lines.{line_read}
+use Rattle.tool_text.specs.Refusals.{fault_at}
+use Rattle.tool_text.specs.Rows.{◌>>=◌, ended, then_row}
+use Rattle.tool_text.specs.Words.{WordsLeft, first_word, later, word_at}
 use Rattle.world_events.specs.declared.event.Side.{Side}
 use Rattle.world_events.specs.declared.event.Side.TheVariants.{Client, Server}
 use Rattle.bridge_command.specs.declared.capture.lines.Told.{Told}

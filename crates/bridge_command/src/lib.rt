@@ -29,4 +29,4 @@ pub use crate::top::bridge;
 pub use crate::unwrap::{each_record_is_unwrapped, what_show_shows_stays};
 pub use crate::words::{Form, USAGE, form_of};
 pub use tool_forms::{FlowSide, SeedRun};
-pub use tool_output::Status;
+pub use tool_text::Status;

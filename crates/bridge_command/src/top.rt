@@ -4,7 +4,7 @@ ghost use Rattle.dccp_io.specs.Counts.{Rose};
 ghost use Rattle.bridge_command.specs.Schedule.{seed_text};
 ghost use Rattle.bridge_command.specs.Forms.{OnBridgeInput, OnBridgeRead, bridge_accepted, bridge_reads_past, bridge_text, has_input, is_bridge_refused};
 ghost use Rattle.bridge_command.specs.Words.{IsBridgeFormWithinBounds, OnSeed, asked_form, bridge_usage, has_bridge_settings};
-ghost use Rattle.tool_output.specs.Ends.{SinkFails, IsWritten, Answers, StopsWithin, EndsForCause};
+ghost use Rattle.tool_text.specs.Ends.{SinkFails, IsWritten, Answers, StopsWithin, EndsForCause};
 
 use crate::capture::capture_frames;
 use crate::frames::frame_flow;
@@ -14,7 +14,7 @@ use crate::unwrap::unwrap_capture;
 use crate::words::{Form, USAGE, form_of};
 use dccp_io::{Sink, Source, write_all};
 use std::alloc::Global;
-use tool_output::Status;
+use tool_text::Status;
 
 /// Does what the words ask for (own), those after the program's name. `capture` reads what `run` or `replay` wrote, and
 /// writes a classic capture with a record for each frame that was sent. `unwrap` reads a capture, classic or pcapng, of

@@ -6,10 +6,10 @@ use Rattle.std.proofs.lemmas.List.{append-nil, drop-drop, take-append-le, drop-a
 use Rattle.std.specs.Io.KnownBytes.{append_known, prepend_known}
 use Rattle.std.specs.Prelude.{flat_map, is_some}
 use Rattle.dccp_io.specs.Fronts.{GivesAtMost}
-use Rattle.tool_output.specs.Ends.{HasBegun, IsCutOff, IsMovedOut}
-use Rattle.tool_output.specs.declared.status.Status.{Status}
-use Rattle.tool_output.specs.declared.status.Status.TheVariants as status
-use Rattle.tool_output.proofs.Ending.{answers-early, append-none, append-twice, begun-behind, begun-longer, not-both}
+use Rattle.tool_text.specs.Ends.{HasBegun, IsCutOff, IsMovedOut}
+use Rattle.tool_text.specs.declared.output.status.Status.{Status}
+use Rattle.tool_text.specs.declared.output.status.Status.TheVariants as status
+use Rattle.tool_text.proofs.Ending.{answers-early, append-none, append-twice, begun-behind, begun-longer, not-both}
 use Rattle.capture_reader.proofs.Opening.{passed-ahead}
 use Rattle.bridge_records.specs.Pieces.{Goes, GoesThroughPieces, Judgement, JudgesPiece, Piece, PieceWork, Stops, Taken, by_next_piece, done_by, unended, in_front, most_piece_bytes, next_piece, piece_text, pieces_from, pieces_of, taken_by, taken_so_far, text_of_pieces, end_piece}
 use Rattle.bridge_records.specs.Turns.{LeavesText}

@@ -4,10 +4,10 @@ use Rattle.std.proofs.lemmas.Option.{IfSome_then}
 use Rattle.std.specs.Prelude.{is_err, is_some}
 use Rattle.dccp_io.specs.Ahead.{BytesAhead, ahead_of}
 use Rattle.dccp_io.specs.Fronts.{TakesFront}
-use Rattle.tool_output.specs.Ends.{HasBegun, IsMovedOut}
-use Rattle.tool_output.specs.declared.status.Status.{Status}
-use Rattle.tool_output.specs.declared.status.Status.TheVariants as status
-use Rattle.tool_output.proofs.Ending.{none-left, on-err, on-ok, unwritten}
+use Rattle.tool_text.specs.Ends.{HasBegun, IsMovedOut}
+use Rattle.tool_text.specs.declared.output.status.Status.{Status}
+use Rattle.tool_text.specs.declared.output.status.Status.TheVariants as status
+use Rattle.tool_text.proofs.Ending.{none-left, on-err, on-ok, unwritten}
 use Rattle.bridge_records.specs.Pieces.{GoesThroughPieces, PieceWork, Stops, by_next_piece, unended, most_piece_bytes, next_piece, pieces_from, taken_so_far}
 use Rattle.bridge_records.specs.Turns.{KeepsBlock, LeavesText, Standing, TurnsPiece}
 use Rattle.bridge_records.specs.declared.pieces.fault.PieceFault.{PieceFault}

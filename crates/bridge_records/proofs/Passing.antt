@@ -18,7 +18,7 @@ use Rattle.bridge_records.specs.Pieces.{Goes, GoesThroughPieces, Judgement, Piec
 use Rattle.bridge_records.proofs.Along.{piece-there}
 use Rattle.bridge_records.proofs.FirstPiece.{pieces-cut}
 use Rattle.bridge_records.specs.declared.pieces.fault.PieceFault.{PieceFault}
-use Rattle.tool_output.specs.declared.status.Status.{Status}
+use Rattle.tool_text.specs.declared.output.status.Status.{Status}
 use Rattle.dccp_io.specs.Counts.{one_more}
 use Rattle.bridge_records.specs.Blocks.{section_block, section_order}
 use Rattle.bridge_records.specs.Classic.{any_format, head_in}

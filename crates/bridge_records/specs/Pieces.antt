@@ -1,7 +1,7 @@
 -- What a job makes of the pieces of an input, and what is written of it (own).
 use Rattle.std.specs.Prelude.{◌≡◌, ℕ, zero, suc, ◌+◌, ◌-◌, ◌^◌, ◌++◌, nat_lt, Bool, is_some, if◌then◌else◌, List, [], ◌∷◌, length, take, flat_map, Option, Some, None, Result, Ok, Err}
-use Rattle.tool_output.specs.Ends.{Answers, StopsWithin}
-use Rattle.tool_output.specs.declared.status.Status.{Status}
+use Rattle.tool_text.specs.Ends.{Answers, StopsWithin}
+use Rattle.tool_text.specs.declared.output.status.Status.{Status}
 use Rattle.bridge_records.specs.declared.pieces.fault.PieceFault.{PieceFault}
 use Rattle.bridge_records.specs.declared.pieces.fault.PieceFault.TheVariants.{CutShort, TooLarge}
 

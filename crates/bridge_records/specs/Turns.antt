@@ -3,9 +3,9 @@ use Rattle.std.specs.Prelude.{◌≡◌, ℕ, ◌+◌, ◌≤◌, ◌<◌, Bool,
 use Rattle.dccp_io.specs.Ahead.{BytesAhead, ahead_of}
 use Rattle.dccp_io.specs.Counts.{Rose}
 use Rattle.seq_circle.specs.declared.memory.NoMemory as no_memory
-use Rattle.tool_output.specs.Ends.{HasBegun, HasTaken, IsAnswered, IsCutOff}
-use Rattle.tool_output.specs.declared.status.Status.{Status}
-use Rattle.tool_output.specs.declared.status.Status.TheVariants as status
+use Rattle.tool_text.specs.Ends.{HasBegun, HasTaken, IsAnswered, IsCutOff}
+use Rattle.tool_text.specs.declared.output.status.Status.{Status}
+use Rattle.tool_text.specs.declared.output.status.Status.TheVariants as status
 use Rattle.bridge_records.specs.Pieces.{JudgesPiece, PieceWork, Stops, by_next_piece, most_piece_bytes, next_piece}
 use Rattle.bridge_records.specs.declared.pieces.turns.Turn.{Turn}
 use Rattle.bridge_records.specs.declared.pieces.turns.Turn.TheVariants as turn

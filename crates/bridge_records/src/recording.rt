@@ -3,7 +3,7 @@ ghost use Rattle.std.specs.Prelude.{◌≡◌, ◌≢◌, ◌+◌, ◌≤◌, �
 ghost use Rattle.bridge_records.specs.Pieces.{GoesThroughPieces, piece_text};
 ghost use Rattle.capture_reader.specs.Records.{entry_of};
 ghost use Rattle.dccp_io.specs.Counts.{Rose, one_more};
-ghost use Rattle.tool_output.specs.Ends.{EndsForCause, SinkFails};
+ghost use Rattle.tool_text.specs.Ends.{EndsForCause, SinkFails};
 ghost use Rattle.bridge_records.specs.Reading.{bytes_held};
 ghost use Rattle.bridge_records.specs.Recording.{RecordWork, first_reading, held_passed, numbered_entry, reading_at, records_work};
 
@@ -16,7 +16,7 @@ use dccp_io::{Sink, Source};
 use seq_circle::NoMemory;
 use std::alloc::Global;
 use std::marker::Model;
-use tool_output::Status;
+use tool_text::Status;
 
 /// A job over the records of a capture (own). Contracts see what it does where the capture begins and with a record,
 /// the text of what it does, and the text behind the last record.

@@ -1,5 +1,5 @@
 -- The rule over the word and the views of all claimers, and what a claim tells of the word that it read (own).
-use Rattle.std.specs.Prelude.{◌≡◌, ℕ, ◌^◌, ◌<◌, ◌≤◌, min, nat_lt, if◌then◌else◌, List, [], ◌∷◌, length, All, sum_by, Option, Some, None}
+use Rattle.std.specs.Prelude.{◌≡◌, ℕ, ◌^◌, ◌<◌, ◌≤◌, min, nat_lt, if◌then◌else◌, List, [], ◌∷◌, length, All, sum_by, Option, Some, None, ◌-◌}
 use mathlib.Core.Option.{some}
 use lib.ListN.{get_elem?}
 use Rattle.atomic_table.specs.Table.{State, Me}
@@ -36,3 +36,11 @@ pub record IsClaim (v : View) (answer : Option ℕ) (w : View) : Type 0 where
   pub above : All (λ x. x < word) v.numbers
   pub is_answer : answer ≡ (if nat_lt word v.limit then Some word else None)
   pub is_view : w ≡ claimed v word
+
+-- it has two shares left, one for each claimer that it is split into
+abbrev pub HasTwoShares : View → Type 0
+HasTwoShares v = 2 ≤ v.share - v.drawn
+
+-- a number that is claimed lies below the limit
+abbrev pub KeepsLimit : View → ℕ → Type 0
+KeepsLimit v number = number < v.limit

@@ -6,6 +6,7 @@ ghost use Rattle.capture_reader.specs.Format.{opened};
 ghost use Rattle.capture_reader.specs.Records.{header_in, holds_body, is_record_settled};
 ghost use Rattle.capture_reader.specs.Steps.{KeepsTheSource, FileRead, HeaderRead, BodyRead, RecordRead};
 ghost use Rattle.capture_reader.specs.State.{Declines, Opens};
+ghost use Rattle.capture_reader.specs.declared.fault.CaptureFault.TheVariants.{NoMemory};
 
 use crate::CaptureFault;
 use crate::format::{FILE_HEADER, Format, Order, format_of};
@@ -60,7 +61,7 @@ fn open<S: Source>(source: &mut S, ahead: &mut ReadAhead) -> Result<Format, Capt
     requires { ahead.old ≡ record { pending = []; size = 262144 } }
     ensures keeps { KeepsTheSource S.faults S.lender ahead.old ahead.new source.old source.new }
     ensures read { FileRead S.left S.faults ahead.new source.old source.new result }
-    ensures no_memory { IfErr result (λ why. why ≢ CaptureFault.NoMemory) }
+    ensures no_memory { IfErr result (λ why. why ≢ NoMemory) }
 {
     if gather(source, ahead, FILE_HEADER).is_err() {
         return Err(CaptureFault::ReadFault);

@@ -1,6 +1,7 @@
 //! The file header (the savefile format of libpcap).
 ghost use Rattle.std.specs.Prelude.{◌≡◌, ◌+◌, ◌≤◌, ◌^◌, ◌<◌, ◌≢◌, length, IfErr};
 ghost use Rattle.capture_reader.specs.Format.{ordered_number_at, format_in, format_of};
+ghost use Rattle.capture_reader.specs.declared.fault.CaptureFault.TheVariants.{NoMemory, ReadFault};
 
 use crate::CaptureFault;
 use byteorder::{BigEndian, ByteOrder, LittleEndian};
@@ -87,8 +88,8 @@ fn format_in(order: Order, nanos: bool, bytes: &[u8]) -> Result<Format, CaptureF
 pub(crate) fn format_of(bytes: &[u8]) -> Result<Format, CaptureFault>
     requires { 24 ≤ length bytes.now }
     ensures value { result ≡ format_of bytes.now }
-    ensures no_read { IfErr result (λ why. why ≢ CaptureFault.ReadFault) }
-    ensures no_memory { IfErr result (λ why. why ≢ CaptureFault.NoMemory) }
+    ensures no_read { IfErr result (λ why. why ≢ ReadFault) }
+    ensures no_memory { IfErr result (λ why. why ≢ NoMemory) }
 {
     let big = Order::Big.read_u32(bytes, MAGIC);
     if big == MICROSECONDS {

@@ -1,7 +1,7 @@
 //! What the definition of a capture's records says of whole inputs.
 ghost use Rattle.std.specs.Prelude.{◌≡◌, ◌↔◌, ℕ, List, Option, Some, None};
 ghost use Rattle.capture_reader.specs.declared.fault.CaptureFault.{CaptureFault};
-ghost use Rattle.capture_reader.specs.declared.fault.CaptureFault.TheVariants as fault;
+ghost use Rattle.capture_reader.specs.declared.fault.CaptureFault.TheVariants.{CutShort, TooLarge};
 ghost use Rattle.capture_reader.specs.Records.{RecordParts, captured, missing};
 ghost use Rattle.capture_reader.specs.Capture.{IsCapture};
 
@@ -17,13 +17,13 @@ pub fn a_capture_has_one_list_of_records()
 /// numbers is how many bytes are needed, the second how many count, and the third how many are there.
 pub fn cut_short_comes_before_too_large()
     ensures whole { missing 16 4294967272 16 ≡ None }
-    ensures cut { missing 16 4294967272 15 ≡ Some fault.CutShort }
+    ensures cut { missing 16 4294967272 15 ≡ Some CutShort }
     ensures all_count { missing 16 16 16 ≡ None }
-    ensures both { missing 16 15 14 ≡ Some fault.CutShort }
-    ensures one_more { missing 16 15 15 ≡ Some fault.TooLarge }
-    ensures far { missing 16 15 400 ≡ Some fault.TooLarge }
-    ensures none_counts { missing 16 0 1 ≡ Some fault.TooLarge }
+    ensures both { missing 16 15 14 ≡ Some CutShort }
+    ensures one_more { missing 16 15 15 ≡ Some TooLarge }
+    ensures far { missing 16 15 400 ≡ Some TooLarge }
+    ensures none_counts { missing 16 0 1 ≡ Some TooLarge }
     ensures nothing { missing 0 0 0 ≡ None }
-    ensures body { missing 100 4 4 ≡ Some fault.TooLarge }
-    ensures short_body { missing 100 4 3 ≡ Some fault.CutShort }
+    ensures body { missing 100 4 4 ≡ Some TooLarge }
+    ensures short_body { missing 100 4 3 ≡ Some CutShort }
 {}

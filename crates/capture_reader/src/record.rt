@@ -2,6 +2,7 @@
 ghost use Rattle.std.specs.Prelude.{◌≡◌, ◌≢◌, ◌+◌, ◌≤◌, ◌<◌, ◌^◌, [], drop, length, IfOk, IfErr, IfSome};
 ghost use Rattle.capture_reader.specs.State.{IsOfRecords};
 ghost use Rattle.capture_reader.specs.Records.{missing, record_header, header_in};
+ghost use Rattle.capture_reader.specs.declared.fault.CaptureFault.TheVariants.{ReadFault};
 
 use crate::{CaptureFault, Order};
 
@@ -75,7 +76,7 @@ pub(crate) fn missing(count: usize, room: u64, size: usize) -> Option<CaptureFau
     requires { count ≤ 2 ^ 32 }
     ensures value { result ≡ missing count room size }
     ensures fits { result ≡ None → (count ≤ size) × (count ≤ room) }
-    ensures of_records { IfSome result (λ why. IsOfRecords why × (why ≢ CaptureFault.ReadFault)) }
+    ensures of_records { IfSome result (λ why. IsOfRecords why × (why ≢ ReadFault)) }
 {
     if (size as u64) < (count as u64).min(room) {
         return Some(CaptureFault::CutShort);
@@ -95,7 +96,7 @@ pub(crate) fn header_in(
     ensures value { result ≡ header_in order room bytes.now }
     ensures fits { IfOk result (λ header. IfSome header (λ _. (16 ≤ length bytes.now) × (16 ≤ room))) }
     ensures none { IfOk result (λ header. header ≡ None → bytes.now ≡ []) }
-    ensures of_records { IfErr result (λ why. IsOfRecords why × (why ≢ CaptureFault.ReadFault)) }
+    ensures of_records { IfErr result (λ why. IsOfRecords why × (why ≢ ReadFault)) }
 {
     if bytes.is_empty() {
         return Ok(None);

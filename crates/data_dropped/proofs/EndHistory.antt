@@ -6,8 +6,8 @@ use Rattle.congestion_trait.specs.Control.{Control}
 use Rattle.dccp_endpoint.specs.Controlled.{EndStep, with_control}
 use Rattle.dccp_endpoint.specs.Receiving.{receives}
 use Rattle.dccp_endpoint.specs.declared.config.Config.{Config}
-use Rattle.end_answers.specs.declared.outcome.Outcome.{Outcome}
-use Rattle.end_answers.specs.declared.outcome.Outcome.TheVariants.{Took, Dropped, Synced, WasReset, SentReset}
+use Rattle.dccp_states.specs.declared.outcome.Outcome.{Outcome}
+use Rattle.dccp_states.specs.declared.outcome.Outcome.TheVariants.{Took, Dropped, Synced, WasReset, SentReset}
 use Rattle.data_dropped.specs.Buffering.{arriving_number, buffers, delivery_by, data_delivered}
 use Rattle.data_dropped.specs.Drops.{HaveCodes}
 use Rattle.data_dropped.specs.EndHistory.{BufferedPast, EndCall, EndOpens, EndReceives, EndTakes, EndStops, buffered_now, calls_by, data_call, is_end_stop, no_past, past_after, past_all}

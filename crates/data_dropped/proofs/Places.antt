@@ -7,8 +7,8 @@ use Rattle.dccp_endpoint.specs.Incoming.{Incoming}
 use Rattle.dccp_endpoint.specs.Inputs.{Input, Arrives}
 use Rattle.dccp_endpoint.specs.Outcomes.{HasCause, IsTaken}
 use Rattle.dccp_endpoint.specs.Reporting.{delivered_if, delivers}
-use Rattle.end_answers.specs.declared.outcome.Outcome.{Outcome}
-use Rattle.end_answers.specs.declared.outcome.Outcome.TheVariants.{Took, Dropped, Synced, WasReset, SentReset}
+use Rattle.dccp_states.specs.declared.outcome.Outcome.{Outcome}
+use Rattle.dccp_states.specs.declared.outcome.Outcome.TheVariants.{Took, Dropped, Synced, WasReset, SentReset}
 use Rattle.data_dropped.specs.Buffering.{HasDataWithin}
 
 abbrev bytes_given : Input → List ℕ

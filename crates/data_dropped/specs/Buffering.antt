@@ -8,8 +8,8 @@ use Rattle.dccp_endpoint.specs.declared.config.Config.{Config}
 use Rattle.dccp_packets.specs.Forms.{near}
 use Rattle.dccp_packets.specs.Grammar.{Parts, decoded}
 use Rattle.dccp_packets.specs.declared.reading.Malformed.{Malformed}
-use Rattle.end_answers.specs.declared.outcome.Outcome.{Outcome}
-use Rattle.end_answers.specs.declared.outcome.Outcome.TheVariants.{Took, Dropped, Synced, WasReset, SentReset}
+use Rattle.dccp_states.specs.declared.outcome.Outcome.{Outcome}
+use Rattle.dccp_states.specs.declared.outcome.Outcome.TheVariants.{Took, Dropped, Synced, WasReset, SentReset}
 use Rattle.data_dropped.specs.Frames.{buffered_frame}
 use Rattle.data_dropped.specs.Inbox.{InboxState, after_arrival, arrival_answer, dropping, empty_inbox, fits_item, reason}
 use Rattle.data_dropped.specs.declared.answers.Arrival.{Arrival}

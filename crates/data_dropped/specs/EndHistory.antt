@@ -5,8 +5,8 @@ use Rattle.dccp_endpoint.specs.Calling.{opens}
 use Rattle.dccp_endpoint.specs.Controlled.{End, EndStep, begins, with_control}
 use Rattle.dccp_endpoint.specs.Receiving.{receives}
 use Rattle.dccp_endpoint.specs.declared.config.Config.{Config}
-use Rattle.end_answers.specs.declared.outcome.Outcome.{Outcome}
-use Rattle.end_answers.specs.declared.outcome.Outcome.TheVariants.{Took, Dropped, Synced, WasReset, SentReset}
+use Rattle.dccp_states.specs.declared.outcome.Outcome.{Outcome}
+use Rattle.dccp_states.specs.declared.outcome.Outcome.TheVariants.{Took, Dropped, Synced, WasReset, SentReset}
 use Rattle.data_dropped.specs.Buffering.{Buffered, arriving_number}
 use Rattle.data_dropped.specs.History.{History, InboxCall, DataArrive, LongDataArrive, Takes, Stops, history_after, history_after_all, no_history}
 use Rattle.data_dropped.specs.Inbox.{fits_item}

@@ -39,6 +39,7 @@ impl Inbox {
     ghost use Rattle.std.specs.Prelude.{◌≡◌, ◌↔◌, ◌<◌, ◌≤◌, [], IfOk, IsNone, false, length, true};
     ghost use Rattle.data_dropped.specs.Drops.{drop_bytes, tells_all};
     ghost use Rattle.data_dropped.specs.Inbox.{after_arrival, arrival_answer, dropping, empty_inbox, first_over, first_taken, is_slow, keeping, reason, stopping, takes_more, taking};
+    ghost use Rattle.data_dropped.specs.declared.answers.Arrival.TheVariants.{Dropped, Kept};
 
     /// An inbox that holds nothing, for 1 to 1,024 items. `NoMemory` comes only here.
     pub fn new(alloc: Global, capacity: u16) -> Result<Inbox, NoMemory>
@@ -90,7 +91,7 @@ impl Inbox {
     // One drop more, which may drive the oldest out.
     fn note_drop(&mut self, number: Seq48) -> Arrival
         ensures dropped { self.new ≡ dropping self.old number }
-        ensures answer { result ≡ Arrival.Dropped (reason self.old) }
+        ensures answer { result ≡ Dropped (reason self.old) }
     {
         let code = self.reason();
         self.drops.push_back(DropEntry { number, code });
@@ -103,9 +104,9 @@ impl Inbox {
         requires { length payload.now ≤ 1024 }
         ensures after { self.new ≡ after_arrival self.old number payload.now }
         ensures answer { result ≡ arrival_answer self.old }
-        ensures stopped { (result ≡ Arrival.Dropped 1) ↔ (self.old.stopped ≡ true) }
-        ensures full { (result ≡ Arrival.Dropped 2) ↔ ((self.old.stopped ≡ false) × (length self.old.items ≡ self.old.capacity)) }
-        ensures kept { (result ≡ Arrival.Kept) ↔ ((self.old.stopped ≡ false) × (length self.old.items < self.old.capacity)) }
+        ensures stopped { (result ≡ Dropped 1) ↔ (self.old.stopped ≡ true) }
+        ensures full { (result ≡ Dropped 2) ↔ ((self.old.stopped ≡ false) × (length self.old.items ≡ self.old.capacity)) }
+        ensures kept { (result ≡ Kept) ↔ ((self.old.stopped ≡ false) × (length self.old.items < self.old.capacity)) }
     {
         if self.takes_more() {
             self.keep(number, payload);
@@ -118,7 +119,7 @@ impl Inbox {
     /// Longer data have arrived, which no item holds: they are dropped, with 1 after `stop` and with 2 otherwise (own).
     pub fn too_long(&mut self, number: Seq48) -> Arrival
         ensures dropped { self.new ≡ dropping self.old number }
-        ensures answer { result ≡ Arrival.Dropped (reason self.old) }
+        ensures answer { result ≡ Dropped (reason self.old) }
     {
         self.note_drop(number)
     }

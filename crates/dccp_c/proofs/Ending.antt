@@ -20,8 +20,8 @@ use Rattle.dccp_uses.proofs.Ringing.{other_stays_quiet, told_is_quiet}
 use Rattle.dccp_uses.specs.Alarms.{alarm_of, arranged, has_run_out, no_alarms, rung}
 use Rattle.dccp_uses.specs.Session.{condition_of, every_timer, rings, tells_end}
 use Rattle.dccp_uses.specs.declared.alarms.Alarms.{Alarms}
-use Rattle.end_answers.specs.declared.calls.Timer.{Timer}
-use Rattle.end_answers.specs.declared.calls.Timer.TheVariants as timers
+use Rattle.dccp_states.specs.declared.calls.Timer.{Timer}
+use Rattle.dccp_states.specs.declared.calls.Timer.TheVariants as timers
 use Rattle.dccp_c.specs.Doing.{first_due}
 use Rattle.dccp_c.specs.Ending.{ListenerTicksEnd, due_served, listener_ticked}
 use Rattle.dccp_c.specs.Serving.{Served, Timers, deed_served, due_or, first_due_flow, served_through, serving_begins, timers_of, timers_then}

@@ -20,9 +20,9 @@ use Rattle.dccp_endpoint.specs.Steps.{Step}
 use Rattle.dccp_states.specs.declared.phase.Phase.{Phase}
 use Rattle.dccp_states.specs.declared.phase.Phase.TheVariants as phases
 use Rattle.two_ends.specs.World.{seen_of}
-use Rattle.end_answers.specs.declared.calls.SendFault.{SendFault}
-use Rattle.end_answers.specs.declared.calls.Timer.{Timer}
-use Rattle.end_answers.specs.declared.calls.Timer.TheVariants as timers
+use Rattle.dccp_states.specs.declared.calls.SendFault.{SendFault}
+use Rattle.dccp_states.specs.declared.calls.Timer.{Timer}
+use Rattle.dccp_states.specs.declared.calls.Timer.TheVariants as timers
 use Rattle.dccp_listener.proofs.Computing.{computed_runs}
 use Rattle.dccp_listener.proofs.OnePeer.{exact_peers, one_peer, peers_alike}
 use Rattle.dccp_listener.specs.Chain.{Aborts, Arrives, Calls, ChainStep, Closes, Deed, Fires, FlowCall, Sends, chain_step, flow_step, fresh_end, is_flow, is_given_up}

@@ -5,8 +5,8 @@ use Rattle.dccp_uses.specs.Alarms.{alarm_of, has_run_out}
 use Rattle.dccp_uses.specs.Session.{every_timer, rings, rings_each, tells_end}
 use Rattle.dccp_uses.specs.declared.alarms.Alarms.{Alarms}
 use Rattle.dccp_uses.proofs.Ringing.{nothing_is_due, other_stays_quiet, told_is_quiet}
-use Rattle.end_answers.specs.declared.calls.Timer.{Timer}
-use Rattle.end_answers.specs.declared.calls.Timer.TheVariants as timers
+use Rattle.dccp_states.specs.declared.calls.Timer.{Timer}
+use Rattle.dccp_states.specs.declared.calls.Timer.TheVariants as timers
 use Rattle.dccp_c.specs.Doing.{c_tells, c_ticks, first_due}
 use Rattle.dccp_c.specs.Stepping.{CEnd}
 use Rattle.dccp_c.specs.Ticking.{TicksAreATick, six_ticks, ticked}

@@ -23,7 +23,7 @@ use Rattle.dccp_listener.specs.declared.peer.Peer.{Peer}
 use Rattle.dccp_uses.specs.Alarms.{arranged}
 use Rattle.dccp_uses.specs.Session.{condition_of, every_timer}
 use Rattle.dccp_uses.specs.declared.alarms.Alarms.{Alarms}
-use Rattle.end_answers.specs.declared.calls.Timer.{Timer}
+use Rattle.dccp_states.specs.declared.calls.Timer.{Timer}
 use Rattle.seq_circle.specs.declared.memory.NoMemory.{NoMemory}
 use Rattle.dccp_c.specs.Doing.{first_due}
 use Rattle.dccp_c.specs.Serving.{CallsWantNoMemory, OnlyStrangersWantMemory, Served, TimedDeed, Timers, TimersStandWithFlows, WantsMemory, deed_served, due_or, first_due_flow, served_through, serving_begins, timers_by, timers_then}

@@ -3,7 +3,7 @@ use Rattle.std.specs.Prelude.{◌≡◌, ◌⊎◌, ℕ, ◌==◌, Bool, true, f
 use Rattle.ccid_two.specs.Kinds.{Both, at_first, kinds_control}
 use Rattle.dccp_endpoint.specs.declared.config.Config.{Config}
 use Rattle.dccp_uses.specs.Session.{SessionStep, is_listening, session_begins}
-use Rattle.end_answers.specs.declared.outcome.Outcome.{Outcome}
+use Rattle.dccp_states.specs.declared.outcome.Outcome.{Outcome}
 use Rattle.dccp_c.specs.Framing.{bytes_of}
 use Rattle.dccp_c.specs.Outcomes.{told_outcome}
 use Rattle.dccp_c.specs.declared.told.Told.{Told}

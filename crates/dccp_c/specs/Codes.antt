@@ -2,16 +2,16 @@
 use Rattle.std.specs.Prelude.{ℕ, ◌==◌, Bool, true, false, Option, Some, None, Result, Ok, Err, if◌then◌else◌}
 use Rattle.dccp_states.specs.declared.phase.Phase.{Phase}
 use Rattle.dccp_states.specs.declared.phase.Phase.TheVariants as phases
-use Rattle.end_answers.specs.declared.calls.AbortFault.{AbortFault}
-use Rattle.end_answers.specs.declared.calls.AbortFault.TheVariants.{NotLive}
-use Rattle.end_answers.specs.declared.calls.CloseFault.{CloseFault}
-use Rattle.end_answers.specs.declared.calls.CloseFault.TheVariants as close
-use Rattle.end_answers.specs.declared.calls.OpenFault.{OpenFault}
-use Rattle.end_answers.specs.declared.calls.OpenFault.TheVariants.{NotFresh}
-use Rattle.end_answers.specs.declared.calls.SendFault.{SendFault}
-use Rattle.end_answers.specs.declared.calls.SendFault.TheVariants as send
-use Rattle.end_answers.specs.declared.calls.Timer.{Timer}
-use Rattle.end_answers.specs.declared.calls.Timer.TheVariants as timers
+use Rattle.dccp_states.specs.declared.calls.AbortFault.{AbortFault}
+use Rattle.dccp_states.specs.declared.calls.AbortFault.TheVariants.{NotLive}
+use Rattle.dccp_states.specs.declared.calls.CloseFault.{CloseFault}
+use Rattle.dccp_states.specs.declared.calls.CloseFault.TheVariants as close
+use Rattle.dccp_states.specs.declared.calls.OpenFault.{OpenFault}
+use Rattle.dccp_states.specs.declared.calls.OpenFault.TheVariants.{NotFresh}
+use Rattle.dccp_states.specs.declared.calls.SendFault.{SendFault}
+use Rattle.dccp_states.specs.declared.calls.SendFault.TheVariants as send
+use Rattle.dccp_states.specs.declared.calls.Timer.{Timer}
+use Rattle.dccp_states.specs.declared.calls.Timer.TheVariants as timers
 use Rattle.feature_lists.specs.declared.features.Place.{Place}
 use Rattle.feature_lists.specs.declared.features.Place.TheVariants.{Here, There}
 use Rattle.feature_lists.specs.declared.wishes.PreferFault.{PreferFault}

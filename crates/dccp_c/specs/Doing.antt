@@ -4,7 +4,7 @@ use Rattle.ccid_two.specs.Kinds.{Both}
 use Rattle.dccp_uses.specs.Alarms.{alarm_of, has_run_out, until_first}
 use Rattle.dccp_uses.specs.Session.{SessionStep, every_timer}
 use Rattle.dccp_uses.specs.declared.alarms.Alarms.{Alarms}
-use Rattle.end_answers.specs.declared.calls.Timer.{Timer}
+use Rattle.dccp_states.specs.declared.calls.Timer.{Timer}
 use Rattle.dccp_c.specs.Framing.{bytes_of}
 use Rattle.dccp_c.specs.Keeping.{Inner}
 use Rattle.dccp_c.specs.Stepping.{CDoing, CEnd, c_fires, with_alarms}

@@ -3,7 +3,7 @@ use Rattle.std.specs.Prelude.{◌≡◌, ℕ, zero, suc, ◌*◌, List, length, 
 use Rattle.dccp_listener.specs.Chain.{Calls, Fires}
 use Rattle.dccp_listener.specs.declared.config.ListenConfig.{ListenConfig}
 use Rattle.dccp_listener.specs.declared.peer.Peer.{Peer}
-use Rattle.end_answers.specs.declared.calls.Timer.{Timer}
+use Rattle.dccp_states.specs.declared.calls.Timer.{Timer}
 use Rattle.dccp_c.specs.Serving.{Served, TimedDeed, deed_served, first_due_flow, served_through, serving_begins}
 
 -- a timer that has run out is told its peer's end, if there is one

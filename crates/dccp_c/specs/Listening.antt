@@ -7,7 +7,7 @@ use Rattle.dccp_listener.specs.Listens.{listens}
 use Rattle.dccp_listener.specs.Peers.{end_of_peer}
 use Rattle.dccp_listener.specs.Runs.{CallTold, Stepped, WasBusy, HadNoMemory}
 use Rattle.dccp_listener.specs.declared.peer.Peer.{Peer}
-use Rattle.end_answers.specs.declared.calls.Timer.{Timer}
+use Rattle.dccp_states.specs.declared.calls.Timer.{Timer}
 use Rattle.world_events.specs.declared.event.Refusal.{Refusal}
 use Rattle.world_events.specs.declared.event.Refusal.TheVariants as refusal
 use Rattle.world_events.specs.declared.event.Seen.{Seen}

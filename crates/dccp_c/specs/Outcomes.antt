@@ -2,10 +2,10 @@
 use Rattle.std.specs.Prelude.{ℕ, [], ◌∷◌, Some, None}
 use Rattle.dccp_packets.specs.declared.reading.Malformed.TheVariants as malformed
 use Rattle.dccp_sum.specs.declared.packet_sum.SumFault.TheVariants as sum
-use Rattle.end_answers.specs.declared.outcome.Outcome.{Outcome}
-use Rattle.end_answers.specs.declared.outcome.Outcome.TheVariants.{Took, Dropped, Synced, WasReset, SentReset}
-use Rattle.end_answers.specs.declared.outcome.Why.{Why}
-use Rattle.end_answers.specs.declared.outcome.Why.TheVariants as why
+use Rattle.dccp_states.specs.declared.outcome.Outcome.{Outcome}
+use Rattle.dccp_states.specs.declared.outcome.Outcome.TheVariants.{Took, Dropped, Synced, WasReset, SentReset}
+use Rattle.dccp_states.specs.declared.outcome.Why.{Why}
+use Rattle.dccp_states.specs.declared.outcome.Why.TheVariants as why
 use Rattle.dccp_c.specs.declared.told.Told.{Told}
 
 -- the number of the cause for which a packet was dropped

@@ -13,7 +13,7 @@ use Rattle.dccp_listener.specs.declared.peer.Peer.{Peer}
 use Rattle.dccp_uses.specs.Alarms.{arranged, no_alarms, rung, until_first, with_delivery, with_progress}
 use Rattle.dccp_uses.specs.Session.{condition_of, every_timer, is_delivery}
 use Rattle.dccp_uses.specs.declared.alarms.Alarms.{Alarms}
-use Rattle.end_answers.specs.declared.calls.Timer.{Timer}
+use Rattle.dccp_states.specs.declared.calls.Timer.{Timer}
 use Rattle.world_events.specs.declared.event.Seen.TheVariants.{Called, Received}
 use Rattle.dccp_c.specs.Doing.{first_due, never}
 

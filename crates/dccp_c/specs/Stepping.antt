@@ -8,12 +8,12 @@ use Rattle.dccp_endpoint.specs.Early.{sends_soon}
 use Rattle.dccp_endpoint.specs.Receiving.{receives}
 use Rattle.dccp_uses.specs.Session.{SessionState, SessionStep, after_hearing, calls, calls_anew, tells_end}
 use Rattle.dccp_uses.specs.declared.alarms.Alarms.{Alarms}
-use Rattle.end_answers.specs.declared.calls.AbortFault.{AbortFault}
-use Rattle.end_answers.specs.declared.calls.CloseFault.{CloseFault}
-use Rattle.end_answers.specs.declared.calls.OpenFault.{OpenFault}
-use Rattle.end_answers.specs.declared.calls.SendFault.{SendFault}
-use Rattle.end_answers.specs.declared.calls.Timer.{Timer}
-use Rattle.end_answers.specs.declared.outcome.Outcome.{Outcome}
+use Rattle.dccp_states.specs.declared.calls.AbortFault.{AbortFault}
+use Rattle.dccp_states.specs.declared.calls.CloseFault.{CloseFault}
+use Rattle.dccp_states.specs.declared.calls.OpenFault.{OpenFault}
+use Rattle.dccp_states.specs.declared.calls.SendFault.{SendFault}
+use Rattle.dccp_states.specs.declared.calls.Timer.{Timer}
+use Rattle.dccp_states.specs.declared.outcome.Outcome.{Outcome}
 use Rattle.feature_lists.specs.declared.features.Feature.{Feature}
 use Rattle.feature_lists.specs.declared.features.Place.{Place}
 use Rattle.feature_lists.specs.declared.wishes.PreferFault.{PreferFault}

@@ -1,7 +1,7 @@
 //! What C is told of a datagram.
 ghost use Rattle.std.specs.Prelude.{◌≡◌, None};
 ghost use Rattle.dccp_c.specs.Outcomes.{cause_code, told_outcome};
-ghost use Rattle.end_answers.specs.declared.outcome.Outcome.TheVariants.{Took};
+ghost use Rattle.dccp_states.specs.declared.outcome.Outcome.TheVariants.{Took};
 
 use dccp_endpoint::{Malformed, Outcome, SumFault, Why};
 

@@ -3,10 +3,10 @@ use Rattle.std.specs.Prelude.{◌≡◌, ◌≢◌, ℕ, ◌++◌, List, codes, 
 use Rattle.fault_campaign.specs.Totals.{totals}
 use Rattle.fault_campaign.specs.declared.report.Report.{Report}
 use Rattle.tool_text.specs.Text.{labelled_number}
-use Rattle.tool_output.specs.Ends.{HasBegun, HasTaken, IsCutOff, EndsForCause}
+use Rattle.tool_text.specs.Ends.{HasBegun, HasTaken, IsCutOff, EndsForCause}
 use Rattle.tool_forms.specs.declared.campaign_words.Campaign.{Campaign}
-use Rattle.tool_output.specs.declared.status.Status.{Status}
-use Rattle.tool_output.specs.declared.status.Status.TheVariants as status
+use Rattle.tool_text.specs.declared.output.status.Status.{Status}
+use Rattle.tool_text.specs.declared.output.status.Status.TheVariants as status
 
 -- a count behind its name
 abbrev pub count_line : List ℕ → ℕ → List ℕ

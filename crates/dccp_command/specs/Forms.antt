@@ -6,7 +6,7 @@ use Rattle.tool_jobs.specs.Transcript.{transcript, is_refused, accepted_bytes}
 use Rattle.tool_jobs.specs.Bare.{replay_text, replay_refused, replay_accepted}
 use Rattle.tool_jobs.specs.Buffered.{buffered_text, buffered_refused, buffered_accepted}
 use Rattle.tool_jobs.specs.Listen.{listen_text, listen_refused, listen_accepted}
-use Rattle.tool_show.specs.CaptureText.{capture_text, is_faulty, records_end}
+use Rattle.packet_show.specs.CaptureText.{capture_text, is_faulty, records_end}
 use Rattle.tool_jobs.specs.Play.{ecn_text, ecn_refused, ecn_accepted}
 use Rattle.tool_forms.specs.Words.{form_of}
 use Rattle.tool_forms.specs.declared.words.Form.{Form}

@@ -2,7 +2,7 @@
 ghost use Rattle.std.specs.Prelude.{◌≡◌, ◌≢◌, ◌++◌, IfOk, OnOk};
 ghost use Rattle.dccp_command.specs.CampaignText.{AnswersUnread, arrival_text, campaign_text, count_line, report_text, run_text};
 ghost use Rattle.tool_forms.specs.CampaignWords.{IsWithinBounds};
-ghost use Rattle.tool_output.specs.Ends.{SinkFailed};
+ghost use Rattle.tool_text.specs.Ends.{SinkFailed};
 
 use dccp_io::{Sink, write_all};
 use fault_campaign::{Gate, Report};
@@ -10,8 +10,7 @@ use seq_circle::NoMemory;
 use std::alloc::Global;
 use std::thread::Threads;
 use tool_forms::Campaign;
-use tool_output::Status;
-use tool_text::{put, put_counted};
+use tool_text::{Status, put, put_counted};
 
 // Puts a count's line.
 fn put_count(text: &mut Vec<u8>, name: &[u8], count: u64) -> Result<(), NoMemory>

@@ -12,4 +12,4 @@ mod top;
 pub use crate::top::dccp;
 pub use fault_campaign::{Gate, OpenGate};
 pub use tool_forms::{Campaign, Form};
-pub use tool_output::Status;
+pub use tool_text::Status;

@@ -5,17 +5,17 @@ ghost use Rattle.tool_jobs.specs.Transcript.{SafeThroughout};
 ghost use Rattle.dccp_command.specs.CampaignText.{AnswersUnread, campaign_text};
 ghost use Rattle.dccp_command.specs.Forms.{OnInput, OnRead, form_accepted, form_reads_past, form_text, is_form_refused, reads_input};
 ghost use Rattle.tool_forms.specs.Words.{IsFormWithinBounds, OnRun, form_of, has_settings, usage};
-ghost use Rattle.tool_output.specs.Ends.{SinkFails, IsWritten, IsAnswered, Answers, StopsWithin, EndsForCause};
+ghost use Rattle.tool_text.specs.Ends.{SinkFails, IsWritten, IsAnswered, Answers, StopsWithin, EndsForCause};
 
 use crate::campaigning::run_campaign;
 use dccp_io::{Sink, Source, write_all};
 use fault_campaign::Gate;
+use packet_show::show_capture;
 use std::alloc::Global;
 use std::thread::Threads;
 use tool_forms::{Campaign, Form, USAGE, form_of};
 use tool_jobs::{listen_to_peers, play_nonces, replay_at_buffer, replay_frames, run_schedule};
-use tool_output::Status;
-use tool_show::show_capture;
+use tool_text::Status;
 
 /// Does what the words ask for (own), those after the program's name. `run` plays a schedule: it reads `input`, and
 /// writes to `output` a line for each event and for each frame that it sent, and at last the state of both ends.

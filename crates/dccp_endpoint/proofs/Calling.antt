@@ -37,9 +37,9 @@ use Rattle.dccp_endpoint.specs.Reporting.{is_acking, sends_ack}
 use Rattle.dccp_endpoint.specs.Speaking.{change_items, is_confirmed, saying}
 use Rattle.dccp_endpoint.specs.Steps.{Step, in_phase, detail_of, next_number, with_calls, without_detail}
 use Rattle.dccp_endpoint.specs.Turns.{Key, offerings, sendings, turn_of}
-use Rattle.end_answers.specs.declared.calls.SendFault.TheVariants as send
-use Rattle.end_answers.specs.declared.calls.Timer.{Timer}
-use Rattle.end_answers.specs.declared.calls.Timer.TheVariants as timers
+use Rattle.dccp_states.specs.declared.calls.SendFault.TheVariants as send
+use Rattle.dccp_states.specs.declared.calls.Timer.{Timer}
+use Rattle.dccp_states.specs.declared.calls.Timer.TheVariants as timers
 use Rattle.dccp_endpoint.proofs.Deriving.{Ready, ack-caused, calling-caused, data-ack-caused, data_ack_with, front_of, front-short, has-by, left, next-caused, offered_keys, offered_turns, offering, plain-caused, quiet, rest, silent-caused, wide, wide-proper, widened}
 use Rattle.dccp_endpoint.proofs.Lawful.{offered-sound, rows-kept}
 use Rattle.dccp_endpoint.proofs.OwnFrames.{alone-sendable}

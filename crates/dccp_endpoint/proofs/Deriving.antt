@@ -31,7 +31,7 @@ use Rattle.dccp_endpoint.specs.Reporting.{is_acking, looked_by, sends_vectors, v
 use Rattle.dccp_endpoint.specs.Speaking.{asking, change_items, confirm_items, is_confirmed}
 use Rattle.dccp_endpoint.specs.Steps.{Step, next_number}
 use Rattle.dccp_endpoint.specs.Turns.{Key, offerings, sendings}
-use Rattle.end_answers.specs.declared.outcome.Outcome.{Outcome}
+use Rattle.dccp_states.specs.declared.outcome.Outcome.{Outcome}
 use Rattle.dccp_endpoint.proofs.OwnFrames.{alone-sendable}
 use Rattle.dccp_endpoint.proofs.Room.{IsFront, vector-front}
 

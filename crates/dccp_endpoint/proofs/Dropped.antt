@@ -10,8 +10,8 @@ use Rattle.dccp_endpoint.specs.Receiving.{receives}
 use Rattle.dccp_endpoint.specs.Steps.{Step}
 use Rattle.dccp_endpoint.proofs.Deriving.{widened}
 use Rattle.dccp_endpoint.proofs.Walking.{receives-told}
-use Rattle.end_answers.specs.declared.outcome.Outcome.{Outcome}
-use Rattle.end_answers.specs.declared.outcome.Outcome.TheVariants.{Dropped, SentReset, Synced, Took, WasReset}
+use Rattle.dccp_states.specs.declared.outcome.Outcome.{Outcome}
+use Rattle.dccp_states.specs.declared.outcome.Outcome.TheVariants.{Dropped, SentReset, Synced, Took, WasReset}
 
 unchanged : (e : EndState) → IsProper e → end_after e (effect_of_sending e Silent) ≡ e
 unchanged e proper = subst (λ (x : EndState). end_after x (effect_of_sending x Silent) ≡ x) (sym (widened e proper)) refl

@@ -40,9 +40,9 @@ use Rattle.dccp_endpoint.specs.Reporting.{counts_data, delivered_if, delivers, i
 use Rattle.dccp_endpoint.specs.Speaking.{asking, confirm_items, confirming, has_confirms, is_confirmed, saying}
 use Rattle.dccp_endpoint.specs.Steps.{Step, in_phase, detail_of, idle, next_number, reset_of, sends, with_calls, without_detail}
 use Rattle.dccp_endpoint.specs.Turns.{Key, offerings, sendings}
-use Rattle.end_answers.specs.declared.outcome.Fault.{Fault}
-use Rattle.end_answers.specs.declared.outcome.Outcome.{Outcome}
-use Rattle.end_answers.specs.declared.outcome.Outcome.TheVariants.{Synced, Took}
+use Rattle.dccp_states.specs.declared.outcome.Fault.{Fault}
+use Rattle.dccp_states.specs.declared.outcome.Outcome.{Outcome}
+use Rattle.dccp_states.specs.declared.outcome.Outcome.TheVariants.{Synced, Took}
 use Rattle.dccp_endpoint.proofs.Deriving.{Ready, Told, ack-caused, calling, calling-caused, front_of, effect_with, front-short, hearing, left, next-caused, offered_keys, offered_turns, offering, plain-caused, rest, silent-caused, told-by, wide}
 use Rattle.dccp_endpoint.proofs.Heard.{heeds-turns, uncounted}
 use Rattle.dccp_endpoint.proofs.Lawful.{offered-sound, rows-kept}

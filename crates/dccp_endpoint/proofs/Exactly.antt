@@ -15,11 +15,11 @@ use Rattle.dccp_endpoint.specs.Reporting.{counts_data, delivered_if, delivers}
 use Rattle.run_list.specs.MarkedSet.{answer_to}
 use Rattle.dccp_endpoint.specs.Steps.{Step, detail_of, idle}
 use Rattle.dccp_endpoint.specs.declared.exit.Exit.TheVariants as exits
-use Rattle.end_answers.specs.declared.outcome.Fault.{Fault}
-use Rattle.end_answers.specs.declared.outcome.Outcome.{Outcome}
-use Rattle.end_answers.specs.declared.outcome.Outcome.TheVariants.{Dropped, SentReset, Synced, Took, WasReset}
-use Rattle.end_answers.specs.declared.outcome.Why.{Why}
-use Rattle.end_answers.specs.declared.outcome.Why.TheVariants as why
+use Rattle.dccp_states.specs.declared.outcome.Fault.{Fault}
+use Rattle.dccp_states.specs.declared.outcome.Outcome.{Outcome}
+use Rattle.dccp_states.specs.declared.outcome.Outcome.TheVariants.{Dropped, SentReset, Synced, Took, WasReset}
+use Rattle.dccp_states.specs.declared.outcome.Why.{Why}
+use Rattle.dccp_states.specs.declared.outcome.Why.TheVariants as why
 use Rattle.dccp_endpoint.proofs.Phases.{accept-so}
 
 -- A packet that is no Reset goes past what is made of Resets.

@@ -19,7 +19,7 @@ use Rattle.dccp_endpoint.specs.Faults.{mandatory_fault}
 use Rattle.dccp_endpoint.specs.FirstFault.{BeginsWithByte, ChangeFails, ConfirmFails, GoesWrong, HasFirstFault, IsFirstFor, ItemFits, MandatoryMisplaced, NotUnderstood, ReadingGoesThrough, ReadingStopsAtTheFirstFault, is_same_letter, speaks_for}
 use Rattle.dccp_endpoint.specs.Heeding.{Due, Heeding, by_answered, by_settling, counted, fault_of, heeds, heeds_body, heeds_change, heeds_entry, heeds_feature, heeds_first, heeds_item, heeds_then, is_change, is_left, is_of_negotiation, met, misunderstood, place_in_used, unheeded}
 use Rattle.dccp_endpoint.specs.Saying.{begins_with_number, changes_among, has_feature_number, is_change_item, negotiates_by, once_if}
-use Rattle.end_answers.specs.declared.outcome.Fault.{Fault}
+use Rattle.dccp_states.specs.declared.outcome.Fault.{Fault}
 
 abbrev pub ListItem : Type 0
 ListItem = Result Entry OptFault

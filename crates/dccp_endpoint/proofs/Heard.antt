@@ -16,7 +16,7 @@ use Rattle.feature_machine.specs.declared.answers.Settling.TheVariants as settli
 use Rattle.feature_machine.specs.declared.row.Row.{Row}
 use Rattle.feature_machine.proofs.Turning.{turned-joined}
 use Rattle.dccp_endpoint.specs.Heeding.{Heeding, body_turns, by_answered, by_settling, counted, entry_turns, fault_of, feature_turns, heard_turns, heeds, heeds_body, heeds_change, heeds_confirm, heeds_entry, heeds_feature, heeds_item, heeds_then, is_change, is_left, is_of_negotiation, item_turns, met, misunderstood, place_in_used, turn_known, turns_then}
-use Rattle.end_answers.specs.declared.outcome.Fault.{Fault}
+use Rattle.dccp_states.specs.declared.outcome.Fault.{Fault}
 
 -- The rows after an option are those after its turns.
 

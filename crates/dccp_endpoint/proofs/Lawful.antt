@@ -24,7 +24,7 @@ use Rattle.dccp_endpoint.specs.Inputs.{Input}
 use Rattle.dccp_endpoint.specs.Speaking.{is_confirmed}
 use Rattle.dccp_endpoint.specs.Steps.{next_number}
 use Rattle.dccp_endpoint.specs.Turns.{Key, offerings, sendings, turn_of}
-use Rattle.end_answers.specs.declared.outcome.Fault.{Fault}
+use Rattle.dccp_states.specs.declared.outcome.Fault.{Fault}
 use Rattle.dccp_endpoint.proofs.Heard.{heeds-turns}
 
 abbrev Fit : Turn → Type 0

@@ -24,7 +24,7 @@ use Rattle.dccp_endpoint.specs.Heeding.{Due, Heeding, body_turns, by_answered, b
 use Rattle.dccp_endpoint.specs.Saying.{ConfirmsAreSingle, RowsHearThePacket, begins_with_number, changes_among, has_feature_number, is_change_item, negotiates_by, body_if, confirm_for, event_in, once_if, said_to, speaks_to, times_confirmed}
 use Rattle.dccp_endpoint.specs.Speaking.{is_for, is_of_place}
 use Rattle.dccp_endpoint.specs.Turns.{Key}
-use Rattle.end_answers.specs.declared.outcome.Fault.{Fault}
+use Rattle.dccp_states.specs.declared.outcome.Fault.{Fault}
 use Rattle.dccp_endpoint.proofs.OneRow.{IsBeside, beside-so, changes-leaves, confirmed-leaves, events-append, events-beside, events-own, is_to, letter-answer, letter-place, letter_to, spot, spot-below, to-so}
 
 -- a Confirm that is due for another row, and one for this

@@ -47,7 +47,7 @@ use Rattle.dccp_endpoint.specs.Reporting.{vector_item, vector_items}
 use Rattle.dccp_endpoint.specs.Saying.{ConfirmsHaveRoom, once_if}
 use Rattle.dccp_endpoint.specs.Speaking.{HaveRoom, asking, change_item, change_items, change_type, confirm_item, confirm_items, confirm_type, confirming, is_confirmed, saying, wish_bytes}
 use Rattle.dccp_endpoint.specs.Turns.{Key}
-use Rattle.end_answers.specs.declared.outcome.Fault.{Fault}
+use Rattle.dccp_states.specs.declared.outcome.Fault.{Fault}
 use Rattle.dccp_endpoint.proofs.Frames.{fixed_part_is_short}
 use Rattle.dccp_endpoint.proofs.OneRow.{found, letter_to, spot, spot-below}
 use Rattle.ack_vectors.specs.Vector.{most_options, option_data, room_of, set_states, vector_under}

@@ -8,14 +8,14 @@ use Rattle.dccp_endpoint.specs.Drafts.{framed}
 use Rattle.dccp_endpoint.specs.End.{EndState, new_end}
 use Rattle.dccp_endpoint.specs.Receiving.{receives}
 use Rattle.dccp_endpoint.specs.Calling.{aborts, closes, fires, opens}
-use Rattle.end_answers.specs.declared.calls.AbortFault.TheVariants.{NotLive}
-use Rattle.end_answers.specs.declared.calls.CloseFault.TheVariants.{NotOpen}
-use Rattle.end_answers.specs.declared.calls.Timer.TheVariants as timers
+use Rattle.dccp_states.specs.declared.calls.AbortFault.TheVariants.{NotLive}
+use Rattle.dccp_states.specs.declared.calls.CloseFault.TheVariants.{NotOpen}
+use Rattle.dccp_states.specs.declared.calls.Timer.TheVariants as timers
 use Rattle.dccp_endpoint.specs.Steps.{Step}
 use Rattle.dccp_endpoint.proofs.RowsSeen.{arrives, client_ack, close, closed, initial_rows, listening, open_client, open_server, plain, request, requesting, responding, response, response_again, seen, sent, server_ack, shown}
-use Rattle.end_answers.specs.declared.outcome.Outcome.{Outcome}
-use Rattle.end_answers.specs.declared.outcome.Outcome.TheVariants.{Dropped, SentReset, Synced, Took, WasReset}
-use Rattle.end_answers.specs.declared.outcome.Why.TheVariants as why
+use Rattle.dccp_states.specs.declared.outcome.Outcome.{Outcome}
+use Rattle.dccp_states.specs.declared.outcome.Outcome.TheVariants.{Dropped, SentReset, Synced, Took, WasReset}
+use Rattle.dccp_states.specs.declared.outcome.Why.TheVariants as why
 
 -- Two ends that offer nothing: Request, Response, Ack and Ack, and nothing was negotiated.
 handshake :

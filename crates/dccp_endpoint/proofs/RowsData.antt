@@ -6,11 +6,11 @@ use Rattle.dccp_endpoint.specs.Drafts.{framed}
 use Rattle.dccp_endpoint.specs.End.{EndState}
 use Rattle.dccp_endpoint.specs.Receiving.{receives}
 use Rattle.dccp_endpoint.specs.Steps.{Step, idle}
-use Rattle.end_answers.specs.declared.calls.SendFault.{SendFault}
-use Rattle.end_answers.specs.declared.calls.SendFault.TheVariants.{NotNegotiated, NotOpen, TooLong, WindowFull}
-use Rattle.end_answers.specs.declared.calls.Timer.TheVariants as timers
-use Rattle.end_answers.specs.declared.outcome.Outcome.{Outcome}
-use Rattle.end_answers.specs.declared.outcome.Outcome.TheVariants.{Took}
+use Rattle.dccp_states.specs.declared.calls.SendFault.{SendFault}
+use Rattle.dccp_states.specs.declared.calls.SendFault.TheVariants.{NotNegotiated, NotOpen, TooLong, WindowFull}
+use Rattle.dccp_states.specs.declared.calls.Timer.TheVariants as timers
+use Rattle.dccp_states.specs.declared.outcome.Outcome.{Outcome}
+use Rattle.dccp_states.specs.declared.outcome.Outcome.TheVariants.{Took}
 use Rattle.dccp_endpoint.proofs.RowsOffers.{offering_2, usual_ack, usual_open, usual_part_open, usual_responding, usual_response, usual_requesting, usual_vector}
 use Rattle.dccp_endpoint.proofs.RowsSeen.{Reported, Sent, TimedOut, arrives, calls_at, open_client, seen, sends, sent, server_ack}
 use Rattle.dccp_endpoint.proofs.RowsVectors.{heard_1002, heard_1003, heard_1004, heard_1005}

@@ -9,10 +9,10 @@ use Rattle.dccp_endpoint.specs.Early.{sends_early}
 use Rattle.dccp_endpoint.specs.End.{EndState}
 use Rattle.dccp_endpoint.specs.Receiving.{receives}
 use Rattle.dccp_endpoint.specs.Steps.{Step}
-use Rattle.end_answers.specs.declared.calls.SendFault.{SendFault}
-use Rattle.end_answers.specs.declared.calls.SendFault.TheVariants.{NotNegotiated, NotOpen, TooLong, WindowFull}
-use Rattle.end_answers.specs.declared.outcome.Outcome.{Outcome}
-use Rattle.end_answers.specs.declared.outcome.Outcome.TheVariants.{Took}
+use Rattle.dccp_states.specs.declared.calls.SendFault.{SendFault}
+use Rattle.dccp_states.specs.declared.calls.SendFault.TheVariants.{NotNegotiated, NotOpen, TooLong, WindowFull}
+use Rattle.dccp_states.specs.declared.outcome.Outcome.{Outcome}
+use Rattle.dccp_states.specs.declared.outcome.Outcome.TheVariants.{Took}
 use Rattle.dccp_endpoint.proofs.RowsData.{longest, too_long, usual_client}
 use Rattle.dccp_endpoint.proofs.RowsOffers.{usual_ack, usual_open, usual_part_open, usual_responding}
 use Rattle.dccp_endpoint.proofs.RowsSeen.{Reported, Sent, arrives, calls_at, requesting, response, seen, sent}

@@ -14,8 +14,8 @@ use Rattle.dccp_endpoint.specs.End.{EndState, value_in}
 use Rattle.dccp_endpoint.specs.Incoming.{Incoming}
 use Rattle.dccp_endpoint.specs.Receiving.{receives}
 use Rattle.dccp_endpoint.specs.Steps.{Step}
-use Rattle.end_answers.specs.declared.outcome.Outcome.{Outcome}
-use Rattle.end_answers.specs.declared.outcome.Outcome.TheVariants.{SentReset, Synced, Took, WasReset}
+use Rattle.dccp_states.specs.declared.outcome.Outcome.{Outcome}
+use Rattle.dccp_states.specs.declared.outcome.Outcome.TheVariants.{SentReset, Synced, Took, WasReset}
 use Rattle.dccp_endpoint.proofs.RowsData.{usual_client}
 use Rattle.dccp_endpoint.proofs.RowsOffers.{choosing_248, offering_2, offering_248, usual_vector}
 use Rattle.dccp_endpoint.proofs.RowsSeen.{Reported, Sent, Started, arrives, calls_at, listening, open_client, seen, sends, sent}

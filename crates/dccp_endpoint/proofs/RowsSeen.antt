@@ -18,9 +18,9 @@ use Rattle.dccp_endpoint.specs.Receiving.{receives}
 use Rattle.dccp_endpoint.specs.Calling.{Called, opens, sends_payload}
 use Rattle.dccp_endpoint.specs.Steps.{Step}
 use Rattle.dccp_endpoint.specs.Usual.{usual}
-use Rattle.end_answers.specs.declared.calls.SendFault.{SendFault}
+use Rattle.dccp_states.specs.declared.calls.SendFault.{SendFault}
 use Rattle.dccp_endpoint.specs.declared.config.Config.{Config}
-use Rattle.end_answers.specs.declared.outcome.Outcome.{Outcome}
+use Rattle.dccp_states.specs.declared.outcome.Outcome.{Outcome}
 
 -- the bytes that hexadecimal digits spell
 abbrev pub digit : ℕ → ℕ

@@ -18,9 +18,9 @@ use Rattle.dccp_endpoint.specs.End.{EndState, new_end, with_rows}
 use Rattle.dccp_endpoint.specs.Receiving.{receives}
 use Rattle.dccp_endpoint.specs.Steps.{Step, in_phase}
 use Rattle.dccp_endpoint.proofs.RowsSeen.{arrives, open_server, plain, request, seen, sent}
-use Rattle.end_answers.specs.declared.outcome.Outcome.{Outcome}
-use Rattle.end_answers.specs.declared.outcome.Outcome.TheVariants.{Dropped, Synced, Took}
-use Rattle.end_answers.specs.declared.outcome.Why.TheVariants as why
+use Rattle.dccp_states.specs.declared.outcome.Outcome.{Outcome}
+use Rattle.dccp_states.specs.declared.outcome.Outcome.TheVariants.{Dropped, Synced, Took}
+use Rattle.dccp_states.specs.declared.outcome.Why.TheVariants as why
 
 -- the end with this value of a feature at a place
 abbrev pub holding : Feature → Place → ℕ → EndState → EndState

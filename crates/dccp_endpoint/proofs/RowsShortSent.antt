@@ -19,11 +19,11 @@ use Rattle.dccp_endpoint.specs.Receiving.{receives}
 use Rattle.dccp_endpoint.specs.Steps.{Step, in_phase}
 use Rattle.dccp_endpoint.proofs.RowsSeen.{arrives, client_ack, initial_rows, offering, open_server, plain, row, seen, sends, sent, server_ack, shown, wishing}
 use Rattle.dccp_endpoint.proofs.RowsShort.{holding, short_ack}
-use Rattle.end_answers.specs.declared.calls.OpenFault.{OpenFault}
-use Rattle.end_answers.specs.declared.calls.SendFault.{SendFault}
-use Rattle.end_answers.specs.declared.calls.Timer.TheVariants as timers
-use Rattle.end_answers.specs.declared.outcome.Outcome.{Outcome}
-use Rattle.end_answers.specs.declared.outcome.Outcome.TheVariants.{Synced, Took}
+use Rattle.dccp_states.specs.declared.calls.OpenFault.{OpenFault}
+use Rattle.dccp_states.specs.declared.calls.SendFault.{SendFault}
+use Rattle.dccp_states.specs.declared.calls.Timer.TheVariants as timers
+use Rattle.dccp_states.specs.declared.outcome.Outcome.{Outcome}
+use Rattle.dccp_states.specs.declared.outcome.Outcome.TheVariants.{Synced, Took}
 
 -- A client that offers to send short numbers, and a server that lets it.
 abbrev asking_client : Called OpenFault

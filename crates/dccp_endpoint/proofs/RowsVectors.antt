@@ -12,9 +12,9 @@ use Rattle.dccp_endpoint.specs.Drafts.{framed}
 use Rattle.dccp_endpoint.specs.End.{EndState}
 use Rattle.dccp_endpoint.specs.Receiving.{receives}
 use Rattle.dccp_endpoint.specs.Steps.{Step}
-use Rattle.end_answers.specs.declared.calls.Timer.TheVariants as timers
-use Rattle.end_answers.specs.declared.outcome.Outcome.{Outcome}
-use Rattle.end_answers.specs.declared.outcome.Outcome.TheVariants.{Took}
+use Rattle.dccp_states.specs.declared.calls.Timer.TheVariants as timers
+use Rattle.dccp_states.specs.declared.outcome.Outcome.{Outcome}
+use Rattle.dccp_states.specs.declared.outcome.Outcome.TheVariants.{Took}
 use Rattle.dccp_endpoint.proofs.RowsOffers.{usual_open, usual_part_open, usual_vector}
 use Rattle.dccp_endpoint.proofs.RowsSeen.{arrives, open_client, requesting, response, seen, sent}
 

@@ -36,10 +36,10 @@ use Rattle.dccp_endpoint.specs.Inputs.{Input, Arrives}
 use Rattle.dccp_endpoint.specs.Outcomes.{HasCause, IsNoAnswer, IsValidReset, effect_of_refusing, effect_of_reset, IsReset, IsValid, OutOfWindow, Unexpected, NoConnection, OtherService, NoAnswer, OtherType, OtherRequest, OpensConnection, ResponseToRequest, PacketInWindow, ResetToRequest, ResetInWindow, StrayWithoutConnection, StrayInRequest}
 use Rattle.dccp_endpoint.specs.Receiving.{Goes, acknowledges_in_window, answers, by_ports, by_sum, by_verdict, checks_numbers, checks_type, ends_as, ends_by_reset, is_of_connection, is_own_service, number_without_connection, opens_connection, packet_fault, raises, read_number, received, receives, resets, resets_without_connection, short_number, started, takes_answer, takes_short, the_steps, through, with_own_number, with_packet, with_raised_marks}
 use Rattle.dccp_endpoint.specs.Steps.{Step, in_phase, detail_of, idle, sends, without_detail}
-use Rattle.end_answers.specs.declared.outcome.Outcome.{Outcome}
-use Rattle.end_answers.specs.declared.outcome.Outcome.TheVariants.{Dropped, Synced, WasReset}
-use Rattle.end_answers.specs.declared.outcome.Why.{Why}
-use Rattle.end_answers.specs.declared.outcome.Why.TheVariants as why
+use Rattle.dccp_states.specs.declared.outcome.Outcome.{Outcome}
+use Rattle.dccp_states.specs.declared.outcome.Outcome.TheVariants.{Dropped, Synced, WasReset}
+use Rattle.dccp_states.specs.declared.outcome.Why.{Why}
+use Rattle.dccp_states.specs.declared.outcome.Why.TheVariants as why
 use Rattle.dccp_endpoint.proofs.Deriving.{Ready, Told, caused, left, plain-caused, quiet, rest, silent-caused, told-by, wide, wide-proper, widened}
 use Rattle.dccp_endpoint.proofs.OwnFrames.{alone-sendable}
 use Rattle.dccp_endpoint.proofs.Phases.{accept-so, after-heard, answer-so, begun-not-closed, check-live, listens-server, live-begun, live-entered, live-heard, requests-client}

@@ -27,16 +27,16 @@ use Rattle.dccp_endpoint.specs.Reporting.{sends_ack}
 use Rattle.dccp_endpoint.specs.Speaking.{asking, asks, offers, saying}
 use Rattle.dccp_endpoint.specs.Turns.{Key, turn_of}
 use Rattle.dccp_endpoint.specs.Steps.{Step, idle, in_phase, next_number, sends, reset_of, with_calls, without_detail}
-use Rattle.end_answers.specs.declared.calls.AbortFault.{AbortFault}
-use Rattle.end_answers.specs.declared.calls.AbortFault.TheVariants.{NotLive}
-use Rattle.end_answers.specs.declared.calls.CloseFault.{CloseFault}
-use Rattle.end_answers.specs.declared.calls.CloseFault.TheVariants.{NotOpen}
-use Rattle.end_answers.specs.declared.calls.OpenFault.{OpenFault}
-use Rattle.end_answers.specs.declared.calls.OpenFault.TheVariants.{NotFresh}
-use Rattle.end_answers.specs.declared.calls.SendFault.{SendFault}
-use Rattle.end_answers.specs.declared.calls.SendFault.TheVariants as send
-use Rattle.end_answers.specs.declared.calls.Timer.{Timer}
-use Rattle.end_answers.specs.declared.calls.Timer.TheVariants as timers
+use Rattle.dccp_states.specs.declared.calls.AbortFault.{AbortFault}
+use Rattle.dccp_states.specs.declared.calls.AbortFault.TheVariants.{NotLive}
+use Rattle.dccp_states.specs.declared.calls.CloseFault.{CloseFault}
+use Rattle.dccp_states.specs.declared.calls.CloseFault.TheVariants.{NotOpen}
+use Rattle.dccp_states.specs.declared.calls.OpenFault.{OpenFault}
+use Rattle.dccp_states.specs.declared.calls.OpenFault.TheVariants.{NotFresh}
+use Rattle.dccp_states.specs.declared.calls.SendFault.{SendFault}
+use Rattle.dccp_states.specs.declared.calls.SendFault.TheVariants as send
+use Rattle.dccp_states.specs.declared.calls.Timer.{Timer}
+use Rattle.dccp_states.specs.declared.calls.Timer.TheVariants as timers
 
 -- what a call that may be refused does
 abbrev pub Called : Type 0 → Type 0

@@ -43,7 +43,7 @@ use Rattle.dccp_endpoint.specs.Receiving.{acknowledges_in_window, is_of_connecti
 use Rattle.dccp_packets.specs.ResetCodes.{number_of_code}
 use Rattle.dccp_packets.specs.declared.reset_code.ResetCode.TheVariants as codes
 use Rattle.dccp_endpoint.specs.Steps.{detail_of, next_number, without_detail}
-use Rattle.end_answers.specs.declared.calls.Timer.TheVariants as timers
+use Rattle.dccp_states.specs.declared.calls.Timer.TheVariants as timers
 
 -- A packet of the connection arrived, whose number is long or is taken (step 1).
 pub record Came (e : EndState) (given : Input) (a : Incoming) : Type 0 where

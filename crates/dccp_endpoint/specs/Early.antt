@@ -2,7 +2,7 @@
 use Rattle.std.specs.Prelude.{ℕ, Bool, true, false, List, Option}
 use Rattle.dccp_states.specs.declared.phase.Phase.{Phase}
 use Rattle.dccp_states.specs.declared.phase.Phase.TheVariants as phases
-use Rattle.end_answers.specs.declared.calls.SendFault.{SendFault}
+use Rattle.dccp_states.specs.declared.calls.SendFault.{SendFault}
 use Rattle.dccp_endpoint.specs.Calling.{Called, fault_where, sends_payload, sends_unless}
 use Rattle.dccp_endpoint.specs.End.{EndState}
 

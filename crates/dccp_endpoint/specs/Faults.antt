@@ -7,7 +7,7 @@ use Rattle.dccp_packets.specs.declared.header.PacketType.{PacketType}
 use Rattle.dccp_packets.specs.declared.header.PacketType.TheVariants as types
 use Rattle.dccp_states.specs.declared.phase.Phase.{Phase}
 use Rattle.dccp_states.specs.declared.phase.Phase.TheVariants as phases
-use Rattle.end_answers.specs.declared.outcome.Fault.{Fault}
+use Rattle.dccp_states.specs.declared.outcome.Fault.{Fault}
 
 -- a fault of Mandatory itself: Option Error with the option's bytes (own)
 abbrev pub mandatory_fault : Fault

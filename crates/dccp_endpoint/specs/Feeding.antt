@@ -3,8 +3,8 @@ use Rattle.std.specs.Prelude.{ℕ, ◌+◌, List, [], ◌∷◌, fold}
 use Rattle.congestion_trait.specs.Control.{Control}
 use Rattle.dccp_endpoint.specs.Controlled.{End, EndStep, with_control}
 use Rattle.dccp_endpoint.specs.Receiving.{receives}
-use Rattle.end_answers.specs.declared.outcome.Outcome.{Outcome}
-use Rattle.end_answers.specs.declared.outcome.Outcome.TheVariants.{Took, Dropped, Synced, WasReset, SentReset}
+use Rattle.dccp_states.specs.declared.outcome.Outcome.{Outcome}
+use Rattle.dccp_states.specs.declared.outcome.Outcome.TheVariants.{Took, Dropped, Synced, WasReset, SentReset}
 
 -- the step of receiving (RFC 4340, section 8.5), with what it makes of the congestion control
 abbrev pub receiving : {C : Type 0} → Control C → End C → List ℕ → EndStep C Outcome

@@ -16,7 +16,7 @@ use Rattle.feature_machine.specs.declared.row.Row.{Row}
 use Rattle.dccp_endpoint.specs.Faults.{mandatory_fault}
 use Rattle.dccp_endpoint.specs.Heeding.{Heeding, fault_of, heeds, is_change, is_left, is_of_negotiation, unheeded}
 use Rattle.dccp_endpoint.specs.Saying.{begins_with_number, changes_among, negotiates_by}
-use Rattle.end_answers.specs.declared.outcome.Fault.{Fault}
+use Rattle.dccp_states.specs.declared.outcome.Fault.{Fault}
 
 -- both are L, or both are R
 abbrev pub is_same_letter : Bool → Bool → Bool

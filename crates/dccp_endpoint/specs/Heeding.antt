@@ -23,7 +23,7 @@ use Rattle.feature_machine.specs.declared.answers.Settling.TheVariants as settli
 use Rattle.feature_machine.specs.declared.row.Row.{Row}
 use Rattle.dccp_endpoint.specs.Faults.{mandatory_fault}
 use Rattle.dccp_endpoint.specs.Turns.{turn_of}
-use Rattle.end_answers.specs.declared.outcome.Fault.{Fault}
+use Rattle.dccp_states.specs.declared.outcome.Fault.{Fault}
 
 -- A Confirm that is due: whether it is Confirm L or Confirm R, its feature number, and the data behind that.
 pub record Due : Type 0 where

@@ -7,12 +7,12 @@ use Rattle.dccp_endpoint.specs.Early.{sends_early}
 use Rattle.dccp_endpoint.specs.Steps.{Step}
 use Rattle.feature_lists.specs.declared.wishes.PreferFault.{PreferFault}
 use Rattle.dccp_endpoint.specs.Turns.{Key}
-use Rattle.end_answers.specs.declared.calls.AbortFault.{AbortFault}
-use Rattle.end_answers.specs.declared.calls.CloseFault.{CloseFault}
-use Rattle.end_answers.specs.declared.calls.OpenFault.{OpenFault}
-use Rattle.end_answers.specs.declared.calls.SendFault.{SendFault}
-use Rattle.end_answers.specs.declared.calls.Timer.{Timer}
-use Rattle.end_answers.specs.declared.outcome.Outcome.{Outcome}
+use Rattle.dccp_states.specs.declared.calls.AbortFault.{AbortFault}
+use Rattle.dccp_states.specs.declared.calls.CloseFault.{CloseFault}
+use Rattle.dccp_states.specs.declared.calls.OpenFault.{OpenFault}
+use Rattle.dccp_states.specs.declared.calls.SendFault.{SendFault}
+use Rattle.dccp_states.specs.declared.calls.Timer.{Timer}
+use Rattle.dccp_states.specs.declared.outcome.Outcome.{Outcome}
 
 -- Bytes arrive, the user calls, or a timer has run out. What the congestion control says comes with the input: with
 -- data, whether a further packet may be sent; with a timer, whether something is in flight.

@@ -41,10 +41,10 @@ use Rattle.dccp_endpoint.specs.Reporting.{delivered_if, delivers, looked_up, una
 use Rattle.dccp_endpoint.specs.Speaking.{is_confirmed}
 use Rattle.dccp_endpoint.specs.Steps.{detail_of, reset_of, without_detail}
 use Rattle.dccp_endpoint.specs.Turns.{offerings}
-use Rattle.end_answers.specs.declared.outcome.Fault.{Fault}
-use Rattle.end_answers.specs.declared.outcome.Outcome.{Outcome}
-use Rattle.end_answers.specs.declared.outcome.Outcome.TheVariants.{Took, Dropped, Synced, WasReset, SentReset}
-use Rattle.end_answers.specs.declared.outcome.Why.TheVariants as why
+use Rattle.dccp_states.specs.declared.outcome.Fault.{Fault}
+use Rattle.dccp_states.specs.declared.outcome.Outcome.{Outcome}
+use Rattle.dccp_states.specs.declared.outcome.Outcome.TheVariants.{Took, Dropped, Synced, WasReset, SentReset}
+use Rattle.dccp_states.specs.declared.outcome.Why.TheVariants as why
 
 -- the packet's checksum does not fit
 pub record HasWrongSum (e : EndState) (bytes : List ℕ) (fault : SumFault) : Type 0 where

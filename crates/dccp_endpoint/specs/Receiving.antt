@@ -56,11 +56,11 @@ use Rattle.dccp_endpoint.specs.Steps.{Step, in_phase, idle, sends, detail_of, re
 use Rattle.dccp_endpoint.specs.Turns.{Key}
 use Rattle.dccp_endpoint.specs.declared.exit.Exit.{Exit}
 use Rattle.dccp_endpoint.specs.declared.exit.Exit.TheVariants as exits
-use Rattle.end_answers.specs.declared.outcome.Fault.{Fault}
-use Rattle.end_answers.specs.declared.outcome.Outcome.{Outcome}
-use Rattle.end_answers.specs.declared.outcome.Outcome.TheVariants.{Took, Dropped, Synced, WasReset, SentReset}
-use Rattle.end_answers.specs.declared.outcome.Why.{Why}
-use Rattle.end_answers.specs.declared.outcome.Why.TheVariants as why
+use Rattle.dccp_states.specs.declared.outcome.Fault.{Fault}
+use Rattle.dccp_states.specs.declared.outcome.Outcome.{Outcome}
+use Rattle.dccp_states.specs.declared.outcome.Outcome.TheVariants.{Took, Dropped, Synced, WasReset, SentReset}
+use Rattle.dccp_states.specs.declared.outcome.Why.{Why}
+use Rattle.dccp_states.specs.declared.outcome.Why.TheVariants as why
 
 -- Step 1 drops what is no packet, has a wrong checksum, comes over other ports or has a short number that is not taken,
 -- in this order.

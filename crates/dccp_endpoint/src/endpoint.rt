@@ -124,7 +124,7 @@ impl<C: Congestion> Endpoint<C> {
     ghost use Rattle.dccp_endpoint.specs.End.{IsProper, floor_of, held_of, is_connected, marked_of, value_in};
     ghost use Rattle.dccp_endpoint.specs.Outcomes.{HasCause, HasEffectOf, HasNoOtherCause, OnDropped};
     ghost use Rattle.dccp_endpoint.specs.Receiving.{receives};
-    ghost use Rattle.end_answers.specs.declared.calls.Timer.TheVariants as timers;
+    ghost use Rattle.dccp_states.specs.declared.calls.Timer.TheVariants as timers;
 
     /// Where the connection stands.
     pub fn phase(&self) -> Phase

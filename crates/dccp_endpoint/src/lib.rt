@@ -37,9 +37,10 @@ pub use crate::sealing::seal_frame;
 pub use ack_vectors::Vectors;
 pub use congestion_trait::Congestion;
 pub use dccp_packets::{Frame, MOST_FRAME_BYTES, Malformed, Outbox, ResetCode};
-pub use dccp_states::{Phase, Role};
+pub use dccp_states::{
+    AbortFault, CloseFault, Fault, OpenFault, Outcome, Phase, Role, SendFault, Timer, Why,
+};
 pub use dccp_sum::{Pseudo, SumFault};
-pub use end_answers::{AbortFault, CloseFault, Fault, OpenFault, Outcome, SendFault, Timer, Why};
 pub use feature_lists::{Feature, Place, PreferFault};
 pub use feature_machine::{Held, Lists, Stand};
 pub use seq_circle::{NoMemory, Seq48};

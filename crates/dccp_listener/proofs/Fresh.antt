@@ -14,8 +14,8 @@ use Rattle.dccp_endpoint.specs.Incoming.{Incoming, incoming}
 use Rattle.dccp_endpoint.specs.Receiving.{checks_numbers, checks_type, ends_as, ends_by_reset, fault_if, heeded, opens_connection, reads_request, started, takes, takes_answer, through}
 use Rattle.dccp_endpoint.specs.Steps.{Step}
 use Rattle.dccp_endpoint.specs.declared.config.Config.{Config}
-use Rattle.end_answers.specs.declared.outcome.Fault.{Fault}
-use Rattle.end_answers.specs.declared.outcome.Outcome.{Outcome}
+use Rattle.dccp_states.specs.declared.outcome.Fault.{Fault}
+use Rattle.dccp_states.specs.declared.outcome.Outcome.{Outcome}
 use Rattle.dccp_listener.specs.Turning.{IsToldOf, IsToldOfRequest}
 
 -- a server's end, and a Request as it reads it

@@ -13,7 +13,7 @@ use Rattle.dccp_sum.specs.declared.packet_sum.SumFault.{SumFault}
 use Rattle.dccp_endpoint.specs.End.{EndState, new_end}
 use Rattle.dccp_endpoint.specs.Incoming.{incoming}
 use Rattle.dccp_endpoint.specs.Receiving.{by_ports, by_sum, checks_header, is_of_connection, read_number, received, receives, takes, with_own_number, with_packet}
-use Rattle.end_answers.specs.declared.outcome.Why.{Why}
+use Rattle.dccp_states.specs.declared.outcome.Why.{Why}
 use Rattle.dccp_listener.specs.Calls.{BusyAnswersRequests, IsRequest, busy_frame, busy_reply}
 use Rattle.dccp_listener.specs.Chain.{config_for, is_flow}
 use Rattle.dccp_listener.specs.Peers.{FlowEnd}

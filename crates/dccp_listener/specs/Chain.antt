@@ -12,7 +12,7 @@ use Rattle.dccp_sum.specs.declared.pseudo_header.Pseudo.TheVariants.{V4}
 use Rattle.dccp_states.specs.declared.phase.Phase.{Phase}
 use Rattle.dccp_states.specs.declared.phase.Phase.TheVariants as phases
 use Rattle.dccp_states.specs.declared.phase.Role.TheVariants.{Server}
-use Rattle.end_answers.specs.declared.calls.Timer.{Timer}
+use Rattle.dccp_states.specs.declared.calls.Timer.{Timer}
 use Rattle.feature_machine.specs.Lists.{without_offers}
 use Rattle.dccp_endpoint.specs.Configured.{configured}
 use Rattle.dccp_endpoint.specs.Controlled.{EndStep, begins, has_in_flight, with_control}

@@ -4,9 +4,9 @@ use Rattle.dccp_endpoint.specs.Drafts.{frame_of}
 use Rattle.dccp_endpoint.specs.End.{new_end}
 use Rattle.dccp_endpoint.specs.Steps.{Step, detail_of, next_number, reset_of}
 use Rattle.dccp_endpoint.specs.declared.config.Config.{Config}
-use Rattle.end_answers.specs.declared.outcome.Fault.{Fault}
-use Rattle.end_answers.specs.declared.outcome.Outcome.{Outcome}
-use Rattle.end_answers.specs.declared.outcome.Outcome.TheVariants.{SentReset}
+use Rattle.dccp_states.specs.declared.outcome.Fault.{Fault}
+use Rattle.dccp_states.specs.declared.outcome.Outcome.{Outcome}
+use Rattle.dccp_states.specs.declared.outcome.Outcome.TheVariants.{SentReset}
 use Rattle.dccp_listener.specs.Chain.{is_flow}
 
 -- what is told of the step of a fresh end, with the frame that goes out: its answer where it does not stay, and else

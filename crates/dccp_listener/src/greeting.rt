@@ -7,7 +7,7 @@ ghost use Rattle.dccp_endpoint.specs.Feeding.{receiving};
 ghost use Rattle.dccp_endpoint.specs.Steps.{detail_of, reset_of, without_detail};
 ghost use Rattle.dccp_packets.specs.Grammar.{decoded};
 ghost use Rattle.dccp_packets.specs.ResetCodes.{number_of_code};
-ghost use Rattle.end_answers.specs.declared.outcome.Outcome.TheVariants.{SentReset};
+ghost use Rattle.dccp_states.specs.declared.outcome.Outcome.TheVariants.{SentReset};
 ghost use Rattle.dccp_listener.specs.Calls.{busy_frame, busy_reply};
 
 use crate::answers::receive;

@@ -7,7 +7,7 @@ ghost use Rattle.dccp_endpoint.specs.Receiving.{checks_header, fault_if, number_
 ghost use Rattle.dccp_endpoint.specs.Steps.{detail_of, reset_of, without_detail};
 ghost use Rattle.dccp_packets.specs.Forms.{ack_near};
 ghost use Rattle.dccp_packets.specs.ResetCodes.{number_of_code};
-ghost use Rattle.end_answers.specs.declared.outcome.Outcome.TheVariants.{SentReset};
+ghost use Rattle.dccp_states.specs.declared.outcome.Outcome.TheVariants.{SentReset};
 ghost use Rattle.dccp_listener.specs.Turning.{IsToldOf, IsToldOfRequest};
 
 use crate::greeting::{put_reset, without_detail, zero};

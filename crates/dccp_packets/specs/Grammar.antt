@@ -1,5 +1,5 @@
 -- Packets as lists of bytes (RFC 4340, section 5): the types, the places of the fields, reading and writing.
-use Rattle.std.specs.Prelude.{◌≡◌, ℕ, ◌+◌, ◌-◌, ◌*◌, ◌/◌, ◌%◌, ◌^◌, ◌<◌, Bool, true, false, not, ◌&&◌, ◌==◌, nat_lt, if◌then◌else◌, List, [], ◌∷◌, ◌++◌, length, drop, replicate, slice_index, slice_range, Option, Some, None, Result, Ok, Err}
+use Rattle.std.specs.Prelude.{◌≡◌, ℕ, ◌+◌, ◌-◌, ◌*◌, ◌/◌, ◌%◌, ◌^◌, ◌<◌, Bool, true, false, not, ◌&&◌, ◌==◌, nat_lt, if◌then◌else◌, List, [], ◌∷◌, ◌++◌, length, drop, replicate, slice_index, slice_range, Option, Some, None, Result, Ok, Err, ◌≤◌}
 use Rattle.byteorder.specs.Endian.{big_number, big_bytes}
 use Rattle.dccp_packets.specs.declared.header.PacketType.{PacketType}
 use Rattle.dccp_packets.specs.declared.header.PacketType.TheVariants as types
@@ -261,3 +261,7 @@ header_bytes h words = common_bytes h words ++ (number_bytes h.number ++ kind_by
 abbrev pub spelling : Header → List ℕ → List ℕ → List ℕ
 spelling h options payload =
     header_bytes h ((header_length h + length (padded options)) / 4) ++ (padded options ++ payload)
+
+-- the bytes have all of the header's fixed part, of this type in this form
+abbrev pub HoldsHeader : Bool → PacketType → List ℕ → Type 0
+HoldsHeader long kind bytes = fixed_length long kind ≤ length bytes

@@ -1,7 +1,7 @@
 //! The places of the fields, and their readers (RFC 4340, section 5).
 ghost use Rattle.std.specs.Prelude.{true, ◌≡◌, ◌+◌, ◌*◌, ◌/◌, ◌%◌, ◌^◌, ◌<◌, ◌≤◌, IsTrue, length, slice_index};
 ghost use Rattle.dccp_packets.specs.declared.header.PacketType.TheVariants as types;
-ghost use Rattle.dccp_packets.specs.Grammar.{data_offset_bytes, type_code, has_long_numbers, long_ack, number_in, ack_in, kind_of, header_of, fixed_length, number_at};
+ghost use Rattle.dccp_packets.specs.Grammar.{HoldsHeader, ack_in, data_offset_bytes, has_long_numbers, header_of, kind_of, long_ack, number_at, number_in, type_code};
 
 use crate::{Header, Kind, Number, PacketType};
 use byteorder::{BigEndian, ByteOrder};
@@ -90,7 +90,7 @@ fn short_at(bytes: &[u8], place: usize) -> Seq24
 }
 
 fn number(long: bool, bytes: &[u8]) -> Number
-    requires { fixed_length long types.Data ≤ length bytes.now }
+    requires { HoldsHeader long types.Data bytes.now }
     ensures { result ≡ number_in long bytes.now }
 {
     if long {
@@ -101,7 +101,7 @@ fn number(long: bool, bytes: &[u8]) -> Number
 }
 
 fn ack(long: bool, bytes: &[u8]) -> Number
-    requires { fixed_length long types.Ack ≤ length bytes.now }
+    requires { HoldsHeader long types.Ack bytes.now }
     ensures { result ≡ ack_in long bytes.now }
 {
     if long {
@@ -128,7 +128,7 @@ fn reset(bytes: &[u8]) -> Kind
 }
 
 fn kind(packet_type: PacketType, long: bool, bytes: &[u8]) -> Kind
-    requires { fixed_length long packet_type ≤ length bytes.now }
+    requires { HoldsHeader long packet_type bytes.now }
     ensures { result ≡ kind_of packet_type long bytes.now }
 {
     match packet_type {
@@ -164,7 +164,7 @@ fn kind(packet_type: PacketType, long: bool, bytes: &[u8]) -> Kind
 
 // The header of a packet whose fixed part is there.
 pub(crate) fn header(packet_type: PacketType, long: bool, bytes: &[u8]) -> Header
-    requires { fixed_length long packet_type ≤ length bytes.now }
+    requires { HoldsHeader long packet_type bytes.now }
     ensures { result ≡ header_of packet_type long bytes.now }
 {
     Header {

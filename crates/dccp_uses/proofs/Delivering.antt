@@ -8,8 +8,8 @@ use Rattle.dccp_endpoint.specs.Inputs.{Input, Arrives}
 use Rattle.dccp_endpoint.specs.Inputs as input
 use Rattle.dccp_endpoint.specs.Outcomes.{HasCause, IsTaken}
 use Rattle.dccp_endpoint.specs.Reporting.{delivered_if}
-use Rattle.end_answers.specs.declared.outcome.Outcome.{Outcome}
-use Rattle.end_answers.specs.declared.outcome.Outcome.TheVariants.{Took, Dropped, Synced, WasReset, SentReset}
+use Rattle.dccp_states.specs.declared.outcome.Outcome.{Outcome}
+use Rattle.dccp_states.specs.declared.outcome.Outcome.TheVariants.{Took, Dropped, Synced, WasReset, SentReset}
 use Rattle.dccp_uses.specs.Session.{has_closed, news_of}
 use Rattle.dccp_uses.specs.declared.news.News.{News}
 use Rattle.dccp_uses.specs.declared.news.News.TheVariants as news

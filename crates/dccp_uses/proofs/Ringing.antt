@@ -3,8 +3,8 @@ use Rattle.std.proofs.Common.{◌≡◌, refl, sym, ap, ◌∙◌, subst, ℕ, �
 use Rattle.congestion_trait.specs.Control.{Control}
 use Rattle.dccp_endpoint.specs.Calling.{fires}
 use Rattle.dccp_endpoint.specs.Controlled.{End, EndStep, has_in_flight, with_control}
-use Rattle.end_answers.specs.declared.calls.Timer.{Timer}
-use Rattle.end_answers.specs.declared.calls.Timer.TheVariants as timers
+use Rattle.dccp_states.specs.declared.calls.Timer.{Timer}
+use Rattle.dccp_states.specs.declared.calls.Timer.TheVariants as timers
 use Rattle.dccp_uses.specs.Alarms.{alarm_after, alarm_of, arranged, first_wait, has_run_out, next_wait, rung, runs_in, set_back, starting_wait}
 use Rattle.dccp_uses.specs.Handing.{Hands, HandsAll}
 use Rattle.dccp_uses.specs.Session.{Does, NothingIsDue, SessionState, condition_of, every_timer, rings, rings_each, tells_end}

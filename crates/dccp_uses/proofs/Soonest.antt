@@ -1,7 +1,7 @@
 -- Of the timers that run none runs out before the first.
 use Rattle.std.proofs.Common.{ℕ, Option, Some, None, arith}
-use Rattle.end_answers.specs.declared.calls.Timer.{Timer}
-use Rattle.end_answers.specs.declared.calls.Timer.TheVariants as timers
+use Rattle.dccp_states.specs.declared.calls.Timer.{Timer}
+use Rattle.dccp_states.specs.declared.calls.Timer.TheVariants as timers
 use Rattle.dccp_uses.specs.Alarms.{IsNoSooner, alarm_of, sooner, until_first}
 use Rattle.dccp_uses.specs.declared.alarms.Alarm.{Alarm}
 use Rattle.dccp_uses.specs.declared.alarms.Alarms.{Alarms}

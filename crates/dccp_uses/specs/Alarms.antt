@@ -2,8 +2,8 @@
 -- leads to RFC 2988). Times are in milliseconds. Where the standard leaves a wait open it is own.
 use Rattle.std.specs.Prelude.{ℕ, ◌≤◌, ◌-◌, ◌*◌, ◌==◌, ◌&&◌, if◌then◌else◌, max, min, Bool, true, false, Option, Some, None}
 use Rattle.dccp_endpoint.specs.Calling.{applies_in}
-use Rattle.end_answers.specs.declared.calls.Timer.{Timer}
-use Rattle.end_answers.specs.declared.calls.Timer.TheVariants as timers
+use Rattle.dccp_states.specs.declared.calls.Timer.{Timer}
+use Rattle.dccp_states.specs.declared.calls.Timer.TheVariants as timers
 use Rattle.dccp_uses.specs.declared.alarms.Alarm.{Alarm}
 use Rattle.dccp_uses.specs.declared.alarms.Alarms.{Alarms}
 use Rattle.dccp_uses.specs.declared.alarms.Condition.{Condition}

@@ -4,11 +4,11 @@ use Rattle.congestion_trait.specs.Control.{Control}
 use Rattle.dccp_endpoint.specs.Calling.{fires}
 use Rattle.dccp_endpoint.specs.Controlled.{End, EndStep, begins, has_in_flight, in_flight_of, with_control}
 use Rattle.dccp_endpoint.specs.Receiving.{receives}
-use Rattle.end_answers.specs.declared.calls.Timer.{Timer}
-use Rattle.end_answers.specs.declared.calls.Timer.TheVariants as timers
+use Rattle.dccp_states.specs.declared.calls.Timer.{Timer}
+use Rattle.dccp_states.specs.declared.calls.Timer.TheVariants as timers
 use Rattle.dccp_endpoint.specs.declared.config.Config.{Config}
-use Rattle.end_answers.specs.declared.outcome.Outcome.{Outcome}
-use Rattle.end_answers.specs.declared.outcome.Outcome.TheVariants.{Took, Dropped, Synced, WasReset, SentReset}
+use Rattle.dccp_states.specs.declared.outcome.Outcome.{Outcome}
+use Rattle.dccp_states.specs.declared.outcome.Outcome.TheVariants.{Took, Dropped, Synced, WasReset, SentReset}
 use Rattle.dccp_states.specs.declared.phase.Phase.{Phase}
 use Rattle.dccp_states.specs.declared.phase.Phase.TheVariants as phases
 use Rattle.dccp_uses.specs.Alarms.{alarm_of, arranged, has_run_out, no_alarms, rung, with_delivery, with_progress}

@@ -6,7 +6,7 @@ use Rattle.std.proofs.lemmas.Bool.Decides.{nat_tests}
 use Rattle.std.proofs.lemmas.Nat.{mod_below}
 use Rattle.std.proofs.lemmas.Option.{slice_get_cases}
 use Rattle.ccid_two.specs.Kinds.{Both, kinds_control}
-use Rattle.end_answers.specs.declared.calls.Timer.TheVariants as timer
+use Rattle.dccp_states.specs.declared.calls.Timer.TheVariants as timer
 use Rattle.two_ends.specs.Controlled.{Controlled, ControlledStep, congestion_of, controls, happens_to, said_by}
 use Rattle.two_ends.specs.World.{HalfStep, WorldState, WorldStep, Happening, Calls, Delivers, Said, delivers_frame, half_of, half_steps, happening_of, is_far_frame, is_full, in_world, takes_place, unless_far, unless_full, with_half}
 use Rattle.world_events.specs.Actors.{actor, other}

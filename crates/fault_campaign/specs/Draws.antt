@@ -4,8 +4,8 @@ use Rattle.byteorder.specs.Endian.{big_bytes}
 use Rattle.rand_core.specs.Pcg32Seed.{pcg32_seed}
 use Rattle.rand_pcg.specs.Lcg.{Lcg}
 use Rattle.rand_pcg.specs.Pcg.{pcg32, pcg32_of_seed}
-use Rattle.end_answers.specs.declared.calls.Timer.{Timer}
-use Rattle.end_answers.specs.declared.calls.Timer.TheVariants as timer
+use Rattle.dccp_states.specs.declared.calls.Timer.{Timer}
+use Rattle.dccp_states.specs.declared.calls.Timer.TheVariants as timer
 use Rattle.feature_lists.specs.declared.features.Feature.TheVariants.{Ccid, SequenceWindow, AckRatio, MinCsCov}
 use Rattle.feature_lists.specs.declared.features.Place.TheVariants.{Here, There}
 use Rattle.world_events.specs.declared.event.Event.{Event}

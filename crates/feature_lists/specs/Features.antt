@@ -1,6 +1,6 @@
 -- The features' table (RFC 4340, section 6.4, and section 6.3 for the rules). What a value may be, and the lists that
 -- an end has unless told otherwise, are own.
-use Rattle.std.specs.Prelude.{ℕ, ◌-◌, ◌^◌, ◌==◌, ◌&&◌, nat_le, Bool, true, false, List, [], ◌∷◌, Option, Some, None, if◌then◌else◌}
+use Rattle.std.specs.Prelude.{ℕ, ◌-◌, ◌^◌, ◌==◌, ◌&&◌, nat_le, Bool, true, false, List, [], ◌∷◌, Option, Some, None, if◌then◌else◌, ◌≡◌}
 use Rattle.std.specs.List.{list_any}
 use Rattle.feature_lists.specs.declared.features.Feature.{Feature}
 use Rattle.feature_lists.specs.declared.features.Feature.TheVariants as f
@@ -104,3 +104,7 @@ feature_numbered n =
     else if n == 8 then Some f.MinCsCov
     else if n == 9 then Some f.CheckDataChecksum
     else None
+
+-- The feature is non-negotiable: its value is what its location says (RFC 4340, section 6.3.2).
+abbrev pub IsNonNegotiable : Feature → Type 0
+IsNonNegotiable feature = (described feature).is_server_priority ≡ false

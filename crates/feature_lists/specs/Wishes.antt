@@ -25,6 +25,14 @@ abbrev pub is_ours : Feature → Place → Bool
 is_ours feature place.Here = true
 is_ours feature place.There = (described feature).is_server_priority
 
+-- the same, said of it
+abbrev pub IsOurs : Feature → Place → Type 0
+IsOurs feature place = is_ours feature place ≡ true
+
+-- that it may not: a non-negotiable one at the other end
+abbrev pub IsNotOurs : Feature → Place → Type 0
+IsNotOurs feature place = is_ours feature place ≡ false
+
 -- the wish for these values: a list, or the one number of a non-negotiable feature
 abbrev pub wanted_of : Feature → List ℕ → Wanted
 wanted_of feature values =

@@ -1,9 +1,9 @@
 //! What an end may wish for a feature.
 ghost use Rattle.std.specs.Prelude.{◌≡◌, ◌≢◌, ◌↔◌, Err, true, false, IfOk, IfSome, IsSome};
 ghost use Rattle.std.specs.List.{list_all};
-ghost use Rattle.feature_lists.specs.Features.{described, is_permitted, usual_values};
+ghost use Rattle.feature_lists.specs.Features.{IsNonNegotiable, is_permitted, usual_values};
 ghost use Rattle.feature_lists.specs.Lists.{is_distinct};
-ghost use Rattle.feature_lists.specs.Wishes.{is_counted, is_allowed, is_ours, wish_of, usual_of, is_wish};
+ghost use Rattle.feature_lists.specs.Wishes.{IsOurs, is_allowed, is_counted, is_ours, is_wish, usual_of, wish_of};
 ghost use Rattle.feature_lists.specs.declared.features.Place.TheVariants.{There};
 
 use crate::prefs::MOST_ENTRIES;
@@ -80,7 +80,7 @@ pub fn wish(feature: Feature, place: Place, values: &[u64]) -> Result<Wanted, Pr
     ensures value { result ≡ wish_of feature place values.now }
     ensures bad_list { (result ≡ Err PreferFault.BadList) ↔ (is_allowed feature place values.now ≡ false) }
     ensures not_ours { (result ≡ Err PreferFault.NotOurs) ↔ ((is_allowed feature place values.now ≡ true)
-        × ((described feature).is_server_priority ≡ false) × (place ≡ There)) }
+        × (IsNonNegotiable feature) × (place ≡ There)) }
     ensures never_not_open { result ≢ Err PreferFault.NotOpen }
     ensures wish { IfOk result (λ wanted. is_wish feature place wanted ≡ true) }
 {
@@ -98,7 +98,7 @@ pub fn wish(feature: Feature, place: Place, values: &[u64]) -> Result<Wanted, Pr
 /// The wish of an end that was told no other (own), or None exactly for a non-negotiable feature at There.
 pub fn usual(feature: Feature, place: Place) -> Option<Wanted>
     ensures value { result ≡ usual_of feature place }
-    ensures made { IsSome result ↔ (is_ours feature place ≡ true) }
+    ensures made { IsSome result ↔ IsOurs feature place }
     ensures wish { IfSome result (λ wanted. is_wish feature place wanted ≡ true) }
 {
     wish(feature, place, feature.usual_values(place)).ok()

@@ -8,7 +8,7 @@ use Rattle.feature_lists.specs.declared.features.Place.{Place}
 use Rattle.feature_lists.specs.declared.features.Place.TheVariants as located
 use Rattle.feature_machine.specs.declared.row.Row.{Row}
 use Rattle.feature_machine.specs.Lists.{index_of}
-use Rattle.feature_machine.specs.Negotiating.{row_at, put, OthersStay, IsNegotiation}
+use Rattle.feature_machine.specs.Negotiating.{row_at, put, RestStays, IsNegotiation}
 use Rattle.feature_machine.specs.Sound.{IsRowOf}
 
 number_below : (feature : Feature) → feature_number feature ≤ 9
@@ -71,7 +71,7 @@ pub put_there : (rows : List Row) (feature : Feature) (place : Place) (row : Row
 put_there rows feature place row size = let inside : index_of feature place < length rows = (let n = index_below feature place in omega arith) in
     get_or-set_same rows (index_of feature place) row _ inside
 
-pub put_others : (rows : List Row) (feature : Feature) (place : Place) (row : Row) → OthersStay rows (put rows feature place row) feature place
+pub put_others : (rows : List Row) (feature : Feature) (place : Place) (row : Row) → RestStays rows (put rows feature place row) feature place
 put_others rows feature place row other there differs = get_or-set_other rows (index_of feature place) (index_of other there) row _ differs
 
 pub put_negotiation : (rows : List Row) (feature : Feature) (place : Place) (row : Row) → IsNegotiation rows → IsRowOf feature place row

@@ -55,8 +55,8 @@ pub record AreRowsOf (role : Role2) (rows : List Row) : Type 0 where
   pub roles : (feature : Feature) (place : Place) → (row_at rows feature place).role ≡ role
 
 -- all rows stay but that of a feature at a place
-abbrev pub OthersStay : List Row → List Row → Feature → Place → Type 0
-OthersStay old new feature place =
+abbrev pub RestStays : List Row → List Row → Feature → Place → Type 0
+RestStays old new feature place =
     (other : Feature) (there : Place) → index_of other there ≢ index_of feature place → row_at new other there ≡ row_at old other there
 
 -- all rows after an event, and what the one row answers that the event is of
@@ -108,6 +108,10 @@ is_asking stand.Unstable = true
 -- the row asks: its Change has to go out, or to go out again
 abbrev pub is_due : Row → Bool
 is_due row = is_asking row.stand
+
+-- the row of this feature at this place asks
+abbrev pub IsDue : List Row → Feature → Place → Type 0
+IsDue rows feature place = is_due (row_at rows feature place) ≡ true
 
 -- the rows that ask, by feature and place
 abbrev pub due_keys : List Row → List (Feature × Place)

@@ -5,7 +5,7 @@ ghost use Rattle.feature_lists.specs.Features.{described};
 ghost use Rattle.feature_lists.specs.declared.features.Feature.{Feature};
 ghost use Rattle.feature_lists.specs.declared.features.Place.{Place};
 ghost use Rattle.feature_machine.specs.Lists.{index_of};
-ghost use Rattle.feature_machine.specs.Negotiating.{row_at, put, stepped, OthersStay, IsNegotiation};
+ghost use Rattle.feature_machine.specs.Negotiating.{row_at, put, stepped, RestStays, IsNegotiation};
 ghost use Rattle.feature_machine.specs.Rows.{RowEvent, Change, Confirm, Sends, Settled, Ignored, Fatal, Opens, row_step, says, proposal, confirmation, reconciled_by};
 ghost use Rattle.feature_machine.specs.Sound.{IsSoundRow, IsEventFor, IsItsConfirm, IsSendsEvent, IsSameRow, IsRefusal};
 ghost use Rattle.feature_machine.specs.declared.judging.Confirmation.TheVariants.{Empty, Wrong};
@@ -105,5 +105,5 @@ pub fn rows_stand_apart()
     ensures there { (rows : List Row) (feature : Feature) (place : Place) (row : Row) → length rows ≡ 18
         → row_at (put rows feature place row) feature place ≡ row }
     ensures others { (rows : List Row) (feature : Feature) (place : Place) (row : Row)
-        → OthersStay rows (put rows feature place row) feature place }
+        → RestStays rows (put rows feature place row) feature place }
 {}

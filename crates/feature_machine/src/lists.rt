@@ -1,6 +1,6 @@
 //! The wishes and offers that an end starts with.
-ghost use Rattle.std.specs.Prelude.{◌≡◌, ◌↔◌, Err, Ok, true, false, OnOk, OnErr, IsOk, IsNone, IfSome, MatchResult, map, IfOk};
-ghost use Rattle.feature_lists.specs.Wishes.{is_allowed, is_ours, is_wish, wish_of};
+ghost use Rattle.std.specs.Prelude.{◌≡◌, ◌↔◌, Err, Ok, true, OnOk, OnErr, IsOk, IsNone, IfSome, MatchResult, map, IfOk};
+ghost use Rattle.feature_lists.specs.Wishes.{IsNotOurs, IsOurs, is_allowed, is_wish, wish_of};
 ghost use Rattle.feature_lists.specs.declared.features.Feature.{Feature};
 ghost use Rattle.feature_lists.specs.declared.features.Place.{Place};
 ghost use Rattle.feature_lists.specs.declared.wishes.PreferFault.TheVariants.{BadList, NotOurs};
@@ -98,7 +98,7 @@ impl Lists {
     /// at There.
     pub fn wish(&self, feature: Feature, place: Place) -> Option<Wanted>
         ensures value { result ≡ (listed_at self.now feature place).wish }
-        ensures none { IsNone result ↔ (is_ours feature place ≡ false) }
+        ensures none { IsNone result ↔ IsNotOurs feature place }
         ensures wish { IfSome result (λ wish. is_wish feature place wish ≡ true) }
         ensures lists { IsLists self.now }
     {
@@ -157,8 +157,8 @@ impl Lists {
         mandatory: bool,
     ) -> Result<(), PreferFault>
         ensures ok { OnOk result (self.new ≡ with_offer self.old feature place mandatory) }
-        ensures not_ours { (result ≡ Err PreferFault.NotOurs) ↔ (is_ours feature place ≡ false) }
-        ensures other { IsOk result ↔ (is_ours feature place ≡ true) }
+        ensures not_ours { (result ≡ Err PreferFault.NotOurs) ↔ IsNotOurs feature place }
+        ensures other { IsOk result ↔ IsOurs feature place }
         ensures refused { OnErr result (self.new ≡ self.old) }
     {
         let mut listed = self.at(feature, place);

@@ -1,16 +1,17 @@
 //! The eighteen rows of an end.
 ghost use Rattle.std.specs.Prelude.{◌≡◌, ◌≢◌, ◌↔◌, ◌⊎◌, ◌<◌, ℕ, Bool, true, false, [], All, IsNone, IfSome, length};
 ghost use Rattle.feature_lists.specs.Features.{described, feature_number};
-ghost use Rattle.feature_lists.specs.Wishes.{is_ours, is_wish};
+ghost use Rattle.feature_lists.specs.Wishes.{IsNotOurs, is_wish};
 ghost use Rattle.feature_lists.specs.declared.features.Feature.{Feature};
 ghost use Rattle.feature_lists.specs.declared.features.Place.{Place};
 ghost use Rattle.feature_machine.specs.Answers.{reply_of, shown, answered, Ignoring, Failing, settling_of, opening_of, is_opening};
 ghost use Rattle.feature_machine.specs.Lists.{index_of};
-ghost use Rattle.feature_machine.specs.Negotiating.{first_rows, row_at, put, OthersStay, stepped, place_of, changes, confirmed, is_due, due_keys, is_next_mandatory, held_by, IsNegotiation, AreRowsOf};
+ghost use Rattle.feature_machine.specs.Negotiating.{AreRowsOf, IsDue, IsNegotiation, RestStays, changes, confirmed, due_keys, first_rows, held_by, is_due, is_next_mandatory, place_of, put, row_at, stepped};
 ghost use Rattle.feature_machine.specs.Rows.{Change, Confirm, Prefers, Offers, Sends};
 ghost use Rattle.feature_machine.specs.Sound.{IsRowOf, IsRefusal};
 ghost use Rattle.feature_machine.specs.declared.offers.Offer.TheVariants.{Nothing};
 ghost use Rattle.feature_machine.specs.declared.stands.Stand.TheVariants.{Stable};
+ghost use Rattle.feature_machine.specs.declared.answers.Settling.TheVariants.{Fatal, Ignored, Settled};
 
 use crate::due::Due;
 use crate::offers::{Listed, Offer};
@@ -150,7 +151,7 @@ impl Negotiation {
     ) -> Settling
         ensures rows { self.new ≡ (stepped self.old feature place (Confirm body.now ack.now)).rows }
         ensures settling { result ≡ settling_of (stepped self.old feature place (Confirm body.now ack.now)).answer }
-        ensures stays { result ≢ Settling.Settled → self.new ≡ self.old }
+        ensures stays { result ≢ Settled → self.new ≡ self.old }
     {
         let mut row = self.row(feature, place);
         let settling = row.confirm(body, ack);
@@ -175,7 +176,7 @@ impl Negotiation {
     /// feature at There.
     pub fn active(&self, feature: Feature, place: Place) -> Option<Wanted>
         ensures value { result ≡ (row_at self.now feature place).active }
-        ensures none { IsNone result ↔ (is_ours feature place ≡ false) }
+        ensures none { IsNone result ↔ IsNotOurs feature place }
         ensures wish { IfSome result (λ wish. is_wish feature place wish ≡ true) }
     {
         let row = self.row(feature, place);
@@ -245,8 +246,8 @@ impl Negotiation {
     ) -> Settling
         ensures rows { self.new ≡ (confirmed self.old left feature body.now ack).rows }
         ensures settling { result ≡ settling_of (confirmed self.old left feature body.now ack).answer }
-        ensures ignored { result ≡ Settling.Ignored → self.new ≡ self.old }
-        ensures fatal { result ≡ Settling.Fatal → self.new ≡ self.old }
+        ensures ignored { result ≡ Ignored → self.new ≡ self.old }
+        ensures fatal { result ≡ Fatal → self.new ≡ self.old }
         ensures others { (other : Feature) (there : Place) → (feature_number other ≢ feature) ⊎ (there ≢ place_of left)
             → row_at self.new other there ≡ row_at self.old other there }
     {
@@ -264,7 +265,7 @@ impl Negotiation {
         requires { is_wish feature place wish ≡ true }
         ensures rows { self.new ≡ (stepped self.old feature place (Prefers wish)).rows }
         ensures opening { result ≡ opening_of (stepped self.old feature place (Prefers wish)).answer }
-        ensures others { OthersStay self.old self.new feature place }
+        ensures others { RestStays self.old self.new feature place }
     {
         let mut row = self.row(feature, place);
         let opening = row.prefer(wish);
@@ -280,7 +281,7 @@ impl Negotiation {
         requires { (row_at self.old feature place).stand ≡ Stable }
         ensures rows { self.new ≡ (stepped self.old feature place (Offers confirmed)).rows }
         ensures opening { result ≡ is_opening (stepped self.old feature place (Offers confirmed)).answer }
-        ensures others { OthersStay self.old self.new feature place }
+        ensures others { RestStays self.old self.new feature place }
     {
         if self.offer(feature, place) == Offer::Nothing {
             return false;
@@ -294,7 +295,7 @@ impl Negotiation {
     /// Whether the next Change of a due row, in CHANGING or UNSTABLE, carries Mandatory: that of an offer, until a new
     /// list of the row is sent.
     pub fn mandatory(&self, feature: Feature, place: Place) -> bool
-        requires { is_due (row_at self.now feature place) ≡ true }
+        requires { IsDue self.now feature place }
         ensures { result ≡ is_next_mandatory (row_at self.now feature place).stand (row_at self.now feature place) }
     {
         let row = self.row(feature, place);
@@ -304,9 +305,9 @@ impl Negotiation {
     /// A packet with the Change of a due row, in CHANGING or UNSTABLE, goes out under this number. An UNSTABLE row's
     /// new wish is its active one from then on.
     pub fn sent(&mut self, feature: Feature, place: Place, number: Seq48)
-        requires { is_due (row_at self.old feature place) ≡ true }
+        requires { IsDue self.old feature place }
         ensures rows { self.new ≡ (stepped self.old feature place (Sends number)).rows }
-        ensures others { OthersStay self.old self.new feature place }
+        ensures others { RestStays self.old self.new feature place }
     {
         let mut row = self.row(feature, place);
         row.sent(number);

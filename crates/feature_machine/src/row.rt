@@ -13,7 +13,7 @@
 ghost use Rattle.std.specs.Prelude.{◌≡◌, ◌≢◌, ◌++◌, ◌∷◌, [], ℕ, ◌<◌, ◌^◌, length, true, false};
 ghost use Rattle.arrayvec.specs.ArrayVec.{array_vec_len};
 ghost use Rattle.byteorder.specs.Endian.{big_bytes};
-ghost use Rattle.feature_lists.specs.Features.{described};
+ghost use Rattle.feature_lists.specs.Features.{IsNonNegotiable, described};
 ghost use Rattle.feature_lists.specs.Wishes.{is_wish};
 ghost use Rattle.feature_machine.specs.Rows.{row_step, Change, Confirm, Prefers, Offers, Sends, confirm_body};
 ghost use Rattle.feature_machine.specs.Answers.{reply_of, settling_of, opening_of, is_opening};
@@ -64,7 +64,7 @@ pub enum Reply {
 
 // A value of a non-negotiable feature in its bytes.
 fn number_bytes(feature: Feature, value: u64) -> ArrayVec<u8, 9>
-    requires negotiable { (described feature).is_server_priority ≡ false }
+    requires negotiable { IsNonNegotiable feature }
     requires fits { value < 256 ^ (described feature).width }
     ensures { result.items ≡ big_bytes (described feature).width value }
 {

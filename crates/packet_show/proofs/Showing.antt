@@ -20,12 +20,12 @@ use Rattle.packet_show.specs.Flows.{Flow}
 use Rattle.packet_show.specs.Lines.{shows}
 use Rattle.packet_show.specs.declared.show.Tally.{Tally}
 use Rattle.packet_show.specs.declared.show.Turn.TheVariants as turn
-use Rattle.tool_output.specs.declared.status.Status.{Status}
-use Rattle.tool_output.specs.declared.status.Status.TheVariants as status
+use Rattle.tool_text.specs.declared.output.status.Status.{Status}
+use Rattle.tool_text.specs.declared.output.status.Status.TheVariants as status
 use Rattle.packet_show.specs.CaptureText.{first_tally, counted_record, tallied, record_text, last_line, fault_line, text_from, size_of, end_of_records, capture_text, is_faulty, records_end}
 use Rattle.packet_show.specs.Show.{Turns, Closes, ShowsHeaderFault, ShowsRecords, shown_text}
-use Rattle.tool_output.specs.Ends.{HasBegun, IsCutOff, Answers, IsMovedOut}
-use Rattle.tool_output.proofs.Ending.{append-none, append-twice, begun-longer, begun-behind, none-left, not-both, answers-early, on-ok, unwritten}
+use Rattle.tool_text.specs.Ends.{HasBegun, IsCutOff, Answers, IsMovedOut}
+use Rattle.tool_text.proofs.Ending.{append-none, append-twice, begun-longer, begun-behind, none-left, not-both, answers-early, on-ok, unwritten}
 
 -- the text of what is left
 abbrev pub rest_text : Tally → Captured → List ℕ

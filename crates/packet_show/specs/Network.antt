@@ -1,5 +1,5 @@
 -- Where a captured record carries DCCP: Ethernet, IPv4 (RFC 791, section 3.1) and IPv6 (RFC 8200, section 3).
-use Rattle.std.specs.Prelude.{ℕ, ◌≤◌, ◌+◌, ◌-◌, ◌*◌, ◌/◌, ◌%◌, Bool, ◌&&◌, ◌==◌, nat_le, nat_lt, if◌then◌else◌, List, length, take, drop, slice_index, Option, Some, None}
+use Rattle.std.specs.Prelude.{ℕ, ◌≤◌, ◌+◌, ◌-◌, ◌*◌, ◌/◌, ◌%◌, Bool, ◌&&◌, ◌==◌, nat_le, nat_lt, if◌then◌else◌, List, length, take, drop, slice_index, Option, Some, None, option_map}
 use Rattle.dccp_sum.specs.declared.pseudo_header.Pseudo.{Pseudo}
 use Rattle.dccp_sum.specs.declared.pseudo_header.Pseudo.TheVariants.{V4, V6}
 use Rattle.packet_show.specs.declared.network.Datagram.{Datagram}
@@ -14,6 +14,10 @@ pub record DatagramParts : Type 0 where
 -- the same, apart from where the bytes lie
 abbrev pub carried_by : Datagram → DatagramParts
 carried_by d = record { pseudo = d.pseudo; bytes = d.bytes.now; whole = d.whole }
+
+-- where there is a datagram
+abbrev pub parts_in : Option Datagram → Option DatagramParts
+parts_in = option_map carried_by
 
 -- a datagram's bytes have an IP length
 abbrev pub FitsIp : Datagram → Type 0

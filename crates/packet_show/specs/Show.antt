@@ -8,10 +8,10 @@ use Rattle.seq_circle.specs.declared.memory.NoMemory as no_memory
 use Rattle.packet_show.specs.declared.show.Tally.{Tally}
 use Rattle.packet_show.specs.declared.show.Turn.{Turn}
 use Rattle.packet_show.specs.declared.show.Turn.TheVariants as turn
-use Rattle.tool_output.specs.declared.status.Status.{Status}
-use Rattle.tool_output.specs.declared.status.Status.TheVariants as status
+use Rattle.tool_text.specs.declared.output.status.Status.{Status}
+use Rattle.tool_text.specs.declared.output.status.Status.TheVariants as status
 use Rattle.packet_show.specs.CaptureText.{tallied, record_text, fault_line, first_tally, text_from, size_of}
-use Rattle.tool_output.specs.Ends.{IsAnswered, IsCutOff, HasTaken, HasBegun, Answers}
+use Rattle.tool_text.specs.Ends.{IsAnswered, IsCutOff, HasTaken, HasBegun, Answers}
 
 -- One turn: the record that stands next was read, tallied and put; or the records ended, and nothing else changed.
 -- Where memory was not found, the text stays as it was.

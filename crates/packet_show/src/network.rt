@@ -1,6 +1,6 @@
 //! DCCP in captured records: Ethernet, IPv4 (RFC 791, section 3.1) and IPv6 (RFC 8200, section 3).
-ghost use Rattle.std.specs.Prelude.{◌≡◌, ◌+◌, ◌≤◌, length, take, option_map, IfSome};
-ghost use Rattle.packet_show.specs.Network.{FitsIp, carried_by, bytes_at, version, v4_header, v4_total, is_unfragmented, is_v4, behind_v4, in_v4, v6_payload, is_v6, behind_v6, in_v6, in_ip, in_frame, in_ethernet, carried};
+ghost use Rattle.std.specs.Prelude.{◌≡◌, ◌+◌, ◌≤◌, length, take, IfSome};
+ghost use Rattle.packet_show.specs.Network.{FitsIp, behind_v4, behind_v6, bytes_at, carried, carried_by, in_ethernet, in_frame, in_ip, in_v4, in_v6, is_unfragmented, is_v4, is_v6, parts_in, v4_header, v4_total, v6_payload, version};
 ghost use Rattle.dccp_packets.specs.Grammar.{number_at};
 
 use byteorder::{BigEndian, ByteOrder};
@@ -136,7 +136,7 @@ fn behind_v4(bytes: &[u8]) -> Datagram<'_>
 }
 
 fn in_v4(bytes: &[u8]) -> Option<Datagram<'_>>
-    ensures value { option_map carried_by result ≡ in_v4 bytes.now }
+    ensures value { parts_in result ≡ in_v4 bytes.now }
     ensures fits { IfSome result FitsIp }
 {
     if !is_v4(bytes) {
@@ -175,7 +175,7 @@ fn behind_v6(bytes: &[u8]) -> Datagram<'_>
 }
 
 fn in_v6(bytes: &[u8]) -> Option<Datagram<'_>>
-    ensures value { option_map carried_by result ≡ in_v6 bytes.now }
+    ensures value { parts_in result ≡ in_v6 bytes.now }
     ensures fits { IfSome result FitsIp }
 {
     if !is_v6(bytes) {
@@ -185,7 +185,7 @@ fn in_v6(bytes: &[u8]) -> Option<Datagram<'_>>
 }
 
 fn in_ip(bytes: &[u8]) -> Option<Datagram<'_>>
-    ensures value { option_map carried_by result ≡ in_ip bytes.now }
+    ensures value { parts_in result ≡ in_ip bytes.now }
     ensures fits { IfSome result FitsIp }
 {
     if is_v4(bytes) {
@@ -195,7 +195,7 @@ fn in_ip(bytes: &[u8]) -> Option<Datagram<'_>>
 }
 
 fn in_frame(kind: u16, bytes: &[u8]) -> Option<Datagram<'_>>
-    ensures value { option_map carried_by result ≡ in_frame kind bytes.now }
+    ensures value { parts_in result ≡ in_frame kind bytes.now }
     ensures fits { IfSome result FitsIp }
 {
     match kind {
@@ -206,7 +206,7 @@ fn in_frame(kind: u16, bytes: &[u8]) -> Option<Datagram<'_>>
 }
 
 fn in_ethernet(bytes: &[u8]) -> Option<Datagram<'_>>
-    ensures value { option_map carried_by result ≡ in_ethernet bytes.now }
+    ensures value { parts_in result ≡ in_ethernet bytes.now }
     ensures fits { IfSome result FitsIp }
 {
     if bytes.len() < ETHERNET_HEADER {
@@ -222,7 +222,7 @@ fn in_ethernet(bytes: &[u8]) -> Option<Datagram<'_>>
 /// is no IPv4 or IPv6 of protocol 33, a fragment, or an IP header that was not captured whole or does not hold together
 /// (RFC 791, section 3.1; RFC 8200, section 3).
 pub fn carried(link: u32, bytes: &[u8]) -> Option<Datagram<'_>>
-    ensures value { option_map carried_by result ≡ carried link bytes.now }
+    ensures value { parts_in result ≡ carried link bytes.now }
     ensures fits { IfSome result FitsIp }
 {
     match link {

@@ -6,7 +6,7 @@ ghost use Rattle.capture_reader.specs.Records.{entry_of, records_from};
 ghost use Rattle.capture_reader.specs.State.{Passed, holds_record, rest};
 ghost use Rattle.packet_show.specs.CaptureText.{CountsFit, first_tally, tallied, record_text, last_line, capture_text, is_faulty, records_end};
 ghost use Rattle.packet_show.specs.Show.{Turns, Closes, ShowsHeaderFault, ShowsRecords};
-ghost use Rattle.tool_output.specs.Ends.{SinkFailed, SinkFails, Answers, EndsForCause, IsMovedOut};
+ghost use Rattle.tool_text.specs.Ends.{SinkFailed, SinkFails, Answers, EndsForCause, IsMovedOut};
 
 use crate::capture_lines::put_last_line;
 use crate::flows::{Flows, Shown};
@@ -14,7 +14,7 @@ use capture_reader::{CaptureFault, Captures, Record};
 use dccp_io::{Failed, Sink, Source, write_all};
 use seq_circle::NoMemory;
 use std::alloc::Global;
-use tool_output::{Status, answered, cut_off, flush, flush_if_full};
+use tool_text::{Status, answered, cut_off, flush, flush_if_full};
 
 /// The records that were shown so far.
 #[derive(Drop)]

@@ -1,5 +1,5 @@
 -- Runs as they are kept: from the newest down, with a gap between any two.
-use Rattle.std.specs.Prelude.{◌≡◌, ℕ, ◌+◌, ◌-◌, ◌^◌, ◌<◌, ◌≤◌, List, [], ◌∷◌, ◌++◌, zero, suc, false}
+use Rattle.std.specs.Prelude.{◌≡◌, ℕ, ◌+◌, ◌-◌, ◌^◌, ◌<◌, ◌≤◌, List, [], ◌∷◌, ◌++◌, zero, suc, false, Vec, vec_capacity}
 use Rattle.seq_circle.specs.Circle.{distance, down}
 use Rattle.run_list.specs.declared.walking.Stretch.{Stretch}
 use Rattle.run_list.specs.MarkedSet.{has, with_number}
@@ -40,6 +40,14 @@ pub record Adds (floor bound n : ℕ) (old new : List Stretch) : Type 0 where
   pub laid : AreLaid floor bound new
   pub fresh : has (numbers_of old) n ≡ false
   pub numbers : numbers_of new ≡ with_number floor n (numbers_of old)
+
+-- the same of runs in a row, among the 2,048 numbers from the floor on
+abbrev pub AddsOne : {Z : Type 0} → ℕ → ℕ → Vec Stretch Z → Vec Stretch Z → Type 0
+AddsOne floor n old new = Adds floor 2048 n old.items new.items
+
+-- it has room for as many
+abbrev pub SameRoom : {Z : Type 0} → Vec Stretch Z → Vec Stretch Z → Type 0
+SameRoom old new = vec_capacity new ≡ vec_capacity old
 
 -- a number stands above the run, is in it, or lies right below it
 abbrev pub Touches : ℕ → ℕ → Stretch → Type 0

@@ -3,7 +3,7 @@ ghost use Rattle.std.specs.Prelude.{◌≡◌, ℕ, ◌+◌, ◌-◌, ◌^◌, �
 ghost use Rattle.std.specs.Bool.{OnTrue, OnFalse};
 ghost use Rattle.seq_circle.specs.Circle.{distance, IsBefore};
 ghost use Rattle.run_list.specs.MarkedSet.{has, is_from};
-ghost use Rattle.run_list.specs.Runs.{AreLaid, numbers_of, bound_after, Adds, Touches};
+ghost use Rattle.run_list.specs.Runs.{AddsOne, AreLaid, SameRoom, Touches, bound_after, numbers_of};
 
 use crate::walking::Stretch;
 use seq_circle::Seq48;
@@ -31,7 +31,7 @@ fn begin_run(runs: &mut Vec<Stretch>, floor: Seq48, at: usize, n: Seq48)
     requires above { distance floor n < bound_after floor 2048 (take at runs.old.items) }
     requires below { AreLaid floor (distance floor n - 1) (drop at runs.old.items) }
     requires room { vec_capacity runs.old ≡ 1024 }
-    ensures adds { Adds floor 2048 n runs.old.items runs.new.items }
+    ensures adds { AddsOne floor n runs.old runs.new }
     ensures room { vec_capacity runs.new ≡ 1024 }
 {
     let _ = runs.insert(at, Stretch { hi: n, count: 1 });
@@ -44,8 +44,8 @@ fn extend_up(runs: &mut Vec<Stretch>, floor: Seq48, at: usize, n: Seq48)
     requires above { distance floor n < bound_after floor 2048 (take at runs.old.items) }
     requires right_below { (s : Stretch)
         → distance floor (slice_index_or runs.old.items at s).hi + 1 ≡ distance floor n }
-    ensures adds { Adds floor 2048 n runs.old.items runs.new.items }
-    ensures room { vec_capacity runs.new ≡ vec_capacity runs.old }
+    ensures adds { AddsOne floor n runs.old runs.new }
+    ensures room { SameRoom runs.old runs.new }
 {
     let count = runs[at].count + 1;
     runs[at] = Stretch { hi: n, count };
@@ -59,8 +59,8 @@ fn extend_down(runs: &mut Vec<Stretch>, floor: Seq48, at: usize, n: Seq48)
     requires above { distance floor n < bound_after floor 2048 (take at runs.old.items) }
     requires right_above { (s : Stretch)
         → distance floor n + (slice_index_or runs.old.items at s).count ≡ distance floor (slice_index_or runs.old.items at s).hi }
-    ensures adds { Adds floor 2048 n runs.old.items runs.new.items }
-    ensures room { vec_capacity runs.new ≡ vec_capacity runs.old }
+    ensures adds { AddsOne floor n runs.old runs.new }
+    ensures room { SameRoom runs.old runs.new }
 {
     let run = runs[at];
     if at + 1 < runs.len() {
@@ -86,7 +86,7 @@ pub(crate) fn put(runs: &mut Vec<Stretch>, floor: Seq48, n: Seq48) -> bool
     requires laid { AreLaid floor 2048 runs.old.items }
     requires room { vec_capacity runs.old ≡ 1024 }
     ensures room { vec_capacity runs.new ≡ 1024 }
-    ensures adds { OnTrue result (Adds floor 2048 n runs.old.items runs.new.items) }
+    ensures adds { OnTrue result (AddsOne floor n runs.old runs.new) }
     ensures there { OnFalse result (has (numbers_of runs.old.items) n ≡ true) }
     ensures stays { OnFalse result (runs.new.items ≡ runs.old.items) }
 {
@@ -115,7 +115,7 @@ pub(crate) fn cut(runs: &mut Vec<Stretch>, floor: Seq48, to: Seq48)
     requires before { IsBefore floor to }
     requires laid { AreLaid floor 2048 runs.old.items }
     ensures laid { AreLaid to 2048 runs.new.items }
-    ensures room { vec_capacity runs.new ≡ vec_capacity runs.old }
+    ensures room { SameRoom runs.old runs.new }
     ensures numbers { numbers_of runs.new.items ≡ filter (is_from to) (numbers_of runs.old.items) }
 {
     let rise = floor.distance(to);

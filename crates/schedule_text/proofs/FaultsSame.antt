@@ -10,19 +10,19 @@ use Rattle.feature_lists.specs.declared.features.Place.{Place}
 use Rattle.feature_lists.specs.declared.wishes.PreferFault.{PreferFault}
 use Rattle.feature_lists.specs.declared.wishes.Wanted.{Wanted}
 use Rattle.world_events.specs.declared.event.Side.{Side}
-use Rattle.tool_words.specs.declared.faults.LineFault.{LineFault}
-use Rattle.tool_words.specs.declared.faults.LineWhy.{LineWhy}
-use Rattle.tool_words.specs.declared.faults.LineWhy.TheVariants as why
-use Rattle.tool_words.specs.Refusals.{fault_at}
+use Rattle.tool_text.specs.declared.words.faults.LineFault.{LineFault}
+use Rattle.tool_text.specs.declared.words.faults.LineWhy.{LineWhy}
+use Rattle.tool_text.specs.declared.words.faults.LineWhy.TheVariants as why
+use Rattle.tool_text.specs.Refusals.{fault_at}
 use Rattle.tool_text.specs.Numbers.{number_below}
-use Rattle.tool_words.specs.Words.{WordAt, WordsLeft, words_left, first_word, later, word_at, words_of, texts_of}
-use Rattle.tool_words.specs.Digits.{digits_flaw}
-use Rattle.tool_words.specs.Kinds.{flaw_behind, flaw_fault, flaw_unless, found_or, judged_word, bad_hex, dash_kind, hex_kind}
-use Rattle.tool_words.specs.Rows.{first_or, fault_in, nothing_more, end_row, ◌▷◌, chosen_fault, AreBoth, cause_at, refused_at, flag_flaw, flag_fault, flag_row}
-use Rattle.tool_words.specs.Lines.{first_other, clean, says_nothing, no_text}
-use Rattle.tool_words.proofs.Bytes.{if-false}
-use Rattle.tool_words.proofs.RowLaws.{then-fault}
-use Rattle.tool_words.proofs.LineLaws.{clean-by, first-assoc, refused-is}
+use Rattle.tool_text.specs.Words.{WordAt, WordsLeft, words_left, first_word, later, word_at, words_of, texts_of}
+use Rattle.tool_text.specs.Digits.{digits_flaw}
+use Rattle.tool_text.specs.Kinds.{flaw_behind, flaw_fault, flaw_unless, found_or, judged_word, bad_hex, dash_kind, hex_kind}
+use Rattle.tool_text.specs.Rows.{first_or, fault_in, nothing_more, end_row, ◌▷◌, chosen_fault, AreBoth, cause_at, refused_at, flag_flaw, flag_fault, flag_row}
+use Rattle.tool_text.specs.Lines.{first_other, clean, says_nothing, no_text}
+use Rattle.tool_text.proofs.Bytes.{if-false}
+use Rattle.tool_text.proofs.RowLaws.{then-fault}
+use Rattle.tool_text.proofs.LineLaws.{clean-by, first-assoc, refused-is}
 use Rattle.schedule_text.specs.declared.line.Line.TheVariants as line
 use Rattle.schedule_text.specs.declared.names.Form.{Form}
 use Rattle.schedule_text.specs.declared.names.Form.TheVariants as form

@@ -4,21 +4,21 @@ use Rattle.std.specs.Prelude.{codes, ◌↔◌}
 use Rattle.std.specs.Str.{bytes_eq}
 use Rattle.std.specs.Cmp.Lexicographic.{bytes_decides}
 use Rattle.std.proofs.lemmas.Bool.Decides.{nat_tests}
-use Rattle.tool_words.specs.declared.faults.LineFault.{LineFault}
-use Rattle.tool_words.specs.declared.faults.LineWhy.TheVariants as why
-use Rattle.tool_words.specs.Refusals.{fault_at}
+use Rattle.tool_text.specs.declared.words.faults.LineFault.{LineFault}
+use Rattle.tool_text.specs.declared.words.faults.LineWhy.TheVariants as why
+use Rattle.tool_text.specs.Refusals.{fault_at}
 use Rattle.std.specs.Prelude.{IfOk, IfSome}
 use Rattle.hex.specs.Hex.{hex_digit_value}
-use Rattle.tool_words.specs.Words.{WordsLeft, WordAt, words_left, first_word, later, words_of, texts_of, joined}
-use Rattle.tool_words.specs.Digits.{bytes_of_digits, AreDigitsOf, AreSomeDigits}
-use Rattle.tool_words.specs.Kinds.{hex_kind, judged_word}
-use Rattle.tool_words.specs.Rows.{IsExactRow, AreBoth, ByTest, end_row, ◌▷◌, judged_row, first_or, nothing_more, cause_at, refused_at}
-use Rattle.tool_words.specs.Lines.{first_other, says_nothing, no_text, first_fault, IsSpokenLine}
-use Rattle.tool_words.proofs.Bytes.{if-false, false-unless, same-number, joined-length}
-use Rattle.tool_words.proofs.DigitLaws.{spelled-pairs}
-use Rattle.tool_words.proofs.KindLaws.{hex-is}
-use Rattle.tool_words.proofs.RowLaws.{end-is, both-is, as-is, checked-is, after-is}
-use Rattle.tool_words.proofs.LineLaws.{line-refused, line-idle, line-accepted, first-assoc}
+use Rattle.tool_text.specs.Words.{WordsLeft, WordAt, words_left, first_word, later, words_of, texts_of, joined}
+use Rattle.tool_text.specs.Digits.{bytes_of_digits, AreDigitsOf, AreSomeDigits}
+use Rattle.tool_text.specs.Kinds.{hex_kind, judged_word}
+use Rattle.tool_text.specs.Rows.{IsExactRow, AreBoth, ByTest, end_row, ◌▷◌, judged_row, first_or, nothing_more, cause_at, refused_at}
+use Rattle.tool_text.specs.Lines.{first_other, says_nothing, no_text, first_fault, IsSpokenLine}
+use Rattle.tool_text.proofs.Bytes.{if-false, false-unless, same-number, joined-length}
+use Rattle.tool_text.proofs.DigitLaws.{spelled-pairs}
+use Rattle.tool_text.proofs.KindLaws.{hex-is}
+use Rattle.tool_text.proofs.RowLaws.{end-is, both-is, as-is, checked-is, after-is}
+use Rattle.tool_text.proofs.LineLaws.{line-refused, line-idle, line-accepted, first-assoc}
 use Rattle.schedule_text.specs.declared.line.FrameLine.{FrameLine}
 use Rattle.schedule_text.specs.Forms.{frame_words, IsFrameOf, IsFrameLine}
 use Rattle.schedule_text.specs.Frames.{frame_line, size_cause, digits_frame, size_judged, frame_row, replay_row, read_frame, seals, size_fault, digits_line_fault, replayed_fault, frame_fault}

@@ -13,20 +13,20 @@ use Rattle.world_events.specs.declared.event.Side.{Side}
 use Rattle.world_events.specs.declared.event.Side.TheVariants.{Client, Server}
 use Rattle.world_events.specs.declared.event.Event.{Event}
 use Rattle.world_events.specs.declared.event.Event.TheVariants as event
-use Rattle.end_answers.specs.declared.calls.Timer.{Timer}
-use Rattle.tool_words.specs.declared.faults.LineWhy.TheVariants as why
+use Rattle.dccp_states.specs.declared.calls.Timer.{Timer}
+use Rattle.tool_text.specs.declared.words.faults.LineWhy.TheVariants as why
 use Rattle.hex.specs.Hex.{IsBytes, encode_lower, encode_with}
 use Rattle.hex.proofs.HexLemmas.{IsDigits-lower_digits}
 use Rattle.tool_text.specs.Text.{hex_or_dash}
-use Rattle.tool_words.specs.Words.{words_of, placed, parted_by, texts_of, joined}
-use Rattle.tool_words.specs.Digits.{AreDigitsOf, AreDigitsOrDash}
-use Rattle.tool_words.specs.Kinds.{dash_kind}
-use Rattle.tool_words.specs.Rows.{AreBoth, AreChosen, end_row}
-use Rattle.tool_words.specs.Lines.{is_text, clean, says_nothing}
-use Rattle.tool_words.proofs.Bytes.{if-false, if-true, words-parted, joined-text, joined-length, words_length}
-use Rattle.tool_words.proofs.DigitLaws.{spelled-pairs}
-use Rattle.tool_words.proofs.RowLaws.{then-ok, then-read}
-use Rattle.tool_words.proofs.LineLaws.{IsClean, clean-ok, clean-back, texts-placed}
+use Rattle.tool_text.specs.Words.{words_of, placed, parted_by, texts_of, joined}
+use Rattle.tool_text.specs.Digits.{AreDigitsOf, AreDigitsOrDash}
+use Rattle.tool_text.specs.Kinds.{dash_kind}
+use Rattle.tool_text.specs.Rows.{AreBoth, AreChosen, end_row}
+use Rattle.tool_text.specs.Lines.{is_text, clean, says_nothing}
+use Rattle.tool_text.proofs.Bytes.{if-false, if-true, words-parted, joined-text, joined-length, words_length}
+use Rattle.tool_text.proofs.DigitLaws.{spelled-pairs}
+use Rattle.tool_text.proofs.RowLaws.{then-ok, then-read}
+use Rattle.tool_text.proofs.LineLaws.{IsClean, clean-ok, clean-back, texts-placed}
 use Rattle.schedule_text.specs.declared.line.Line.{Line}
 use Rattle.schedule_text.specs.declared.line.Line.TheVariants as line
 use Rattle.schedule_text.specs.declared.names.Form.{Form}

@@ -15,18 +15,18 @@ use Rattle.feature_lists.specs.declared.features.Place.TheVariants.{Here, There}
 use Rattle.world_events.specs.declared.event.Side.{Side}
 use Rattle.world_events.specs.declared.event.Side.TheVariants.{Client, Server}
 use Rattle.world_events.specs.declared.event.Event.TheVariants as event
-use Rattle.end_answers.specs.declared.calls.Timer.{Timer}
-use Rattle.end_answers.specs.declared.calls.Timer.TheVariants as timer
+use Rattle.dccp_states.specs.declared.calls.Timer.{Timer}
+use Rattle.dccp_states.specs.declared.calls.Timer.TheVariants as timer
 use Rattle.tool_text.specs.Numbers.{is_digit, number_below}
-use Rattle.tool_words.specs.declared.faults.LineWhy.TheVariants as why
-use Rattle.tool_words.specs.Words.{parted_by}
-use Rattle.tool_words.specs.Kinds.{Kind, IsExactKind, named_in, flaw_in, flaw_behind, flaw_unless, found_or, is_word_byte, is_whole_word, dash_kind}
-use Rattle.tool_words.specs.Rows.{Row, IsExactRow, ◌▷◌, end_row, judged_row, flag_row}
-use Rattle.tool_words.proofs.Bytes.{and-true, if-false, if-true, all-weaker, lacks, same-number, word-bytes, bytes-word, decimal-digits, decimal-word, joined-parts}
-use Rattle.tool_words.proofs.Numerals.{number-spelled, number-read}
-use Rattle.tool_words.proofs.Pieces.{has_first}
-use Rattle.tool_words.proofs.KindLaws.{found-is, number-is, names-is, dash-is}
-use Rattle.tool_words.proofs.RowLaws.{end-is, both-is, as-is, choice-is, checked-is, flag-is}
+use Rattle.tool_text.specs.declared.words.faults.LineWhy.TheVariants as why
+use Rattle.tool_text.specs.Words.{parted_by}
+use Rattle.tool_text.specs.Kinds.{Kind, IsExactKind, named_in, flaw_in, flaw_behind, flaw_unless, found_or, is_word_byte, is_whole_word, dash_kind}
+use Rattle.tool_text.specs.Rows.{Row, IsExactRow, ◌▷◌, end_row, judged_row, flag_row}
+use Rattle.tool_text.proofs.Bytes.{and-true, if-false, if-true, all-weaker, lacks, same-number, word-bytes, bytes-word, decimal-digits, decimal-word, joined-parts}
+use Rattle.tool_text.proofs.Numerals.{number-spelled, number-read}
+use Rattle.tool_text.proofs.Pieces.{has_first}
+use Rattle.tool_text.proofs.KindLaws.{found-is, number-is, names-is, dash-is}
+use Rattle.tool_text.proofs.RowLaws.{end-is, both-is, as-is, choice-is, checked-is, flag-is}
 use Rattle.schedule_text.specs.declared.line.Line.TheVariants as line
 use Rattle.schedule_text.specs.declared.names.Form.{Form}
 use Rattle.schedule_text.specs.declared.names.Form.TheVariants as form

@@ -7,20 +7,20 @@ use Rattle.feature_lists.specs.declared.features.Feature.{Feature}
 use Rattle.feature_lists.specs.declared.features.Place.{Place}
 use Rattle.feature_lists.specs.declared.wishes.PreferFault.{PreferFault}
 use Rattle.feature_lists.specs.declared.wishes.Wanted.{Wanted}
-use Rattle.tool_words.specs.declared.faults.LineFault.{LineFault}
-use Rattle.tool_words.specs.declared.faults.LineWhy.{LineWhy}
-use Rattle.tool_words.specs.declared.faults.LineWhy.TheVariants as why
+use Rattle.tool_text.specs.declared.words.faults.LineFault.{LineFault}
+use Rattle.tool_text.specs.declared.words.faults.LineWhy.{LineWhy}
+use Rattle.tool_text.specs.declared.words.faults.LineWhy.TheVariants as why
 use Rattle.schedule_text.specs.declared.names.Form.{Form}
 use Rattle.schedule_text.specs.declared.names.Form.TheVariants as form
 use Rattle.schedule_text.specs.Names.{form_named, side_named, place_named, timer_of}
 use Rattle.schedule_text.specs.Numbers.{values_of, feature_of, schedule_version}
 use Rattle.tool_text.specs.Numbers.{number_below}
-use Rattle.tool_words.specs.Digits.{digits_flaw}
-use Rattle.tool_words.specs.Words.{WordAt, WordsLeft, first_word, later, word_at, words_of}
-use Rattle.tool_words.specs.Rows.{first_or, nothing_more}
-use Rattle.tool_words.specs.Lines.{first_other, says_nothing, no_text}
+use Rattle.tool_text.specs.Digits.{digits_flaw}
+use Rattle.tool_text.specs.Words.{WordAt, WordsLeft, first_word, later, word_at, words_of}
+use Rattle.tool_text.specs.Rows.{first_or, nothing_more}
+use Rattle.tool_text.specs.Lines.{first_other, says_nothing, no_text}
 use Rattle.schedule_text.specs.Reading.{wish_fault}
-use Rattle.tool_words.specs.Refusals.{fault_at}
+use Rattle.tool_text.specs.Refusals.{fault_at}
 
 -- no fault where that fits, and this one where it does not
 abbrev pub unless : Bool → LineFault → Option LineFault

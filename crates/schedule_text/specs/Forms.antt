@@ -7,11 +7,11 @@ use Rattle.schedule_text.specs.declared.line.Line.{Line}
 use Rattle.schedule_text.specs.declared.line.Line.TheVariants as line
 use Rattle.schedule_text.specs.declared.names.Form.TheVariants as form
 use Rattle.schedule_text.specs.Names.{form_name, side_name}
-use Rattle.tool_words.specs.Words.{joined}
-use Rattle.tool_words.specs.Digits.{AreDigitsOf, AreDigitsOrDash}
+use Rattle.tool_text.specs.Words.{joined}
+use Rattle.tool_text.specs.Digits.{AreDigitsOf, AreDigitsOrDash}
 use Rattle.schedule_text.specs.Printing.{line_words}
 use Rattle.schedule_text.specs.Range.{IsSayable}
-use Rattle.tool_words.specs.Lines.{is_text, says_nothing}
+use Rattle.tool_text.specs.Lines.{is_text, says_nothing}
 
 -- the digits of the data that are sent, in the text of their line
 pub record IsSendLine (text : List ℕ) (side : List ℕ) (payload : List ℕ) : Type 0 where

@@ -2,15 +2,15 @@
 use Rattle.std.specs.Prelude.{ℕ, Bool, true, false, ◌&&◌, nat_lt, if◌then◌else◌, List, length, codes, Option, Some, None, Result}
 use Rattle.std.specs.Str.{bytes_eq}
 use Rattle.schedule_text.specs.declared.line.FrameLine.{FrameLine}
-use Rattle.tool_words.specs.declared.faults.LineFault.{LineFault}
-use Rattle.tool_words.specs.declared.faults.LineWhy.{LineWhy}
-use Rattle.tool_words.specs.declared.faults.LineWhy.TheVariants as why
-use Rattle.tool_words.specs.Refusals.{fault_at}
-use Rattle.tool_words.specs.Words.{WordsLeft, first_word, later, words_of}
-use Rattle.tool_words.specs.Digits.{bytes_of_digits}
-use Rattle.tool_words.specs.Kinds.{hex_kind}
-use Rattle.tool_words.specs.Rows.{◌>>◌, Row, ◌▷◌, end_row, row_as, judged_row, after_word, first_or, nothing_more}
-use Rattle.tool_words.specs.Lines.{clean, says_nothing, text_read, first_other, no_text}
+use Rattle.tool_text.specs.declared.words.faults.LineFault.{LineFault}
+use Rattle.tool_text.specs.declared.words.faults.LineWhy.{LineWhy}
+use Rattle.tool_text.specs.declared.words.faults.LineWhy.TheVariants as why
+use Rattle.tool_text.specs.Refusals.{fault_at}
+use Rattle.tool_text.specs.Words.{WordsLeft, first_word, later, words_of}
+use Rattle.tool_text.specs.Digits.{bytes_of_digits}
+use Rattle.tool_text.specs.Kinds.{hex_kind}
+use Rattle.tool_text.specs.Rows.{◌>>◌, Row, ◌▷◌, end_row, row_as, judged_row, after_word, first_or, nothing_more}
+use Rattle.tool_text.specs.Lines.{clean, says_nothing, text_read, first_other, no_text}
 use Rattle.schedule_text.specs.Faults.{digits_fault}
 
 -- a frame, whose checksum is to be set or stands in it

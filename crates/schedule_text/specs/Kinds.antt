@@ -6,12 +6,12 @@ use Rattle.feature_lists.specs.declared.features.Place.{Place}
 use Rattle.feature_lists.specs.declared.features.Place.TheVariants as place
 use Rattle.world_events.specs.declared.event.Side.{Side}
 use Rattle.world_events.specs.declared.event.Side.TheVariants.{Client, Server}
-use Rattle.end_answers.specs.declared.calls.Timer.{Timer}
-use Rattle.end_answers.specs.declared.calls.Timer.TheVariants as timer
+use Rattle.dccp_states.specs.declared.calls.Timer.{Timer}
+use Rattle.dccp_states.specs.declared.calls.Timer.TheVariants as timer
 use Rattle.tool_text.specs.Numbers.{number_below}
-use Rattle.tool_words.specs.declared.faults.LineWhy.TheVariants as why
-use Rattle.tool_words.specs.declared.kinds.Flaw.{Flaw}
-use Rattle.tool_words.specs.Kinds.{Kind, flaw_behind, found_or, flaw_unless, found_kind, number_kind, name_kind}
+use Rattle.tool_text.specs.declared.words.faults.LineWhy.TheVariants as why
+use Rattle.tool_text.specs.declared.words.kinds.Flaw.{Flaw}
+use Rattle.tool_text.specs.Kinds.{Kind, flaw_behind, found_or, flaw_unless, found_kind, number_kind, name_kind}
 use Rattle.schedule_text.specs.declared.names.Form.{Form}
 use Rattle.schedule_text.specs.declared.names.Form.TheVariants as form
 use Rattle.schedule_text.specs.Names.{form_name, side_name, place_name, timer_name}

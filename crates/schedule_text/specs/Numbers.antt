@@ -3,7 +3,7 @@ use Rattle.std.specs.Prelude.{ℕ, ◌^◌, ◌==◌, nat_le, if◌then◌else�
 use Rattle.feature_lists.specs.Features.{feature_numbered}
 use Rattle.feature_lists.specs.declared.features.Feature.{Feature}
 use Rattle.tool_text.specs.Numbers.{number_below}
-use Rattle.tool_words.specs.Words.{parted_by}
+use Rattle.tool_text.specs.Words.{parted_by}
 
 -- the numbers of sequence numbers and of values, and those of frames
 abbrev pub sequence_numbers : ℕ

@@ -2,7 +2,7 @@
 use Rattle.std.specs.Prelude.{ℕ, ◌++◌, Bool, List, [], ◌∷◌, map, codes, decimal, if◌then◌else◌}
 use Rattle.std.specs.List.{join_with_byte}
 use Rattle.tool_text.specs.Text.{hex_or_dash}
-use Rattle.tool_words.specs.Words.{joined}
+use Rattle.tool_text.specs.Words.{joined}
 use Rattle.feature_lists.specs.Features.{feature_number}
 use Rattle.world_events.specs.declared.event.Side.{Side}
 use Rattle.world_events.specs.declared.event.Side.TheVariants.{Client, Server}

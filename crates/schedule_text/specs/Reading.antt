@@ -8,13 +8,13 @@ use Rattle.feature_lists.specs.declared.wishes.PreferFault.TheVariants as wish
 use Rattle.feature_lists.specs.declared.wishes.Wanted.{Wanted}
 use Rattle.world_events.specs.declared.event.Side.{Side}
 use Rattle.world_events.specs.declared.event.Event.TheVariants as event
-use Rattle.tool_words.specs.declared.faults.LineFault.{LineFault}
-use Rattle.tool_words.specs.declared.faults.LineWhy.{LineWhy}
-use Rattle.tool_words.specs.declared.faults.LineWhy.TheVariants as why
-use Rattle.tool_words.specs.Words.{words_of}
-use Rattle.tool_words.specs.Kinds.{dash_kind}
-use Rattle.tool_words.specs.Lines.{clean, says_nothing}
-use Rattle.tool_words.specs.Rows.{◌>>◌, Row, ◌▷◌, end_row, row_as, choice, judged_row, flag_row}
+use Rattle.tool_text.specs.declared.words.faults.LineFault.{LineFault}
+use Rattle.tool_text.specs.declared.words.faults.LineWhy.{LineWhy}
+use Rattle.tool_text.specs.declared.words.faults.LineWhy.TheVariants as why
+use Rattle.tool_text.specs.Words.{words_of}
+use Rattle.tool_text.specs.Kinds.{dash_kind}
+use Rattle.tool_text.specs.Lines.{clean, says_nothing}
+use Rattle.tool_text.specs.Rows.{◌>>◌, Row, ◌▷◌, end_row, row_as, choice, judged_row, flag_row}
 use Rattle.schedule_text.specs.declared.line.Line.{Line}
 use Rattle.schedule_text.specs.declared.line.Line.TheVariants as line
 use Rattle.schedule_text.specs.declared.names.Form.{Form}

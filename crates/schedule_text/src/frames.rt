@@ -1,11 +1,10 @@
 //! Lines of replays, read.
 ghost use Rattle.std.specs.Prelude.{◌≡◌, ◌≤◌, length, true, IfOk, IfSome};
-ghost use Rattle.tool_words.specs.Left.{left_of};
+ghost use Rattle.tool_text.specs.Left.{left_of};
 ghost use Rattle.schedule_text.specs.Frames as spec;
 
 use crate::{FrameDigits, FrameLine, LineFault, LineWhy};
-use tool_text::is_text;
-use tool_words::{Hex, Row, Words, read_line};
+use tool_text::{Hex, Row, Words, is_text, read_line};
 
 // A packet that is too long for this has no frame.
 const MOST_OF_FRAME: usize = 2044;

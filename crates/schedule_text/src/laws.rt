@@ -4,7 +4,7 @@ ghost use Rattle.world_events.specs.declared.event.Event.{Event};
 ghost use Rattle.schedule_text.specs.declared.line.FrameLine.{FrameLine};
 ghost use Rattle.schedule_text.specs.declared.line.Line.{Line};
 ghost use Rattle.schedule_text.specs.declared.line.Line.TheVariants as line;
-ghost use Rattle.tool_words.specs.declared.faults.LineFault.{LineFault};
+ghost use Rattle.tool_text.specs.declared.words.faults.LineFault.{LineFault};
 ghost use Rattle.schedule_text.specs.Faults.{line_fault};
 ghost use Rattle.schedule_text.specs.Forms.{IsFrameLine, IsLine};
 ghost use Rattle.schedule_text.specs.Frames.{read_frame, frame_fault};

@@ -23,6 +23,6 @@ pub use crate::laws::{
 pub use crate::line::{FrameDigits, FrameLine, Line};
 pub use crate::printing::{print_event, print_result, print_seen, put_result, side_name};
 pub use crate::reading::{payload_of, read_line, read_line_into};
-pub use end_answers::Timer;
-pub use tool_words::{LineFault, LineWhy, words_stand_at_their_columns};
+pub use dccp_states::Timer;
+pub use tool_text::{LineFault, LineWhy, words_stand_at_their_columns};
 pub use world_events::{Event, Payload, Refusal, Seen, Values};

@@ -6,7 +6,7 @@ use dccp_packets::Frame;
 use feature_lists::{Feature, Place};
 use seq_circle::Seq48;
 use std::marker::Model;
-use tool_words::Digits;
+use tool_text::Digits;
 use world_events::Side;
 
 /// What a line of a schedule says (own).

@@ -6,8 +6,7 @@ ghost use Rattle.tool_text.specs.Numbers.{number_below};
 use crate::Values;
 use feature_lists::Feature;
 use seq_circle::Seq48;
-use tool_text::number_up_to;
-use tool_words::first_piece;
+use tool_text::{first_piece, number_up_to};
 
 /// Sequence numbers and values are below this (RFC 4340, section 3.1).
 const SEQUENCE_NUMBERS: u64 = 1 << 48;

@@ -8,8 +8,8 @@ ghost use Rattle.schedule_text.specs.Printing.{side_letter, values_text, event_t
 ghost use Rattle.schedule_text.specs.Results as spec;
 
 use crate::{Event, Refusal, Seen, Timer};
+use dccp_states::{Outcome, Why};
 use dccp_sum::SumFault;
-use end_answers::{Outcome, Why};
 use feature_lists::{Feature, Place};
 use seq_circle::NoMemory;
 use tool_text::{malformed_name, put, put_counted, put_hex_or_dash, put_named, put_number};

@@ -1,9 +1,9 @@
 //! Lines of schedules, read.
 ghost use Rattle.std.specs.Prelude.{◌≡◌, ◌≤◌, length, OnErr, MatchResult, if◌then◌else◌, None, Some, Ok, Err};
-ghost use Rattle.tool_words.specs.Left.{left_of};
-ghost use Rattle.tool_words.specs.Words.{word_at};
-ghost use Rattle.tool_words.specs.Rows.{allowed};
-ghost use Rattle.tool_words.specs.declared.faults.LineWhy.TheVariants as why;
+ghost use Rattle.tool_text.specs.Left.{left_of};
+ghost use Rattle.tool_text.specs.Words.{word_at};
+ghost use Rattle.tool_text.specs.Rows.{allowed};
+ghost use Rattle.tool_text.specs.declared.words.faults.LineWhy.TheVariants as why;
 ghost use Rattle.schedule_text.specs.Reading as spec;
 ghost use Rattle.feature_lists.specs.Wishes.{is_ours, wish_of};
 
@@ -13,7 +13,7 @@ use crate::kinds::{
 use crate::names::Form;
 use crate::{Event, Line, LineFault, LineWhy, Payload, Timer, Values};
 use feature_lists::{Feature, Place, PreferFault, usual, wish};
-use tool_words::{Digits, HexOrDash, MaybeFlag, Row, Words, clean, read_word, says_nothing};
+use tool_text::{Digits, HexOrDash, MaybeFlag, Row, Words, clean, read_word, says_nothing};
 use world_events::Side;
 
 fn wish_fault(fault: PreferFault) -> LineWhy

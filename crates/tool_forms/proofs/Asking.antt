@@ -26,7 +26,8 @@ pub one-more : (a b : App) (all : List Setting) (setting : Setting) (settings : 
 one-more a b all setting settings parts is = ap (with_settings a) parts ∙ ap (λ (x : App). with_settings x settings) (sym is)
 
 -- a form's command has the form's settings
-pub has-settings : (t : Table) (bare made : App) (settings : List Setting) → bare ≡ bare_command → settings ≡ settings_of t → made ≡ with_settings bare settings → made ≡ command_of t
+pub has-settings : (t : Table) (bare made : App) (settings : List Setting) → bare ≡ bare_command → settings ≡ settings_of t → made ≡ with_settings bare settings
+    → made ≡ command_of t
 unfolding command_of
 has-settings t bare made settings is same settled = settled ∙ ap (λ (a : App). with_settings a settings) is ∙ ap (with_settings bare_command) same
 

@@ -140,31 +140,36 @@ module _ {X : Type 0} (judge : List Row → Option X) (t : Table) (means : Optio
   form-refused words read = sym (refused-by judge (command_of t) words read)
       ∙ ap (λ (a : App). read_by a judge (map string_bytes words)) (command-is t) ∙ all-read words
 
-pub campaign-judged : (words : List (String Global)) (m : ArgMatches) → IsReadBy (command_of table.Campaign) words (Some m) → campaign_in (rows_of (found_of m)) ≡ campaign_of words
+pub campaign-judged : (words : List (String Global)) (m : ArgMatches) → IsReadBy (command_of table.Campaign) words (Some m)
+    → campaign_in (rows_of (found_of m)) ≡ campaign_of words
 campaign-judged = form-judged campaign_in table.Campaign campaign_means refl campaign-once campaign-ends
 
 pub campaign-refused : (words : List (String Global)) → IsReadBy (command_of table.Campaign) words None → None ≡ campaign_of words
 campaign-refused = form-refused campaign_in table.Campaign campaign_means refl campaign-once campaign-ends
 
-pub replay-judged : (words : List (String Global)) (m : ArgMatches) → IsReadBy (command_of table.Replay) words (Some m) → replay_in (rows_of (found_of m)) ≡ replay_of words
+pub replay-judged : (words : List (String Global)) (m : ArgMatches) → IsReadBy (command_of table.Replay) words (Some m)
+    → replay_in (rows_of (found_of m)) ≡ replay_of words
 replay-judged = form-judged replay_in table.Replay replay_means refl replay-once replay-ends
 
 pub replay-refused : (words : List (String Global)) → IsReadBy (command_of table.Replay) words None → None ≡ replay_of words
 replay-refused = form-refused replay_in table.Replay replay_means refl replay-once replay-ends
 
-pub listen-judged : (words : List (String Global)) (m : ArgMatches) → IsReadBy (command_of table.Listen) words (Some m) → listen_in (rows_of (found_of m)) ≡ listen_of words
+pub listen-judged : (words : List (String Global)) (m : ArgMatches) → IsReadBy (command_of table.Listen) words (Some m)
+    → listen_in (rows_of (found_of m)) ≡ listen_of words
 listen-judged = form-judged listen_in table.Listen listen_means refl listen-once listen-ends
 
 pub listen-refused : (words : List (String Global)) → IsReadBy (command_of table.Listen) words None → None ≡ listen_of words
 listen-refused = form-refused listen_in table.Listen listen_means refl listen-once listen-ends
 
-pub seed-judged : (words : List (String Global)) (m : ArgMatches) → IsReadBy (command_of table.Seed) words (Some m) → seed_run_in (rows_of (found_of m)) ≡ seed_run_of words
+pub seed-judged : (words : List (String Global)) (m : ArgMatches) → IsReadBy (command_of table.Seed) words (Some m)
+    → seed_run_in (rows_of (found_of m)) ≡ seed_run_of words
 seed-judged = form-judged seed_run_in table.Seed seed_means refl seed-once seed-ends
 
 pub seed-refused : (words : List (String Global)) → IsReadBy (command_of table.Seed) words None → None ≡ seed_run_of words
 seed-refused = form-refused seed_run_in table.Seed seed_means refl seed-once seed-ends
 
-pub flow-judged : (words : List (String Global)) (m : ArgMatches) → IsReadBy (command_of table.Frames) words (Some m) → flow_side_in (rows_of (found_of m)) ≡ flow_side_of words
+pub flow-judged : (words : List (String Global)) (m : ArgMatches) → IsReadBy (command_of table.Frames) words (Some m)
+    → flow_side_in (rows_of (found_of m)) ≡ flow_side_of words
 flow-judged = form-judged flow_side_in table.Frames flow_means refl flow-once flow-ends
 
 pub flow-refused : (words : List (String Global)) → IsReadBy (command_of table.Frames) words None → None ≡ flow_side_of words

@@ -1,10 +1,10 @@
 -- The words of a line of `ecn` keep what kinds and rows keep.
 use Rattle.std.proofs.Common.{◌≡◌, refl, ◌^◌, ◌==◌, true, Some, arith}
 use Rattle.dccp_ecn.specs.declared.event.EcnEvent.TheVariants as event
-use Rattle.tool_words.specs.Kinds.{IsExactKind, is_whole_word, named_in}
-use Rattle.tool_words.specs.Rows.{IsExactRow, ◌▷◌, end_row}
-use Rattle.tool_words.proofs.KindLaws.{names-is, number-is}
-use Rattle.tool_words.proofs.RowLaws.{as-is, both-is, choice-is, end-is}
+use Rattle.tool_text.specs.Kinds.{IsExactKind, is_whole_word, named_in}
+use Rattle.tool_text.specs.Rows.{IsExactRow, ◌▷◌, end_row}
+use Rattle.tool_text.proofs.KindLaws.{names-is, number-is}
+use Rattle.tool_text.proofs.RowLaws.{as-is, both-is, choice-is, end-is}
 use Rattle.tool_jobs.specs.declared.ecn.names.Form.{Form}
 use Rattle.tool_jobs.specs.declared.ecn.names.Form.TheVariants as form
 use Rattle.tool_jobs.specs.Forms.{ecn_form_kind, ecn_form_name, ecn_forms, ecn_row, ecn_rows, index_kind, nonce_kind}

@@ -3,13 +3,13 @@ use Rattle.std.proofs.Common.{◌≡◌, ap, sym, subst, ℕ, ◌+◌, ◌<◌, 
 use Rattle.std.proofs.lemmas.Bool.{lt-ltb}
 use Rattle.std.specs.Prelude.{is_ok}
 use Rattle.ccid_two.specs.Kinds.{Both}
-use Rattle.tool_lines.specs.Jobs.{Judges, Refused, Verdict, most_events}
+use Rattle.tool_text.specs.Jobs.{Judges, Refused, Verdict, most_events}
 use Rattle.tool_jobs.specs.Scenes.{Scene}
 use Rattle.tool_jobs.specs.Transcript.{ShowsEvent, by_scene, event_shown, run_job, says_event, world_of}
 use Rattle.tool_jobs.specs.declared.run.play.Play.{Play}
-use Rattle.tool_words.specs.Refusals.{whole_line}
-use Rattle.tool_words.specs.declared.faults.LineFault.{LineFault}
-use Rattle.tool_words.specs.declared.faults.LineWhy.TheVariants as why
+use Rattle.tool_text.specs.Refusals.{whole_line}
+use Rattle.tool_text.specs.declared.words.faults.LineFault.{LineFault}
+use Rattle.tool_text.specs.declared.words.faults.LineWhy.TheVariants as why
 use Rattle.two_ends.specs.Controlled.{Controlled}
 use Rattle.world_events.specs.declared.event.Event.{Event}
 

@@ -1,7 +1,7 @@
 -- A word with more parts than a peer or an address has is none.
 use Rattle.std.proofs.Common.{◌≡◌, ap, ℕ, ◌==◌, List, ◌∷◌, None}
-use Rattle.tool_words.specs.Words.{parted_by}
-use Rattle.tool_words.proofs.Pieces.{has_first}
+use Rattle.tool_text.specs.Words.{parted_by}
+use Rattle.tool_text.proofs.Pieces.{has_first}
 use Rattle.tool_jobs.specs.Peers.{address_of_parts, peer_of_parts}
 
 pub five_parts : (a b c d rest : List ℕ) → address_of_parts (a ∷ (b ∷ (c ∷ (d ∷ parted_by 46 rest)))) ≡ None

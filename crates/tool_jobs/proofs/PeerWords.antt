@@ -9,12 +9,12 @@ use Rattle.std.proofs.lemmas.List.Splits.{join_with_byte-slice_split}
 use Rattle.dccp_listener.specs.declared.peer.Peer.{Peer}
 use Rattle.tool_text.specs.Numbers.{is_digit, number_below}
 use Rattle.tool_text.specs.Text.{v4_text}
-use Rattle.tool_words.specs.Kinds.{IsExactKind, is_whole_word, is_word_byte}
-use Rattle.tool_words.specs.Words.{parted_by}
-use Rattle.tool_words.specs.declared.faults.LineWhy.TheVariants as why
-use Rattle.tool_words.proofs.Bytes.{all-weaker, and-true, both-true, bytes-word, decimal-digits, joined-parts, lacks}
-use Rattle.tool_words.proofs.KindLaws.{found-is}
-use Rattle.tool_words.proofs.Numerals.{number-spelled, number-read}
+use Rattle.tool_text.specs.Kinds.{IsExactKind, is_whole_word, is_word_byte}
+use Rattle.tool_text.specs.Words.{parted_by}
+use Rattle.tool_text.specs.declared.words.faults.LineWhy.TheVariants as why
+use Rattle.tool_text.proofs.Bytes.{all-weaker, and-true, both-true, bytes-word, decimal-digits, joined-parts, lacks}
+use Rattle.tool_text.proofs.KindLaws.{found-is}
+use Rattle.tool_text.proofs.Numerals.{number-spelled, number-read}
 use Rattle.tool_jobs.specs.Peers.{IsPeer, address_of_parts, all_four, peer_at, peer_kind, peer_of, peer_of_parts, peer_text}
 
 -- Bytes of numbers

@@ -9,10 +9,10 @@ use Rattle.dccp_listener.specs.Runs.{CallTurn, IsRunOfTurns, IsTurn}
 use Rattle.dccp_listener.specs.declared.peer.Peer.{Peer}
 use Rattle.dccp_listener.proofs.Chains.{each_has_its_chain}
 use Rattle.dccp_listener.proofs.Computing.{computed_runs}
-use Rattle.tool_lines.specs.Jobs.{Accepted, Gone, Refused, Verdict, by_next, gone_by, gone_from, most_events}
-use Rattle.tool_words.specs.Refusals.{whole_line}
-use Rattle.tool_words.specs.declared.faults.LineFault.{LineFault}
-use Rattle.tool_words.specs.declared.faults.LineWhy.TheVariants as why
+use Rattle.tool_text.specs.Jobs.{Accepted, Gone, Refused, Verdict, by_next, gone_by, gone_from, most_events}
+use Rattle.tool_text.specs.Refusals.{whole_line}
+use Rattle.tool_text.specs.declared.words.faults.LineFault.{LineFault}
+use Rattle.tool_text.specs.declared.words.faults.LineWhy.TheVariants as why
 use Rattle.tool_jobs.specs.Calls.{read_call}
 use Rattle.tool_jobs.specs.Listen.{EachPeerOfAnInputHasItsChain, EveryInputIsARun, by_exchange, by_peer_line, deed_of, exchange_at, first_listening, first_serving, listen_job, listened, peer_line_judged, turns_of_input}
 use Rattle.tool_jobs.specs.Telling.{Exchange}

@@ -5,10 +5,10 @@ use Rattle.schedule_text.specs.Frames.{replay_row}
 use Rattle.schedule_text.specs.Kinds.{timer_kind}
 use Rattle.schedule_text.proofs.FrameForms.{replay-is}
 use Rattle.schedule_text.proofs.RowsAre.{timer-is}
-use Rattle.tool_words.specs.Kinds.{dash_kind}
-use Rattle.tool_words.specs.Rows.{IsExactRow, ◌▷◌, after_word, end_row}
-use Rattle.tool_words.proofs.KindLaws.{dash-is}
-use Rattle.tool_words.proofs.RowLaws.{after-is, as-is, both-is, end-is}
+use Rattle.tool_text.specs.Kinds.{dash_kind}
+use Rattle.tool_text.specs.Rows.{IsExactRow, ◌▷◌, after_word, end_row}
+use Rattle.tool_text.proofs.KindLaws.{dash-is}
+use Rattle.tool_text.proofs.RowLaws.{after-is, as-is, both-is, end-is}
 use Rattle.tool_jobs.specs.Calls.{abort_row, arrival_row, call_row, close_row, peer_row, send_row, timer_row}
 use Rattle.tool_jobs.specs.Peers.{peer_kind}
 use Rattle.tool_jobs.specs.declared.listen.calls.PeerCall.TheVariants as call

@@ -12,10 +12,10 @@ use Rattle.dccp_states.specs.declared.phase.Role.TheVariants as role
 use Rattle.schedule_text.specs.Reading.{read_line}
 use Rattle.schedule_text.specs.declared.line.Line as words
 use Rattle.schedule_text.specs.declared.line.Line.TheVariants as line
-use Rattle.tool_lines.specs.Jobs.{Gone, Verdict, Accepted, Refused, by_next, gone_by, gone_from, gone_through, last_lines, most_events}
-use Rattle.tool_words.specs.Refusals.{whole_line}
-use Rattle.tool_words.specs.declared.faults.LineFault.{LineFault}
-use Rattle.tool_words.specs.declared.faults.LineWhy.TheVariants as why
+use Rattle.tool_text.specs.Jobs.{Gone, Verdict, Accepted, Refused, by_next, gone_by, gone_from, gone_through, last_lines, most_events}
+use Rattle.tool_text.specs.Refusals.{whole_line}
+use Rattle.tool_text.specs.declared.words.faults.LineFault.{LineFault}
+use Rattle.tool_text.specs.declared.words.faults.LineWhy.TheVariants as why
 use Rattle.tool_jobs.specs.Scenes.{Scene, scene_events, scene_text, IsRun}
 use Rattle.tool_jobs.specs.Transcript.{IsPlayable, SafeThroughout, with_header, by_line, by_scene, by_step, configures, event_shown, first_play, is_refused, judged_line, performed, run_job, says_event, says_plain, says_version, transcript, vectors_of, with_config, with_iss, with_offered, with_set, with_vectors, world_at_first, world_of, world_or_start}
 use Rattle.tool_jobs.specs.WorldLines.{end_lines}

@@ -3,16 +3,16 @@ use Rattle.std.proofs.Common.{◌≡◌, refl, ℕ, ◌≤◌, List, length, Boo
 use Rattle.std.specs.Prelude.{codes, IfOk, IfSome}
 use Rattle.std.specs.Str.{bytes_eq}
 use Rattle.dccp_listener.specs.declared.peer.Peer.{Peer}
-use Rattle.end_answers.specs.declared.calls.Timer.{Timer}
+use Rattle.dccp_states.specs.declared.calls.Timer.{Timer}
 use Rattle.schedule_text.specs.Frames.{replay_row}
 use Rattle.schedule_text.specs.Kinds.{timer_kind}
 use Rattle.schedule_text.specs.declared.line.FrameLine.{FrameLine}
 use Rattle.schedule_text.proofs.FrameForms.{frame-covered}
-use Rattle.tool_words.specs.Kinds.{dash_kind, word_read}
-use Rattle.tool_words.specs.Lines.{clean, says_nothing}
-use Rattle.tool_words.specs.Rows.{◌>>=◌, ◌>>◌, ◌▷◌, end_row, made}
-use Rattle.tool_words.specs.Words.{WordsLeft, first_word, later, words_of}
-use Rattle.tool_words.specs.declared.faults.LineFault.{LineFault}
+use Rattle.tool_text.specs.Kinds.{dash_kind, word_read}
+use Rattle.tool_text.specs.Lines.{clean, says_nothing}
+use Rattle.tool_text.specs.Rows.{◌>>=◌, ◌>>◌, ◌▷◌, end_row, made}
+use Rattle.tool_text.specs.Words.{WordsLeft, first_word, later, words_of}
+use Rattle.tool_text.specs.declared.words.faults.LineFault.{LineFault}
 use Rattle.tool_jobs.specs.Calls.{SealsInFull, abort_row, arrival_row, call_row, close_row, peer_row, read_call, send_row, timer_row}
 use Rattle.tool_jobs.specs.Peers.{peer_kind}
 use Rattle.tool_jobs.specs.declared.listen.calls.PeerCall.{PeerCall}

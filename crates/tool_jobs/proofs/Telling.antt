@@ -19,10 +19,10 @@ use Rattle.dccp_endpoint.specs.Reporting.{counts_data, delivered_if, delivers}
 use Rattle.dccp_endpoint.specs.Steps.{Step, idle}
 use Rattle.dccp_endpoint.specs.declared.exit.Exit.{Exit}
 use Rattle.dccp_endpoint.specs.declared.exit.Exit.TheVariants as exits
-use Rattle.end_answers.specs.declared.outcome.Fault.{Fault}
-use Rattle.end_answers.specs.declared.outcome.Outcome.{Outcome}
-use Rattle.end_answers.specs.declared.outcome.Outcome.TheVariants.{Took}
-use Rattle.end_answers.specs.declared.outcome.Why.{Why}
+use Rattle.dccp_states.specs.declared.outcome.Fault.{Fault}
+use Rattle.dccp_states.specs.declared.outcome.Outcome.{Outcome}
+use Rattle.dccp_states.specs.declared.outcome.Outcome.TheVariants.{Took}
+use Rattle.dccp_states.specs.declared.outcome.Why.{Why}
 use Rattle.schedule_text.specs.Results.{HasItsData, IsPlaceIn}
 
 -- the data of a packet end where its bytes do

@@ -17,14 +17,14 @@ use Rattle.feature_machine.specs.Lists.{with_offer}
 use Rattle.schedule_text.specs.Reading.{read_line}
 use Rattle.schedule_text.specs.declared.line.Line as words
 use Rattle.schedule_text.specs.declared.line.Line.TheVariants as line
-use Rattle.tool_lines.specs.Jobs.{Gone, Verdict, Accepted, Refused, by_next, gone_by, gone_from, most_events}
+use Rattle.tool_text.specs.Jobs.{Gone, Verdict, Accepted, Refused, by_next, gone_by, gone_from, most_events}
 use Rattle.tool_jobs.specs.Scenes.{Scene}
 use Rattle.tool_jobs.specs.Transcript.{by_line, by_scene, config_of, configures, event_shown, first_play, judged_line, offering, performed, run_job, says_event, says_plain, says_version, vectors_of, wishing, with_config, with_header, with_iss, with_offered, with_set, with_vectors, world_of}
 use Rattle.tool_jobs.specs.Versions.{HaveVectors, vectors_by, vectors_next, vectors_said}
 use Rattle.tool_jobs.specs.declared.run.play.Play.{Play}
-use Rattle.tool_words.specs.Refusals.{whole_line}
-use Rattle.tool_words.specs.declared.faults.LineFault.{LineFault}
-use Rattle.tool_words.specs.declared.faults.LineWhy.TheVariants as why
+use Rattle.tool_text.specs.Refusals.{whole_line}
+use Rattle.tool_text.specs.declared.words.faults.LineFault.{LineFault}
+use Rattle.tool_text.specs.declared.words.faults.LineWhy.TheVariants as why
 use Rattle.world_events.specs.declared.event.Event.{Event}
 use Rattle.world_events.specs.declared.event.Side.{Side}
 use Rattle.world_events.specs.declared.event.Side.TheVariants.{Client, Server}

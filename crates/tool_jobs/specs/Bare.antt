@@ -4,8 +4,8 @@ use Rattle.ccid_two.specs.Kinds.{Both, at_first, kinds_control}
 use Rattle.dccp_endpoint.specs.Calling.{opens}
 use Rattle.dccp_endpoint.specs.Controlled.{End, EndStep, begins, with_control}
 use Rattle.dccp_endpoint.specs.Receiving.{receives}
-use Rattle.end_answers.specs.declared.calls.OpenFault.{OpenFault}
-use Rattle.end_answers.specs.declared.outcome.Outcome.{Outcome}
+use Rattle.dccp_states.specs.declared.calls.OpenFault.{OpenFault}
+use Rattle.dccp_states.specs.declared.outcome.Outcome.{Outcome}
 use Rattle.world_events.specs.declared.event.Seen.TheVariants as seen
 use Rattle.world_events.specs.declared.event.Side.{Side}
 use Rattle.schedule_text.specs.Results.{result_line}

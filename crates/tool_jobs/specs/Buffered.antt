@@ -9,8 +9,8 @@ use Rattle.data_dropped.specs.declared.answers.Arrival.{Arrival}
 use Rattle.data_dropped.specs.declared.answers.Arrival.TheVariants.{Kept, Dropped}
 use Rattle.dccp_endpoint.specs.Calling.{opens}
 use Rattle.dccp_endpoint.specs.Controlled.{EndStep, with_control}
-use Rattle.end_answers.specs.declared.calls.OpenFault.{OpenFault}
-use Rattle.end_answers.specs.declared.outcome.Outcome.{Outcome}
+use Rattle.dccp_states.specs.declared.calls.OpenFault.{OpenFault}
+use Rattle.dccp_states.specs.declared.outcome.Outcome.{Outcome}
 use Rattle.world_events.specs.declared.event.Seen.TheVariants as seen
 use Rattle.world_events.specs.declared.event.Side.{Side}
 use Rattle.schedule_text.specs.Results.{result_line}

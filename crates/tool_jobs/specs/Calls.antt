@@ -3,10 +3,10 @@ use Rattle.std.specs.Prelude.{◌≡◌, ℕ, ◌≤◌, true, List, length, cod
 use Rattle.dccp_listener.specs.declared.peer.Peer.{Peer}
 use Rattle.schedule_text.specs.Frames.{replay_row}
 use Rattle.schedule_text.specs.Kinds.{timer_kind}
-use Rattle.tool_words.specs.Kinds.{dash_kind}
-use Rattle.tool_words.specs.Lines.{line_read}
-use Rattle.tool_words.specs.Rows.{Row, ◌▷◌, after_word, end_row, row_as}
-use Rattle.tool_words.specs.declared.faults.LineFault.{LineFault}
+use Rattle.tool_text.specs.Kinds.{dash_kind}
+use Rattle.tool_text.specs.Lines.{line_read}
+use Rattle.tool_text.specs.Rows.{Row, ◌▷◌, after_word, end_row, row_as}
+use Rattle.tool_text.specs.declared.words.faults.LineFault.{LineFault}
 use Rattle.tool_jobs.specs.Peers.{peer_kind}
 use Rattle.tool_jobs.specs.declared.listen.calls.PeerCall.{PeerCall}
 use Rattle.tool_jobs.specs.declared.listen.calls.PeerCall.TheVariants as call

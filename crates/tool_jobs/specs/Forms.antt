@@ -2,10 +2,10 @@
 use Rattle.std.specs.Prelude.{ℕ, ◌^◌, ◌==◌, List, [], ◌∷◌, codes, Option, Result}
 use Rattle.dccp_ecn.specs.declared.event.EcnEvent.{EcnEvent}
 use Rattle.dccp_ecn.specs.declared.event.EcnEvent.TheVariants as event
-use Rattle.tool_words.specs.declared.faults.LineFault.{LineFault}
-use Rattle.tool_words.specs.Kinds.{Kind, name_kind, number_kind}
-use Rattle.tool_words.specs.Rows.{Row, ◌▷◌, choice, end_row, row_as}
-use Rattle.tool_words.specs.Lines.{line_read}
+use Rattle.tool_text.specs.declared.words.faults.LineFault.{LineFault}
+use Rattle.tool_text.specs.Kinds.{Kind, name_kind, number_kind}
+use Rattle.tool_text.specs.Rows.{Row, ◌▷◌, choice, end_row, row_as}
+use Rattle.tool_text.specs.Lines.{line_read}
 use Rattle.tool_jobs.specs.declared.ecn.names.Form.{Form}
 use Rattle.tool_jobs.specs.declared.ecn.names.Form.TheVariants as form
 

@@ -10,11 +10,11 @@ use Rattle.dccp_listener.specs.declared.peer.Peer.{Peer}
 use Rattle.dccp_sum.specs.declared.pseudo_header.Pseudo.{Pseudo}
 use Rattle.dccp_sum.specs.declared.pseudo_header.Pseudo.TheVariants.{V4}
 use Rattle.feature_machine.specs.Lists.{usual_lists}
-use Rattle.tool_lines.specs.Jobs.{Accepted, Gone, Job, Refused, Verdict, gone_through, text_of_job, most_events}
+use Rattle.tool_text.specs.Jobs.{Accepted, Gone, Job, Refused, Verdict, gone_through, text_of_job, most_events}
 use Rattle.tool_jobs.specs.Ends.{arriving}
-use Rattle.tool_words.specs.Refusals.{whole_line}
-use Rattle.tool_words.specs.declared.faults.LineFault.{LineFault}
-use Rattle.tool_words.specs.declared.faults.LineWhy.TheVariants as why
+use Rattle.tool_text.specs.Refusals.{whole_line}
+use Rattle.tool_text.specs.declared.words.faults.LineFault.{LineFault}
+use Rattle.tool_text.specs.declared.words.faults.LineWhy.TheVariants as why
 use Rattle.tool_jobs.specs.Calls.{read_call}
 use Rattle.tool_jobs.specs.Telling.{Exchange, exchange_text, flow_lines}
 use Rattle.tool_jobs.specs.declared.listen.calls.PeerCall.{PeerCall}

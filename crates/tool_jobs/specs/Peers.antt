@@ -3,9 +3,9 @@ use Rattle.std.specs.Prelude.{◌≡◌, ℕ, ◌<◌, ◌++◌, List, [], ◌�
 use Rattle.dccp_listener.specs.declared.peer.Peer.{Peer}
 use Rattle.tool_text.specs.Numbers.{number_below}
 use Rattle.tool_text.specs.Text.{v4_text}
-use Rattle.tool_words.specs.Kinds.{Kind, found_kind}
-use Rattle.tool_words.specs.Words.{parted_by}
-use Rattle.tool_words.specs.declared.faults.LineWhy.TheVariants as why
+use Rattle.tool_text.specs.Kinds.{Kind, found_kind}
+use Rattle.tool_text.specs.Words.{parted_by}
+use Rattle.tool_text.specs.declared.words.faults.LineWhy.TheVariants as why
 
 -- a peer as it is written
 unfoldable pub peer_text : Peer → List ℕ

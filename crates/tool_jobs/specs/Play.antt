@@ -5,11 +5,11 @@ use Rattle.dccp_ecn.specs.declared.event.EcnEvent.{EcnEvent}
 use Rattle.dccp_ecn.specs.declared.event.EcnFault.{EcnFault}
 use Rattle.dccp_ecn.specs.declared.event.EcnFault.TheVariants as fault
 use Rattle.dccp_ecn.specs.World.{EcnStep, ecn_begins, happens_by}
-use Rattle.tool_words.specs.declared.faults.LineFault.{LineFault}
-use Rattle.tool_words.specs.declared.faults.LineWhy.TheVariants as why
-use Rattle.tool_words.specs.Refusals.{fault_at, whole_line}
-use Rattle.tool_words.specs.Words.{word_at, words_of}
-use Rattle.tool_lines.specs.Jobs.{Accepted, Gone, Job, Refused, Verdict, gone_through, text_of_job, most_events}
+use Rattle.tool_text.specs.declared.words.faults.LineFault.{LineFault}
+use Rattle.tool_text.specs.declared.words.faults.LineWhy.TheVariants as why
+use Rattle.tool_text.specs.Refusals.{fault_at, whole_line}
+use Rattle.tool_text.specs.Words.{word_at, words_of}
+use Rattle.tool_text.specs.Jobs.{Accepted, Gone, Job, Refused, Verdict, gone_through, text_of_job, most_events}
 use Rattle.tool_jobs.specs.declared.ecn.play.EcnPlay.{EcnPlay}
 use Rattle.tool_jobs.specs.Forms.{read_ecn_line}
 use Rattle.tool_jobs.specs.SeenText.{ecn_ending, ecn_event_line}

@@ -4,16 +4,16 @@ use Rattle.std.specs.Prelude.{◌≡◌, ℕ, ◌+◌, ◌++◌, Bool, if◌then
 use Rattle.ccid_two.specs.Kinds.{Both}
 use Rattle.dccp_endpoint.specs.Controlled.{End}
 use Rattle.dccp_endpoint.specs.Usual.{usual}
-use Rattle.end_answers.specs.declared.calls.OpenFault.{OpenFault}
+use Rattle.dccp_states.specs.declared.calls.OpenFault.{OpenFault}
 use Rattle.dccp_endpoint.specs.declared.config.Config.{Config}
 use Rattle.world_events.specs.declared.event.Side.{Side}
 use Rattle.world_events.specs.declared.event.Side.TheVariants.{Client, Server}
 use Rattle.schedule_text.specs.Frames.{read_frame}
 use Rattle.schedule_text.specs.declared.line.FrameLine.{FrameLine}
-use Rattle.tool_words.specs.declared.faults.LineFault.{LineFault}
+use Rattle.tool_text.specs.declared.words.faults.LineFault.{LineFault}
 use Rattle.tool_jobs.specs.EndLines.{bytes_line, end_line}
 use Rattle.tool_jobs.specs.Ends.{arriving, config_without_offers, role_of}
-use Rattle.tool_lines.specs.Jobs.{Accepted, Gone, Job, Refused, Verdict, gone_through, text_of_job}
+use Rattle.tool_text.specs.Jobs.{Accepted, Gone, Job, Refused, Verdict, gone_through, text_of_job}
 
 -- Where a replay stands: how many frames its end has sent, whose end it is, and the end.
 pub record ReplayState (E : Type 0) : Type 0 where

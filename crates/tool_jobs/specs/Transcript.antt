@@ -25,13 +25,13 @@ use Rattle.world_events.specs.declared.event.WorldFault.TheVariants as fault
 use Rattle.schedule_text.specs.Reading.{read_line}
 use Rattle.schedule_text.specs.declared.line.Line.{Line}
 use Rattle.schedule_text.specs.declared.line.Line.TheVariants as line
-use Rattle.tool_words.specs.Refusals.{whole_line}
-use Rattle.tool_words.specs.declared.faults.LineFault.{LineFault}
-use Rattle.tool_words.specs.declared.faults.LineWhy.{LineWhy}
-use Rattle.tool_words.specs.declared.faults.LineWhy.TheVariants as why
+use Rattle.tool_text.specs.Refusals.{whole_line}
+use Rattle.tool_text.specs.declared.words.faults.LineFault.{LineFault}
+use Rattle.tool_text.specs.declared.words.faults.LineWhy.{LineWhy}
+use Rattle.tool_text.specs.declared.words.faults.LineWhy.TheVariants as why
 use Rattle.tool_jobs.specs.declared.run.play.Play.{Play}
 use Rattle.tool_jobs.specs.Ends.{config_without_offers}
-use Rattle.tool_lines.specs.Jobs.{Gone, Job, Verdict, Accepted, Refused, gone_through, text_of_job, most_events}
+use Rattle.tool_text.specs.Jobs.{Gone, Job, Verdict, Accepted, Refused, gone_through, text_of_job, most_events}
 use Rattle.tool_jobs.specs.Scenes.{Scene, scene_text}
 use Rattle.tool_jobs.specs.WorldLines.{end_lines}
 

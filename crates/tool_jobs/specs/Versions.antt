@@ -8,7 +8,7 @@ use Rattle.schedule_text.specs.declared.line.Line as words
 use Rattle.schedule_text.specs.declared.line.Line.TheVariants as line
 use Rattle.tool_jobs.specs.Transcript.{vectors_of}
 use Rattle.tool_jobs.specs.declared.run.play.Play.{Play}
-use Rattle.tool_words.specs.declared.faults.LineFault.{LineFault}
+use Rattle.tool_text.specs.declared.words.faults.LineFault.{LineFault}
 
 -- The ends' Ack Vectors by a line: one that says nothing leaves that to the lines behind it, and one with a fault stops
 -- the schedule.

@@ -3,7 +3,7 @@
 //!
 //! `replay` hands frames to one end, `run` plays a schedule on the two ends of a world, `listen` hands what peers send
 //! to one listener, and `ecn` plays events between an ECN-capable sender and receiver. Each is a `LineJob` under the one
-//! loop of tool_lines. No socket and no clock is opened; memory is taken for the ends and for the text.
+//! loop of tool_text. No socket and no clock is opened; memory is taken for the ends and for the text.
 #![tactic(auto)]
 
 mod ecn;

@@ -10,8 +10,8 @@ use Rattle.tool_text.specs.Refusals.{fault_at}
 use Rattle.tool_text.specs.Words.{WordAt, WordsLeft, first_word, later, word_at, texts_of}
 use Rattle.tool_text.specs.Kinds.{Kind, word_read, judged_word, flaw_behind, is_whole_word}
 
--- the first fault of what follows, or what it gives
 infixr 30 ◌▷◌
+-- the first fault of what follows, or what it gives
 infixl 10 ◌>>=◌
 abbrev pub ◌>>=◌ : {A B : Type 0} → Result A LineFault → (A → Result B LineFault) → Result B LineFault
 Ok x >>= f = f x

@@ -1,5 +1,5 @@
 -- The words of a line, parted by one space (own).
-use Rattle.std.specs.Prelude.{ℕ, zero, suc, ◌+◌, Bool, true, false, ◌==◌, List, [], ◌∷◌, length}
+use Rattle.std.specs.Prelude.{ℕ, zero, suc, ◌+◌, Bool, true, false, ◌==◌, List, [], ◌∷◌, length, ◌<◌}
 use Rattle.std.specs.List.{join_with_byte, slice_split}
 
 -- a text's pieces, parted by this byte
@@ -14,6 +14,10 @@ pub record WordAt : Type 0 where
 -- a word of this text, whose first byte has this column
 abbrev pub word_at_column : ℕ → List ℕ → WordAt
 word_at_column column text = record { column = column; text = text }
+
+-- one of the text's bytes stands there
+abbrev pub IsPlaceOf : List ℕ → ℕ → Type 0
+IsPlaceOf text place = place < length text
 
 -- Words one after another, the first at this column: a word begins behind the one before it and a space.
 abbrev pub placed : ℕ → List (List ℕ) → List WordAt

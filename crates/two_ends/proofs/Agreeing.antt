@@ -5,17 +5,17 @@ use Rattle.std.specs.Prelude.{IsTrue, is_some}
 use Rattle.std.specs.Option.{option_map}
 use Rattle.dccp_endpoint.specs.Turns.{Key}
 use Rattle.dccp_endpoint.specs.declared.config.Config.{Config}
-use Rattle.feature_agreement.specs.Agreement as agreement
-use Rattle.feature_agreement.specs.Agreement.{IsGiven, IsToldValue}
-use Rattle.feature_agreement.specs.Agreement.IsGiven.{Initial as AsBefore, Ruled}
-use Rattle.feature_agreement.specs.Agreement.IsToldValue.{Untold, Told as ToldIn}
-use Rattle.feature_agreement.specs.EachFeature.{agree_by, given_by}
-use Rattle.feature_agreement.specs.Moves.{Reached}
-use Rattle.feature_agreement.specs.Rows.{location_of, pair_of, row_pair}
-use Rattle.feature_agreement.specs.View as view
-use Rattle.feature_agreement.specs.View.{carried_at, change_of, has_change, last_change, last_wish, wish_carried}
-use Rattle.feature_agreement.specs.View.Carried.{Change}
-use Rattle.feature_agreement.proofs.ByFeature.{reached_agrees, reached_is_given}
+use Rattle.two_ends.specs.FeatureAgreement as agreement
+use Rattle.two_ends.specs.FeatureAgreement.{IsGiven, IsToldValue}
+use Rattle.two_ends.specs.FeatureAgreement.IsGiven.{Initial as AsBefore, Ruled}
+use Rattle.two_ends.specs.FeatureAgreement.IsToldValue.{Untold, Told as ToldIn}
+use Rattle.two_ends.specs.EachFeature.{agree_by, given_by}
+use Rattle.two_ends.specs.FeatureMoves.{Reached}
+use Rattle.two_ends.specs.FeatureRows.{location_of, pair_of, row_pair}
+use Rattle.two_ends.specs.FeatureView as view
+use Rattle.two_ends.specs.FeatureView.{carried_at, change_of, has_change, last_change, last_wish, wish_carried}
+use Rattle.two_ends.specs.FeatureView.Carried.{Change}
+use Rattle.two_ends.proofs.ByFeature.{reached_agrees, reached_is_given}
 use Rattle.feature_lists.specs.Features.{described, initial_of}
 use Rattle.feature_lists.specs.Lists.{reconciled}
 use Rattle.feature_lists.specs.declared.features.Place.{Place}

@@ -1,15 +1,15 @@
 -- What no frame asks for stays, and the last lists that were sent are the active ones.
 use Rattle.std.proofs.Common.{◌≡◌, refl, ap, sym, ◌∙◌, ℕ, ◌||◌, Bool, true, false, List, Option, Some, None, inl, inr}
-use Rattle.feature_agreement.proofs.Facts.{Kept}
-use Rattle.feature_agreement.proofs.Frames.{change_seen}
-use Rattle.feature_agreement.proofs.Steps.{reached_keeps}
-use Rattle.feature_agreement.proofs.Values.{reached_given}
-use Rattle.feature_agreement.specs.Agreement.{IsGiven}
-use Rattle.feature_agreement.specs.Agreement.IsGiven.{Initial, Ruled}
-use Rattle.feature_agreement.specs.Moves.{Pair, Reached, Rule}
-use Rattle.feature_agreement.specs.Rows.{entries_of, pair_by, pair_of}
-use Rattle.feature_agreement.specs.View.{Carried, FeatureSide, carried_at, carries_change, has_change, wish_carried}
-use Rattle.feature_agreement.specs.View.Carried.{Nothing, Change, Confirm}
+use Rattle.two_ends.proofs.FeatureFacts.{Kept}
+use Rattle.two_ends.proofs.FeatureFrames.{change_seen}
+use Rattle.two_ends.proofs.FeatureSteps.{reached_keeps}
+use Rattle.two_ends.proofs.FeatureValues.{reached_given}
+use Rattle.two_ends.specs.FeatureAgreement.{IsGiven}
+use Rattle.two_ends.specs.FeatureAgreement.IsGiven.{Initial, Ruled}
+use Rattle.two_ends.specs.FeatureMoves.{Pair, Reached, Rule}
+use Rattle.two_ends.specs.FeatureRows.{entries_of, pair_by, pair_of}
+use Rattle.two_ends.specs.FeatureView.{Carried, FeatureSide, carried_at, carries_change, has_change, wish_carried}
+use Rattle.two_ends.specs.FeatureView.Carried.{Nothing, Change, Confirm}
 use Rattle.feature_lists.specs.Features.{described, initial_of}
 use Rattle.feature_lists.specs.declared.features.Feature.{Feature}
 use Rattle.feature_lists.specs.declared.features.Place.{Place}

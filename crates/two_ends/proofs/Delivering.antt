@@ -28,8 +28,8 @@ use Rattle.dccp_packets.proofs.TableLemmas.{read_table}
 use Rattle.dccp_packets.specs.Grammar.{Parts, decoded, packet_type}
 use Rattle.dccp_packets.specs.declared.header.PacketType.{PacketType}
 use Rattle.dccp_packets.specs.declared.header.PacketType.TheVariants as types
-use Rattle.end_answers.specs.declared.outcome.Outcome.{Outcome}
-use Rattle.end_answers.specs.declared.outcome.Outcome.TheVariants.{Took}
+use Rattle.dccp_states.specs.declared.outcome.Outcome.{Outcome}
+use Rattle.dccp_states.specs.declared.outcome.Outcome.TheVariants.{Took}
 use Rattle.run_list.specs.MarkedSet.{answer_to}
 use Rattle.world_events.specs.Actors.{actor, other}
 use Rattle.world_events.specs.declared.event.Event.{Event}

@@ -17,7 +17,7 @@ use Rattle.dccp_endpoint.specs.Heeding.{Due, Heeding, by_answered, by_settling, 
 use Rattle.dccp_endpoint.specs.Reporting.{vector_item, vector_items}
 use Rattle.dccp_endpoint.specs.Speaking.{asking, change_item, change_items, change_type, confirm_item, confirm_items, confirm_type}
 use Rattle.dccp_endpoint.specs.Turns.{Key}
-use Rattle.end_answers.specs.declared.outcome.Fault.{Fault}
+use Rattle.dccp_states.specs.declared.outcome.Fault.{Fault}
 use Rattle.feature_lists.specs.declared.features.Place.{Place}
 use Rattle.feature_lists.specs.declared.features.Place.TheVariants.{Here, There}
 use Rattle.feature_machine.specs.Answers.{Answered, Confirming, Ignoring, Failing, answered, settling_of}

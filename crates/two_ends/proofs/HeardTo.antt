@@ -14,7 +14,7 @@ use Rattle.dccp_endpoint.specs.Incoming.{Incoming, is_newest}
 use Rattle.dccp_endpoint.specs.Inputs.{Input, Arrives, Opens}
 use Rattle.dccp_endpoint.specs.declared.config.Config.{Config}
 use Rattle.dccp_endpoint.proofs.Phases.{accept-so, answer-so, check-live}
-use Rattle.feature_agreement.proofs.Order.{before_counts}
+use Rattle.two_ends.proofs.FeatureOrder.{before_counts}
 use Rattle.seq_circle.specs.Counts.{IsNumber, count_of, number_of}
 use Rattle.two_ends.proofs.Acting.{Act, config_of, end_of}
 use Rattle.two_ends.proofs.Numbering.{IsOrdered, came-logged, few-logged}

@@ -13,8 +13,8 @@ use Rattle.dccp_endpoint.specs.End.{IsProper}
 use Rattle.dccp_endpoint.specs.Incoming.{Incoming}
 use Rattle.dccp_endpoint.specs.Inputs.{Input}
 use Rattle.dccp_endpoint.specs.declared.config.Config.{Config}
-use Rattle.feature_agreement.specs.Moves as moves
-use Rattle.feature_agreement.specs.Rows.{location_of, pair_of}
+use Rattle.two_ends.specs.FeatureMoves as moves
+use Rattle.two_ends.specs.FeatureRows.{location_of, pair_of}
 use Rattle.feature_machine.specs.Negotiating.{opposite}
 use Rattle.feature_machine.specs.declared.stands.Role2.TheVariants as end
 use Rattle.world_events.specs.declared.event.Side.{Side}

@@ -19,14 +19,14 @@ use Rattle.dccp_endpoint.specs.Heeding.{Due, event_of, is_change}
 use Rattle.dccp_endpoint.specs.Incoming.{Incoming, incoming}
 use Rattle.dccp_endpoint.specs.Inputs.{Input, Arrives}
 use Rattle.dccp_endpoint.specs.Receiving.{read_number}
-use Rattle.end_answers.specs.declared.outcome.Why.{Why}
+use Rattle.dccp_states.specs.declared.outcome.Why.{Why}
 use Rattle.dccp_endpoint.proofs.FirstFaults.{changes-few}
 use Rattle.dccp_endpoint.proofs.OneConfirm.{rows_hear_the_packet}
 use Rattle.dccp_endpoint.specs.Saying.{confirm_for, event_in, said_to, speaks_to, times_said_to}
 use Rattle.dccp_endpoint.specs.Turns.{Key}
-use Rattle.feature_agreement.specs.Packets.{IsHeardOf}
-use Rattle.feature_agreement.specs.View.{Carried, carried_at}
-use Rattle.feature_agreement.specs.View.Carried.{Nothing}
+use Rattle.two_ends.specs.FeaturePackets.{IsHeardOf}
+use Rattle.two_ends.specs.FeatureView.{Carried, carried_at}
+use Rattle.two_ends.specs.FeatureView.Carried.{Nothing}
 use Rattle.feature_lists.specs.declared.features.Feature.{Feature}
 use Rattle.feature_lists.specs.declared.features.Place.{Place}
 use Rattle.feature_lists.specs.declared.features.Place.TheVariants.{Here, There}

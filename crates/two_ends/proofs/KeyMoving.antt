@@ -12,8 +12,8 @@ use Rattle.dccp_endpoint.specs.Saying.{confirm_for, has_key, said_of}
 use Rattle.dccp_endpoint.specs.Steps.{next_number}
 use Rattle.dccp_endpoint.specs.Turns.{Key}
 use Rattle.seq_circle.specs.Counts.{number_of}
-use Rattle.feature_agreement.specs.Rows.{IsBegun, RowMoves, confirm_in}
-use Rattle.feature_agreement.specs.View.{Carried, with_frame}
+use Rattle.two_ends.specs.FeatureRows.{IsBegun, RowMoves, confirm_in}
+use Rattle.two_ends.specs.FeatureView.{Carried, with_frame}
 use Rattle.feature_lists.specs.declared.features.Feature.{Feature}
 use Rattle.feature_machine.specs.Negotiating.{row_at}
 use Rattle.feature_machine.specs.Rows.{Confirm, Offered, Offers, Opens, RowEvent, row_line, row_step}

@@ -22,13 +22,13 @@ use Rattle.dccp_endpoint.specs.Saying.{times_confirmed, times_said_to, confirm_f
 use Rattle.dccp_endpoint.specs.Speaking.{change_items, confirm_items, wish_bytes}
 use Rattle.dccp_endpoint.specs.Steps.{next_number}
 use Rattle.dccp_endpoint.specs.Turns.{Key}
-use Rattle.feature_agreement.proofs.Saying.{change_carries, change_understood, confirm_whole, wish_valid}
-use Rattle.feature_agreement.proofs.Taking.{heard_same, heard_sound}
+use Rattle.two_ends.proofs.Saying.{change_carries, change_understood, confirm_whole, wish_valid}
+use Rattle.two_ends.proofs.Taking.{heard_same, heard_sound}
 use Rattle.seq_circle.specs.Counts.{IsNumber, count_of}
-use Rattle.feature_agreement.specs.Packets.{IsHeardOf}
-use Rattle.feature_agreement.specs.Rows.{change_data, change_in, entries_of, is_valid_change, is_whole_confirm}
-use Rattle.feature_agreement.specs.View.{Carried}
-use Rattle.feature_agreement.specs.View.Carried.{Change as CarriedChange}
+use Rattle.two_ends.specs.FeaturePackets.{IsHeardOf}
+use Rattle.two_ends.specs.FeatureRows.{change_data, change_in, entries_of, is_valid_change, is_whole_confirm}
+use Rattle.two_ends.specs.FeatureView.{Carried}
+use Rattle.two_ends.specs.FeatureView.Carried.{Change as CarriedChange}
 use Rattle.feature_lists.specs.Wishes.{is_ours, is_wish}
 use Rattle.feature_lists.specs.declared.features.Feature.{Feature}
 use Rattle.feature_lists.specs.declared.features.Place.{Place}

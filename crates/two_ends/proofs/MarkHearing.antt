@@ -16,13 +16,13 @@ use Rattle.dccp_packets.specs.declared.header.PacketType.TheVariants as types
 use Rattle.dccp_states.specs.declared.entrance.Entrance.TheVariants as entrance
 use Rattle.dccp_states.specs.declared.phase.Phase.{Phase}
 use Rattle.dccp_states.specs.declared.phase.Phase.TheVariants as phases
-use Rattle.mark_agreement.proofs.Sets.{begun_are, begun_shut_are, counts_are_new, joined_are, new_by_counts}
-use Rattle.mark_agreement.proofs.Steps.{Kept}
-use Rattle.mark_agreement.specs.Moves.{MarkMove, MarkMoves, begun_shut, passed, shut, with_first_frame, with_processed}
-use Rattle.mark_agreement.specs.Moves.MarkMove.{Begins, Begins_shut, Joins, Repeats, Refuses, Shuts}
-use Rattle.mark_agreement.specs.Moves.MarkMoves.{Done, Next}
-use Rattle.mark_agreement.specs.Sets.{IsMarked}
-use Rattle.mark_agreement.specs.View.{MarkSide, frame_at}
+use Rattle.two_ends.proofs.MarkSets.{begun_are, begun_shut_are, counts_are_new, joined_are, new_by_counts}
+use Rattle.two_ends.proofs.MarkSteps.{Kept}
+use Rattle.two_ends.specs.MarkMoves.{MarkMove, MarkMoves, begun_shut, passed, shut, with_first_frame, with_processed}
+use Rattle.two_ends.specs.MarkMoves.MarkMove.{Begins, Begins_shut, Joins, Repeats, Refuses, Shuts}
+use Rattle.two_ends.specs.MarkMoves.MarkMoves.{Done, Next}
+use Rattle.two_ends.specs.MarkSets.{IsMarked}
+use Rattle.two_ends.specs.MarkView.{MarkSide, frame_at}
 use Rattle.run_list.proofs.Sets.{marked-other}
 use Rattle.run_list.specs.MarkedSet.{MarkedSet, answer_to, empty_from, marked}
 use Rattle.run_list.specs.declared.answers.Marked.{Marked}

@@ -28,14 +28,14 @@ use Rattle.dccp_packets.specs.declared.header.PacketType.{PacketType}
 use Rattle.dccp_packets.specs.declared.header.PacketType.TheVariants as types
 use Rattle.dccp_states.specs.declared.phase.Phase.{Phase}
 use Rattle.dccp_states.specs.declared.phase.Phase.TheVariants as phases
-use Rattle.mark_agreement.proofs.Reaching.{joined}
-use Rattle.mark_agreement.proofs.Sets.{raised_are}
-use Rattle.mark_agreement.proofs.Steps.{Kept}
-use Rattle.mark_agreement.specs.Moves.{MarkMoves, ack_frame, other_frame, with_floor, with_sent_frame}
-use Rattle.mark_agreement.specs.Moves.MarkMove.{Acks as AcksFrame, Raises, Sends}
-use Rattle.mark_agreement.specs.Moves.MarkMoves.{Done, Next as NextMove}
-use Rattle.mark_agreement.specs.Sets.{IsMarked}
-use Rattle.mark_agreement.specs.View.{Frame, MarkSide, frame_at}
+use Rattle.two_ends.proofs.MarkReaching.{joined}
+use Rattle.two_ends.proofs.MarkSets.{raised_are}
+use Rattle.two_ends.proofs.MarkSteps.{Kept}
+use Rattle.two_ends.specs.MarkMoves.{MarkMoves, ack_frame, other_frame, with_floor, with_sent_frame}
+use Rattle.two_ends.specs.MarkMoves.MarkMove.{Acks as AcksFrame, Raises, Sends}
+use Rattle.two_ends.specs.MarkMoves.MarkMoves.{Done, Next as NextMove}
+use Rattle.two_ends.specs.MarkSets.{IsMarked}
+use Rattle.two_ends.specs.MarkView.{Frame, MarkSide, frame_at}
 use Rattle.run_list.specs.MarkedSet.{MarkedSet, has, raised as raised_set}
 use Rattle.seq_circle.specs.Circle.{residue}
 use Rattle.seq_circle.specs.Counts.{number_of}

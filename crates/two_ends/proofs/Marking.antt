@@ -3,11 +3,11 @@ use Rattle.std.proofs.Common.{◌≡◌, refl, ℕ, zero, suc, List, [], ◌∷�
 use Rattle.std.proofs.lemmas.List.Elements.{All-cons, All-head, All-nil, All-tail}
 use Rattle.std.specs.List.{All}
 use Rattle.dccp_endpoint.specs.declared.config.Config.{Config}
-use Rattle.mark_agreement.proofs.Reaching.{joined}
-use Rattle.mark_agreement.proofs.Steps.{Kept, reached_keeps, turned}
-use Rattle.mark_agreement.specs.Moves.{unmoved_side}
-use Rattle.mark_agreement.specs.Moves.ReachedByMarks.{Starts}
-use Rattle.mark_agreement.specs.View.{MarkSide}
+use Rattle.two_ends.proofs.MarkReaching.{joined}
+use Rattle.two_ends.proofs.MarkSteps.{Kept, reached_keeps, turned}
+use Rattle.two_ends.specs.MarkMoves.{unmoved_side}
+use Rattle.two_ends.specs.MarkMoves.ReachedByMarks.{Starts}
+use Rattle.two_ends.specs.MarkView.{MarkSide}
 use Rattle.two_ends.proofs.Acting.{Act, Keeps, Party, acted, at_beginning, config_of, drafted_by, end_of, longer}
 use Rattle.two_ends.proofs.HeardTo.{heard-more, heard-none}
 use Rattle.two_ends.proofs.Logged.{Logged}

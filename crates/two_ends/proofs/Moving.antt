@@ -1,16 +1,16 @@
 -- What one step does to a row is moves of its side: what it hears of a packet, what else happens to it, and what goes out.
 use Rattle.std.proofs.Common.{◌≡◌, ◌≢◌, refl, sym, ◌∙◌, subst, ℕ, ◌+◌, ◌^◌, ◌<◌, Bool, true, false, List, [], ◌∷◌, ◌++◌, Option, Some, None, if◌then◌else◌, length}
-use Rattle.feature_agreement.proofs.Beginning.{dropped_begun, offer_begun, preference_begun, sending_begun, waiting_begun}
-use Rattle.feature_agreement.proofs.ByFeature.{same_moves}
-use Rattle.feature_agreement.proofs.OpeningLines.{offer_drops, offer_moves, plain_moves, prefer_moves, preference_waits, send_moves}
-use Rattle.feature_agreement.proofs.Reaching.{joined}
-use Rattle.feature_agreement.proofs.Taking.{heard_begun, heard_same, heard_sound, replied, silent}
+use Rattle.two_ends.proofs.Beginning.{dropped_begun, offer_begun, preference_begun, sending_begun, waiting_begun}
+use Rattle.two_ends.proofs.ByFeature.{same_moves}
+use Rattle.two_ends.proofs.OpeningLines.{offer_drops, offer_moves, plain_moves, prefer_moves, preference_waits, send_moves}
+use Rattle.two_ends.proofs.FeatureReaching.{joined}
+use Rattle.two_ends.proofs.Taking.{heard_begun, heard_same, heard_sound, replied, silent}
 use Rattle.seq_circle.specs.Counts.{number_of}
-use Rattle.feature_agreement.specs.Packets.{IsHeardOf, carried_reply}
-use Rattle.feature_agreement.specs.Rows.{IsBegun, RowMoves, confirm_in, entries_of, opens_at, row_pair, rule_at, side_of}
-use Rattle.feature_agreement.specs.Moves.{Done}
-use Rattle.feature_agreement.specs.View.{Carried, FeatureSide, with_frame}
-use Rattle.feature_agreement.specs.View.Carried.{Nothing, Change}
+use Rattle.two_ends.specs.FeaturePackets.{IsHeardOf, carried_reply}
+use Rattle.two_ends.specs.FeatureRows.{IsBegun, RowMoves, confirm_in, entries_of, opens_at, row_pair, rule_at, side_of}
+use Rattle.two_ends.specs.FeatureMoves.{Done}
+use Rattle.two_ends.specs.FeatureView.{Carried, FeatureSide, with_frame}
+use Rattle.two_ends.specs.FeatureView.Carried.{Nothing, Change}
 use Rattle.feature_lists.specs.Wishes.{is_wish}
 use Rattle.feature_lists.specs.declared.wishes.Wanted.{Wanted}
 use Rattle.feature_machine.proofs.Soundness.{step_sound}

@@ -16,7 +16,7 @@ use Rattle.dccp_packets.specs.Kinds.{ack_of}
 use Rattle.dccp_packets.specs.Widths.{kind_in_widths}
 use Rattle.feature_lists.specs.declared.features.Feature.TheVariants.{ShortSeqnos}
 use Rattle.feature_lists.specs.declared.features.Place.TheVariants.{There}
-use Rattle.mark_agreement.specs.View.{frame_at}
+use Rattle.two_ends.specs.MarkView.{frame_at}
 use Rattle.seq_circle.proofs.NotFar.{few-above, few-below}
 use Rattle.seq_circle.specs.Circle.{is_ack_far, is_far, residue}
 use Rattle.seq_circle.specs.Counts.{number_of}

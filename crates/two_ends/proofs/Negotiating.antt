@@ -9,11 +9,11 @@ use Rattle.dccp_endpoint.specs.Drafts.{Fits}
 use Rattle.dccp_endpoint.specs.End.{end_of as role_of, new_end as fresh_end}
 use Rattle.dccp_endpoint.specs.Turns.{Key}
 use Rattle.dccp_endpoint.specs.declared.config.Config.{Config}
-use Rattle.feature_agreement.proofs.Beginning.{start_begun}
-use Rattle.feature_agreement.proofs.ByFeature.{client_row_reaches, one_pair, server_row_reaches, starts}
-use Rattle.feature_agreement.specs.Moves.{Reached, new_side}
-use Rattle.feature_agreement.specs.Rows.{IsBegun, RowMoves, entries_of, location_of, pair_of, row_pair, side_of}
-use Rattle.feature_agreement.specs.View.{FeatureSide}
+use Rattle.two_ends.proofs.Beginning.{start_begun}
+use Rattle.two_ends.proofs.ByFeature.{client_row_reaches, one_pair, server_row_reaches, starts}
+use Rattle.two_ends.specs.FeatureMoves.{Reached, new_side}
+use Rattle.two_ends.specs.FeatureRows.{IsBegun, RowMoves, entries_of, location_of, pair_of, row_pair, side_of}
+use Rattle.two_ends.specs.FeatureView.{FeatureSide}
 use Rattle.feature_lists.specs.Features.{initial_of}
 use Rattle.feature_lists.specs.declared.features.Feature.{Feature}
 use Rattle.feature_lists.specs.declared.features.Place.{Place}

@@ -16,7 +16,7 @@ use Rattle.dccp_endpoint.specs.Speaking.{is_confirmed}
 use Rattle.dccp_endpoint.specs.Steps.{next_number}
 use Rattle.dccp_endpoint.specs.Turns.{Key, sendings, turn_of}
 use Rattle.dccp_endpoint.specs.declared.config.Config.{Config}
-use Rattle.feature_agreement.specs.Rows.{entries_of}
+use Rattle.two_ends.specs.FeatureRows.{entries_of}
 use Rattle.feature_lists.specs.Wishes.{wish_of}
 use Rattle.feature_lists.specs.declared.features.Feature.{Feature}
 use Rattle.feature_lists.specs.declared.features.Place.{Place}

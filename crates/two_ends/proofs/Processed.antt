@@ -7,8 +7,8 @@ use Rattle.std.specs.Prelude.{slice_index, slice_index_or, take}
 use Rattle.ack_vectors.proofs.ReadBack.{vector-same}
 use Rattle.ack_vectors.specs.Vector.{bytes_of_groups, groups, is_whole_under, room_of, set_states, state_told, states_between, vector_under}
 use Rattle.ack_vectors.specs.declared.room.Vectors.{Vectors}
-use Rattle.mark_agreement.proofs.Sets.{from-counts}
-use Rattle.mark_agreement.specs.View.{Frame, MarkSide, frame_at}
+use Rattle.two_ends.proofs.MarkSets.{from-counts}
+use Rattle.two_ends.specs.MarkView.{Frame, MarkSide, frame_at}
 use Rattle.run_list.specs.MarkedSet.{has}
 use Rattle.seq_circle.specs.Circle.{IsBefore, distance, is_from}
 use Rattle.seq_circle.specs.Counts.{number_of}

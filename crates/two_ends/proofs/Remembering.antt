@@ -7,7 +7,7 @@ use Rattle.ack_vectors.specs.Vector.{is_whole_under}
 use Rattle.dccp_endpoint.specs.End.{floor_of, is_live}
 use Rattle.dccp_endpoint.specs.Reporting.{is_acking}
 use Rattle.dccp_packets.specs.Grammar.{Parts, packet_type}
-use Rattle.mark_agreement.specs.View.{MarkSide, frame_at}
+use Rattle.two_ends.specs.MarkView.{MarkSide, frame_at}
 use Rattle.run_list.specs.MarkedSet.{has}
 use Rattle.seq_circle.specs.Circle.{IsBefore, IsFrom, IsWithin, distance, residue}
 use Rattle.seq_circle.specs.Counts.{number_of}

@@ -14,10 +14,10 @@ use Rattle.dccp_options.specs.Vectors.{Report, ack_vectors, is_received, joined_
 use Rattle.dccp_packets.specs.Grammar.{Parts}
 use Rattle.dccp_packets.specs.Kinds.{ack_of}
 use Rattle.dccp_packets.specs.Widths.{kind_in_widths}
-use Rattle.mark_agreement.proofs.Frames.{frame_in}
-use Rattle.mark_agreement.specs.Laws.{IsAccountedFor}
-use Rattle.mark_agreement.specs.Laws.IsAccountedFor.{Far as IsFar, WasTold as ToldBy}
-use Rattle.mark_agreement.specs.View.{Frame, MarkSide as View, frame_at}
+use Rattle.two_ends.proofs.MarkFrames.{frame_in}
+use Rattle.two_ends.specs.MarkLaws.{IsAccountedFor}
+use Rattle.two_ends.specs.MarkLaws.IsAccountedFor.{Far as IsFar, WasTold as ToldBy}
+use Rattle.two_ends.specs.MarkView.{Frame, MarkSide as View, frame_at}
 use Rattle.run_list.specs.MarkedSet.{floor_under, has}
 use Rattle.seq_circle.specs.Circle.{IsBefore, IsWithin, distance}
 use Rattle.seq_circle.specs.Counts.{number_of}

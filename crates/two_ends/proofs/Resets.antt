@@ -18,9 +18,9 @@ use Rattle.dccp_endpoint.specs.Outcomes.{AnswersClose, Faulted, HasCause, HasFor
 use Rattle.dccp_endpoint.specs.Receiving.{receives}
 use Rattle.dccp_endpoint.specs.Reporting.{recorded_by, sends_vectors}
 use Rattle.dccp_endpoint.specs.Steps.{next_number}
-use Rattle.end_answers.specs.declared.outcome.Fault.{Fault}
-use Rattle.end_answers.specs.declared.outcome.Outcome.{Outcome}
-use Rattle.end_answers.specs.declared.outcome.Outcome.TheVariants.{Took, Dropped, Synced, WasReset, SentReset}
+use Rattle.dccp_states.specs.declared.outcome.Fault.{Fault}
+use Rattle.dccp_states.specs.declared.outcome.Outcome.{Outcome}
+use Rattle.dccp_states.specs.declared.outcome.Outcome.TheVariants.{Took, Dropped, Synced, WasReset, SentReset}
 use Rattle.two_ends.specs.Frames.{is_reset, packet_of}
 use Rattle.two_ends.specs.Numbered.{KeepsReceived, ResetsMoveNothing}
 use Rattle.two_ends.proofs.ReadBack.{the-packet}

@@ -13,10 +13,10 @@ use Rattle.dccp_endpoint.specs.Steps.{next_number}
 use Rattle.dccp_endpoint.specs.Turns.{Key, offerings, sendings}
 use Rattle.dccp_endpoint.specs.declared.config.Config.{Config}
 use Rattle.dccp_states.specs.declared.phase.Role.TheVariants as role
-use Rattle.feature_agreement.proofs.RowFacts.{entries-entries_of}
-use Rattle.feature_agreement.specs.Packets.{IsHeardOf}
-use Rattle.feature_agreement.specs.Rows.{confirmed_by, entries_of, is_whole_by, proposed_by}
-use Rattle.feature_agreement.specs.View.{Carried, carried_at, wish_carried}
+use Rattle.two_ends.proofs.RowFacts.{entries-entries_of}
+use Rattle.two_ends.specs.FeaturePackets.{IsHeardOf}
+use Rattle.two_ends.specs.FeatureRows.{confirmed_by, entries_of, is_whole_by, proposed_by}
+use Rattle.two_ends.specs.FeatureView.{Carried, carried_at, wish_carried}
 use Rattle.feature_lists.specs.Features.{described}
 use Rattle.feature_lists.specs.declared.features.Feature.{Feature}
 use Rattle.feature_lists.specs.declared.features.Place.{Place}

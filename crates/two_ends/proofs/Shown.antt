@@ -9,13 +9,13 @@ use Rattle.dccp_endpoint.specs.Causes.{is_waiting}
 use Rattle.dccp_endpoint.specs.End.{floor_of, is_live}
 use Rattle.dccp_packets.specs.Grammar.{packet_type}
 use Rattle.dccp_packets.specs.declared.header.PacketType.TheVariants as types
-use Rattle.mark_agreement.proofs.Facts.{IsListed}
-use Rattle.mark_agreement.proofs.Steps.{Kept, move_keeps}
-use Rattle.mark_agreement.specs.Facts.{AreSoundNumbers}
-use Rattle.mark_agreement.specs.Moves.{MarkMoves}
-use Rattle.mark_agreement.specs.Moves.MarkMoves.{Done, Next}
-use Rattle.mark_agreement.specs.Sets.{IsMarked}
-use Rattle.mark_agreement.specs.View.{Frame, MarkSide}
+use Rattle.two_ends.proofs.MarkFacts.{IsListed}
+use Rattle.two_ends.proofs.MarkSteps.{Kept, move_keeps}
+use Rattle.two_ends.specs.MarkFacts.{AreSoundNumbers}
+use Rattle.two_ends.specs.MarkMoves.{MarkMoves}
+use Rattle.two_ends.specs.MarkMoves.MarkMoves.{Done, Next}
+use Rattle.two_ends.specs.MarkSets.{IsMarked}
+use Rattle.two_ends.specs.MarkView.{Frame, MarkSide}
 use Rattle.seq_circle.specs.Circle.{residue, later_of}
 use Rattle.seq_circle.specs.Counts.{number_of}
 use Rattle.two_ends.proofs.Acting.{Party, config_of, end_of}

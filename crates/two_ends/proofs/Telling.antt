@@ -5,10 +5,10 @@ use Rattle.std.specs.Option.{option_map, option_or}
 use Rattle.std.proofs.lemmas.Bool.{and_parts}
 use Rattle.byteorder.specs.Endian.{big_number}
 use Rattle.dccp_endpoint.specs.Turns.{Key}
-use Rattle.feature_agreement.specs.Rows.{confirmed_by, is_valid_by, is_whole_by, proposed_by}
-use Rattle.feature_agreement.specs.View as view
-use Rattle.feature_agreement.specs.View.{Carried, carried_at, change_of, has_change, last_change, last_wish, wish_carried}
-use Rattle.feature_agreement.specs.View.Carried.{Nothing, Change as Carries}
+use Rattle.two_ends.specs.FeatureRows.{confirmed_by, is_valid_by, is_whole_by, proposed_by}
+use Rattle.two_ends.specs.FeatureView as view
+use Rattle.two_ends.specs.FeatureView.{Carried, carried_at, change_of, has_change, last_change, last_wish, wish_carried}
+use Rattle.two_ends.specs.FeatureView.Carried.{Nothing, Change as Carries}
 use Rattle.feature_lists.specs.Features.{described, is_permitted}
 use Rattle.feature_lists.specs.declared.features.Feature.{Feature}
 use Rattle.feature_lists.specs.declared.features.Place.{Place}

@@ -13,8 +13,8 @@ use Rattle.dccp_options.specs.Vectors.{ack_vectors, is_ack_vector}
 use Rattle.dccp_options.specs.Written.{Item, entries_at, spelled}
 use Rattle.dccp_packets.specs.Grammar.{has_forms, packet_type}
 use Rattle.dccp_packets.specs.Kinds.{ack_of}
-use Rattle.mark_agreement.specs.Sets.{AreMarks}
-use Rattle.mark_agreement.specs.View.{Frame, frame_at, frames_with}
+use Rattle.two_ends.specs.MarkSets.{AreMarks}
+use Rattle.two_ends.specs.MarkView.{Frame, frame_at, frames_with}
 use Rattle.run_list.specs.MarkedSet.{MarkedSet, has}
 use Rattle.seq_circle.specs.Counts.{number_of}
 use Rattle.two_ends.proofs.FewOptions.{IsNegotiating}

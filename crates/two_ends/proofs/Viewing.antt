@@ -6,9 +6,9 @@ use Rattle.dccp_packets.specs.Kinds.{ack_of}
 use Rattle.dccp_endpoint.specs.Saying.{said_to}
 use Rattle.dccp_endpoint.specs.Turns.{Key}
 use Rattle.seq_circle.specs.Counts.{IsNumber, count_of}
-use Rattle.feature_agreement.specs.Rows.{change_in, confirm_in, is_valid_change, is_whole_confirm, side_of}
-use Rattle.feature_agreement.specs.View.{Carried, FeatureSide}
-use Rattle.feature_agreement.specs.View.Carried.{Nothing}
+use Rattle.two_ends.specs.FeatureRows.{change_in, confirm_in, is_valid_change, is_whole_confirm, side_of}
+use Rattle.two_ends.specs.FeatureView.{Carried, FeatureSide}
+use Rattle.two_ends.specs.FeatureView.Carried.{Nothing}
 use Rattle.feature_lists.specs.declared.features.Feature.{Feature}
 use Rattle.feature_machine.specs.Negotiating.{row_at, opposite}
 use Rattle.feature_machine.specs.Rows.{RowEvent, Change, Confirm, Prefers, Offers, Sends}

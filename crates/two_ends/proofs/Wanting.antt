@@ -6,8 +6,8 @@ use Rattle.dccp_endpoint.specs.Turns.{Key, offerings, sendings}
 use Rattle.dccp_options.specs.Grammar.{Entry}
 use Rattle.dccp_options.specs.Kinds.{is_understood}
 use Rattle.dccp_options.specs.declared.option.OptFault.{OptFault}
-use Rattle.end_answers.specs.declared.outcome.Fault.{Fault}
-use Rattle.feature_agreement.specs.Rows.{entries_of}
+use Rattle.dccp_states.specs.declared.outcome.Fault.{Fault}
+use Rattle.two_ends.specs.FeatureRows.{entries_of}
 use Rattle.feature_lists.proofs.Allowed.{allowed_says}
 use Rattle.feature_lists.specs.Features.{described, feature_numbered}
 use Rattle.feature_lists.specs.Wishes.{is_allowed, is_ours, wanted_of, wish_of}

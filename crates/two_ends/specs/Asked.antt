@@ -1,6 +1,6 @@
 -- What the owner of an end may read into the features that it holds, beside what is safe (RFC 4340, section 6).
 use Rattle.std.specs.Prelude.{◌≡◌, ℕ, false, List, Some, None}
-use Rattle.feature_agreement.specs.Rows.{entries_of}
+use Rattle.two_ends.specs.FeatureRows.{entries_of}
 use Rattle.feature_lists.specs.Features.{initial_of}
 use Rattle.feature_machine.specs.Negotiating.{row_at}
 use Rattle.feature_machine.specs.declared.row.Row.{Row}

@@ -6,7 +6,7 @@ use Rattle.std.specs.Prelude.{◌≡◌, ℕ, ◌≤◌, true, List, [], ◌∷�
 use Rattle.congestion_trait.specs.Control.{Control}
 use Rattle.dccp_endpoint.specs.Reporting.{carries_data}
 use Rattle.dccp_packets.specs.Grammar.{Parts, packet_type}
-use Rattle.end_answers.specs.declared.outcome.Outcome.TheVariants as outcome
+use Rattle.dccp_states.specs.declared.outcome.Outcome.TheVariants as outcome
 use Rattle.world_events.specs.Actors.{other}
 use Rattle.world_events.specs.declared.event.Event.{Event}
 use Rattle.world_events.specs.declared.event.Event.TheVariants as event

@@ -1,7 +1,7 @@
 -- What the owner of an end asked for last, and what a row makes of it (RFC 4340, section 6; the call `prefer` is own).
 use Rattle.std.specs.Prelude.{◌≡◌, ℕ, List, [], ◌∷◌, ◌++◌, Ok}
 use Rattle.congestion_trait.specs.Control.{Control}
-use Rattle.feature_agreement.specs.Rows.{entries_of}
+use Rattle.two_ends.specs.FeatureRows.{entries_of}
 use Rattle.feature_lists.specs.declared.features.Feature.{Feature}
 use Rattle.feature_lists.specs.declared.features.Place.{Place}
 use Rattle.feature_machine.specs.Lists.{listed_at}

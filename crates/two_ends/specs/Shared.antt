@@ -1,6 +1,6 @@
 -- By what the value of a feature changes that is negotiated by lists (RFC 4340, section 6.3.1).
 use Rattle.std.specs.Prelude.{◌≡◌, ◌≢◌, ℕ, List, Option, Some}
-use Rattle.feature_agreement.specs.Rows.{entries_of}
+use Rattle.two_ends.specs.FeatureRows.{entries_of}
 use Rattle.feature_lists.specs.Lists.{reconciled}
 use Rattle.world_events.specs.Actors.{other}
 use Rattle.world_events.specs.declared.event.Side.{Side}

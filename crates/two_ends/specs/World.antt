@@ -1,6 +1,6 @@
 -- Two ends, all frames that they ever sent, and what happens to them (own). Losing, repeating and reordering frames is
 -- the choice of deliveries.
-use Rattle.std.specs.Prelude.{◌≡◌, ℕ, ◌-◌, ◌^◌, ◌≤◌, ◌&&◌, ◌||◌, Bool, true, false, nat_le, nat_lt, if◌then◌else◌, List, [], ◌∷◌, ◌++◌, length, Option, Some, None, Result, Ok, Err, slice_get}
+use Rattle.std.specs.Prelude.{◌≡◌, ℕ, ◌-◌, ◌^◌, ◌≤◌, ◌&&◌, ◌||◌, Bool, true, false, nat_le, nat_lt, if◌then◌else◌, List, [], ◌∷◌, ◌++◌, length, Option, Some, None, Result, Ok, Err, slice_get, ◌<◌, Vec, vec_len, vec_capacity}
 use Rattle.dccp_endpoint.specs.End.{EndState, new_end, floor_of, marked_of}
 use Rattle.dccp_endpoint.specs.Inputs.{Input, Answer, end_stepped}
 use Rattle.dccp_endpoint.specs.Inputs as input
@@ -250,3 +250,11 @@ half_at_start config = record { end = new_end config; frames = []; processed = [
 -- two sides with their configurations, of which neither has sent a frame
 abbrev pub at_start : Config → Config → WorldState
 at_start client server = record { client = half_at_start client; server = half_at_start server }
+
+-- a list has a place for one more
+abbrev pub HasPlace : {X Z : Type 0} → Vec X Z → Type 0
+HasPlace list = vec_len list < vec_capacity list
+
+-- a block has room for the longest frame
+abbrev pub HasRoomForFrame : {X Z : Type 0} → Vec X Z → Type 0
+HasRoomForFrame block = 2044 ≤ vec_capacity block

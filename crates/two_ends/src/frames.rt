@@ -1,7 +1,7 @@
 //! Frames that were sent.
-ghost use Rattle.std.specs.Prelude.{◌≡◌, ◌<◌, ◌≤◌, ◌++◌, [], length, OnOk, vec_len, vec_capacity};
+ghost use Rattle.std.specs.Prelude.{◌≡◌, ◌≤◌, ◌++◌, [], length, OnOk, vec_capacity};
 ghost use Rattle.two_ends.specs.Frames.{ack_in_full, number_in_full, packet_of};
-ghost use Rattle.two_ends.specs.World.{as_sent};
+ghost use Rattle.two_ends.specs.World.{HasPlace, HasRoomForFrame, as_sent};
 
 use dccp_packets::{Outbox, decode};
 use seq_circle::{NoMemory, Seq48};
@@ -67,8 +67,8 @@ pub(crate) fn take_memory(frames: &mut Vec<SentFrame>, spare: &mut Vec<u8>) -> R
     requires empty { spare.old.items ≡ [] }
     ensures same { frames.new.items ≡ frames.old.items }
     ensures still_empty { spare.new.items ≡ [] }
-    ensures place { OnOk result (vec_len frames.new < vec_capacity frames.new) }
-    ensures room { OnOk result (2044 ≤ vec_capacity spare.new) }
+    ensures place { OnOk result (HasPlace frames.new) }
+    ensures room { OnOk result (HasRoomForFrame spare.new) }
 {
     frames.reserve(1)?;
     spare.reserve(MOST_BYTES)?;
@@ -86,8 +86,8 @@ pub(crate) fn keep_frame(
     processed: u64,
     floor: Seq48,
 )
-    requires place { vec_len frames.old < vec_capacity frames.old }
-    requires room { 2044 ≤ vec_capacity spare.old }
+    requires place { HasPlace frames.old }
+    requires room { HasRoomForFrame spare.old }
     requires empty { spare.old.items ≡ [] }
     ensures sent { frames.new.items ≡ frames.old.items ++ as_sent marks.now processed floor out.now }
     ensures still_empty { spare.new.items ≡ [] }
@@ -126,7 +126,7 @@ fn numbers_in_full(bytes: &[u8], marks: &Marks) -> (Seq48, Option<Seq48>)
 }
 
 fn copied(alloc: Global, bytes: &[u8], spare: &mut Vec<u8>) -> FrameBytes
-    requires room { 2044 ≤ vec_capacity spare.old }
+    requires room { HasRoomForFrame spare.old }
     requires empty { spare.old.items ≡ [] }
     requires fits { length bytes.now ≤ 2044 }
     ensures value { result ≡ bytes.now }
@@ -141,7 +141,7 @@ fn copied(alloc: Global, bytes: &[u8], spare: &mut Vec<u8>) -> FrameBytes
 
 // An empty block with room for so many bytes: of just this length, or else the spare one.
 fn block_of(alloc: Global, length: usize, spare: &mut Vec<u8>) -> Vec<u8>
-    requires room { 2044 ≤ vec_capacity spare.old }
+    requires room { HasRoomForFrame spare.old }
     requires empty { spare.old.items ≡ [] }
     requires fits { length ≤ 2044 }
     ensures has_room { length ≤ vec_capacity result }

@@ -1,10 +1,10 @@
 //! One side of the world: an end, the frames that it ever sent, and the numbers that it processed.
-ghost use Rattle.std.specs.Prelude.{◌≡◌, ◌<◌, ◌≤◌, ◌++◌, length, Some, vec_len, vec_capacity};
+ghost use Rattle.std.specs.Prelude.{◌≡◌, ◌≤◌, ◌++◌, length, Some};
 ghost use Rattle.dccp_endpoint.specs.Controlled.{after_calls, with_control};
 ghost use Rattle.dccp_endpoint.specs.Inputs.{end_stepped};
 ghost use Rattle.dccp_endpoint.specs.Receiving.{receives};
 ghost use Rattle.two_ends.specs.Controlled.{said_by};
-ghost use Rattle.two_ends.specs.World.{input_of, number_if, seen_of, seen_of_call};
+ghost use Rattle.two_ends.specs.World.{HasPlace, input_of, number_if, seen_of, seen_of_call};
 ghost use Rattle.world_events.specs.Refusals.{send_refusal_of};
 
 use crate::frames::{keep_frame, take_memory};
@@ -83,7 +83,7 @@ impl<C: Congestion + Drop> HalfWorld<C> {
 }
 
 impl<C: Congestion> HalfWorld<C> {
-    ghost use Rattle.std.specs.Prelude.{◌≡◌, ◌≤◌, ◌<◌, length, IfOk, OnErr, Ok, Some, None};
+    ghost use Rattle.std.specs.Prelude.{◌≡◌, ◌≤◌, length, IfOk, OnErr, Ok, Some, None};
     ghost use Rattle.dccp_endpoint.specs.Inputs.{Arrives};
     ghost use Rattle.two_ends.specs.Controlled.{controlled_half_steps, said_by};
     ghost use Rattle.two_ends.specs.World.{input_of};
@@ -206,7 +206,7 @@ fn answer<C: Congestion>(end: &mut Endpoint<C>, asked: Asked<'_>, out: &mut Outb
 // Keeps the number of a packet that was taken, in memory that was taken before.
 #[tactic(auto, using(crate::proofs::Processing::nothing_more))]
 fn keep_number(processed: &mut Vec<u64>, taken: bool, number: Seq48)
-    requires { vec_len processed.old < vec_capacity processed.old }
+    requires { HasPlace processed.old }
     ensures { processed.new.items ≡ processed.old.items ++ number_if taken (Some number) }
 {
     if !taken {

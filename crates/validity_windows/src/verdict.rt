@@ -3,6 +3,7 @@ ghost use Rattle.std.specs.Prelude.{◌≡◌, ◌≢◌, is_some};
 ghost use Rattle.validity_windows.specs.Windows.{InRange, windows, ack_low, ack_high};
 ghost use Rattle.dccp_packets.specs.Kinds.{has_ack};
 ghost use Rattle.validity_windows.specs.Verdict.{is_ack_within, is_in_window, is_after_greatest, is_not_old, by_window, by_greatest, by_low_end, verdict, gar_after, taken};
+ghost use Rattle.validity_windows.specs.declared.verdict.Verdict.TheVariants.{Valid};
 
 use crate::{Marks, Windows};
 use dccp_packets::PacketType;
@@ -146,7 +147,7 @@ impl Marks {
     pub fn take(&mut self, kind: PacketType, number: Seq48, ack: Option<Seq48>)
         requires in_range { InRange self.old }
         requires ack { is_some ack ≡ has_ack kind }
-        requires valid { verdict self.old kind number ack ≡ Verdict.Valid }
+        requires valid { verdict self.old kind number ack ≡ Valid }
         requires no_reset { kind ≢ PacketType.Reset }
         ensures { self.new ≡ taken self.old kind number ack }
     {

@@ -1,6 +1,6 @@
 -- By which name the refusal of a call is seen (own).
-use Rattle.end_answers.specs.declared.calls.SendFault.{SendFault}
-use Rattle.end_answers.specs.declared.calls.SendFault.TheVariants as send
+use Rattle.dccp_states.specs.declared.calls.SendFault.{SendFault}
+use Rattle.dccp_states.specs.declared.calls.SendFault.TheVariants as send
 use Rattle.feature_lists.specs.declared.wishes.PreferFault.{PreferFault}
 use Rattle.feature_lists.specs.declared.wishes.PreferFault.TheVariants as prefer
 use Rattle.world_events.specs.declared.event.Refusal.{Refusal}

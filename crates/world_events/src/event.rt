@@ -4,7 +4,7 @@ ghost use Rattle.world_events.specs.Actors.{actor, other};
 
 use crate::payload::Payload;
 use arrayvec::ArrayVec;
-use end_answers::{Outcome, SendFault, Timer};
+use dccp_states::{Outcome, SendFault, Timer};
 use feature_lists::{Feature, Place, PreferFault};
 use std::marker::Model;
 

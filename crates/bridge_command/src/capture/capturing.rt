@@ -1,7 +1,7 @@
 //! `capture`: a job over a transcript's lines.
 ghost use Rattle.std.specs.Prelude.{◌≡◌, ◌≢◌, ℕ, List, Some};
 ghost use Rattle.dccp_io.specs.Counts.{Rose};
-ghost use Rattle.tool_output.specs.Ends.{Answers, SinkFails, StopsWithin, EndsForCause};
+ghost use Rattle.tool_text.specs.Ends.{Answers, SinkFails, StopsWithin, EndsForCause};
 ghost use Rattle.bridge_command.specs.Capturing.{first_clock, frames_capture, transcript_refused, transcript_accepted};
 
 use crate::capture::lines::{Told, told_of_line};
@@ -10,9 +10,7 @@ use bridge_records::put_file_header;
 use dccp_io::{Sink, Source};
 use seq_circle::NoMemory;
 use std::alloc::Global;
-use tool_lines::{LineJob, run_lines};
-use tool_output::Status;
-use tool_words::LineFault;
+use tool_text::{LineFault, LineJob, Status, run_lines};
 
 /// When frames are sent: the number of the line that was answered last, as seconds.
 #[derive(Drop)]

@@ -1,11 +1,11 @@
 //! What a line of a transcript tells.
 ghost use Rattle.std.specs.Prelude.{◌≡◌, IfErr};
-ghost use Rattle.tool_words.specs.Left.{left_of};
-ghost use Rattle.bridge_command.specs.TranscriptLines as spec;
+ghost use Rattle.tool_text.specs.Left.{left_of};
+ghost use Rattle.bridge_command.specs.TranscriptLines.{frame_name_read, frame_of_sender, is_other, line_said, sent_said, told_first, told_of_line, without_colon};
 
-use tool_text::{is_text, number_up_to};
-use tool_words::{
-    Digits, Flaw, Hex, LineFault, LineWhy, Row, WordKind, Words, found_or, read_line, read_word,
+use tool_text::{
+    Digits, Flaw, Hex, LineFault, LineWhy, Row, WordKind, Words, found_or, is_text, number_up_to,
+    read_line, read_word,
 };
 use world_events::Side;
 
@@ -31,7 +31,7 @@ pub(crate) enum Told<'a> {
 
 // The side and the index in a frame's name.
 fn frame_of_sender(from: Side, index: &[u8]) -> Result<(Side, u64), Flaw>
-    ensures value { result ≡ spec.frame_of_sender from index.now }
+    ensures value { result ≡ frame_of_sender from index.now }
     ensures within { IfErr result (λ flaw. flaw.place ≡ 0) }
 {
     let index = found_or(LineWhy::BadNumber, number_up_to(INDICES - 1, index))?;
@@ -44,7 +44,7 @@ struct AFrameName;
 impl<'a> WordKind<'a> for AFrameName {
     type Read = (Side, u64);
 
-    ghost reads = { spec.frame_name_read };
+    ghost reads = { frame_name_read };
 
     fn read(word: &'a [u8]) -> Result<(Side, u64), Flaw> {
         match word {
@@ -60,14 +60,14 @@ impl<'a> WordKind<'a> for AFrameName {
 
 // The word that begins a line without a frame, but for those that begin with a number.
 fn is_other(word: &[u8]) -> bool
-    ensures { result ≡ spec.is_other word.now }
+    ensures { result ≡ is_other word.now }
 {
     is_text(word, b"open:") || is_text(word, b"end") || is_text(word, b"line")
 }
 
 // A word without the colon at its end, if one stands there.
 fn without_colon(word: &[u8]) -> &[u8]
-    ensures { result.now ≡ spec.without_colon word.now }
+    ensures { result.now ≡ without_colon word.now }
 {
     if word.is_empty() {
         return word;
@@ -81,7 +81,7 @@ fn without_colon(word: &[u8]) -> &[u8]
 
 // What the first word of a line tells that is no line of a frame.
 fn told_first<'a>(word: &'a [u8]) -> Result<Told<'a>, Flaw>
-    ensures value { result ≡ spec.told_first word.now }
+    ensures value { result ≡ told_first word.now }
     ensures within { IfErr result (λ flaw. flaw.place ≡ 0) }
 {
     if is_other(word) {
@@ -100,7 +100,7 @@ struct AFirstWord;
 impl<'a> WordKind<'a> for AFirstWord {
     type Read = Told<'a>;
 
-    ghost reads = { spec.told_first };
+    ghost reads = { told_first };
 
     fn read(word: &'a [u8]) -> Result<Told<'a>, Flaw> {
         told_first(word)
@@ -109,7 +109,7 @@ impl<'a> WordKind<'a> for AFirstWord {
 
 // What stands behind `sent`: a frame's name and its bytes, and nothing behind them.
 fn sent<'a>(words: &mut Words<'a>) -> Result<Told<'a>, LineFault>
-    ensures { result ≡ spec.sent_said (left_of words.old) }
+    ensures { result ≡ sent_said (left_of words.old) }
 {
     let all = *words;
     let (name, (digits, ())) = <(AFrameName, (Hex, ()))>::read(words)?;
@@ -131,7 +131,7 @@ struct ALine;
 impl<'a> Row<'a> for ALine {
     type Said = Told<'a>;
 
-    ghost said = { spec.line_said };
+    ghost said = { line_said };
 
     fn read(words: &mut Words<'a>) -> Result<Told<'a>, LineFault> {
         let first = words.next_word();
@@ -146,7 +146,7 @@ impl<'a> Row<'a> for ALine {
 /// faults: NotText, then Missing, UnknownWord, BadNumber and BadHex, word by word from the left, then Trailing, and
 /// then FrameTooLong at the bytes of a frame that has more than 2,044.
 pub(crate) fn told_of_line(line: &[u8]) -> Result<Option<Told<'_>>, LineFault>
-    ensures { result ≡ spec.told_of_line line.now }
+    ensures { result ≡ told_of_line line.now }
 {
     read_line::<ALine>(line)
 }

@@ -5,8 +5,7 @@ ghost use Rattle.bridge_command.specs.FrameRecords as spec;
 
 use bridge_records::{RecordHeader, put_record_header, put_u16};
 use seq_circle::NoMemory;
-use tool_text::put;
-use tool_words::Digits;
+use tool_text::{Digits, put};
 use world_events::Side;
 
 const IP_HEADER: u16 = 20;

@@ -8,7 +8,7 @@ ghost use Rattle.dccp_packets.specs.Grammar.{is_valid};
 ghost use Rattle.packet_show.specs.Flows.{flow_of, from_end, same_end};
 ghost use Rattle.packet_show.specs.Lines.{parts_by};
 ghost use Rattle.packet_show.specs.Network.{carried_by};
-ghost use Rattle.tool_output.specs.Ends.{Answers, EndsForCause, SinkFails, StopsWithin};
+ghost use Rattle.tool_text.specs.Ends.{Answers, EndsForCause, SinkFails, StopsWithin};
 ghost use Rattle.bridge_command.specs.Framing as spec;
 ghost use Rattle.bridge_command.specs.Framing.{first_framing, flow_packet_text, framed_record, frames_pieces, frames_text, frames_work, is_frames_faulty};
 
@@ -22,7 +22,7 @@ use dccp_packets::{Number, Packet, decode};
 use packet_show::{Datagram, FlowEnd, Flows, carried, from_end};
 use seq_circle::{NoMemory, Seq48};
 use std::alloc::Global;
-use tool_output::Status;
+use tool_text::Status;
 use world_events::Side;
 
 /// What is known of the flow, once a packet of it came.

@@ -6,7 +6,7 @@ ghost use Rattle.dccp_packets.specs.Grammar.{HeaderFits, Parts, decoded, is_vali
 ghost use Rattle.schedule_text.specs.Frames.{read_frame};
 ghost use Rattle.seq_circle.specs.Circle.{distance};
 ghost use Rattle.world_events.specs.declared.event.Side.{Side};
-ghost use Rattle.tool_words.specs.Lines.{is_text};
+ghost use Rattle.tool_text.specs.Lines.{is_text};
 ghost use Rattle.bridge_command.specs.Framing.{IsReadBack, frames_pieces};
 ghost use Rattle.bridge_command.specs.FrameLines.{comment_line, no_frame_words, sealed_words};
 ghost use Rattle.bridge_command.specs.Mapping.{moved_ack, moved_frame, moved_header, usual_end};

@@ -1,7 +1,7 @@
 //! A packet's header as the usual end of a side would get it.
 ghost use Rattle.std.specs.Prelude.{◌≡◌, IsTrue};
 ghost use Rattle.dccp_packets.specs.Grammar.{is_long, is_valid};
-ghost use Rattle.bridge_command.specs.Mapping as spec;
+ghost use Rattle.bridge_command.specs.Mapping.{moved_ack, moved_header, moved_kind, moved_number, usual_end};
 
 use dccp_endpoint::Config;
 use dccp_packets::{Header, Kind, Number};
@@ -34,7 +34,7 @@ pub(crate) enum NoFrame {
 
 /// The end that `replay` plays for a side.
 pub(crate) fn usual_end(side: Side) -> UsualEnd
-    ensures { result ≡ spec.usual_end side }
+    ensures { result ≡ usual_end side }
 {
     let config = Config::usual(role_of(side));
     UsualEnd {
@@ -47,7 +47,7 @@ pub(crate) fn usual_end(side: Side) -> UsualEnd
 
 // An acknowledgement number, as far above the end's initial number as above that of the captured end.
 fn moved_ack(end: &UsualEnd, initial: Seq48, ack: Seq48) -> Seq48
-    ensures { result ≡ spec.moved_ack end.now initial ack }
+    ensures { result ≡ moved_ack end.now initial ack }
 {
     end.iss.add(initial.distance(ack))
 }
@@ -63,7 +63,7 @@ fn in_full(short: Seq24) -> Seq48
 }
 
 fn moved_number(end: &UsualEnd, initial: Seq48, ack: Number) -> Number
-    ensures value { result ≡ spec.moved_number end.now initial ack }
+    ensures value { result ≡ moved_number end.now initial ack }
     ensures form { is_long result ≡ is_long ack }
 {
     match ack {
@@ -74,7 +74,7 @@ fn moved_number(end: &UsualEnd, initial: Seq48, ack: Number) -> Number
 
 // What a type alone carries, with the end's Service Code and the acknowledgement number moved.
 fn moved_kind(end: &UsualEnd, initial: Seq48, kind: &Kind) -> Kind
-    ensures { result ≡ spec.moved_kind end.now initial kind.now }
+    ensures { result ≡ moved_kind end.now initial kind.now }
 {
     let service = end.service;
     match *kind {
@@ -115,7 +115,7 @@ fn moved_kind(end: &UsualEnd, initial: Seq48, kind: &Kind) -> Kind
 #[tactic(auto, using(crate::proofs::NumberMoving::moved_valid))]
 pub(crate) fn moved_header(end: &UsualEnd, initial: Seq48, header: &Header) -> Header
     requires { IsTrue (is_valid header.now) }
-    ensures value { result ≡ spec.moved_header end.now initial header.now }
+    ensures value { result ≡ moved_header end.now initial header.now }
     ensures valid { IsTrue (is_valid result) }
 {
     Header {

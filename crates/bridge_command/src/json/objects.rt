@@ -1,7 +1,7 @@
 //! Objects of JSON as they are put together, member by member.
 ghost use Rattle.std.specs.List.{list_all};
 ghost use Rattle.std.specs.Prelude.{◌≡◌, ◌++◌, [], ◌∷◌, codes, false, true, IfOk, OnOk};
-ghost use Rattle.tool_words.specs.Lines.{is_text};
+ghost use Rattle.tool_text.specs.Lines.{is_text};
 ghost use Rattle.serde_json.specs.Data.{no_members, string, put as with_member};
 ghost use Rattle.serde_json.specs.Written.{members_have_float};
 ghost use Rattle.serde_json.specs.View.{view};

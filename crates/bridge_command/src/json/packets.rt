@@ -9,7 +9,7 @@ ghost use Rattle.hex.specs.Hex.{IsBytes};
 ghost use Rattle.packet_show.specs.Lines.{parts_by};
 ghost use Rattle.packet_show.specs.Network.{carried_by};
 ghost use Rattle.packet_show.specs.Text.{from_text, to_text};
-ghost use Rattle.tool_words.specs.Lines.{is_text};
+ghost use Rattle.tool_text.specs.Lines.{is_text};
 ghost use Rattle.serde_json.specs.Data.{string};
 ghost use Rattle.bridge_command.specs.Members.{listed, members_seen};
 ghost use Rattle.bridge_command.specs.Objects.{number_written, option_values, option_words, verdict_name, with_ack, with_addresses, with_code, with_ends, with_header_fields, with_kind, with_options, with_packet_fields, with_rest, with_service};

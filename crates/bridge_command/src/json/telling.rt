@@ -1,7 +1,7 @@
 //! `json`: a job over the records of a capture.
 ghost use Rattle.std.specs.Prelude.{◌≡◌, ◌≢◌, ◌++◌, ℕ, List, IfOk, OnOk, Some};
 ghost use Rattle.dccp_io.specs.Counts.{Rose};
-ghost use Rattle.tool_output.specs.Ends.{Answers, EndsForCause, SinkFails, StopsWithin};
+ghost use Rattle.tool_text.specs.Ends.{Answers, EndsForCause, SinkFails, StopsWithin};
 ghost use Rattle.bridge_command.specs.Members.{members_seen};
 ghost use Rattle.bridge_command.specs.Telling.{fault_members, is_json_faulty, json_closing, json_pieces, json_text};
 
@@ -14,7 +14,7 @@ use dccp_io::{Sink, Source};
 use seq_circle::NoMemory;
 use std::alloc::Global;
 use std::marker::Model;
-use tool_output::Status;
+use tool_text::Status;
 
 /// Tells each record. Contracts see nothing of it.
 #[derive(Drop)]

@@ -3,15 +3,14 @@ ghost use Rattle.std.specs.Prelude.{◌≡◌, ◌≢◌, ◌+◌, ◌-◌, ◌*
 ghost use Rattle.bridge_command.specs.Schedule.{event_line, event_lines, number_line, number_lines, seed_text};
 ghost use Rattle.fault_campaign.specs.Reports.{size};
 ghost use Rattle.fault_campaign.specs.Seeded.{next_events, played, seeded_events};
-ghost use Rattle.tool_output.specs.Ends.{Answers, EndsForCause, SinkFails};
+ghost use Rattle.tool_text.specs.Ends.{Answers, EndsForCause, SinkFails};
 
 use dccp_io::{Sink, write_all};
 use fault_campaign::{Run, initial_numbers};
 use schedule_text::{Event, print_event, side_name};
 use seq_circle::{NoMemory, Seq48};
 use std::alloc::Global;
-use tool_output::Status;
-use tool_text::{put, put_counted, put_named};
+use tool_text::{Status, put, put_counted, put_named};
 use world_events::Side;
 
 fn put_number_line(text: &mut Vec<u8>, side: Side, number: Seq48) -> Result<(), NoMemory>

@@ -1,7 +1,7 @@
 //! Where the IP packet of a record begins, by the link type.
 ghost use Rattle.std.specs.Prelude.{◌≡◌, ◌+◌, ◌≤◌, ◌<◌, length, IfSome};
 ghost use Rattle.dccp_packets.specs.Grammar.{number_at};
-ghost use Rattle.bridge_command.specs.Links as spec;
+ghost use Rattle.bridge_command.specs.Links.{ip_at, ip_at_first, ip_behind_tag, ip_behind_tags, ip_by_type, ip_bytes, ip_in_loop, ip_in_null, ip_of_family, ip_of_type, ip_start, is_tag};
 
 use byteorder::{BigEndian, ByteOrder, LittleEndian};
 
@@ -24,7 +24,7 @@ pub(crate) fn read_u16(bytes: &[u8], place: usize) -> u16
 
 // IP of this version begins here.
 fn ip_at(version: u8, start: usize, bytes: &[u8]) -> Option<usize>
-    ensures value { result ≡ spec.ip_at version start bytes.now }
+    ensures value { result ≡ ip_at version start bytes.now }
     ensures within { IfSome result (λ n. n < length bytes.now) }
 {
     if start < bytes.len() && bytes[start] / 16 == version {
@@ -35,7 +35,7 @@ fn ip_at(version: u8, start: usize, bytes: &[u8]) -> Option<usize>
 
 // IP of either version begins with the record.
 fn ip_at_first(bytes: &[u8]) -> Option<usize>
-    ensures value { result ≡ spec.ip_at_first bytes.now }
+    ensures value { result ≡ ip_at_first bytes.now }
     ensures within { IfSome result (λ n. n < length bytes.now) }
 {
     match ip_at(4, 0, bytes) {
@@ -46,7 +46,7 @@ fn ip_at_first(bytes: &[u8]) -> Option<usize>
 
 // What follows here has this type.
 fn ip_of_type(kind: u16, next: usize, bytes: &[u8]) -> Option<usize>
-    ensures value { result ≡ spec.ip_of_type kind next bytes.now }
+    ensures value { result ≡ ip_of_type kind next bytes.now }
     ensures within { IfSome result (λ n. n < length bytes.now) }
 {
     match kind {
@@ -57,7 +57,7 @@ fn ip_of_type(kind: u16, next: usize, bytes: &[u8]) -> Option<usize>
 }
 
 fn is_tag(kind: u16) -> bool
-    ensures { result ≡ spec.is_tag kind }
+    ensures { result ≡ is_tag kind }
 {
     kind == VLAN || kind == SERVICE_VLAN
 }
@@ -65,7 +65,7 @@ fn is_tag(kind: u16) -> bool
 // The same behind a tag, of whose four bytes the last two are the next type.
 fn ip_behind_tag(kind: u16, next: usize, bytes: &[u8]) -> Option<usize>
     requires { next ≤ 64 }
-    ensures value { result ≡ spec.ip_behind_tag kind next bytes.now }
+    ensures value { result ≡ ip_behind_tag kind next bytes.now }
     ensures within { IfSome result (λ n. n < length bytes.now) }
 {
     if !is_tag(kind) {
@@ -80,7 +80,7 @@ fn ip_behind_tag(kind: u16, next: usize, bytes: &[u8]) -> Option<usize>
 // The same behind up to two tags.
 fn ip_behind_tags(kind: u16, next: usize, bytes: &[u8]) -> Option<usize>
     requires { next ≤ 32 }
-    ensures value { result ≡ spec.ip_behind_tags kind next bytes.now }
+    ensures value { result ≡ ip_behind_tags kind next bytes.now }
     ensures within { IfSome result (λ n. n < length bytes.now) }
 {
     if !is_tag(kind) {
@@ -96,7 +96,7 @@ fn ip_behind_tags(kind: u16, next: usize, bytes: &[u8]) -> Option<usize>
 fn ip_by_type(place: usize, header: usize, bytes: &[u8]) -> Option<usize>
     requires place { place + 2 ≤ header }
     requires header { header ≤ 32 }
-    ensures value { result ≡ spec.ip_by_type place header bytes.now }
+    ensures value { result ≡ ip_by_type place header bytes.now }
     ensures within { IfSome result (λ n. n < length bytes.now) }
 {
     if bytes.len() < header {
@@ -107,7 +107,7 @@ fn ip_by_type(place: usize, header: usize, bytes: &[u8]) -> Option<usize>
 
 // The address families of IP: 2 of IPv4, and 10, 24, 28 or 30 of IPv6, by the system that captured.
 fn ip_of_family(family: u32, bytes: &[u8]) -> Option<usize>
-    ensures value { result ≡ spec.ip_of_family family bytes.now }
+    ensures value { result ≡ ip_of_family family bytes.now }
     ensures within { IfSome result (λ n. n < length bytes.now) }
 {
     match family {
@@ -119,7 +119,7 @@ fn ip_of_family(family: u32, bytes: &[u8]) -> Option<usize>
 
 // The family stands first, with the most significant byte first.
 fn ip_in_loop(bytes: &[u8]) -> Option<usize>
-    ensures value { result ≡ spec.ip_in_loop bytes.now }
+    ensures value { result ≡ ip_in_loop bytes.now }
     ensures within { IfSome result (λ n. n < length bytes.now) }
 {
     if bytes.len() < 4 {
@@ -130,7 +130,7 @@ fn ip_in_loop(bytes: &[u8]) -> Option<usize>
 
 // The family stands first, in the byte order of the system that captured.
 fn ip_in_null(bytes: &[u8]) -> Option<usize>
-    ensures value { result ≡ spec.ip_in_null bytes.now }
+    ensures value { result ≡ ip_in_null bytes.now }
     ensures within { IfSome result (λ n. n < length bytes.now) }
 {
     if bytes.len() < 4 {
@@ -144,7 +144,7 @@ fn ip_in_null(bytes: &[u8]) -> Option<usize>
 
 /// Where the IP packet begins in a record of this link type, or None where it has none.
 pub(crate) fn ip_start(link: u32, bytes: &[u8]) -> Option<usize>
-    ensures value { result ≡ spec.ip_start link bytes.now }
+    ensures value { result ≡ ip_start link bytes.now }
     ensures within { IfSome result (λ n. n < length bytes.now) }
 {
     match link {
@@ -162,7 +162,7 @@ pub(crate) fn ip_start(link: u32, bytes: &[u8]) -> Option<usize>
 /// The IP packet in a record of this link type, or no bytes where it has none (the link-layer header types of libpcap;
 /// IEEE 802.1Q). Link types that are not known are taken for raw IP.
 pub(crate) fn ip_bytes(link: u32, bytes: &[u8]) -> &[u8]
-    ensures { result.now ≡ spec.ip_bytes link bytes.now }
+    ensures { result.now ≡ ip_bytes link bytes.now }
 {
     match ip_start(link, bytes) {
         Some(start) => &bytes[start..],

@@ -3,7 +3,7 @@ ghost use Rattle.std.specs.Prelude.{◌≡◌, ◌≢◌, ◌≤◌, ◌++◌, �
 ghost use Rattle.capture_reader.specs.Records.{entry_of};
 ghost use Rattle.bridge_records.specs.Writing.{header_for, raw_record};
 ghost use Rattle.dccp_io.specs.Counts.{Rose};
-ghost use Rattle.tool_output.specs.Ends.{Answers, EndsForCause, SinkFails, StopsWithin};
+ghost use Rattle.tool_text.specs.Ends.{Answers, EndsForCause, SinkFails, StopsWithin};
 ghost use Rattle.bridge_command.specs.Unwrapping as spec;
 ghost use Rattle.bridge_command.specs.Unwrapping.{is_unwrapped_faulty, piece_fault_name, unwrap_closing, unwrap_work, unwrapped_entry, unwrapped_pieces, unwrapped_text, untold_header};
 
@@ -16,8 +16,7 @@ use dccp_io::{Sink, Source};
 use seq_circle::NoMemory;
 use std::alloc::Global;
 use std::marker::Model;
-use tool_output::Status;
-use tool_text::{put, put_counted};
+use tool_text::{Status, put, put_counted};
 
 /// Makes of each record one of raw IP.
 #[derive(Drop)]

@@ -1,7 +1,7 @@
 //! The loop over the pieces of an input.
 ghost use Rattle.std.specs.Prelude.{◌≡◌, ◌≢◌, ℕ, ◌++◌, List, [], is_some, Some, IfSome};
 ghost use Rattle.dccp_io.specs.Counts.{Rose};
-ghost use Rattle.tool_output.specs.Ends.{EndsForCause, SinkFails};
+ghost use Rattle.tool_text.specs.Ends.{EndsForCause, SinkFails};
 ghost use Rattle.bridge_records.specs.Pieces.{GoesThroughPieces};
 ghost use Rattle.bridge_records.specs.Turns.{LeavesText};
 
@@ -11,7 +11,7 @@ use crate::pieces::turns::{Turn, flush_if_due, take_turn};
 use dccp_io::{ReadAhead, Sink, Source, write_all};
 use seq_circle::NoMemory;
 use std::alloc::Global;
-use tool_output::{Status, answered, cut_off};
+use tool_text::{Status, answered, cut_off};
 
 // The bytes of the block.
 const BLOCK: usize = 524_288;

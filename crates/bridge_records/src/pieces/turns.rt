@@ -1,7 +1,7 @@
 //! One turn of the loop over pieces.
 ghost use Rattle.std.specs.Prelude.{◌≡◌, ◌+◌, ◌≤◌, ◌<◌, ◌==◌, ◌&&◌, [], length, OnOk, OnErr};
 ghost use Rattle.dccp_io.specs.Fronts.{TakesFront};
-ghost use Rattle.tool_output.specs.Ends.{IsMovedOut, SinkFails};
+ghost use Rattle.tool_text.specs.Ends.{IsMovedOut, SinkFails};
 ghost use Rattle.bridge_records.specs.Pieces.{unended, most_piece_bytes};
 ghost use Rattle.bridge_records.specs.Turns.{KeepsBlock, TurnsPiece};
 
@@ -9,7 +9,7 @@ use crate::pieces::fault::PieceFault;
 use crate::pieces::job::PieceJob;
 use dccp_io::{Failed, ReadAhead, Sink, Source};
 use seq_circle::NoMemory;
-use tool_output::{flush, flush_if_full};
+use tool_text::{flush, flush_if_full};
 
 /// The most bytes of an input.
 const MOST_BYTES: u64 = 4_294_967_296;

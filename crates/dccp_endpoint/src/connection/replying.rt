@@ -34,7 +34,7 @@ impl Connection {
     ghost use Rattle.dccp_endpoint.specs.Speaking.{HaveRoom, confirming};
     ghost use Rattle.dccp_endpoint.specs.Receiving.{needs_ack, acknowledges, responds, replies, resets, resets_without_connection, leaves};
     ghost use Rattle.dccp_endpoint.specs.Reporting.{is_enough};
-    ghost use Rattle.end_answers.specs.declared.outcome.Outcome.TheVariants.{Took};
+    ghost use Rattle.dccp_states.specs.declared.outcome.Outcome.TheVariants.{Took};
     ghost use Rattle.dccp_endpoint.specs.Steps.{idle, sends};
 
     // What the table of phases sends; a Reset has left at step 9.

@@ -1,9 +1,9 @@
 //! The first words of lines.
 ghost use Rattle.std.specs.Prelude.{◌≡◌};
 ghost use Rattle.tool_jobs.specs.Forms.{ecn_form_name, ecn_forms};
-ghost use Rattle.tool_words.specs.Kinds.{named_in};
+ghost use Rattle.tool_text.specs.Kinds.{named_in};
 
-use tool_words::Name;
+use tool_text::Name;
 
 /// A line's form, by its first word (own).
 #[derive(Clone, Copy)]

@@ -1,6 +1,6 @@
 //! An input while it is played: the two ends, between which events take place.
 ghost use Rattle.std.specs.Prelude.{◌≡◌, ℕ, ◌≤◌, List, length, IfOk};
-ghost use Rattle.tool_lines.specs.Jobs.{Judges};
+ghost use Rattle.tool_text.specs.Jobs.{Judges};
 ghost use Rattle.tool_jobs.specs.Play.{by_ecn_event, ecn_job, first_ecn_play, lacking_index};
 
 use crate::ecn::reading::read_ecn_line;
@@ -8,8 +8,7 @@ use crate::ecn::seen_text::{put_ending, put_event_line};
 use dccp_ecn::{EcnEvent, EcnFault, EcnWorld};
 use seq_circle::NoMemory;
 use std::alloc::Global;
-use tool_lines::{LineJob, MOST_EVENTS};
-use tool_words::{LineFault, LineWhy, Words, whole_line};
+use tool_text::{LineFault, LineJob, LineWhy, MOST_EVENTS, Words, whole_line};
 
 /// Where an input stands.
 #[derive(Drop)]

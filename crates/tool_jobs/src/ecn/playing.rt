@@ -2,13 +2,12 @@
 ghost use Rattle.std.specs.Prelude.{◌≡◌, ◌≢◌, ℕ, List, Some};
 ghost use Rattle.dccp_io.specs.Counts.{Rose};
 ghost use Rattle.tool_jobs.specs.Play.{ecn_accepted, ecn_refused, ecn_text};
-ghost use Rattle.tool_output.specs.Ends.{Answers, SinkFails, StopsWithin, EndsForCause};
+ghost use Rattle.tool_text.specs.Ends.{Answers, SinkFails, StopsWithin, EndsForCause};
 
 use crate::ecn::play::EcnPlay;
 use dccp_io::{Sink, Source};
 use std::alloc::Global;
-use tool_lines::run_lines;
-use tool_output::Status;
+use tool_text::{Status, run_lines};
 
 /// Lets the events of an input take place between an ECN-capable sender and an ECN-capable receiver (own): it reads the
 /// lines of `input` one by one, and writes to `output` a line for what is seen of each event, and at last how many

@@ -1,10 +1,10 @@
 //! Lines, read.
-ghost use Rattle.std.specs.Prelude.{◌≡◌, ◌≤◌, length, IfOk};
+ghost use Rattle.std.specs.Prelude.{◌≡◌, ◌≤◌, length, OnOk};
 ghost use Rattle.tool_jobs.specs.Forms as spec;
 
 use crate::ecn::names::Form;
 use dccp_ecn::EcnEvent;
-use tool_words::{Below, LineFault, Named, Row, Words, read_line, read_word};
+use tool_text::{Below, LineFault, Named, Row, Words, read_line, read_word};
 
 // Indices of packets and reports are below this (own).
 const INDEX_END: u64 = 1 << 47;
@@ -58,7 +58,7 @@ impl<'a> Row<'a> for EcnLine {
 /// The line comes without its newline.
 pub(crate) fn read_ecn_line(line: &[u8]) -> Result<Option<EcnEvent>, LineFault>
     ensures value { result ≡ spec.read_ecn_line line.now }
-    ensures short { IfOk result (λ said. length line.now ≤ 4096) }
+    ensures short { OnOk result (length line.now ≤ 4096) }
 {
     read_line::<EcnLine>(line)
 }

@@ -1,12 +1,12 @@
 //! Lines, read: a peer, and what happens to it.
 ghost use Rattle.std.specs.Prelude.{◌≡◌, IfOk, IfSome};
-ghost use Rattle.tool_words.specs.Left.{left_of};
+ghost use Rattle.tool_text.specs.Left.{left_of};
 ghost use Rattle.tool_jobs.specs.Calls as spec;
 
 use crate::listen::peers::APeer;
 use dccp_listener::Peer;
 use schedule_text::{AFrame, ATimer, FrameLine, LineFault, Timer};
-use tool_words::{Digits, HexOrDash, Row, Words, read_line};
+use tool_text::{Digits, HexOrDash, Row, Words, read_line};
 
 /// What happens to a peer. A frame's bytes and data are decoded where they are wanted.
 #[derive(Drop)]

@@ -1,8 +1,8 @@
 //! Laws above the definitions.
 ghost use Rattle.std.specs.Prelude.{◌≡◌, ◌↔◌, ℕ, List, None, Some, Ok, Err};
 ghost use Rattle.dccp_listener.specs.declared.peer.Peer.{Peer};
-ghost use Rattle.tool_words.specs.Lines.{IsIdle, IsSpokenLine, first_fault};
-ghost use Rattle.tool_words.specs.declared.faults.LineFault.{LineFault};
+ghost use Rattle.tool_text.specs.Lines.{IsIdle, IsSpokenLine, first_fault};
+ghost use Rattle.tool_text.specs.declared.words.faults.LineFault.{LineFault};
 ghost use Rattle.tool_jobs.specs.Calls.{peer_row, read_call};
 ghost use Rattle.tool_jobs.specs.Listen.{EachPeerOfAnInputHasItsChain, EveryInputIsARun};
 ghost use Rattle.tool_jobs.specs.declared.listen.calls.PeerCall.{PeerCall};

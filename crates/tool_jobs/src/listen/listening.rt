@@ -2,13 +2,12 @@
 ghost use Rattle.std.specs.Prelude.{◌≡◌, ◌≢◌, ◌≤◌, ℕ, List, Some};
 ghost use Rattle.dccp_io.specs.Counts.{Rose};
 ghost use Rattle.tool_jobs.specs.Listen.{listen_accepted, listen_refused, listen_text};
-ghost use Rattle.tool_output.specs.Ends.{Answers, SinkFails, StopsWithin, EndsForCause};
+ghost use Rattle.tool_text.specs.Ends.{Answers, SinkFails, StopsWithin, EndsForCause};
 
 use crate::listen::serving::Serving;
 use dccp_io::{Sink, Source};
 use std::alloc::Global;
-use tool_lines::run_lines;
-use tool_output::Status;
+use tool_text::{Status, run_lines};
 
 /// Hands what peers send, and what is asked of their ends, to one listener of at most `most` flows, 1 to 1,024 (own):
 /// it reads the lines of `input` one by one, and writes to `output` a line for what each peer is answered and for each

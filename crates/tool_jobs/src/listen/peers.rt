@@ -1,13 +1,14 @@
 //! Peers, as lines have them.
 ghost use Rattle.std.specs.Prelude.{◌≡◌, ◌++◌, OnOk};
 ghost use Rattle.tool_text.specs.Numbers.{number_below};
-ghost use Rattle.tool_words.specs.Words.{parted_by};
+ghost use Rattle.tool_text.specs.Words.{parted_by};
 ghost use Rattle.tool_jobs.specs.Peers as spec;
 
 use dccp_listener::Peer;
 use seq_circle::NoMemory;
-use tool_text::{number_up_to, put_counted, put_v4};
-use tool_words::{Flaw, LineWhy, WordKind, first_piece, found_or};
+use tool_text::{
+    Flaw, LineWhy, WordKind, first_piece, found_or, number_up_to, put_counted, put_v4,
+};
 
 // A number of an address.
 fn byte_of(text: &[u8]) -> Option<u8>

@@ -1,6 +1,6 @@
 //! Where `listen` stands: one listener, and how much has happened.
 ghost use Rattle.std.specs.Prelude.{◌≡◌, ◌≤◌, [], ◌∷◌, IfOk, Ok};
-ghost use Rattle.tool_lines.specs.Jobs.{Judges, most_events};
+ghost use Rattle.tool_text.specs.Jobs.{Judges, most_events};
 ghost use Rattle.tool_jobs.specs.Calls.{SealsInFull};
 ghost use Rattle.tool_jobs.specs.Listen.{by_call, first_serving, listen_config, listen_job};
 ghost use Rattle.tool_jobs.specs.Telling.{Exchange};
@@ -13,8 +13,7 @@ use dccp_endpoint::Lists;
 use dccp_listener::{ListenConfig, Listener, Peer};
 use seq_circle::NoMemory;
 use std::alloc::Global;
-use tool_lines::{LineJob, MOST_EVENTS};
-use tool_words::{LineFault, LineWhy, whole_line};
+use tool_text::{LineFault, LineJob, LineWhy, MOST_EVENTS, whole_line};
 
 // The Service Codes that are served.
 fn services() -> ArrayVec<u32, 16>

@@ -2,7 +2,7 @@
 ghost use Rattle.std.specs.Prelude.{◌≡◌, ◌≢◌, ℕ, ◌++◌, ◌+◌, ◌^◌, ◌<◌, ◌≤◌, List, Some, is_some, length, true, IfOk, OnOk};
 ghost use Rattle.dccp_endpoint.specs.Usual.{usual};
 ghost use Rattle.dccp_io.specs.Counts.{Rose};
-ghost use Rattle.tool_output.specs.Ends.{Answers, SinkFails, StopsWithin, EndsForCause};
+ghost use Rattle.tool_text.specs.Ends.{Answers, SinkFails, StopsWithin, EndsForCause};
 ghost use Rattle.tool_jobs.specs.Ends.{arriving, role_of};
 ghost use Rattle.tool_jobs.specs.Replay.{Acts, Performs, Heeds, act_lines, after_act, begun_from, begun_replay, count, first_replay, opened_line, replay_config, replay_job, replay_of_input, text_of_replay, reply_line};
 
@@ -16,10 +16,7 @@ use schedule_text::{FrameLine, read_frame};
 use seq_circle::NoMemory;
 use std::alloc::Global;
 use std::marker::Model;
-use tool_lines::{LineJob, run_lines};
-use tool_output::Status;
-use tool_text::put;
-use tool_words::LineFault;
+use tool_text::{LineFault, LineJob, Status, put, run_lines};
 use world_events::Side;
 
 const CLIENT: [u8; 4] = [10, 0, 0, 1];

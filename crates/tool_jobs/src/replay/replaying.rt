@@ -3,14 +3,14 @@ ghost use Rattle.std.specs.Prelude.{◌≡◌, ◌≢◌, ◌≤◌, ℕ, List, 
 ghost use Rattle.dccp_io.specs.Counts.{Rose};
 ghost use Rattle.tool_jobs.specs.Bare.{replay_text, replay_refused, replay_accepted};
 ghost use Rattle.tool_jobs.specs.Buffered.{buffered_accepted, buffered_refused, buffered_text};
-ghost use Rattle.tool_output.specs.Ends.{Answers, SinkFails, StopsWithin, EndsForCause};
+ghost use Rattle.tool_text.specs.Ends.{Answers, SinkFails, StopsWithin, EndsForCause};
 
 use crate::replay::bare::bare_end;
 use crate::replay::buffered::buffered_end;
 use crate::replay::player::replay_at;
 use dccp_io::{Sink, Source};
 use std::alloc::Global;
-use tool_output::Status;
+use tool_text::Status;
 use world_events::Side;
 
 /// Hands the frames of an input to one end, new and of this side, with its offers or without (own): it reads the lines

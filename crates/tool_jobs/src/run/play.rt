@@ -1,8 +1,8 @@
 //! A schedule while it is played.
 ghost use Rattle.std.specs.Prelude.{◌≡◌, ◌++◌, ℕ, List, is_some, if◌then◌else◌, IfOk, OnErr, OnOk, Some, Ok, Err};
 ghost use Rattle.tool_jobs.specs.WorldLines.{end_lines};
-ghost use Rattle.tool_lines.specs.Jobs.{Judges, most_events};
-ghost use Rattle.tool_words.specs.Refusals.{whole_line};
+ghost use Rattle.tool_text.specs.Jobs.{Judges, most_events};
+ghost use Rattle.tool_text.specs.Refusals.{whole_line};
 ghost use Rattle.tool_jobs.specs.Ends.{config_without_offers};
 ghost use Rattle.tool_jobs.specs.Transcript.{first_play, starts, world_of, ArePeers, IsPlayable, SentFew, ShowsEvent, event_shown, by_line, run_job};
 ghost use Rattle.tool_jobs.specs.Transcript.{with_header, configures, says_plain, says_version, vectors_of, with_iss, with_set, with_offered, wishing, offering, in_place, says_event, no_such_frame};
@@ -18,8 +18,7 @@ use feature_lists::{Feature, Place};
 use schedule_text::{Line, print_seen};
 use seq_circle::{NoMemory, Seq48};
 use std::alloc::Global;
-use tool_lines::MOST_EVENTS;
-use tool_words::{LineFault, LineWhy, whole_line};
+use tool_text::{LineFault, LineWhy, MOST_EVENTS, whole_line};
 use two_ends::{Event, Side, World, WorldFault};
 
 /// Where a schedule stands.

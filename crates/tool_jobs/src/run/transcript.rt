@@ -1,8 +1,8 @@
 //! `run`: a job over a schedule's lines.
 ghost use Rattle.std.specs.Prelude.{◌≡◌, ◌≢◌, ℕ, List, Some, IfOk, Ok};
 ghost use Rattle.dccp_io.specs.Counts.{Rose};
-ghost use Rattle.tool_output.specs.Ends.{IsAnswered, Answers, SinkFails, StopsWithin, EndsForCause};
-ghost use Rattle.tool_lines.specs.Jobs.{Judges};
+ghost use Rattle.tool_text.specs.Ends.{IsAnswered, Answers, SinkFails, StopsWithin, EndsForCause};
+ghost use Rattle.tool_text.specs.Jobs.{Judges};
 ghost use Rattle.tool_jobs.specs.Transcript.{IsPlayable, first_play, judged_line, run_job, transcript, is_refused, accepted_bytes, SafeThroughout};
 
 use crate::run::play::Play;
@@ -12,9 +12,7 @@ use schedule_text::{Line, read_line_into};
 use seq_circle::NoMemory;
 use std::alloc::Global;
 use std::marker::Model;
-use tool_lines::{LineJob, run_lines};
-use tool_output::Status;
-use tool_words::LineFault;
+use tool_text::{LineFault, LineJob, Status, run_lines};
 use two_ends::every_run_is_safe;
 
 /// A schedule while it is played, with room for what one line says: for one that sends data by itself, since a line that

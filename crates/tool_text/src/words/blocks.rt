@@ -1,6 +1,7 @@
 //! The first byte of a kind in a text.
 ghost use Rattle.std.specs.Prelude.{take, true, not, ℕ, Bool, ◌≡◌, ◌≤◌, ◌<◌, length, IfSome};
 ghost use Rattle.std.specs.List.{list_all, position_from};
+ghost use Rattle.tool_text.specs.Words.{IsPlaceOf};
 
 /// What is looked for in a text, byte by byte.
 pub(crate) trait Sought {
@@ -44,7 +45,7 @@ fn blocks_from<const BLOCK: usize, S: Sought>(what: &S, text: &[u8], front: usiz
 
 fn first_in<S: Sought>(what: &S, text: &[u8]) -> Option<usize>
     ensures first { result ≡ position_from (S.sought what.now) 0 text.now }
-    ensures within { IfSome result (λ place. place < length text.now) }
+    ensures within { IfSome result (IsPlaceOf text.now) }
 {
     text.iter().position(|byte| what.is_sought(*byte))
 }
@@ -55,7 +56,7 @@ fn first_behind<S: Sought>(what: &S, text: &[u8], front: usize) -> Option<usize>
     requires without { list_all (λ byte. not (S.sought what.now byte)) (take front text.now) ≡ true }
     requires within { front ≤ length text.now }
     ensures first { result ≡ position_from (S.sought what.now) 0 text.now }
-    ensures within { IfSome result (λ place. place < length text.now) }
+    ensures within { IfSome result (IsPlaceOf text.now) }
 {
     match first_in(what, &text[front..]) {
         Some(place) => Some(front + place),
@@ -77,7 +78,7 @@ fn far_from<S: Sought>(what: &S, text: &[u8], front: usize) -> usize
 /// The place of the first byte that is looked for, where it seldom stands anywhere.
 pub(crate) fn first_far<S: Sought>(what: &S, text: &[u8]) -> Option<usize>
     ensures first { result ≡ position_from (S.sought what.now) 0 text.now }
-    ensures within { IfSome result (λ place. place < length text.now) }
+    ensures within { IfSome result (IsPlaceOf text.now) }
 {
     let large = far_from(what, text, 0);
     let front = blocks_from::<8, S>(what, text, large);
@@ -88,7 +89,7 @@ pub(crate) fn first_far<S: Sought>(what: &S, text: &[u8]) -> Option<usize>
 #[tactic(auto, using(crate::proofs::BlockLaws::none_there, crate::proofs::BlockLaws::some_near))]
 pub(crate) fn first_near<S: Sought>(what: &S, text: &[u8]) -> Option<usize>
     ensures first { result ≡ position_from (S.sought what.now) 0 text.now }
-    ensures within { IfSome result (λ place. place < length text.now) }
+    ensures within { IfSome result (IsPlaceOf text.now) }
 {
     let near = text.len().min(NEAR);
     match first_in(what, &text[..near]) {

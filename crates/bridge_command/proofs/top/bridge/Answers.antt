@@ -2,7 +2,7 @@
 use Rattle.std.proofs.Common.{rules, ◌≡◌, ◌∙◌, ap, subst, true, Some, drop}
 use Rattle.std.proofs.lemmas.Option.{same_Some}
 use Rattle.dccp_io.specs.Fronts.{GivesAtMost}
-use Rattle.tool_output.specs.Ends.{Answers}
+use Rattle.tool_text.specs.Ends.{Answers}
 use Rattle.bridge_command.specs.declared.words.Form.{Form}
 use Rattle.bridge_command.specs.Forms.{bridge_accepted, bridge_reads_past, bridge_text, has_input, is_bridge_refused}
 use Rattle.bridge_command.specs.Words.{asked_form}

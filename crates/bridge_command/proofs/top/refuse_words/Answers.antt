@@ -1,5 +1,5 @@
 use Rattle.bridge_command.specs.Words.{bridge_usage}
-use Rattle.tool_output.proofs.Ending.{written-by}
+use Rattle.tool_text.proofs.Ending.{written-by}
 use Rattle.bridge_command.proofs.top.refuse_words.Goals as goal
 
 pub returns-clause-usage : goal.returns-clause-usage

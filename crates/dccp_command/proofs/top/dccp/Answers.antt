@@ -5,7 +5,7 @@ use Rattle.dccp_io.specs.Fronts.{GivesAtMost}
 use Rattle.tool_forms.specs.Words.{form_of}
 use Rattle.tool_forms.specs.declared.words.Form.{Form}
 use Rattle.tool_forms.specs.declared.words.Form.TheVariants as form
-use Rattle.tool_output.specs.Ends.{Answers}
+use Rattle.tool_text.specs.Ends.{Answers}
 use Rattle.dccp_command.specs.Forms.{form_accepted, form_reads_past, form_text, is_form_refused, reads_input}
 use Rattle.dccp_command.proofs.top.dccp.Goals as goal
 

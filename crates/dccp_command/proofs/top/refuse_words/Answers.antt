@@ -1,5 +1,5 @@
 use Rattle.tool_forms.specs.Words.{usage}
-use Rattle.tool_output.proofs.Ending.{written-by}
+use Rattle.tool_text.proofs.Ending.{written-by}
 use Rattle.dccp_command.proofs.top.refuse_words.Goals as goal
 
 pub returns-clause-usage : goal.returns-clause-usage

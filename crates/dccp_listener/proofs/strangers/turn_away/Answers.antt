@@ -3,7 +3,7 @@ use Rattle.dccp_endpoint.proofs.Arriving.{arrived_step}
 use Rattle.dccp_endpoint.specs.End.{new_end}
 use Rattle.dccp_endpoint.specs.Incoming.{parts_of_packet}
 use Rattle.dccp_endpoint.specs.Steps.{Step}
-use Rattle.end_answers.specs.declared.outcome.Outcome.{Outcome}
+use Rattle.dccp_states.specs.declared.outcome.Outcome.{Outcome}
 use Rattle.dccp_listener.specs.Turning.{IsToldOf}
 use Rattle.dccp_listener.proofs.strangers.turn_away.Goals as goal
 

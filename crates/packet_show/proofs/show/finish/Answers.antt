@@ -2,7 +2,7 @@
 use Rattle.std.proofs.Common.{rules, ◌≡◌, ◌∙◌, ap, ◌++◌, [], List, ℕ, subst}
 use Rattle.std.specs.Io.KnownBytes.{append_known}
 use Rattle.packet_show.specs.CaptureText.{last_line}
-use Rattle.tool_output.specs.Ends.{HasBegun}
+use Rattle.tool_text.specs.Ends.{HasBegun}
 use Rattle.packet_show.proofs.Showing.{closes-cut}
 use Rattle.packet_show.proofs.show.finish.Goals as goal
 

@@ -4,11 +4,11 @@ use Rattle.std.proofs.lemmas.Option.{IfSome_then}
 use Rattle.capture_reader.specs.Records.{records_from}
 use Rattle.capture_reader.specs.State.{rest}
 use Rattle.packet_show.specs.declared.show.Turn.{Turn}
-use Rattle.tool_output.specs.declared.status.Status.TheVariants as status
+use Rattle.tool_text.specs.declared.output.status.Status.TheVariants as status
 use Rattle.packet_show.specs.Show.{Turns}
-use Rattle.tool_output.specs.Ends.{HasBegun}
+use Rattle.tool_text.specs.Ends.{HasBegun}
 use Rattle.dccp_io.specs.Fronts.{TakesFront}
-use Rattle.tool_output.proofs.Ending.{on-err}
+use Rattle.tool_text.proofs.Ending.{on-err}
 use Rattle.packet_show.proofs.Showing.{turned, along-flushed, shown-early, over, tallied-one}
 use Rattle.packet_show.proofs.show.show_all.Goals as goal
 

@@ -5,7 +5,7 @@ use Rattle.capture_reader.specs.Records.{records_from}
 use Rattle.capture_reader.specs.State.{Passed, rest}
 use Rattle.packet_show.specs.CaptureText.{capture_text, is_faulty, records_end}
 use Rattle.packet_show.specs.Show.{ShowsRecords}
-use Rattle.tool_output.specs.Ends.{Answers}
+use Rattle.tool_text.specs.Ends.{Answers}
 use Rattle.packet_show.proofs.Showing.{refuses, passed-whole}
 use Rattle.packet_show.proofs.show.show_capture.Goals as goal
 

@@ -1,6 +1,6 @@
 use Rattle.std.proofs.Common.{◌≡◌, ◌≤◌, sym, subst, length, true, Option, Result}
 use Rattle.std.specs.Prelude.{IfOk, IfSome}
-use Rattle.tool_words.specs.declared.faults.LineFault.{LineFault}
+use Rattle.tool_text.specs.declared.words.faults.LineFault.{LineFault}
 use Rattle.schedule_text.specs.declared.line.FrameLine.{FrameLine}
 use Rattle.schedule_text.proofs.FrameForms.{frames_sealed}
 use Rattle.schedule_text.proofs.frames.read_frame.Goals as goal

@@ -1,7 +1,7 @@
 use Rattle.std.proofs.Common.{refl, sym, ap, ℕ, List, [], ◌∷◌, length, length-append, Option, arith}
 use Rattle.std.specs.Borrow.{Bor}
 use Rattle.schedule_text.specs.Numbers.{numbers_read}
-use Rattle.tool_words.specs.Rest.{pieces_left}
+use Rattle.tool_text.specs.Rest.{pieces_left}
 use Rattle.schedule_text.proofs.ValueLists.{preceded, values_step}
 use Rattle.schedule_text.proofs.numbers.values_of.Goals as goal
 

@@ -1,7 +1,7 @@
 use Rattle.std.proofs.Common.{◌≡◌, ◌≤◌, length}
-use Rattle.tool_words.specs.Words.{parted_by}
+use Rattle.tool_text.specs.Words.{parted_by}
 use Rattle.schedule_text.specs.Numbers.{numbers_read}
-use Rattle.tool_words.specs.Rest.{pieces_left, rest_length}
+use Rattle.tool_text.specs.Rest.{pieces_left, rest_length}
 use Rattle.schedule_text.proofs.ValueLists.{preceded}
 use Rattle.schedule_text.proofs.numbers.values_of.Given as goal
 

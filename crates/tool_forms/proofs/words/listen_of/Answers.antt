@@ -13,4 +13,5 @@ returns-in-Some-clause-value c =
 
 pub returns-in-None-clause-value : goal.returns-in-None-clause-value
 returns-in-None-clause-value c =
-    listen-refused c.args.words.now (subst (λ (found : Option ArgMatches). IsReadBy (command_of table.Listen) c.args.words.now found) c.in-None.is c.in_ok-matches.ensures)
+    listen-refused c.args.words.now
+    (subst (λ (found : Option ArgMatches). IsReadBy (command_of table.Listen) c.args.words.now found) c.in-None.is c.in_ok-matches.ensures)

@@ -2,9 +2,9 @@
 use Rattle.std.proofs.Common.{◌≡◌, ◌∙◌, sym, ap, subst, ℕ, List, ◌++◌, false}
 use Rattle.std.specs.Prelude.{is_some}
 use Rattle.bridge_records.specs.Writing.{file_header}
-use Rattle.tool_lines.specs.Jobs.{gone_through, text_of_job}
-use Rattle.tool_output.specs.Ends.{Answers, StopsWithin}
-use Rattle.tool_output.proofs.Ending.{on-ok}
+use Rattle.tool_text.specs.Jobs.{gone_through, text_of_job}
+use Rattle.tool_text.specs.Ends.{Answers, StopsWithin}
+use Rattle.tool_text.proofs.Ending.{on-ok}
 use Rattle.bridge_command.specs.Capturing.{capture_job}
 use Rattle.bridge_command.specs.declared.capture.capturing.Clock.{Clock}
 use Rattle.bridge_command.proofs.capture.capturing.capture_frames.Goals as goal

@@ -10,7 +10,7 @@ use Rattle.dccp_endpoint.specs.Heeding.{Due, Heeding, due_of, heeding_or}
 use Rattle.dccp_endpoint.specs.Incoming.{Incoming}
 use Rattle.dccp_endpoint.specs.Receiving.{heeded, processes}
 use Rattle.dccp_endpoint.specs.Speaking.{HaveRoom}
-use Rattle.end_answers.specs.declared.outcome.Fault.{Fault}
+use Rattle.dccp_states.specs.declared.outcome.Fault.{Fault}
 use Rattle.dccp_endpoint.proofs.Handing.{handed}
 use Rattle.dccp_endpoint.proofs.Lawful.{heard_rows}
 use Rattle.dccp_endpoint.proofs.Room.{confirms_have_room}

@@ -9,7 +9,7 @@ use Rattle.dccp_endpoint.specs.Heeding.{Due, due_of}
 use Rattle.dccp_endpoint.specs.Incoming.{Incoming}
 use Rattle.dccp_endpoint.specs.Receiving.{accounted, delivering, moved_to, moves, replies}
 use Rattle.dccp_endpoint.specs.Reporting.{counts_data, delivers, looked_up, looks_up, marks}
-use Rattle.end_answers.specs.declared.outcome.Outcome.TheVariants.{Took}
+use Rattle.dccp_states.specs.declared.outcome.Outcome.TheVariants.{Took}
 use Rattle.dccp_endpoint.proofs.connection.Connection.process.Goals as goal
 
 pub returns : goal.returns

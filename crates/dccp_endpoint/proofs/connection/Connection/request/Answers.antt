@@ -3,7 +3,7 @@ use Rattle.dccp_states.specs.declared.phase.Phase.TheVariants as phases
 use Rattle.dccp_endpoint.specs.Calling.{requests}
 use Rattle.dccp_endpoint.specs.End.{EndState}
 use Rattle.dccp_endpoint.specs.Steps.{Step}
-use Rattle.end_answers.specs.declared.calls.OpenFault.{OpenFault}
+use Rattle.dccp_states.specs.declared.calls.OpenFault.{OpenFault}
 use Rattle.dccp_endpoint.proofs.connection.Connection.request.Goals as goal
 
 pub returns : goal.returns

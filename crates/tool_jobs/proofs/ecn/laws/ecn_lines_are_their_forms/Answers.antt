@@ -1,4 +1,4 @@
-use Rattle.tool_words.proofs.LineLaws.{line-accepted}
+use Rattle.tool_text.proofs.LineLaws.{line-accepted}
 use Rattle.tool_jobs.specs.Forms.{ecn_row}
 use Rattle.tool_jobs.proofs.EcnRow.{row-is}
 use Rattle.tool_jobs.proofs.ecn.laws.ecn_lines_are_their_forms.Goals as goal

@@ -1,7 +1,7 @@
 -- How far the input was read, and what was written, from where the play begins.
 use Rattle.std.proofs.Common.{subst}
-use Rattle.tool_lines.specs.Jobs.{gone_through}
-use Rattle.tool_output.specs.Ends.{StopsWithin}
+use Rattle.tool_text.specs.Jobs.{gone_through}
+use Rattle.tool_text.specs.Ends.{StopsWithin}
 use Rattle.tool_jobs.specs.Play.{ecn_job}
 use Rattle.tool_jobs.specs.declared.ecn.play.EcnPlay.{EcnPlay}
 use Rattle.tool_jobs.proofs.ecn.playing.play_nonces.Goals as goal

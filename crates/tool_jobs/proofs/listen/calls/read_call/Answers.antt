@@ -1,7 +1,7 @@
 use Rattle.std.proofs.Common.{sym, subst, Option, Result}
 use Rattle.std.specs.Prelude.{IfOk, IfSome}
 use Rattle.dccp_listener.specs.declared.peer.Peer.{Peer}
-use Rattle.tool_words.specs.declared.faults.LineFault.{LineFault}
+use Rattle.tool_text.specs.declared.words.faults.LineFault.{LineFault}
 use Rattle.tool_jobs.specs.Calls.{SealsInFull}
 use Rattle.tool_jobs.specs.declared.listen.calls.PeerCall.{PeerCall}
 use Rattle.tool_jobs.proofs.Sealing.{calls_sealed}

@@ -1,7 +1,7 @@
 -- How far the input was read, from where the lines begin.
 use Rattle.std.proofs.Common.{subst}
-use Rattle.tool_lines.specs.Jobs.{gone_through}
-use Rattle.tool_output.specs.Ends.{StopsWithin}
+use Rattle.tool_text.specs.Jobs.{gone_through}
+use Rattle.tool_text.specs.Ends.{StopsWithin}
 use Rattle.tool_jobs.specs.Listen.{listen_job}
 use Rattle.tool_jobs.specs.declared.listen.serving.Serving.{Serving}
 use Rattle.tool_jobs.proofs.listen.listening.listen_to_peers.Goals as goal

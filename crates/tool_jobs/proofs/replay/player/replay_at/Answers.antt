@@ -1,7 +1,7 @@
 -- How far the input was read, from where the replay begins.
 use Rattle.std.proofs.Common.{subst}
-use Rattle.tool_lines.specs.Jobs.{gone_through}
-use Rattle.tool_output.specs.Ends.{StopsWithin}
+use Rattle.tool_text.specs.Jobs.{gone_through}
+use Rattle.tool_text.specs.Ends.{StopsWithin}
 use Rattle.tool_jobs.specs.Replay.{ReplayState, replay_job}
 use Rattle.tool_jobs.proofs.replay.player.replay_at.Goals as goal
 

@@ -3,7 +3,7 @@ use Rattle.std.proofs.Common.{subst}
 use Rattle.std.specs.Prelude.{is_some}
 use Rattle.ccid_two.specs.Kinds.{Both}
 use Rattle.dccp_endpoint.specs.Controlled.{End}
-use Rattle.tool_output.specs.Ends.{Answers, StopsWithin}
+use Rattle.tool_text.specs.Ends.{Answers, StopsWithin}
 use Rattle.tool_jobs.specs.Bare.{bare_acts}
 use Rattle.tool_jobs.specs.Replay.{replay_of_input, text_of_replay}
 use Rattle.tool_jobs.proofs.replay.replaying.replay_frames.Goals as goal

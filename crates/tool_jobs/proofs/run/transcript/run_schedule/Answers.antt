@@ -2,8 +2,8 @@
 use Rattle.std.proofs.Common.{subst}
 use Rattle.tool_jobs.specs.Transcript.{run_job}
 use Rattle.tool_jobs.specs.declared.run.play.Play.{Play}
-use Rattle.tool_lines.specs.Jobs.{gone_through}
-use Rattle.tool_output.specs.Ends.{StopsWithin}
+use Rattle.tool_text.specs.Jobs.{gone_through}
+use Rattle.tool_text.specs.Ends.{StopsWithin}
 use Rattle.tool_jobs.proofs.SchedulesRunning.{safe-run}
 use Rattle.tool_jobs.proofs.run.transcript.run_schedule.Goals as goal
 

@@ -7,7 +7,7 @@ use Rattle.tool_jobs.proofs.Room.{few-at, shown-few, playable-behind}
 use Rattle.two_ends.specs.Controlled.{Controlled}
 use Rattle.ccid_two.specs.Kinds.{Both}
 use Rattle.tool_jobs.proofs.run.play.Play.say_event.Goals as goal
-use Rattle.tool_lines.specs.Jobs.{most_events}
+use Rattle.tool_text.specs.Jobs.{most_events}
 
 pub returns-then-is_ok-clause-playable : goal.returns-then-is_ok-clause-playable
 returns-then-is_ok-clause-playable c = λ fine.
