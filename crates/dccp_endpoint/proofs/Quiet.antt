@@ -1,5 +1,5 @@
 -- Rows that say nothing by themselves leave a packet its Confirms alone.
-use Rattle.std.proofs.Common.{◌≡◌, ◌∙◌, ℕ, Bool, List, [], ◌∷◌, ap, refl, sym, map}
+use Rattle.std.proofs.Common.{◌≡◌, ◌∙◌, Bool, List, [], ◌∷◌, ap, refl}
 use Rattle.std.proofs.lemmas.List.{append-nil}
 use Rattle.dccp_packets.specs.declared.header.Kind.{Kind}
 use Rattle.feature_lists.specs.declared.features.Feature.{Feature}
@@ -8,7 +8,6 @@ use Rattle.feature_machine.specs.Negotiating.{due_keys, every_place, stepped}
 use Rattle.feature_machine.specs.Rows.{Offers}
 use Rattle.feature_machine.specs.Turns.{turned}
 use Rattle.feature_machine.specs.declared.row.Row.{Row}
-use Rattle.dccp_endpoint.specs.Drafts.{Draft}
 use Rattle.dccp_endpoint.specs.End.{EndState, with_rows}
 use Rattle.dccp_endpoint.specs.Heeding.{Due}
 use Rattle.dccp_endpoint.specs.Speaking.{asking, asking_frame, asks, confirm_items, confirming, is_confirmed, offers, saying, unconfirmed}

@@ -1,4 +1,4 @@
-use Rattle.std.proofs.Common.{◌+◌, ◌*◌, length, arith}
+use Rattle.std.proofs.Common.{◌+◌, ◌*◌, length}
 use Rattle.tool_text.proofs.HexLanes.{block-written, still-sized}
 use Rattle.tool_text.proofs.hexadecimal.encode_block.Goals as goal
 

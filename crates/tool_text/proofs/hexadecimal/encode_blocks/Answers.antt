@@ -1,4 +1,4 @@
-use Rattle.std.proofs.Common.{◌-◌, ◌*◌, length, sym, arith}
+use Rattle.std.proofs.Common.{◌-◌, length, sym, arith}
 use Rattle.tool_text.proofs.HexLanes.{written-earlier}
 use Rattle.tool_text.proofs.HexText.{encode-none}
 use Rattle.tool_text.proofs.hexadecimal.encode_blocks.Goals as goal
