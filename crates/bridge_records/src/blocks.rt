@@ -1,6 +1,6 @@
 //! What the first and last bytes of a pcapng file's blocks say.
 ghost use Rattle.std.specs.Prelude.{◌≡◌, ◌+◌, ◌%◌, ◌≤◌, length, None};
-ghost use Rattle.bridge_records.specs.Blocks as spec;
+ghost use Rattle.bridge_records.specs.Blocks.{block_head, block_order, ends_block, is_read_block, is_section_version, length_fault, section_order};
 
 use crate::numbers::{read_u16, read_u32};
 use crate::pieces::PieceFault;
@@ -36,7 +36,7 @@ const MOST_BLOCK: u32 = 524_288;
 
 /// A block of this type is read, and not skipped.
 pub(crate) fn is_read_block(kind: u32) -> bool
-    ensures { result ≡ spec.is_read_block kind }
+    ensures { result ≡ is_read_block kind }
 {
     matches!(kind, SECTION | INTERFACE | SIMPLE | ENHANCED)
 }
@@ -44,7 +44,7 @@ pub(crate) fn is_read_block(kind: u32) -> bool
 /// The byte order of a section, from its first twelve bytes, if it has one.
 pub(crate) fn section_order(bytes: &[u8]) -> Option<Order>
     requires { 12 ≤ length bytes.now }
-    ensures { result ≡ spec.section_order bytes.now }
+    ensures { result ≡ section_order bytes.now }
 {
     if read_u32(Order::Big, bytes, 8) == BYTE_ORDER {
         return Some(Order::Big);
@@ -58,7 +58,7 @@ pub(crate) fn section_order(bytes: &[u8]) -> Option<Order>
 /// The version of a section stands there, and is one that is known.
 pub(crate) fn is_section_version(order: Order, place: usize, bytes: &[u8]) -> bool
     requires { place + 4 ≤ length bytes.now }
-    ensures { result ≡ spec.is_section_version order place bytes.now }
+    ensures { result ≡ is_section_version order place bytes.now }
 {
     let minor = read_u16(order, bytes, place + 2);
     read_u16(order, bytes, place) == 1 && (minor == 0 || minor == 2)
@@ -66,7 +66,7 @@ pub(crate) fn is_section_version(order: Order, place: usize, bytes: &[u8]) -> bo
 
 /// What is wrong with the length of a block that has at least so many bytes.
 pub(crate) fn length_fault(least: u32, total: u32) -> Option<PieceFault>
-    ensures value { result ≡ spec.length_fault least total }
+    ensures value { result ≡ length_fault least total }
     ensures fits { result ≡ None → (least ≤ total) × (total ≤ 524288) × (total % 4 ≡ 0) }
 {
     if total < least || total % 4 != 0 {
@@ -81,7 +81,7 @@ pub(crate) fn length_fault(least: u32, total: u32) -> Option<PieceFault>
 /// The byte order of a block of a section of this one: a further section has its own.
 pub(crate) fn block_order(order: Order, bytes: &[u8]) -> Option<Order>
     requires { 12 ≤ length bytes.now }
-    ensures { result ≡ spec.block_order order bytes.now }
+    ensures { result ≡ block_order order bytes.now }
 {
     if read_u32(order, bytes, 0) == SECTION {
         return section_order(bytes);
@@ -92,7 +92,7 @@ pub(crate) fn block_order(order: Order, bytes: &[u8]) -> Option<Order>
 /// What the first twelve bytes of a block say.
 pub(crate) fn block_head(order: Order, bytes: &[u8]) -> BlockHead
     requires { 12 ≤ length bytes.now }
-    ensures { result ≡ spec.block_head order bytes.now }
+    ensures { result ≡ block_head order bytes.now }
 {
     BlockHead {
         kind: read_u32(order, bytes, 0),
@@ -104,7 +104,7 @@ pub(crate) fn block_head(order: Order, bytes: &[u8]) -> BlockHead
 /// The length of a block stands once more at its end.
 pub(crate) fn ends_block(order: Order, total: u32, bytes: &[u8]) -> bool
     requires { 4 ≤ length bytes.now }
-    ensures { result ≡ spec.ends_block order total bytes.now }
+    ensures { result ≡ ends_block order total bytes.now }
 {
     read_u32(order, bytes, bytes.len() - 4) == total
 }

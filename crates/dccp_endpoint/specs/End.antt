@@ -72,6 +72,10 @@ is_phase_of phase.CloseReq Server = true
 is_phase_of phase.Closing _ = true
 is_phase_of phase.TimeWait _ = true
 
+-- the phase belongs to the role
+abbrev pub IsPhaseOf : Phase → Role → Type 0
+IsPhaseOf phase role = is_phase_of phase role ≡ true
+
 -- the phases in which a first number was received (section 8.1)
 abbrev pub is_live : Phase → Bool
 is_live phase.Closed = false

@@ -30,6 +30,10 @@ first_tally = record { shown = 0; skipped = 0; flows = [] }
 abbrev pub CountsFit : Tally → Type 0
 CountsFit tally = tally.shown + tally.skipped < 2 ^ 64
 
+-- one record more can be counted
+abbrev pub CanCount : Tally → Type 0
+CanCount tally = tally.shown + tally.skipped + 1 < 2 ^ 64
+
 -- one record more, with a line or skipped, and the flows that were seen then
 abbrev pub counted_record : Tally → Shown → List Flow → Tally
 counted_record tally Line flows = record { shown = tally.shown + 1; skipped = tally.skipped; flows = flows }

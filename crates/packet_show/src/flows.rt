@@ -5,6 +5,7 @@ ghost use Rattle.capture_reader.specs.Records.{entry_of};
 ghost use Rattle.packet_show.specs.Network.{carried_by};
 ghost use Rattle.packet_show.specs.Flows.{blended, version_of, from_end, to_end, is_lesser_end, flow_between, flow_of, flow_number, key_of, mixed, number_if_seen, with_flow};
 ghost use Rattle.packet_show.specs.Lines.{shows, shows_packet, shows_malformed, parts_by, Shows};
+ghost use Rattle.tool_text.specs.Text.{SameText};
 
 use crate::network::{Datagram, carried};
 use crate::packet::{put_malformed, put_packet};
@@ -264,7 +265,7 @@ impl Flows {
         ensures ok { IfOk result (λ shown. Shows (shows_packet self.old (entry_of item.now) (carried_by there.now) (parts_by packet.now)
             (flow_of there.now.pseudo packet.now.header.from packet.now.header.to)) to.old.items to.new.items self.new shown) }
         ensures unchanged { OnErr result (self.new ≡ self.old) }
-        ensures text_unchanged { OnErr result (to.new.items ≡ to.old.items) }
+        ensures text_unchanged { OnErr result (SameText to.old to.new) }
     {
         let flow = flow_of(&there.pseudo, packet.header.from, packet.header.to);
         let (known, number) = self.look_up(&flow);
@@ -284,7 +285,7 @@ impl Flows {
         to: &mut Vec<u8>,
     ) -> Result<Shown, NoMemory>
         ensures ok { IfOk result (λ shown. Shows (shows_malformed self.now (entry_of item.now) true fault) to.old.items to.new.items self.now shown) }
-        ensures text_unchanged { OnErr result (to.new.items ≡ to.old.items) }
+        ensures text_unchanged { OnErr result (SameText to.old to.new) }
     {
         let start = to.len();
         if put_malformed(to, item, fault).is_err() {
@@ -303,7 +304,7 @@ impl Flows {
     pub fn show(&mut self, item: &Record<'_>, to: &mut Vec<u8>) -> Result<Shown, NoMemory>
         ensures ok { IfOk result (λ shown. Shows (shows self.old (entry_of item.now)) to.old.items to.new.items self.new shown) }
         ensures unchanged { OnErr result (self.new ≡ self.old) }
-        ensures text_unchanged { OnErr result (to.new.items ≡ to.old.items) }
+        ensures text_unchanged { OnErr result (SameText to.old to.new) }
     {
         let Some(there) = carried(item.link, item.bytes) else {
             return Ok(Shown::Skipped);

@@ -1,12 +1,13 @@
 //! `show`: a capture's records, one by one.
-ghost use Rattle.std.specs.Prelude.{◌≡◌, ◌≢◌, ℕ, ◌+◌, ◌<◌, ◌≤◌, ◌^◌, List, [], drop, ◌++◌, false, Some, None, IfSome, OnOk, OnErr};
+ghost use Rattle.std.specs.Prelude.{◌≡◌, ◌≢◌, ℕ, ◌≤◌, List, [], drop, ◌++◌, false, Some, None, IfSome, OnOk, OnErr};
 ghost use Rattle.dccp_io.specs.Counts.{Rose};
 ghost use Rattle.dccp_io.specs.Fronts.{TakesFront};
 ghost use Rattle.capture_reader.specs.Records.{entry_of, records_from};
 ghost use Rattle.capture_reader.specs.State.{Passed, holds_record, rest};
-ghost use Rattle.packet_show.specs.CaptureText.{CountsFit, first_tally, tallied, record_text, last_line, capture_text, is_faulty, records_end};
+ghost use Rattle.packet_show.specs.CaptureText.{CanCount, CountsFit, capture_text, first_tally, is_faulty, last_line, record_text, records_end, tallied};
 ghost use Rattle.packet_show.specs.Show.{Turns, Closes, ShowsHeaderFault, ShowsRecords};
 ghost use Rattle.tool_text.specs.Ends.{SinkFailed, SinkFails, Answers, EndsForCause, IsMovedOut};
+ghost use Rattle.tool_text.specs.Text.{SameText};
 
 use crate::capture_lines::put_last_line;
 use crate::flows::{Flows, Shown};
@@ -40,10 +41,10 @@ impl Tally {
 
     // Puts a record's line, if it has one, and counts it.
     fn show(&mut self, item: &Record<'_>, text: &mut Vec<u8>) -> Result<(), NoMemory>
-        requires { self.old.shown + self.old.skipped + 1 < 2 ^ 64 }
+        requires { CanCount self.old }
         ensures tally { OnOk result (self.new ≡ tallied self.old (entry_of item.now)) }
         ensures text { OnOk result (text.new.items ≡ text.old.items ++ record_text self.old (entry_of item.now)) }
-        ensures err { OnErr result (text.new.items ≡ text.old.items) }
+        ensures err { OnErr result (SameText text.old text.new) }
     {
         match self.flows.show(item, text)? {
             Shown::Line => self.shown += 1,
@@ -89,7 +90,7 @@ fn show_next<S: Source + Drop>(
     tally: &mut Tally,
     text: &mut Vec<u8>,
 ) -> Result<Turn, NoMemory>
-    requires fits { tally.old.shown + tally.old.skipped + 1 < 2 ^ 64 }
+    requires fits { CanCount tally.old }
     requires written { holds_record captures.old ≡ false → text.old.items ≡ [] }
     ensures { Turns S.left S.faults S.lender captures.old captures.new tally.old tally.new text.old.items text.new.items result }
 {

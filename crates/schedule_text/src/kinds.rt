@@ -1,6 +1,6 @@
 //! The kinds of words that lines of schedules have.
 ghost use Rattle.std.specs.Prelude.{◌≡◌, ◌≤◌, length, IfErr};
-ghost use Rattle.schedule_text.specs.Kinds as spec;
+ghost use Rattle.schedule_text.specs.Kinds.{feature_kind, form_kind, frame_kind, frame_sent_by, place_kind, sequence_kind, side_kind, timer_kind, values_kind, version_kind};
 
 use crate::names::{Form, form_named, place_named, side_named, timer_of};
 use crate::numbers::{feature_of, frame_index, schedule_version, sequence_number_of, values_of};
@@ -16,7 +16,7 @@ pub(crate) struct AForm;
 impl<'a> WordKind<'a> for AForm {
     type Read = Form;
 
-    ghost reads = { spec.form_kind.reads };
+    ghost reads = { form_kind.reads };
 
     fn read(word: &'a [u8]) -> Result<Form, Flaw> {
         found_or(LineWhy::UnknownWord, form_named(word))
@@ -29,7 +29,7 @@ pub(crate) struct ASide;
 impl<'a> WordKind<'a> for ASide {
     type Read = Side;
 
-    ghost reads = { spec.side_kind.reads };
+    ghost reads = { side_kind.reads };
 
     fn read(word: &'a [u8]) -> Result<Side, Flaw> {
         found_or(LineWhy::UnknownWord, side_named(word))
@@ -42,7 +42,7 @@ pub(crate) struct APlace;
 impl<'a> WordKind<'a> for APlace {
     type Read = Place;
 
-    ghost reads = { spec.place_kind.reads };
+    ghost reads = { place_kind.reads };
 
     fn read(word: &'a [u8]) -> Result<Place, Flaw> {
         found_or(LineWhy::UnknownWord, place_named(word))
@@ -56,7 +56,7 @@ pub struct ATimer;
 impl<'a> WordKind<'a> for ATimer {
     type Read = Timer;
 
-    ghost reads = { spec.timer_kind.reads };
+    ghost reads = { timer_kind.reads };
 
     fn read(word: &'a [u8]) -> Result<Timer, Flaw> {
         found_or(LineWhy::UnknownWord, timer_of(word))
@@ -69,7 +69,7 @@ pub(crate) struct ANumber;
 impl<'a> WordKind<'a> for ANumber {
     type Read = Seq48;
 
-    ghost reads = { spec.sequence_kind.reads };
+    ghost reads = { sequence_kind.reads };
 
     fn read(word: &'a [u8]) -> Result<Seq48, Flaw> {
         found_or(LineWhy::BadNumber, sequence_number_of(word))
@@ -82,7 +82,7 @@ pub(crate) struct AFeature;
 impl<'a> WordKind<'a> for AFeature {
     type Read = Feature;
 
-    ghost reads = { spec.feature_kind.reads };
+    ghost reads = { feature_kind.reads };
 
     fn read(word: &'a [u8]) -> Result<Feature, Flaw> {
         found_or(LineWhy::BadNumber, feature_of(word))
@@ -95,7 +95,7 @@ pub(crate) struct AVersion;
 impl<'a> WordKind<'a> for AVersion {
     type Read = u8;
 
-    ghost reads = { spec.version_kind.reads };
+    ghost reads = { version_kind.reads };
 
     fn read(word: &'a [u8]) -> Result<u8, Flaw> {
         found_or(LineWhy::BadNumber, schedule_version(word))
@@ -108,7 +108,7 @@ pub(crate) struct SomeValues;
 impl<'a> WordKind<'a> for SomeValues {
     type Read = Values;
 
-    ghost reads = { spec.values_kind.reads };
+    ghost reads = { values_kind.reads };
 
     fn read(word: &'a [u8]) -> Result<Values, Flaw> {
         found_or(LineWhy::BadNumber, values_of(word))
@@ -117,7 +117,7 @@ impl<'a> WordKind<'a> for SomeValues {
 
 // The frame of this sender with this index.
 fn sent_by(from: Side, index: &[u8]) -> Result<(Side, u64), Flaw>
-    ensures value { result ≡ spec.frame_sent_by from index.now }
+    ensures value { result ≡ frame_sent_by from index.now }
     ensures within { IfErr result (λ flaw. flaw.place ≡ 0) }
 {
     let index = found_or(LineWhy::BadNumber, frame_index(index))?;
@@ -130,7 +130,7 @@ pub(crate) struct AName;
 impl<'a> WordKind<'a> for AName {
     type Read = (Side, u64);
 
-    ghost reads = { spec.frame_kind.reads };
+    ghost reads = { frame_kind.reads };
 
     fn read(word: &'a [u8]) -> Result<(Side, u64), Flaw> {
         match word {

@@ -3,7 +3,7 @@
 
 ghost use Rattle.std.specs.Prelude.{◌≡◌, ◌++◌, ◌∷◌, decimal, flat_map, OnOk, OnErr};
 ghost use Rattle.schedule_text.specs.Names.{side_name, place_name, timer_name};
-ghost use Rattle.tool_text.specs.Text.{Keeps};
+ghost use Rattle.tool_text.specs.Text.{Keeps, SameText};
 ghost use Rattle.schedule_text.specs.Printing.{side_letter, values_text, event_text};
 ghost use Rattle.schedule_text.specs.Results as spec;
 
@@ -318,7 +318,7 @@ fn put_line(
 /// `early`. After NoMemory the text is as before.
 pub fn print_event(event: &Event, to: &mut Vec<u8>) -> Result<(), NoMemory>
     ensures ok { OnOk result (to.new.items ≡ to.old.items ++ event_text event.now) }
-    ensures err { OnErr result (to.new.items ≡ to.old.items) }
+    ensures err { OnErr result (SameText to.old to.new) }
 {
     let before = to.len();
     let printed = put_event(to, event);
@@ -340,7 +340,7 @@ pub fn print_seen(
 ) -> Result<(), NoMemory>
     requires { spec.IsSeenOf input.now seen.now }
     ensures ok { OnOk result (to.new.items ≡ to.old.items ++ spec.seen_line line event.now seen.now input.now) }
-    ensures err { OnErr result (to.new.items ≡ to.old.items) }
+    ensures err { OnErr result (SameText to.old to.new) }
 {
     let before = to.len();
     let printed = put_line(to, line, event, seen, input);
@@ -364,7 +364,7 @@ fn put_numbered(text: &mut Vec<u8>, line: u64, seen: &Seen, input: &[u8]) -> Res
 pub fn print_result(line: u64, seen: &Seen, input: &[u8], to: &mut Vec<u8>) -> Result<(), NoMemory>
     requires { spec.IsSeenOf input.now seen.now }
     ensures ok { OnOk result (to.new.items ≡ to.old.items ++ spec.result_line line seen.now input.now) }
-    ensures err { OnErr result (to.new.items ≡ to.old.items) }
+    ensures err { OnErr result (SameText to.old to.new) }
 {
     let before = to.len();
     let printed = put_numbered(to, line, seen, input);

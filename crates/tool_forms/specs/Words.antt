@@ -1,5 +1,5 @@
 -- What the words after the program's name ask for (own).
-use Rattle.std.specs.Prelude.{◌≡◌, ◌≤◌, ◌||◌, ℕ, Bool, false, List, [], ◌∷◌, codes, Option, Some, None, is_some, option_and_then, if◌then◌else◌, String, string_bytes}
+use Rattle.std.specs.Prelude.{◌≡◌, ◌≤◌, ◌||◌, ℕ, Bool, false, List, [], ◌∷◌, codes, Option, Some, None, is_some, option_and_then, if◌then◌else◌, String, string_bytes, IfOk, Result}
 use Rattle.std.specs.Str.{bytes_eq}
 use Rattle.std.specs.declared.alloc.Global.{Global}
 use Rattle.world_events.specs.declared.event.Side.{Side}
@@ -15,6 +15,10 @@ use Rattle.tool_forms.specs.declared.words.Form.TheVariants as form
 -- A word is this text.
 abbrev pub is_word : String Global → List ℕ → Bool
 is_word word text = bytes_eq (string_bytes word) text
+
+-- the words say this, where there was memory to read them
+abbrev pub WordsSay : {A E : Type 0} → Result A E → A → Type 0
+WordsSay result said = IfOk result (λ read. read ≡ said)
 
 -- the side that `--side` is given
 abbrev pub side_given : Option (Option Value) → Option Side

@@ -3,6 +3,7 @@ ghost use Rattle.std.specs.Prelude.{◌≡◌, IfOk, IfSome};
 ghost use Rattle.clap.specs.Words.{found_of, rows_of};
 ghost use Rattle.tool_forms.specs.BridgeWords.{IsFlowWithinBounds, IsRunWithinBounds, flow_side_of, seed_run_of};
 ghost use Rattle.tool_forms.specs.Commands.{flow_side_in, seed_run_in};
+ghost use Rattle.tool_forms.specs.Words.{WordsSay};
 
 use crate::commands::{figure_in, read, text_in};
 use crate::settings::{Setting, Table, side_in};
@@ -45,7 +46,7 @@ fn seed_run_in(matches: &ArgMatches) -> Option<SeedRun>
 /// The run that the words behind `seed` ask for, both settings once, or None where they ask for none (own). NoMemory
 /// says nothing of them.
 pub fn seed_run_of(alloc: Global, words: &[String]) -> Result<Option<SeedRun>, NoMemory>
-    ensures value { IfOk result (λ run. run ≡ seed_run_of words.now) }
+    ensures value { WordsSay result (seed_run_of words.now) }
     ensures within { IfOk result (λ run. IfSome run IsRunWithinBounds) }
 {
     match read(alloc, Table::Seed, words)? {
@@ -68,7 +69,7 @@ fn flow_side_in(matches: &ArgMatches) -> Option<FlowSide>
 /// The side of a flow that the words behind `frames` ask for, both settings once, or None where they ask for none
 /// (own). NoMemory says nothing of them.
 pub fn flow_side_of(alloc: Global, words: &[String]) -> Result<Option<FlowSide>, NoMemory>
-    ensures value { IfOk result (λ asked. asked ≡ flow_side_of words.now) }
+    ensures value { WordsSay result (flow_side_of words.now) }
     ensures within { IfOk result (λ asked. IfSome asked IsFlowWithinBounds) }
 {
     match read(alloc, Table::Frames, words)? {

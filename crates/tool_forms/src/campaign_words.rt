@@ -3,6 +3,7 @@ ghost use Rattle.std.specs.Prelude.{◌≡◌, IfOk, IfSome};
 ghost use Rattle.clap.specs.Words.{found_of, rows_of};
 ghost use Rattle.tool_forms.specs.CampaignWords.{IsWithinBounds, campaign_of};
 ghost use Rattle.tool_forms.specs.Commands.{campaign_in};
+ghost use Rattle.tool_forms.specs.Words.{WordsSay};
 
 use crate::commands::{figure_in, read};
 use crate::settings::{Setting, Table};
@@ -43,7 +44,7 @@ fn campaign_in(matches: &ArgMatches) -> Option<Campaign>
 
 /// The campaign that the words behind `campaign` ask for, or None where they ask for none.
 pub(crate) fn campaign_of(alloc: Global, words: &[String]) -> Result<Option<Campaign>, NoMemory>
-    ensures value { IfOk result (λ campaign. campaign ≡ campaign_of words.now) }
+    ensures value { WordsSay result (campaign_of words.now) }
     ensures within { IfOk result (λ campaign. IfSome campaign IsWithinBounds) }
 {
     match read(alloc, Table::Campaign, words)? {

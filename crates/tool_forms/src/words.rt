@@ -2,7 +2,7 @@
 ghost use Rattle.std.specs.Prelude.{◌≡◌, ◌∷◌, IfOk, IfSome, IsOk, false};
 ghost use Rattle.clap.specs.Words.{found_of, rows_of};
 ghost use Rattle.tool_forms.specs.Commands.{listen_in, replay_in};
-ghost use Rattle.tool_forms.specs.Words.{IsFormWithinBounds, campaigns, form_of, has_settings, is_word, listen_of, replay_of, takes_no_word};
+ghost use Rattle.tool_forms.specs.Words.{IsFormWithinBounds, WordsSay, campaigns, form_of, has_settings, is_word, listen_of, replay_of, takes_no_word};
 
 use crate::campaign_words::{Campaign, campaign_of};
 use crate::commands::{chosen_in, figure_in, is_given, read, text_in};
@@ -79,7 +79,7 @@ fn replay_in(matches: &ArgMatches) -> Option<Form>
 
 // The job that the words behind `replay` ask for.
 fn replay_of(alloc: Global, words: &[String]) -> Result<Option<Form>, NoMemory>
-    ensures value { IfOk result (λ form. form ≡ replay_of words.now) }
+    ensures value { WordsSay result (replay_of words.now) }
     ensures within { IfOk result (λ form. IfSome form IsFormWithinBounds) }
 {
     match read(alloc, Table::Replay, words)? {
@@ -99,7 +99,7 @@ fn takes_no_word(form: Form, words: &[String]) -> Option<Form>
 
 // The job that the words behind `campaign` ask for.
 fn campaigns(alloc: Global, words: &[String]) -> Result<Option<Form>, NoMemory>
-    ensures value { IfOk result (λ form. form ≡ campaigns words.now) }
+    ensures value { WordsSay result (campaigns words.now) }
     ensures within { IfOk result (λ form. IfSome form IsFormWithinBounds) }
 {
     match campaign_of(alloc, words)? {
@@ -119,7 +119,7 @@ fn listen_in(matches: &ArgMatches) -> Option<Form>
 
 // The job that the words behind `listen` ask for.
 fn listen_of(alloc: Global, words: &[String]) -> Result<Option<Form>, NoMemory>
-    ensures value { IfOk result (λ form. form ≡ listen_of words.now) }
+    ensures value { WordsSay result (listen_of words.now) }
     ensures within { IfOk result (λ form. IfSome form IsFormWithinBounds) }
 {
     match read(alloc, Table::Listen, words)? {
@@ -161,7 +161,7 @@ fn form_behind(alloc: Global, first: &String, words: &[String]) -> Result<Option
 /// `clap`, and then says nothing of them.
 #[tactic(auto, unfolding(crate::specs::Words::form_of))]
 pub fn form_of(alloc: Global, words: &[String]) -> Result<Option<Form>, NoMemory>
-    ensures value { IfOk result (λ form. form ≡ form_of words.now) }
+    ensures value { WordsSay result (form_of words.now) }
     ensures within { IfOk result (λ form. IfSome form IsFormWithinBounds) }
     ensures memory { has_settings words.now ≡ false → IsOk result }
 {

@@ -1,5 +1,5 @@
 -- What the jobs over an end share: how a side's end is configured, and the frame that a line makes arrive (own).
-use Rattle.std.specs.Prelude.{ℕ, List, if◌then◌else◌}
+use Rattle.std.specs.Prelude.{ℕ, List, if◌then◌else◌, ◌≡◌, ◌≤◌, true, length}
 use Rattle.dccp_endpoint.specs.declared.config.Config.{Config}
 use Rattle.dccp_states.specs.declared.phase.Role.{Role}
 use Rattle.dccp_states.specs.declared.phase.Role.TheVariants as role
@@ -23,3 +23,7 @@ config_without_offers config = record config { lists = listed.without_offers con
 -- the frame's end.
 abbrev pub arriving : Pseudo → FrameLine → List ℕ
 arriving addresses frame = if frame.seal then sealed addresses frame.bytes else frame.bytes
+
+-- a frame whose checksum is to be set has room for one
+abbrev pub CanBeSealed : FrameLine → Type 0
+CanBeSealed frame = frame.seal ≡ true → 8 ≤ length frame.bytes

@@ -1,5 +1,5 @@
 -- Pieces of the tool's texts (own).
-use Rattle.std.specs.Prelude.{◌≡◌, ℕ, List, [], ◌∷◌, ◌++◌, length, take, slice_index, codes, decimal}
+use Rattle.std.specs.Prelude.{◌≡◌, ℕ, List, [], ◌∷◌, ◌++◌, length, take, slice_index, codes, decimal, Vec}
 use Rattle.hex.specs.Hex.{encode_lower}
 
 -- a text that was begun still begins a later one
@@ -20,3 +20,7 @@ abbrev pub v4_text : List ℕ → List ℕ
 v4_text a =
     decimal (slice_index a 0) ++ codes "." ++ decimal (slice_index a 1) ++ codes "."
     ++ decimal (slice_index a 2) ++ codes "." ++ decimal (slice_index a 3)
+
+-- two texts have the same bytes, whatever room they have
+abbrev pub SameText : {X Z : Type 0} → Vec X Z → Vec X Z → Type 0
+SameText old new = new.items ≡ old.items

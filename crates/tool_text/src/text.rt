@@ -4,7 +4,7 @@
 ghost use Rattle.std.specs.Prelude.{◌≡◌, ◌<◌, ◌++◌, codes, decimal, OnOk, OnErr};
 ghost use Rattle.std.specs.Str.{bytes_eq};
 ghost use Rattle.hex.specs.Hex.{encode_lower};
-ghost use Rattle.tool_text.specs.Text.{Keeps, labelled_number, hex_or_dash, v4_text};
+ghost use Rattle.tool_text.specs.Text.{Keeps, SameText, hex_or_dash, labelled_number, v4_text};
 
 use crate::hexadecimal::encode;
 use itoa::Buffer;
@@ -23,7 +23,7 @@ pub fn is_text(bytes: &[u8], text: &[u8]) -> bool
 /// Puts a piece at the text's end (own). NoMemory comes where the text could not grow, and leaves it as it was.
 pub fn put(text: &mut Vec<u8>, piece: &[u8]) -> Result<(), NoMemory>
     ensures ok { OnOk result (text.new.items ≡ text.old.items ++ piece.now) }
-    ensures err { OnErr result (text.new.items ≡ text.old.items) }
+    ensures err { OnErr result (SameText text.old text.new) }
     ensures front { Keeps text.old.items text.new.items }
 {
     text.extend_from_slice(piece)?;
@@ -33,7 +33,7 @@ pub fn put(text: &mut Vec<u8>, piece: &[u8]) -> Result<(), NoMemory>
 /// Puts a number in decimal (own). NoMemory comes where the text could not grow, and leaves it as it was.
 pub fn put_number(text: &mut Vec<u8>, number: u64) -> Result<(), NoMemory>
     ensures ok { OnOk result (text.new.items ≡ text.old.items ++ decimal number) }
-    ensures err { OnErr result (text.new.items ≡ text.old.items) }
+    ensures err { OnErr result (SameText text.old text.new) }
     ensures front { Keeps text.old.items text.new.items }
 {
     let mut buffer = Buffer::new();

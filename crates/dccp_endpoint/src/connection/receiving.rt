@@ -25,7 +25,7 @@ impl Connection {
     ghost use Rattle.dccp_states.specs.declared.phase.Phase.TheVariants as phase;
     ghost use Rattle.validity_windows.specs.Verdict.{verdict};
     ghost use Rattle.dccp_endpoint.specs.Controlled.{end_with, with_control};
-    ghost use Rattle.dccp_endpoint.specs.End.{IsProper, is_phase_of};
+    ghost use Rattle.dccp_endpoint.specs.End.{IsPhaseOf, IsProper};
     ghost use Rattle.dccp_endpoint.specs.Faults.{counts};
     ghost use Rattle.dccp_endpoint.specs.Heeding.{due_of, heeding_or, unheeded};
     ghost use Rattle.dccp_endpoint.specs.Speaking.{HaveRoom};
@@ -234,7 +234,7 @@ impl Connection {
         packet: &IncomingPacket<'_>,
         entrance: Entrance,
     ) -> Result<(), Exit>
-        requires { entrance ≡ Entrance.Accept → is_phase_of phase.Respond self.old.config.role ≡ true }
+        requires { entrance ≡ Entrance.Accept → IsPhaseOf phase.Respond self.old.config.role }
         ensures course { course self.new result ≡ accepts_request packet.now entrance self.old }
         ensures config { self.new.config ≡ self.old.config }
         ensures rows { self.new.rows ≡ self.old.rows }
@@ -260,7 +260,7 @@ impl Connection {
 
     // The first packet of the peer sets the first and the greatest number received.
     fn start(&mut self, phase: Phase, packet: &IncomingPacket<'_>)
-        requires { is_phase_of phase self.old.config.role ≡ true }
+        requires { IsPhaseOf phase self.old.config.role }
         ensures { self.new ≡ started self.old phase packet.now }
     {
         self.phase = phase;
@@ -456,7 +456,7 @@ impl Connection {
 
     // Steps 10 to 15: the phase moves by the table, and the number with which it becomes OPEN is OSR.
     fn move_to(&mut self, phase: Phase, number: Seq48)
-        requires { is_phase_of phase self.old.config.role ≡ true }
+        requires { IsPhaseOf phase self.old.config.role }
         ensures { self.new ≡ moved_to self.old phase number }
     {
         if is_open(phase) && !is_open(self.phase) {

@@ -1,6 +1,6 @@
 //! The role of a side's end, and the frame that a line makes arrive at an end.
-ghost use Rattle.std.specs.Prelude.{◌≡◌, ◌≤◌, length, true};
-ghost use Rattle.tool_jobs.specs.Ends.{arriving, role_of};
+ghost use Rattle.std.specs.Prelude.{◌≡◌, ◌≤◌, length};
+ghost use Rattle.tool_jobs.specs.Ends.{CanBeSealed, arriving, role_of};
 
 use dccp_endpoint::{Role, seal_frame};
 use dccp_packets::Frame;
@@ -20,7 +20,7 @@ pub fn role_of(side: Side) -> Role
 
 /// The frame that a line makes arrive: its checksum is set for these addresses where the line says so.
 pub(crate) fn arriving(addresses: &Pseudo, said: &FrameLine<'_>) -> Frame
-    requires { said.now.seal ≡ true → 8 ≤ length said.now.bytes }
+    requires { CanBeSealed said.now }
     ensures { result ≡ arriving addresses.now said.now }
 {
     let mut frame = said.bytes.frame();
@@ -34,7 +34,7 @@ pub(crate) fn arriving(addresses: &Pseudo, said: &FrameLine<'_>) -> Frame
 pub(crate) fn put_arriving(room: &mut [u8], addresses: &Pseudo, said: &FrameLine<'_>)
     requires room { length room.old ≡ length said.now.bytes }
     requires short { length room.old ≤ 2044 }
-    requires seals { said.now.seal ≡ true → 8 ≤ length said.now.bytes }
+    requires seals { CanBeSealed said.now }
     ensures { room.new ≡ arriving addresses.now said.now }
 {
     said.bytes.put(room);

@@ -3,7 +3,7 @@ ghost use Rattle.std.specs.Prelude.{◌≡◌, ◌≢◌, ℕ, ◌++◌, ◌+◌
 ghost use Rattle.dccp_endpoint.specs.Usual.{usual};
 ghost use Rattle.dccp_io.specs.Counts.{Rose};
 ghost use Rattle.tool_text.specs.Ends.{Answers, SinkFails, StopsWithin, EndsForCause};
-ghost use Rattle.tool_jobs.specs.Ends.{arriving, role_of};
+ghost use Rattle.tool_jobs.specs.Ends.{CanBeSealed, arriving, role_of};
 ghost use Rattle.tool_jobs.specs.Replay.{Acts, Performs, Heeds, act_lines, after_act, begun_from, begun_replay, count, first_replay, opened_line, replay_config, replay_job, replay_of_input, text_of_replay, reply_line};
 
 use crate::ends::{put_arriving, put_end_line, put_frame_line, role_of};
@@ -108,7 +108,7 @@ impl<E: ReplayEnd> Replay<E> {
         said: &FrameLine<'_>,
         text: &mut Vec<u8>,
     ) -> Result<(), NoMemory>
-        requires seals { said.now.seal ≡ true → 8 ≤ length said.now.bytes }
+        requires seals { CanBeSealed said.now }
         requires sent { self.old.sent ≤ number }
         requires number { number ≤ 16777217 }
         ensures value { OnOk result (self.new ≡ after_act self.old (E.acts.hearing self.old.end number (arriving (usual (role_of self.old.side)).pseudo_in said.now))) }
@@ -190,7 +190,7 @@ fn hear_said<E: ReplayEnd>(
     said: &FrameLine<'_>,
     text: &mut Vec<u8>,
 ) -> Result<(), NoMemory>
-    requires { said.now.seal ≡ true → 8 ≤ length said.now.bytes }
+    requires { CanBeSealed said.now }
     ensures { OnOk result (Performs (E.acts.hearing end.old number (arriving addresses.now said.now)) end.new out.new text.old.items text.new.items) }
 {
     let bytes = &mut room[..said.bytes.len()];

@@ -3,6 +3,7 @@ ghost use Rattle.std.specs.Prelude.{◌≡◌, ◌≤◌, ◌<◌, [], length, O
 ghost use Rattle.std.specs.Io.KnownBytes.{append_known};
 ghost use Rattle.dccp_io.specs.Fronts.{TakesFront};
 ghost use Rattle.tool_text.specs.Ends.{SinkFailed, HasBegun, HasTaken, IsMovedOut, block_length};
+ghost use Rattle.tool_text.specs.Text.{SameText};
 
 use crate::output::status::Status;
 use dccp_io::{Failed, Sink, write_all};
@@ -16,7 +17,7 @@ pub fn flush<K: Sink>(output: &mut K, text: &mut Vec<u8>) -> Result<(), Failed>
     ensures taken { OnOk result (K.taken output.new ≡ append_known (K.taken output.old) text.old.items) }
     ensures empty { OnOk result (text.new.items ≡ []) }
     ensures front { OnErr result (TakesFront (K.taken output.old) (K.taken output.new) text.old.items) }
-    ensures kept { OnErr result (text.new.items ≡ text.old.items) }
+    ensures kept { OnErr result (SameText text.old text.new) }
     ensures never_falls { K.faults output.old ≤ K.faults output.new }
     ensures takes_never_fall { K.empty_takes output.old ≤ K.empty_takes output.new }
     ensures cause { OnErr result (SinkFailed (K.faults output.old) (K.faults output.new) (K.empty_takes output.old) (K.empty_takes output.new)) }
@@ -32,7 +33,7 @@ pub fn flush_if_full<K: Sink>(output: &mut K, text: &mut Vec<u8>) -> Result<(), 
     ensures full { block_length ≤ length text.old.items → OnOk result (text.new.items ≡ []) }
     ensures short { length text.old.items < block_length → text.new.items ≡ text.old.items }
     ensures front { OnErr result (TakesFront (K.taken output.old) (K.taken output.new) text.old.items) }
-    ensures kept { OnErr result (text.new.items ≡ text.old.items) }
+    ensures kept { OnErr result (SameText text.old text.new) }
     ensures never_falls { K.faults output.old ≤ K.faults output.new }
     ensures takes_never_fall { K.empty_takes output.old ≤ K.empty_takes output.new }
     ensures cause { OnErr result (SinkFailed (K.faults output.old) (K.faults output.new) (K.empty_takes output.old) (K.empty_takes output.new)) }
