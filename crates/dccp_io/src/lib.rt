@@ -1,4 +1,5 @@
-//! Where bytes come from and where they go: sources and sinks that may fail, and count how often they did (own).
+//! Where bytes come from and where they go: sources and sinks that may fail, and count how often they did, in counts
+//! that never fall (own).
 //!
 //! Nothing here knows packets, or what a line says. A source that tells its bytes and a sink that tells what it took
 //! are what contracts above speak of; the adapters over standard input and output tell nothing but their counts.

@@ -1,7 +1,7 @@
 //! Sequence numbers of DCCP as points of a circle: 48-bit numbers, their 24-bit short forms, and the order between
 //! numbers less than half the circle apart (RFC 4340, sections 3.1, 7.1 and 7.6).
 //!
-//! Nothing here takes memory or refuses a number once it is made.
+//! Nothing here takes memory, and no number is refused once it is made.
 #![tactic(auto)]
 
 mod circle;
