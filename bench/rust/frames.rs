@@ -54,7 +54,7 @@ pub fn kind(packet: &[u8]) -> u8 {
     packet[8] >> 1 & 15
 }
 
-/// Whether a packet has options, or else its header is longer than that of an Ack.
+/// Whether a packet's header, with its options, is longer than an Ack's without: 6 words.
 pub fn has_options(packet: &[u8]) -> bool {
     packet[4] > 6
 }

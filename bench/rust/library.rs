@@ -1,5 +1,5 @@
-//! An end of the library, whose calls leave their frame where the caller says. It queues nothing and takes no memory of its own, other than
-//! that of the crate for Rust. All unsafe code of this program is here.
+//! An end of the library, whose calls leave their frame where the caller says. Unlike the end of the crate for Rust it queues nothing, and takes
+//! no memory of its own. All unsafe code of this program is here.
 //!
 //! What the library asks of its caller holds of each call as in `rust/dccp/src/end.rs`: pointers are those of references, a slice gives its
 //! own pointer and length, and `&mut self` gives the handle to one call at a time.
@@ -49,6 +49,7 @@ impl End {
         end
     }
 
+    /// Opens the connection.
     pub fn open(&mut self, now: u64, frame: &mut Frame) {
         // SAFETY: as the head of this module says.
         let status = unsafe { sys::dccp_open(&mut self.0, now, frame) };
@@ -71,6 +72,7 @@ impl End {
         told
     }
 
+    /// Tells the end that this timer has run out, whether or not it has something to do.
     pub fn timer(&mut self, timer: u32, now: u64, frame: &mut Frame) {
         // SAFETY: as the head of this module says.
         unsafe { dccp_timer(&mut self.0, timer, now, frame) };
@@ -85,9 +87,12 @@ impl End {
     /// Wishes a value for a feature of its own.
     pub fn prefer(&mut self, feature: u32, value: u64, now: u64, frame: &mut Frame) {
         // SAFETY: as the head of this module says.
-        unsafe { sys::dccp_prefer(&mut self.0, feature, false, &value, 1, now, frame) };
+        let status =
+            unsafe { sys::dccp_prefer(&mut self.0, feature, false, &value, 1, now, frame) };
+        assert_eq!(status, sys::DONE, "the value is not wished");
     }
 
+    /// What may be read of the end.
     pub fn look(&mut self) -> View {
         let mut view = View::default();
         // SAFETY: as the head of this module says.

@@ -38,6 +38,6 @@ fn main() -> ExitCode {
 }
 
 fn refused() -> ExitCode {
-    eprintln!("what is measured, and how often");
+    eprintln!("usage: bench calls | ends | blocks COUNT");
     ExitCode::from(2)
 }
