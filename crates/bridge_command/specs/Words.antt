@@ -20,7 +20,7 @@ asked_seed words = option_and_then (λ run. Some (form.Seed run)) (seed_run_of w
 abbrev pub asked_flow : List (String Global) → Option Form
 asked_flow words = option_and_then (λ asked. Some (form.Frames asked)) (flow_side_of words)
 
--- The form that words have behind their first: `capture`, `unwrap`, `seed`, `frames` or `json`.
+-- The form of a first word and those behind it: `capture`, `unwrap`, `seed`, `frames` or `json`.
 unfoldable pub form_behind : String Global → List (String Global) → Option Form
 form_behind first words =
     if is_word first (codes "capture") then stands_alone form.Capture words

@@ -1,8 +1,9 @@
 //! The second tool's one call: what its words ask for, done over a source and a sink (own).
 //!
-//! It makes captures of what the tool tells, lines and objects of captures, and the schedules of seeds, which it runs as
-//! `campaign` does. It opens no file, socket or clock, and reads and writes nothing but the source and the sink that it
-//! is lent.
+//! It makes captures of what the tool tells, captures of raw IP, lines and objects of captures, and the schedules of
+//! seeds, which it runs as `campaign` does. It opens no file, socket or clock, and reads and writes nothing but the
+//! source and the sink that it is lent. It takes memory for words and text, for a table of flows, for the values of a
+//! record and for the run of a seed.
 #![tactic(auto)]
 
 mod capture;

@@ -56,7 +56,7 @@ fn asked_flow(alloc: Global, words: &[String]) -> Result<Option<Form>, NoMemory>
     }
 }
 
-// The job that the words behind their first ask for.
+// The job that a first word and those behind it ask for.
 #[tactic(auto, unfolding(crate::specs::Words::form_behind))]
 fn form_behind(alloc: Global, first: &String, words: &[String]) -> Result<Option<Form>, NoMemory>
     ensures value { IfOk result (λ form. form ≡ form_behind first.now words.now) }

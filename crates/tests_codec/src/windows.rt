@@ -195,10 +195,7 @@ fn tell_judged(marks: &Marks, word: &str, told: &mut String) -> Result<(), Fail>
 
 // Takes a valid packet, if it is no Reset.
 fn take(marks: &mut Marks, kind: PacketType, number: Seq48, ack: Seq48) -> bool {
-    if !are_in_range(marks) || !kind.has_ack() {
-        return false;
-    }
-    if let PacketType::Reset = kind {
+    if !are_in_range(marks) || !kind.has_ack() || matches!(kind, PacketType::Reset) {
         return false;
     }
     let Verdict::Valid = marks.check(kind, number, Some(ack)) else {

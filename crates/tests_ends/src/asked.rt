@@ -268,17 +268,10 @@ impl AtAnEnd for Closing {
 
 #[test]
 fn what_meets_a_wish(rt: HostRuntime) -> Result<(), Fail> {
-    let (server, client) = (Asking(Role::Server), Asking(Role::Client));
-    holds(
-        rt.alloc(),
-        &NewEnd::plain(Role::Server, server),
-        AT_A_SERVER,
-    )?;
-    holds(
-        rt.alloc(),
-        &NewEnd::plain(Role::Client, client),
-        AT_A_CLIENT,
-    )
+    let server = NewEnd::plain(Role::Server, Asking(Role::Server));
+    let client = NewEnd::plain(Role::Client, Asking(Role::Client));
+    holds(rt.alloc(), &server, AT_A_SERVER)?;
+    holds(rt.alloc(), &client, AT_A_CLIENT)
 }
 
 #[test]

@@ -153,8 +153,11 @@ pub(crate) fn tell_frame(alloc: Global, out: &Outbox, told: &mut String) -> Resu
     }
 }
 
-fn tell_delivered(first: usize, past: usize, told: &mut String) -> Result<(), Fail> {
-    Ok(write!(told, " took {first}-{past}")?)
+fn tell_took(delivered: Option<(usize, usize)>, told: &mut String) -> Result<(), Fail> {
+    match delivered {
+        Some((first, past)) => Ok(write!(told, " took {first}-{past}")?),
+        None => Ok(told.push_str(" took")?),
+    }
 }
 
 fn tell_reset(code: u8, detail: [u8; 3], told: &mut String) -> Result<(), Fail> {
@@ -169,10 +172,7 @@ fn tell_synced(acknowledged: Seq48, told: &mut String) -> Result<(), Fail> {
 
 fn tell_outcome(outcome: &Outcome, told: &mut String) -> Result<(), Fail> {
     match *outcome {
-        Outcome::Took { delivered: None } => Ok(told.push_str(" took")?),
-        Outcome::Took {
-            delivered: Some((first, past)),
-        } => tell_delivered(first, past, told),
+        Outcome::Took { delivered } => tell_took(delivered, told),
         Outcome::SentReset { code, detail } => tell_reset(code, detail, told),
         Outcome::Synced(acknowledged) => tell_synced(acknowledged, told),
         Outcome::WasReset(code) => Ok(write!(told, " was reset {code}")?),

@@ -338,10 +338,9 @@ fn comes_out(
 ) -> Result<(), Fail> {
     all_come(world, name, happenings)?;
     if is_first_report(world, report) {
-        Ok(())
-    } else {
-        Err(Fail::new(format_args!("{name}: the report")))
+        return Ok(());
     }
+    Err(Fail::new(format_args!("{name}: the report")))
 }
 
 // Lets these events happen, and then asks for the first report.

@@ -139,12 +139,7 @@ impl Read for Interrupted {
     }
 }
 
-fn tell_interrupted(
-    alloc: Global,
-    broken: bool,
-    calls: &str,
-    told: &mut String,
-) -> Result<(), Fail> {
+fn tell_faulty(alloc: Global, broken: bool, calls: &str, told: &mut String) -> Result<(), Fail> {
     let reader = Interrupted {
         interrupted: false,
         broken,
@@ -171,8 +166,8 @@ impl Table for Sources {
         match kind {
             "sure" => tell_sure(alloc, input, calls, told),
             "standard" => tell_standard(alloc, input, calls, told),
-            "interrupted" => tell_interrupted(alloc, false, calls, told),
-            "broken" => tell_interrupted(alloc, true, calls, told),
+            "interrupted" => tell_faulty(alloc, false, calls, told),
+            "broken" => tell_faulty(alloc, true, calls, told),
             _ => {
                 let is_lent = kind == "lent";
                 tell_memory(alloc, (most, failing), is_lent, (input, calls), told)

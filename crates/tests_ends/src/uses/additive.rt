@@ -28,13 +28,11 @@ fn takes_report(kind: &mut AdditiveWindow, ack: u64, byte: u8) -> bool {
     let Some(ack) = Seq48::new(ack) else {
         return false;
     };
-    match AckReport::of(ack, options(&area, false)) {
-        Some(report) => {
-            kind.on_report(&report, 2);
-            true
-        }
-        None => false,
-    }
+    let Some(report) = AckReport::of(ack, options(&area, false)) else {
+        return false;
+    };
+    kind.on_report(&report, 2);
+    true
 }
 
 fn takes(kind: &mut AdditiveWindow, call: &Call) -> bool {
