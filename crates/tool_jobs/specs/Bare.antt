@@ -1,5 +1,5 @@
 -- What `replay` writes of an input where its end stands alone (own).
-use Rattle.std.specs.Prelude.{ℕ, Bool, false, is_some, List, Result}
+use Rattle.std.specs.Prelude.{ℕ, Bool, false, is_some, List, [], Result}
 use Rattle.ccid_two.specs.Kinds.{Both, at_first, kinds_control}
 use Rattle.dccp_endpoint.specs.Calling.{opens}
 use Rattle.dccp_endpoint.specs.Controlled.{End, EndStep, begins, with_control}
@@ -19,13 +19,13 @@ bare_opened step = record { text = opened_line step.answer; after = step.after; 
 abbrev pub bare_heard : ℕ → List ℕ → EndStep Both Outcome → Act (End Both)
 bare_heard number bytes step = record { text = result_line number (seen.Received step.answer) bytes; after = step.after; frame = step.frame }
 
--- An end alone has no lines of its own.
+-- An end alone has no lines of its own, and does nothing at any.
 abbrev pub bare_acts : Acts (End Both)
 bare_acts = record {
   opening = λ e. bare_opened (with_control kinds_control e.congestion (opens e.state));
   hearing = λ e number bytes. bare_heard number bytes (with_control kinds_control e.congestion (receives e.state bytes));
   is_own = λ line. false;
-  heeding = λ e number line. record { text = line; after = e };
+  heeding = λ e number line. record { text = []; after = e };
   standing = λ e. e;
 }
 

@@ -49,7 +49,7 @@ impl ReplayEnd for Endpoint<Kinds> {
     }
 
     fn heed(&mut self, _number: u64, _line: &[u8], _text: &mut Vec<u8>) -> Result<(), NoMemory> {
-        unreachable!()
+        Ok(())
     }
 
     fn standing(&self) -> &Endpoint<Kinds> {

@@ -1,5 +1,5 @@
 //! A replay while it is played: an end of some kind, at which frames arrive.
-ghost use Rattle.std.specs.Prelude.{◌≡◌, ◌≢◌, ℕ, ◌++◌, ◌+◌, ◌^◌, ◌<◌, ◌≤◌, List, Some, is_some, length, true, IfOk, OnOk};
+ghost use Rattle.std.specs.Prelude.{◌≡◌, ◌≢◌, ℕ, ◌++◌, ◌+◌, ◌^◌, ◌<◌, ◌≤◌, List, Some, is_some, length, IfOk, OnOk};
 ghost use Rattle.dccp_endpoint.specs.Usual.{usual};
 ghost use Rattle.dccp_io.specs.Counts.{Rose};
 ghost use Rattle.tool_text.specs.Ends.{Answers, SinkFails, StopsWithin, EndsForCause};
@@ -50,7 +50,6 @@ pub(crate) trait ReplayEnd {
 
     /// Performs what such a line says, and puts the line of that.
     fn heed(&mut self, number: u64, line: &[u8], text: &mut Vec<u8>) -> Result<(), NoMemory>
-        requires { acts.is_own line.now ≡ true }
         ensures { OnOk result (Heeds (acts.heeding self.old number line.now) self.new text.old.items text.new.items) };
 
     /// The end whose line stands last.
