@@ -37,10 +37,10 @@ pub record IsClaim (v : View) (answer : Option ℕ) (w : View) : Type 0 where
   pub is_answer : answer ≡ (if nat_lt word v.limit then Some word else None)
   pub is_view : w ≡ claimed v word
 
--- it has two shares left, one for each claimer that it is split into
+-- a claimer has two shares left, one for each claimer that it is split into
 abbrev pub HasTwoShares : View → Type 0
 HasTwoShares v = 2 ≤ v.share - v.drawn
 
 -- a number that is claimed lies below the limit
-abbrev pub KeepsLimit : View → ℕ → Type 0
-KeepsLimit v number = number < v.limit
+abbrev pub IsBelowLimit : View → ℕ → Type 0
+IsBelowLimit v number = number < v.limit

@@ -1,7 +1,7 @@
 //! The claims, and those who draw from them.
 ghost use Rattle.std.specs.Prelude.{◌≡◌, ℕ, ◌^◌, ◌<◌, ◌≤◌, min, All, IfOk, IfSome, IfNone, IsOk};
 ghost use Rattle.campaign_claims.specs.Numbers.{times, once_below, AreOnceBelow};
-ghost use Rattle.campaign_claims.specs.Rule.{HasTwoShares, IsClaim, KeepsLimit};
+ghost use Rattle.campaign_claims.specs.Rule.{HasTwoShares, IsClaim, IsBelowLimit};
 ghost use Rattle.campaign_claims.specs.Views.{both, first, given, held, kept, with_claimed, with_none};
 
 use crate::Gate;
@@ -65,7 +65,7 @@ impl Claimer {
     pub fn claim(&mut self, claims: &Claims) -> Option<u64>
         requires same { self.old.claims ≡ claims.now }
         requires part { self.old.view.drawn < self.old.view.share }
-        ensures below { IfSome result (KeepsLimit self.old.view) }
+        ensures below { IfSome result (IsBelowLimit self.old.view) }
         ensures greater { IfSome result (λ k. All (λ x. x < k) self.old.view.numbers) }
         ensures some { IfSome result (λ k. self.new ≡ held self.old.claims (with_claimed self.old.view k)) }
         ensures none { IfNone result (self.new ≡ held self.old.claims (with_none self.old.view)) }
@@ -83,7 +83,7 @@ impl Claimer {
     pub fn begin<G: Gate>(&mut self, claims: &Claims, gate: &G) -> Option<u64>
         requires same { self.old.claims ≡ claims.now }
         requires part { self.old.view.drawn < self.old.view.share }
-        ensures below { IfSome result (KeepsLimit self.old.view) }
+        ensures below { IfSome result (IsBelowLimit self.old.view) }
         ensures greater { IfSome result (λ k. All (λ x. x < k) self.old.view.numbers) }
         ensures some { IfSome result (λ k. self.new ≡ held self.old.claims (with_claimed self.old.view k)) }
         ensures none { IfNone result (self.new ≡ held self.old.claims (with_none self.old.view)) }

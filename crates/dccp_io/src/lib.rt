@@ -2,7 +2,9 @@
 //! that never fall (own).
 //!
 //! Nothing here knows packets, or what a line says. A source that tells its bytes and a sink that tells what it took
-//! are what contracts above speak of; the adapters over standard input and output tell nothing but their counts.
+//! are what contracts above speak of; the adapters over standard input and output tell nothing but their counts. Lines,
+//! blocks that are read ahead and a sink in memory take what they need when they are made; a text that is read whole
+//! takes memory on the way.
 #![tactic(auto)]
 
 mod calls;

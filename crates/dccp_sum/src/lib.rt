@@ -1,7 +1,8 @@
 //! The checksum of DCCP packets: the pseudo-headers of IPv4 and IPv6, the coverage of the field CsCov, and the ones'
 //! complement sum over both (RFC 4340, section 9; RFC 1071).
 //!
-//! Nothing here takes memory, decodes a packet or looks at the Data Checksum option (RFC 4340, section 9.3).
+//! Nothing here takes memory, decodes a packet or looks at the Data Checksum option (RFC 4340, section 9.3). Two laws
+//! say what the sum means in RFC 1071's terms.
 #![tactic(auto)]
 
 mod laws;

@@ -5,6 +5,7 @@
 //! repeated and reordered among them; `Run` does the same event by event. `campaign` runs as many seeds as it is asked
 //! to, each once, and adds their reports: the answer is the same for every number of workers and whatever they wait
 //! for. Nothing is said of which worker runs which seed, nor of how long it takes.
+//! A run takes memory as its world does.
 #![tactic(auto)]
 
 mod draws;

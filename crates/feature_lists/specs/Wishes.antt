@@ -25,11 +25,11 @@ abbrev pub is_ours : Feature → Place → Bool
 is_ours feature place.Here = true
 is_ours feature place.There = (described feature).is_server_priority
 
--- the same, said of it
+-- an end may wish for the feature there
 abbrev pub IsOurs : Feature → Place → Type 0
 IsOurs feature place = is_ours feature place ≡ true
 
--- that it may not: a non-negotiable one at the other end
+-- an end may not: the feature is non-negotiable, and the place is the other end
 abbrev pub IsNotOurs : Feature → Place → Type 0
 IsNotOurs feature place = is_ours feature place ≡ false
 

@@ -1,5 +1,6 @@
 -- The eighteen rows of an end: an event is the step of its row (own).
-use Rattle.std.specs.Prelude.{◌≡◌, ◌≢◌, ℕ, Bool, true, false, List, [], ◌∷◌, length, map, filter, Option, Some, None, slice_index_or, slice_set, if◌then◌else◌}
+use Rattle.std.specs.List.{list_all}
+use Rattle.std.specs.Prelude.{◌≡◌, ◌≢◌, ◌&&◌, not, ℕ, Bool, true, false, List, [], ◌∷◌, length, map, filter, Option, Some, None, slice_index_or, slice_set, if◌then◌else◌}
 use Rattle.feature_lists.specs.Features.{feature_numbered, initial_of}
 use Rattle.feature_lists.specs.declared.features.Feature.{Feature}
 use Rattle.feature_lists.specs.declared.features.Feature.TheVariants as f
@@ -11,6 +12,8 @@ use Rattle.feature_machine.specs.declared.stands.Stand.{Stand}
 use Rattle.feature_machine.specs.declared.stands.Stand.TheVariants as stand
 use Rattle.feature_machine.specs.declared.stands.Held.{Held}
 use Rattle.feature_machine.specs.declared.offers.Listed.{Listed}
+use Rattle.feature_machine.specs.declared.offers.Offer.{Offer}
+use Rattle.feature_machine.specs.declared.offers.Offer.TheVariants as offer
 use Rattle.feature_machine.specs.declared.row.Row.{Row}
 use Rattle.feature_machine.specs.Lists.{index_of, usual_listed}
 use Rattle.feature_machine.specs.Rows.{RowEvent, Change, Confirm, RowAnswer, Confirms, Ignored, Fatal, row_step}
@@ -116,6 +119,20 @@ IsDue rows feature place = is_due (row_at rows feature place) ≡ true
 -- the rows that ask, by feature and place
 abbrev pub due_keys : List Row → List (Feature × Place)
 due_keys rows = map (λ row. (row.feature, row.place)) (filter is_due rows)
+
+-- an offer that was made, or that there never was
+abbrev pub is_offerless : Offer → Bool
+is_offerless offer.Nothing = true
+is_offerless offer.Plain = false
+is_offerless offer.Mandatory = false
+
+-- the row has nothing to say by itself: no offer is left, and it does not ask
+abbrev pub is_quiet : Row → Bool
+is_quiet row = is_offerless row.offer && not (is_due row)
+
+-- none of the rows has
+abbrev pub are_quiet : List Row → Bool
+are_quiet rows = list_all is_quiet rows
 
 -- all features at all places, by features, Here before There
 abbrev pub every_place : List (Feature × Place)

@@ -1,15 +1,14 @@
 //! The eighteen rows of an end.
-ghost use Rattle.std.specs.Prelude.{◌≡◌, ◌≢◌, ◌↔◌, ◌⊎◌, ◌<◌, ℕ, Bool, true, false, [], All, IsNone, IfSome, length};
+ghost use Rattle.std.specs.Prelude.{◌≡◌, ◌≢◌, ◌↔◌, ◌⊎◌, ◌<◌, ℕ, Bool, true, false, [], IsNone, IfSome, length};
 ghost use Rattle.feature_lists.specs.Features.{described, feature_number};
 ghost use Rattle.feature_lists.specs.Wishes.{IsNotOurs, is_wish};
 ghost use Rattle.feature_lists.specs.declared.features.Feature.{Feature};
 ghost use Rattle.feature_lists.specs.declared.features.Place.{Place};
 ghost use Rattle.feature_machine.specs.Answers.{reply_of, shown, answered, Ignoring, Failing, settling_of, opening_of, is_opening};
 ghost use Rattle.feature_machine.specs.Lists.{index_of};
-ghost use Rattle.feature_machine.specs.Negotiating.{AreRowsOf, IsDue, IsNegotiation, RestStays, changes, confirmed, due_keys, first_rows, held_by, is_due, is_next_mandatory, place_of, put, row_at, stepped};
+ghost use Rattle.feature_machine.specs.Negotiating.{AreRowsOf, IsDue, IsNegotiation, RestStays, are_quiet, changes, confirmed, due_keys, first_rows, held_by, is_due, is_next_mandatory, place_of, put, row_at, stepped};
 ghost use Rattle.feature_machine.specs.Rows.{Change, Confirm, Prefers, Offers, Sends};
 ghost use Rattle.feature_machine.specs.Sound.{IsRowOf, IsRefusal};
-ghost use Rattle.feature_machine.specs.declared.offers.Offer.TheVariants.{Nothing};
 ghost use Rattle.feature_machine.specs.declared.stands.Stand.TheVariants.{Stable};
 ghost use Rattle.feature_machine.specs.declared.answers.Settling.TheVariants.{Fatal, Ignored, Settled};
 
@@ -83,17 +82,11 @@ fn fill(rows: &mut [Row], role: Role2, listed: &[Listed])
     }
 }
 
-// Tells that no row has anything to say by itself.
+// Tells whether no row has anything to say by itself.
 fn are_quiet(rows: &[Row]) -> bool
-    ensures offers { result ≡ true → All (λ row. row.offer ≡ Nothing) rows.now }
-    ensures due { result ≡ true → All (λ row. is_due row ≡ false) rows.now }
+    ensures { result ≡ are_quiet rows.now }
 {
-    for row in rows {
-        if !row.is_quiet() {
-            return false;
-        }
-    }
-    true
+    rows.iter().all(|row| row.is_quiet())
 }
 
 impl Negotiation {
@@ -190,9 +183,10 @@ impl Negotiation {
         Due::of(&self.rows)
     }
 
-    /// Tells that the rows have nothing to say by themselves, as nearly always once the connection has started: an offer
-    /// that comes up now changes nothing, and no Change is due.
+    /// Tells whether the rows have nothing to say by themselves, as nearly always once the connection has started: no offer
+    /// is left and no row asks, so that an offer that comes up now changes nothing, and no Change is due.
     pub fn is_quiet(&self) -> bool
+        ensures value { result ≡ are_quiet self.now }
         ensures offers { result ≡ true → (feature : Feature) (place : Place) (confirmed : Bool)
             → (stepped self.now feature place (Offers confirmed)).rows ≡ self.now }
         ensures due { result ≡ true → due_keys self.now ≡ [] }

@@ -17,7 +17,7 @@ ghost use Rattle.feature_lists.specs.Features.{IsNonNegotiable, described};
 ghost use Rattle.feature_lists.specs.Wishes.{is_wish};
 ghost use Rattle.feature_machine.specs.Rows.{row_step, Change, Confirm, Prefers, Offers, Sends, confirm_body};
 ghost use Rattle.feature_machine.specs.Answers.{reply_of, settling_of, opening_of, is_opening};
-ghost use Rattle.feature_machine.specs.Negotiating.{first_row, is_due};
+ghost use Rattle.feature_machine.specs.Negotiating.{first_row, is_due, is_quiet};
 ghost use Rattle.feature_machine.specs.Sound.{IsSoundRow, is_lawful};
 ghost use Rattle.feature_machine.specs.declared.offers.Offer.TheVariants.{Nothing};
 ghost use Rattle.feature_machine.specs.declared.stands.Stand.TheVariants.{Stable};
@@ -115,10 +115,12 @@ impl Row {
 
     // Tells that the row has nothing to say by itself: its offer was made or there is none, and no Change is due.
     pub(crate) fn is_quiet(&self) -> bool
-        ensures offer { result ≡ true → self.now.offer ≡ Nothing }
-        ensures due { result ≡ true → is_due self.now ≡ false }
+        ensures { result ≡ is_quiet self.now }
     {
-        self.offer == Offer::Nothing && !self.is_due()
+        match self.offer {
+            Offer::Nothing => !self.is_due(),
+            Offer::Plain | Offer::Mandatory => false,
+        }
     }
 
     // A Confirm's data: the row's value, and for a server-priority feature its active list.

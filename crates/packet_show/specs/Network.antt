@@ -15,7 +15,7 @@ pub record DatagramParts : Type 0 where
 abbrev pub carried_by : Datagram → DatagramParts
 carried_by d = record { pseudo = d.pseudo; bytes = d.bytes.now; whole = d.whole }
 
--- where there is a datagram
+-- the parts of a datagram, where there is one
 abbrev pub parts_in : Option Datagram → Option DatagramParts
 parts_in = option_map carried_by
 

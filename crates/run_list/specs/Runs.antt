@@ -45,7 +45,7 @@ pub record Adds (floor bound n : ℕ) (old new : List Stretch) : Type 0 where
 abbrev pub AddsOne : {Z : Type 0} → ℕ → ℕ → Vec Stretch Z → Vec Stretch Z → Type 0
 AddsOne floor n old new = Adds floor 2048 n old.items new.items
 
--- it has room for as many
+-- a row of runs has the same room as before
 abbrev pub SameRoom : {Z : Type 0} → Vec Stretch Z → Vec Stretch Z → Type 0
 SameRoom old new = vec_capacity new ≡ vec_capacity old
 

@@ -1,4 +1,4 @@
-use Rattle.std.proofs.Common.{◌≡◌, List, [], subst}
+use Rattle.std.proofs.Common.{◌≡◌, ◌∙◌, List, [], subst, sym}
 use Rattle.feature_machine.specs.Negotiating.{due_keys, stepped}
 use Rattle.feature_machine.specs.Rows.{Offers}
 use Rattle.feature_machine.specs.declared.row.Row.{Row}
@@ -9,9 +9,9 @@ pub returns-clause-offers : goal.returns-clause-offers
 returns-clause-offers c =
     λ quiet feature place confirmed.
     subst (λ (rows : List Row). (stepped rows feature place (Offers confirmed)).rows ≡ rows) c.self.view_is
-    (nothing_comes_up c.self.inside.rows feature place confirmed c.self.invariant.size (c.are_quiet.ensures.offers quiet))
+    (nothing_comes_up c.self.inside.rows feature place confirmed c.self.invariant.size (sym c.are_quiet.ensures ∙ quiet))
 
 pub returns-clause-due : goal.returns-clause-due
 returns-clause-due c =
     λ quiet.
-    subst (λ (rows : List Row). due_keys rows ≡ []) c.self.view_is (nothing_due c.self.inside.rows (c.are_quiet.ensures.due quiet))
+    subst (λ (rows : List Row). due_keys rows ≡ []) c.self.view_is (nothing_due c.self.inside.rows (sym c.are_quiet.ensures ∙ quiet))
