@@ -4,7 +4,8 @@ ghost use Rattle.std.specs.Bool.{OnFalse};
 ghost use Rattle.std.specs.List.{list_any};
 ghost use Rattle.run_list.specs.MarkedSet.{has, answer_to, IsFrom, IsSound};
 ghost use Rattle.ack_vectors.specs.Kept.{Kept, fresh, marked_by, recorded, acked, is_whole_at, newest_whole};
-ghost use Rattle.ack_vectors.specs.Near.{record_numbers, AreNear};
+ghost use Rattle.ack_vectors.specs.Near.{record_numbers};
+ghost use Rattle.seq_circle.specs.Near.{AreNear};
 ghost use Rattle.ack_vectors.specs.Vector.{vector_under, is_whole_under, room_of};
 
 use crate::room::{VectorBytes, Vectors, room_of};

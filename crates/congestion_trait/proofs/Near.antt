@@ -1,102 +1,23 @@
 -- Numbers with at most so many steps between them, and how a report's end below one of them tells of all before it.
-use Rattle.std.proofs.Common.{◌≡◌, ℕ, zero, suc, ◌+◌, ◌-◌, ◌^◌, ◌≤◌, ◌<◌, ◌⊎◌, Bool, true, false, not, ◌&&◌, ◌||◌, cond, List, [], ◌∷◌, ◌++◌, map, Option, Some, None, IsNone, IfNone, length, take, drop, slice_get, refl, sym, ap, ◌∙◌, subst, inl, inr, arith}
+use Rattle.std.proofs.Common.{◌≡◌, ℕ, ◌+◌, ◌-◌, ◌^◌, ◌≤◌, ◌<◌, ◌⊎◌, Bool, true, false, not, ◌&&◌, ◌||◌, cond, List, [], ◌∷◌, ◌++◌, map, Option, Some, None, IsNone, IfNone, length, take, drop, slice_get, refl, sym, ap, ◌∙◌, subst, inl, inr, arith}
 use Rattle.std.specs.List.{list_all, AllByRecursion}
 use Rattle.std.proofs.lemmas.List.{take-append-drop, drop-map}
 use Rattle.std.proofs.lemmas.List.Sums.{sum_by-cons, sum_by-append}
 use mathlib.Core.List.{map-append}
-use Rattle.circular_buffer.specs.Buffer.{last_item}
 use Rattle.seq_circle.specs.Circle.{distance}
+use Rattle.seq_circle.specs.Near.{AreNear}
+use Rattle.seq_circle.proofs.Near.{all_low, near_drop}
 use Rattle.dccp_options.specs.Vectors.{is_received, state_at, states}
 use Rattle.congestion_trait.specs.declared.flight.Entry.{Entry}
 use Rattle.congestion_trait.specs.declared.flight.Standing.{Standing}
 use Rattle.congestion_trait.specs.declared.flight.Standing.TheVariants.{Out, Reported, Lost}
 use Rattle.congestion_trait.specs.Flight.{States, pipe_of, sent, after_report, is_out, is_reported, entry_reported, lost_if, is_passed}
-use Rattle.congestion_trait.specs.Walk.{is_untouched, AllUntouched, numbers, AreNear}
-
-all_more : (P Q : ℕ → Type 0) (xs : List ℕ) → ((x : ℕ) → P x → Q x) → AllByRecursion P xs → AllByRecursion Q xs
-all_more P Q [] each all = tt
-all_more P Q (x ∷ xs) each all = (each x all.0, all_more P Q xs each all.1)
-
-all_push : (P : ℕ → Type 0) (xs : List ℕ) (x : ℕ) → AllByRecursion P xs → P x → AllByRecursion P (xs ++ x ∷ [])
-all_push P [] x all last = (last, tt)
-all_push P (y ∷ ys) x all last = (all.0, all_push P ys x all.1 last)
+use Rattle.congestion_trait.specs.Walk.{is_untouched, AllUntouched, numbers}
 
 -- of the entries before and after one, that one too
 all_at : (P : ℕ → Type 0) (front : List Entry) (x : Entry) (rest : List Entry) → AllByRecursion P (numbers (front ++ x ∷ rest)) → P x.number
 all_at P [] x rest all = all.0
 all_at P (y ∷ ys) x rest all = all_at P ys x rest all.1
-
-near_more : (span step : ℕ) (xs : List ℕ) → AreNear span xs → AreNear (span + step) xs
-near_more span step [] near = tt
-near_more span step (x ∷ xs) near = (
-  near.0,
-  all_more (λ y. distance x y ≤ span) (λ y. distance x y ≤ span + step) xs (λ y h. omega arith) near.1,
-  near_more span step xs near.2,
-)
-
-pub near_drop : (span n : ℕ) (xs : List ℕ) → AreNear span xs → AreNear span (drop n xs)
-near_drop span zero xs near = near
-near_drop span (suc n) [] near = tt
-near_drop span (suc n) (x ∷ xs) near = near_drop span n xs near.2
-
--- two ways of one are no shorter
-further : (x y z : ℕ) → x < 2 ^ 48 → y < 2 ^ 48 → z < 2 ^ 48 → distance x z ≤ distance x y + distance y z
-further x y z first second third = omega arith
-
-one_less : (n : ℕ) → suc (suc n) - 1 ≡ suc (suc n - 1)
-one_less n = omega arith
-
-last_later : (x y : Entry) (later : List Entry) → last_item (x ∷ y ∷ later) ≡ last_item (y ∷ later)
-last_later x y later = ap (λ n. slice_get (x ∷ y ∷ later) n) (one_less (length later))
-
-some_is : (x y : Entry) → Some x ≡ Some y → x ≡ y
-some_is x y is = cc
-
-cons_not_nil : (x : Entry) (xs : List Entry) → x ∷ xs ≡ [] → ⊥
-cons_not_nil x xs is = cc
-
-pub all_low : (span : ℕ) (xs : List ℕ) → AreNear span xs → AllByRecursion (λ x. x < 2 ^ 48) xs
-all_low span [] near = tt
-all_low span (x ∷ xs) near = (near.0, all_low span xs near.2)
-
--- the last is one of them
-all_last : (P : ℕ → Type 0) (x : Entry) (later : List Entry) (last : Entry) → last_item (x ∷ later) ≡ Some last
-    → AllByRecursion P (numbers (x ∷ later)) → P last.number
-all_last P x [] last is all = subst (λ (e : Entry). P e.number) (some_is x last is) all.0
-all_last P x (y ∷ later) last is all = all_last P y later last (sym (last_later x y later) ∙ is) all.1
-
-none_last : (entries : List Entry) → last_item entries ≡ None → entries ≡ []
-none_last [] is = refl
-none_last (x ∷ []) is = cc
-none_last (x ∷ y ∷ later) is = absurd (cons_not_nil y later (none_last (y ∷ later) (sym (last_later x y later) ∙ is)))
-
--- one number more, so many steps up from the last
-pub near_push : (span : ℕ) (x : Entry) (later : List Entry) (last : Entry) (number : ℕ) → number < 2 ^ 48 → last_item (x ∷ later) ≡ Some last
-    → AreNear span (numbers (x ∷ later)) → AreNear (span + distance last.number number) (numbers (x ∷ later) ++ number ∷ [])
-near_push span x [] last number low is near =
-    let same : x ≡ last = some_is x last is in
-    let here : distance x.number number ≤ span + distance last.number number =
-    subst (λ (e : Entry). distance x.number number ≤ span + distance e.number number) same (omega arith) in
-    (near.0, (here, tt), (low, tt, tt))
-near_push span x (y ∷ later) last number low is near =
-    let is_later : last_item (y ∷ later) ≡ Some last = sym (last_later x y later) ∙ is in
-    let to_last : distance x.number last.number ≤ span = all_last (λ o. distance x.number o ≤ span) y later last is_later near.1 in
-    let last_low : last.number < 2 ^ 48 = all_last (λ o. o < 2 ^ 48) y later last is_later (all_low span (numbers (y ∷ later)) near.2) in
-    let triangle = further x.number last.number number near.0 last_low low in
-    let more = all_more (λ o. distance x.number o ≤ span) (λ o. distance x.number o ≤ span + distance last.number number) (numbers (y ∷ later))
-    (λ o h. omega arith) near.1 in (
-      near.0,
-      all_push (λ o. distance x.number o ≤ span + distance last.number number) (numbers (y ∷ later)) number more (omega arith),
-      near_push span y later last number low is_later near.2,
-    )
-
-pub near_first : (span number : ℕ) (entries : List Entry) → number < 2 ^ 48 → last_item entries ≡ None → AreNear (span + 0) (numbers entries ++ number ∷ [])
-near_first span number entries low is = rw (none_last entries is) (low, tt, tt)
-
-pub near_after : (span number : ℕ) (entries : List Entry) (last : Entry) → number < 2 ^ 48 → last_item entries ≡ Some last
-    → AreNear span (numbers entries) → AreNear (span + distance last.number number) (numbers entries ++ number ∷ [])
-near_after span number [] last low is near = cc
-near_after span number (x ∷ later) last low is near = near_push span x later last number low is near
 
 -- what is sent is near where the list with it was
 pub near_sent : (span number : ℕ) (entries : List Entry) → AreNear span (numbers entries ++ number ∷ []) → AreNear span (numbers (sent entries number))

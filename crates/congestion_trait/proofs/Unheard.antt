@@ -15,8 +15,9 @@ use Rattle.congestion_trait.specs.declared.flight.Entry.{Entry}
 use Rattle.congestion_trait.specs.declared.flight.Standing.{Standing}
 use Rattle.congestion_trait.specs.declared.flight.Standing.TheVariants.{Out, Reported, Lost}
 use Rattle.congestion_trait.specs.Flight.{States, pipe_of, reported_count, after_report, acked_count, is_congested, is_out, is_reported, is_past, entry_reported, lost_if, is_passed}
-use Rattle.congestion_trait.proofs.Near.{all_low, near_drop}
-use Rattle.congestion_trait.specs.Walk.{AllOut, is_unheard, AllUnheard, numbers, AreNear, IsAlong}
+use Rattle.seq_circle.proofs.Near.{all_low, near_drop}
+use Rattle.congestion_trait.specs.Walk.{AllOut, is_unheard, AllUnheard, numbers, IsAlong}
+use Rattle.seq_circle.specs.Near.{AreNear}
 
 abbrev at : ℕ → Standing → Entry
 at number standing = record { number = number; standing = standing }

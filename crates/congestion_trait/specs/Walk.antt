@@ -1,7 +1,7 @@
 -- How a report is read along with a flight list, from the newest entry to the oldest.
-use Rattle.std.specs.Prelude.{◌≡◌, ℕ, ◌-◌, ◌^◌, ◌<◌, ◌≤◌, ⊤, Bool, false, not, ◌&&◌, ◌||◌, nat_lt, List, [], ◌∷◌, ◌++◌, map, take, drop, length, Option, Some, None, slice_get, IsTrue, if◌then◌else◌}
-use Rattle.std.specs.List.{list_all, AllByRecursion}
-use Rattle.seq_circle.specs.Circle.{distance}
+use Rattle.std.specs.Prelude.{◌≡◌, ℕ, ◌-◌, ◌^◌, ◌<◌, ◌≤◌, Bool, false, not, ◌&&◌, ◌||◌, nat_lt, List, [], ◌∷◌, ◌++◌, map, take, drop, length, Option, Some, None, slice_get, IsTrue, if◌then◌else◌}
+use Rattle.std.specs.List.{list_all}
+use Rattle.seq_circle.specs.Near.{AreNear}
 use Rattle.dccp_options.specs.declared.report.Run.{Run}
 use Rattle.dccp_options.specs.Vectors.{Report, is_received}
 use Rattle.congestion_trait.specs.declared.flight.Standing.{Standing}
@@ -76,12 +76,6 @@ AllUnheard told entries = IsTrue (list_all (λ entry. is_unheard told entry) ent
 -- the numbers of entries
 abbrev pub numbers : List Entry → List ℕ
 numbers entries = map (λ entry. entry.number) entries
-
--- from each number up to each later one there are at most so many steps
-abbrev pub AreNear : ℕ → List ℕ → Type 0
-AreNear span [] = ⊤
-AreNear span (number ∷ later) =
-    (number < 2 ^ 48) × AllByRecursion (λ other. distance number other ≤ span) later × AreNear span later
 
 -- what the counts beside a list say of it
 pub record FlightInvariant (entries : List Entry) (capacity : ℕ) (counts : Counts) : Type 0 where

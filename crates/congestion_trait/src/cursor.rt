@@ -92,7 +92,7 @@ impl<'a> Cursor<'a> {
     }
 
     // Tells whether a report gives no state to this number and to none that lies at most so many steps behind it.
-    pub fn is_past(&self, report: &AckReport<'a>, number: Seq48, span: u64) -> bool
+    pub fn is_out_of_reach(&self, report: &AckReport<'a>, number: Seq48, span: u64) -> bool
         requires top { IsTop report.now self.now.top }
         ensures { IsTrue result → (report.now.bytes ≡ []) ⊎ (span + 64512 ≤ distance number report.now.ack) }
     {

@@ -3,7 +3,8 @@ ghost use Rattle.std.specs.Prelude.{◌≡◌, ℕ, ◌+◌, ◌-◌, ◌^◌, �
 ghost use Rattle.std.specs.Option.{option_to_list};
 ghost use Rattle.dccp_options.specs.Vectors.{state_at};
 ghost use Rattle.congestion_trait.specs.Flight.{Has, pipe_of, sent, after_report, acked_count, is_congested};
-ghost use Rattle.congestion_trait.specs.Walk.{was_out, numbers, AreNear};
+ghost use Rattle.congestion_trait.specs.Walk.{was_out, numbers};
+ghost use Rattle.seq_circle.specs.Near.{AreNear};
 ghost use Rattle.congestion_trait.specs.declared.flight.Standing.TheVariants.{Reported};
 
 use crate::walk::{Counts, settle, settled_from};
@@ -125,8 +126,8 @@ impl Flight {
     /// Settles every entry by a report: those that it gives state 0 or 1 are Reported, and those that are still Out
     /// before three Reported ones are Lost (RFC 4341, section 5). `mark` is the recovery mark: what it covers shows no
     /// new congestion. With None every loss and every marked packet does. While numbers are sent in their order, the
-    /// cost is that of the report's runs and of the entries from the newest that one reached down to the oldest that is
-    /// Out or that these reach.
+    /// cost is that of the report's runs and of the entries from the newest that any report has reached down to the
+    /// oldest that is Out or that these runs reach.
     pub fn report(&mut self, report: &AckReport<'_>, mark: Option<Seq48>) -> FlightNews
         ensures entries { self.new ≡ after_report (state_at report.now.ack report.now.bytes) self.old }
         ensures acked { result.acked ≡ acked_count (state_at report.now.ack report.now.bytes) self.old }

@@ -9,8 +9,8 @@
 //!
 //! Numbers need not rise: the contracts hold for every list. The steps from each number to the next since the list was
 //! empty are summed (`span`). The pass begins before the newest entry only where that sum and the most that a report
-//! reaches are less than the way from an entry up to the acknowledgement number, as where it lies behind that; and it
-//! ends early only while the sum and the way from the acknowledgement number down to the entry make less than one round
+//! reaches are together no more than the way from an entry up to the acknowledgement number, as where the entry lies
+//! past it; and it ends early only while the sum and the way from the acknowledgement number down to the entry make less than one round
 //! of the circle. Where numbers fall, the sum is past that, and the pass goes over the list to the place that is kept.
 ghost use Rattle.std.specs.Prelude.{◌≡◌, ℕ, ◌+◌, ◌<◌, ◌≤◌, ◌&&◌, ◌||◌, not, nat_le, length, take, drop, slice_get, slice_set, Some, Option};
 ghost use Rattle.circular_buffer.specs.Buffer.{buffer};
@@ -155,7 +155,7 @@ fn unheard_from<'a>(
     let mut place = counts.heard.max(counts.settled);
     while place < entries.len() {
         let entry = entry_at(entries, place);
-        if cursor.is_past(report, entry.number, counts.span) {
+        if cursor.is_out_of_reach(report, entry.number, counts.span) {
             return place;
         }
         place += 1;

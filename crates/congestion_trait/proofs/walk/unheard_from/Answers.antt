@@ -19,8 +19,8 @@ loop-place-preserved c = (
   out_from c.loop-place.place (c.loop-place.place + 1) c.args.entries.now.items (omega arith) c.loop-place.invariant.2,
 )
 
-pub returns-then-is_past-clause-unheard : goal.returns-then-is_past-clause-unheard
-returns-then-is_past-clause-unheard c =
+pub returns-then-is_out_of_reach-clause-unheard : goal.returns-then-is_out_of_reach-clause-unheard
+returns-then-is_out_of_reach-clause-unheard c =
     unheard_behind c.args.report.now.ack c.args.report.now.bytes c.args.counts.now.span c.loop-place.place c.args.entries.now.items
     c.entry_at-entry.result c.requires.few c.entry_at-entry.ensures c.loop-place.invariant.2 c.requires.kept.near
-    (c.is_past.ensures c.if-is_past.true)
+    (c.is_out_of_reach.ensures c.if-is_out_of_reach.true)

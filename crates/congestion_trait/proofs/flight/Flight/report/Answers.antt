@@ -1,6 +1,7 @@
 use Rattle.std.proofs.Common.{take, ap, sym, subst, arith}
 use Rattle.dccp_options.specs.Vectors.{state_at}
-use Rattle.congestion_trait.specs.Walk.{AllReported, AreNear}
+use Rattle.congestion_trait.specs.Walk.{AllReported}
+use Rattle.seq_circle.specs.Near.{AreNear}
 use Rattle.congestion_trait.proofs.Settled.{untouched_from_reported, front_stays}
 use Rattle.congestion_trait.proofs.Settling.{length-after_report}
 use Rattle.congestion_trait.proofs.Near.{numbers_after_report}
