@@ -3,7 +3,8 @@
 //! It plays the two ends of a world as a schedule's lines say, or hands the frames of a replay to one end, and answers
 //! for no end itself; it shows the packets of a capture; it hands what many peers send to one listener; and it runs
 //! campaigns, the only job for which it starts threads. It opens no file, socket or clock, and reads and writes nothing
-//! but the source and the sink that it is lent.
+//! but the source and the sink that it is lent. Memory is taken by the jobs and the words; where it is wanting the
+//! status says so.
 #![tactic(auto)]
 
 mod campaigning;

@@ -1,6 +1,6 @@
 -- Under narrow windows what is valid is near: a number lies less than a quarter of its window below GSR, or three quarters above it at most,
 -- and what is acknowledged less than a window below GSS.
-use Rattle.std.proofs.Common.{◌≡◌, ◌↔◌, refl, ℕ, ◌+◌, ◌-◌, ◌*◌, ◌/◌, ◌^◌, ◌<◌, ◌≤◌, max, Option, Some, None, true, false, inl, inr, arith}
+use Rattle.std.proofs.Common.{◌≡◌, ◌↔◌, refl, ℕ, ◌+◌, ◌^◌, ◌<◌, ◌≤◌, Option, Some, None, true, false, inl, inr, arith}
 use Rattle.std.proofs.lemmas.Bool.{cases_lt}
 use Rattle.dccp_endpoint.specs.NearWindows.{AreNarrow, ValidNumbersAreNear}
 use Rattle.dccp_packets.specs.Forms.{may_be_short}

@@ -1,5 +1,5 @@
 -- Which packets go out with short numbers, and that their headers are valid and no longer.
-use Rattle.std.proofs.Common.{◌≡◌, refl, ap, ◌∙◌, ℕ, ◌+◌, ◌≤◌, Bool, true, false, not, ◌&&◌, ◌||◌, List, [], ◌∷◌, ◌++◌, map, arith}
+use Rattle.std.proofs.Common.{◌≡◌, refl, ap, ◌∙◌, ℕ, ◌≤◌, Bool, true, false, not, ◌&&◌, ◌||◌, List, [], ◌∷◌, ◌++◌, map, arith}
 use Rattle.std.specs.List.{list_any}
 use Rattle.dccp_options.specs.Written.{Item}
 use Rattle.dccp_packets.specs.Forms.{in_form, may_be_short, number_in_form}

@@ -4,7 +4,7 @@
 -- 16 behind them. Each step has one definition, above these.
 --
 -- Any other body of a step is refused by the clause `step`, which is this equation. What is said wrongly here is
--- refused by the causes, the effect and the worked packets (`proofs/Rows` and those whose names begin so); a must-fail
+-- refused by the causes, the effect and the worked packets (`proofs/Rows` of tests_ends and the like); a must-fail
 -- edit is a mistake that has a name.
 use Rattle.std.specs.Prelude.{◌==◌, ◌&&◌, ◌||◌, not, if◌then◌else◌, ℕ, ◌+◌, Bool, true, false, List, [], ◌∷◌, Option, Some, None, Result, Ok, Err}
 use Rattle.ack_vectors.specs.Kept as kept

@@ -1,5 +1,5 @@
 //! What the options of a packet may be faulted for, and where they count (RFC 4340, sections 5.8 and 8.5, step 8).
-ghost use Rattle.std.specs.Prelude.{◌≡◌, slice_index};
+ghost use Rattle.std.specs.Prelude.{◌≡◌, ◌&&◌, slice_index};
 ghost use Rattle.dccp_options.specs.Left.{entry_of_option};
 ghost use Rattle.dccp_endpoint.specs.Faults.{counts, mandatory_fault};
 ghost use Rattle.dccp_endpoint.specs.Heeding.{fault_of};
@@ -58,4 +58,11 @@ pub(crate) fn counts(phase: Phase, kind: PacketType) -> bool
         ) => true,
         _ => false,
     }
+}
+
+/// Tells whether the options of the negotiation are heeded: on the newest packets alone, where they count.
+pub(crate) fn heeds_negotiation(newest: bool, phase: Phase, kind: PacketType) -> bool
+    ensures { result ≡ (newest && counts phase kind) }
+{
+    newest && counts(phase, kind)
 }

@@ -1,5 +1,5 @@
 //! What the options of a packet say to the rows of an end (RFC 4340, section 8.5, step 8).
-ghost use Rattle.std.specs.Prelude.{◌≡◌, ◌<◌, ◌≤◌, ℕ, Option, None, Ok, true, false, length, map};
+ghost use Rattle.std.specs.Prelude.{◌≡◌, ◌<◌, ◌≤◌, ◌++◌, ◌∷◌, [], ℕ, Option, None, Ok, true, false, length, map};
 ghost use Rattle.dccp_options.specs.Grammar.{options_of};
 ghost use Rattle.dccp_options.specs.Left.{entry_of_option, item_of};
 ghost use Rattle.dccp_endpoint.specs.Receiving.{fault_if, reads_request};
@@ -116,6 +116,17 @@ impl Reading {
         self.count(change);
     }
 
+    // A Change was met, and its Confirm is due behind the others.
+    fn owe(&mut self, place: usize, confirm: ConfirmOut)
+        requires place { place < 512 }
+        requires few { self.old.changes < 64 }
+        ensures { self.new ≡ met self.old place true self.old.rows (self.old.confirms ++ due_of confirm ∷ []) }
+    {
+        self.used[place] = true;
+        self.changes += 1;
+        self.confirms.push(confirm);
+    }
+
     // A Change, by what its row answers.
     fn heed_change(
         &mut self,
@@ -129,8 +140,7 @@ impl Reading {
     {
         match self.rows.on_change(left, number, body, option.mandatory) {
             Answer::Confirm(out) => {
-                self.meet(place_in_used(left, number), true);
-                self.confirms.push(out);
+                self.owe(place_in_used(left, number), out);
                 Ok(())
             }
             Answer::Ignored => {

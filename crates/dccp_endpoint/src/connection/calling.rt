@@ -15,14 +15,12 @@ impl Connection {
     ghost use Rattle.std.specs.Prelude.{◌≡◌, ◌≢◌, ◌↔◌, ◌⊎◌, ◌≤◌, ◌<◌, Bool, [], None, Ok, Err, OnErr, true, false, length};
     ghost use Rattle.dccp_states.specs.declared.phase.Role.TheVariants as role;
     ghost use Rattle.dccp_endpoint.specs.Calling.{aborts, aborts_now, applies, asks_all, asks_now, closes, closes_now, fault_where, fires};
-    ghost use Rattle.dccp_endpoint.specs.Calling.{has_keys, lacks_vectors, opens, opens_as, preferring, prefers, prefers_wish, requests, send_fault};
+    ghost use Rattle.dccp_endpoint.specs.Calling.{has_keys, is_asking_now, lacks_vectors, opens, opens_as, preferring, prefers, prefers_wish, requests, send_fault};
     ghost use Rattle.dccp_endpoint.specs.End.{is_connected};
     ghost use Rattle.dccp_endpoint.specs.Speaking.{AreDue};
     ghost use Rattle.feature_lists.specs.Wishes.{is_wish, wish_of};
     ghost use Rattle.feature_lists.specs.declared.wishes.PreferFault.TheVariants as prefer;
-    ghost use Rattle.feature_machine.specs.Answers.{opening_of};
-    ghost use Rattle.feature_machine.specs.Negotiating.{IsNegotiation, due_keys, row_at};
-    ghost use Rattle.feature_machine.specs.Rows.{Prefers, row_step};
+    ghost use Rattle.feature_machine.specs.Negotiating.{IsNegotiation, due_keys};
     ghost use Rattle.dccp_endpoint.specs.Drafts.{alone};
     ghost use Rattle.dccp_packets.specs.declared.header.Kind.TheVariants as kind;
     ghost use Rattle.dccp_packets.specs.declared.header.Number.TheVariants.{Long};
@@ -158,27 +156,27 @@ impl Connection {
         Ok(())
     }
 
-    #[tactic(auto, using(crate::proofs::Keeping::preferred_rows, crate::proofs::Asking::preferred_asks))]
     fn prefer_wish(&mut self, feature: Feature, place: Place, wish: Wanted, out: &mut Outbox)
         requires empty { out.old ≡ None }
         requires wish { is_wish feature place wish ≡ true }
         ensures { record { after = self.new; frame = out.new; calls = []; answer = Ok (tt {0}) } ≡ prefers_wish self.old (feature, place) (Ok wish) }
     {
-        if self.want(feature, place, wish) == Opening::Now {
+        if self.want(feature, place, wish) {
             self.ask_now(&[(feature, place)], out);
         }
     }
 
-    // The row has this wish from now on, and the windows stay as wide as the rows say.
-    fn want(&mut self, feature: Feature, place: Place, wish: Wanted) -> Opening
+    // The row has this wish from now on, and the windows stay as wide as the rows say. Tells whether the row asks at
+    // once.
+    fn want(&mut self, feature: Feature, place: Place, wish: Wanted) -> bool
         requires { is_wish feature place wish ≡ true }
         ensures wish { self.new ≡ preferring self.old (feature, place) wish }
-        ensures opening { result ≡ opening_of (row_step (row_at self.old.rows feature place) (Prefers wish)).answer }
+        ensures asks { result ≡ is_asking_now self.old (feature, place) wish }
         ensures sound { IsNegotiation self.old.rows }
     {
         let opening = self.rows.prefer(feature, place, wish);
         fit(&mut self.marks, &self.rows);
-        opening
+        opening == Opening::Now
     }
 
     // An Ack with the Changes of these rows, which ask.

@@ -4,7 +4,7 @@
 use super::Connection;
 use super::classes::{carries_data, is_acking, is_live, is_open, without_detail};
 use super::handing::hand_over;
-use crate::faults::counts;
+use crate::faults::heeds_negotiation;
 use crate::heeding::{Reading, are_silent, heed};
 use crate::incoming::IncomingPacket;
 use crate::{Exit, Fault, Outcome, Why};
@@ -19,14 +19,13 @@ use seq_circle::{Seq48, extend};
 use validity_windows::Verdict;
 
 impl Connection {
-    ghost use Rattle.std.specs.Prelude.{◌≡◌, ◌≤◌, ◌&&◌, [], None, Ok, true, length, map};
+    ghost use Rattle.std.specs.Prelude.{◌≡◌, ◌≤◌, [], None, Ok, true, length, map};
     ghost use Rattle.dccp_states.specs.Entrance.{gate};
     ghost use Rattle.dccp_states.specs.Phases.{after};
     ghost use Rattle.dccp_states.specs.declared.phase.Phase.TheVariants as phase;
     ghost use Rattle.validity_windows.specs.Verdict.{verdict};
     ghost use Rattle.dccp_endpoint.specs.Controlled.{end_with, with_control};
     ghost use Rattle.dccp_endpoint.specs.End.{IsPhaseOf, IsProper};
-    ghost use Rattle.dccp_endpoint.specs.Faults.{counts};
     ghost use Rattle.dccp_endpoint.specs.Heeding.{due_of, heeding_or, unheeded};
     ghost use Rattle.dccp_endpoint.specs.Speaking.{HaveRoom};
     ghost use Rattle.dccp_endpoint.specs.Incoming.{is_newest};
@@ -325,7 +324,9 @@ impl Connection {
 
     fn raise(&mut self, packet: &IncomingPacket<'_>)
         requires { verdict self.old.marks packet.now.kind packet.now.number packet.now.ack ≡ Verdict.Valid }
-        ensures { Goes self.new ≡ raises packet.now self.old packet.now.kind }
+        ensures course { Goes self.new ≡ raises packet.now self.old packet.now.kind }
+        ensures config { self.new.config ≡ self.old.config }
+        ensures rows { self.new.rows ≡ self.old.rows }
     {
         if packet.kind != PacketType::Reset {
             self.marks.take(packet.kind, packet.number, packet.ack);
@@ -372,18 +373,11 @@ impl Connection {
         }
     }
 
-    // Options of the negotiation are heeded on the newest packets alone.
-    fn heeds_negotiation(&self, packet: &IncomingPacket<'_>) -> bool
-        ensures { result ≡ (packet.now.newest && counts self.now.phase packet.now.kind) }
-    {
-        packet.newest && counts(self.phase, packet.kind)
-    }
-
     // No option of the packet has a fault or says anything to the rows.
     fn is_silent(&self, packet: &IncomingPacket<'_>) -> bool
         ensures { result ≡ true → reads_options self.now packet.now ≡ Ok (unheeded self.now.rows) }
     {
-        let count = self.heeds_negotiation(packet);
+        let count = heeds_negotiation(packet.newest, self.phase, packet.kind);
         are_silent(packet.options, packet.kind.is_data(), count)
     }
 
@@ -392,7 +386,7 @@ impl Connection {
         requires { reading.old ≡ unheeded self.now.rows }
         ensures { heeding_or reading.new result ≡ reads_options self.now packet.now }
     {
-        let count = self.heeds_negotiation(packet);
+        let count = heeds_negotiation(packet.newest, self.phase, packet.kind);
         let on_data = packet.kind.is_data();
         heed(reading, packet.options, on_data, count, &packet.ack)
     }

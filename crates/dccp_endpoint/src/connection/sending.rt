@@ -1,6 +1,6 @@
 //! The frames that an end sends, in which form of numbers, and what they say of features. One test, the value of Send
 //! Ack Vector, decides on the Ack Vector of an Ack or DataAck and on its record, so neither is without the other.
-ghost use Rattle.std.specs.Prelude.{◌≡◌, ◌≤◌, ◌+◌, ◌++◌, ◌||◌, ◌<◌, Some, None, true, false, if◌then◌else◌, length, map, take, drop};
+ghost use Rattle.std.specs.Prelude.{◌≡◌, ◌≤◌, ◌+◌, ◌++◌, ◌||◌, ◌&&◌, ◌<◌, not, Some, None, true, false, if◌then◌else◌, length, map, take, drop};
 ghost use Rattle.ack_vectors.specs.Vector.{option_data};
 ghost use Rattle.dccp_options.specs.Written.{spelled, written};
 ghost use Rattle.dccp_endpoint.specs.Reporting.{vector_item};
@@ -29,13 +29,6 @@ fn is_settled_on_one(held: &Held) -> bool
     ensures { result ≡ is_settled_on_one held.now }
 {
     matches!(held.stand, Stand::Stable) && held.value == 1
-}
-
-// A packet with these Confirms and the Changes of these rows says something of features.
-fn negotiates(confirms: &[ConfirmOut], keys: &[(Feature, Place)]) -> bool
-    ensures { result ≡ (has_confirms (map due_of confirms.now) || has_keys keys.now) }
-{
-    !confirms.is_empty() || !keys.is_empty()
 }
 
 // The bytes of data that one option has room for (RFC 4340, section 5.8).
@@ -178,6 +171,14 @@ impl Connection {
             && self.marks.peer_w <= WIDEST_SHORT
     }
 
+    // Whether a packet goes out with short numbers that says nothing of features but these Confirms and the Changes of
+    // these rows.
+    fn goes_short(&self, confirms: &[ConfirmOut], keys: &[(Feature, Place)]) -> bool
+        ensures { result ≡ (allows_short self.now && not (has_confirms (map due_of confirms.now) || has_keys keys.now)) }
+    {
+        self.allows_short() && confirms.is_empty() && keys.is_empty()
+    }
+
     // Whether Ack Vectors go out.
     fn sends_vectors(&self) -> bool
         ensures { result ≡ sends_vectors self.now.rows }
@@ -226,7 +227,7 @@ impl Connection {
     }
 
     // Sends an Ack: behind its Ack Vector the Confirms. Beside these there is no room for Changes of all rows.
-    #[tactic(auto, using(crate::proofs::Frames::fixed_part_is_short, crate::proofs::Writing::written_confirms, crate::proofs::Short::short_ack))]
+    #[tactic(auto, using(crate::proofs::Frames::fixed_part_is_short))]
     pub(crate) fn send_ack_confirming(
         &mut self,
         kind: Kind,
@@ -239,7 +240,7 @@ impl Connection {
         ensures counted { self.new ≡ acknowledged self.old }
         ensures sent { out.new ≡ Some (next_frame self.old (reporting self.old (saying kind (map due_of confirms.now) self.old.rows []))) }
     {
-        let short = self.allows_short() && !negotiates(confirms, &[]);
+        let short = self.goes_short(confirms, &[]);
         let mut area = OptWriter::new();
         let whole = self.report(&mut area);
         put_confirms(&mut area, confirms);
@@ -248,7 +249,7 @@ impl Connection {
     }
 
     // Sends an Ack: behind its Ack Vector the Changes of these rows, which are in CHANGING.
-    #[tactic(auto, using(crate::proofs::Frames::fixed_part_is_short, crate::proofs::Writing::written_both, crate::proofs::Short::short_ack))]
+    #[tactic(auto, using(crate::proofs::Frames::fixed_part_is_short))]
     pub(crate) fn send_ack_asking(
         &mut self,
         kind: Kind,
@@ -262,7 +263,7 @@ impl Connection {
         ensures counted { self.new ≡ acknowledged self.old }
         ensures sent { out.new ≡ Some (next_frame self.old (reporting self.old (saying kind [] self.old.rows keys.now))) }
     {
-        let short = self.allows_short() && !negotiates(&[], keys);
+        let short = self.goes_short(&[], keys);
         let mut area = OptWriter::new();
         let whole = self.report(&mut area);
         put_changes(&mut area, &self.rows, keys);
@@ -271,7 +272,7 @@ impl Connection {
     }
 
     // Sends a DataAck, which has its Ack Vector alone beside the data.
-    #[tactic(auto, using(crate::proofs::Frames::fixed_part_is_short, crate::proofs::Writing::written_alone, crate::proofs::Short::short_data_ack))]
+    #[tactic(auto, using(crate::proofs::Frames::fixed_part_is_short))]
     pub(crate) fn send_data_ack(&mut self, payload: &[u8], out: &mut Outbox)
         requires { length payload.now ≤ 1024 }
         ensures counted { self.new ≡ acknowledged self.old }
