@@ -27,15 +27,4 @@ pub mod Writing
 pub mod Handing
 pub mod Asking
 pub mod Keeping
-pub mod RowsSeen
-pub mod Rows
-pub mod RowsOffers
-pub mod RowsOptions
-pub mod RowsPrefers
-pub mod RowsVectors
-pub mod RowsData
-pub mod RowsEarly
-pub mod RowsReports
-pub mod RowsShort
-pub mod RowsShortSent
 pub mod Quiet

@@ -1,5 +1,4 @@
-//! An end in a program of one's own: sessions, their timers, and an own kind of congestion control.
-mod additive;
+//! Two sessions whose frames get lost.
 mod pair;
 mod stories;
 mod wire;

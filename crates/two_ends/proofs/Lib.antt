@@ -40,8 +40,6 @@ pub mod Spelling
 pub mod Wanting
 pub mod Preferring
 pub mod Nearing
-pub mod RowsFar
-pub mod RowsEarly
 pub mod Refusing
 pub mod Sharing
 pub mod FeatureFrames

@@ -5,7 +5,8 @@
 //! congestion controls allow. Whatever the schedule and whatever the congestion controls, the world is safe: where both
 //! ends call a feature settled they hold one value, each value was given to them, their Ack Vectors tell what was
 //! processed, and what an end believes received the other one processed. Nothing is said of progress or time, and no
-//! frame is altered on its way.
+//! frame is altered on its way. The modules `features` and `marks` have the laws that this rests on, over a pair of
+//! sides; no code runs there. A world keeps every frame, so events take memory; where it is wanting nothing changes.
 #![tactic(auto)]
 
 mod far;

@@ -2,23 +2,22 @@
 //! is whether the step went as it has to.
 use crate::uses::wire::Wire;
 use ccid_two::Kinds;
-use dccp_endpoint::{Config, Congestion, Feature, Held, Phase, Place, Role, SendFault, Timer};
+use dccp_endpoint::{Config, Feature, Held, Phase, Place, Role, SendFault, Timer};
 use dccp_uses::{Alarms, News, Session, accept};
 use std::alloc::Global;
 
 // How many milliseconds a turn takes.
 const TURN: u64 = 50;
 
-// A client that asks for the usual service, the server's session once there is one, the code with which each was told
-// that the connection has ended, and what was delivered to the server.
+// A client, the server's session once there is one, the code with which each was told that the connection has ended,
+// and what was delivered to the server.
 #[derive(Drop)]
-pub(crate) struct Pair<C> {
+pub(crate) struct Pair {
     alloc: Global,
     now: u64,
-    service: u32,
-    client: Session<C>,
-    pub(crate) server: Option<Session<Kinds>>,
-    pub(crate) to_server: Wire,
+    client: Session<Kinds>,
+    server: Option<Session<Kinds>>,
+    to_server: Wire,
     to_client: Wire,
     pub(crate) client_ended: Option<u8>,
     pub(crate) server_ended: Option<u8>,
@@ -26,28 +25,21 @@ pub(crate) struct Pair<C> {
 }
 
 // A server's session, where a stranger's datagram opens a connection.
-fn accepted(
-    alloc: Global,
-    config: Config,
-    datagram: &[u8],
-    now: u64,
-    wire: &mut Wire,
-) -> Option<Session<Kinds>> {
+fn accepted(alloc: Global, datagram: &[u8], now: u64, wire: &mut Wire) -> Option<Session<Kinds>> {
     let Ok(congestion) = Kinds::new(alloc) else {
         return None;
     };
-    match accept(alloc, config, congestion, datagram, now, wire) {
+    match accept(
+        alloc,
+        Config::usual(Role::Server),
+        congestion,
+        datagram,
+        now,
+        wire,
+    ) {
         Ok(session) => session,
         Err(_) => None,
     }
-}
-
-/// A client that has sent nothing.
-pub(crate) fn client<C: Congestion + Drop>(alloc: Global, congestion: C) -> Option<Session<C>> {
-    if !congestion.knows(2) {
-        return None;
-    }
-    Session::new(alloc, Config::usual(Role::Client), congestion).ok()
 }
 
 fn wait_in(alarms: &Alarms, timer: Timer) -> Option<u64> {
@@ -57,18 +49,16 @@ fn wait_in(alarms: &Alarms, timer: Timer) -> Option<u64> {
     }
 }
 
-impl<C: Congestion> Pair<C> {
-    /// This client, a wire like this one in each direction, and a server of this service, which has no session yet.
-    pub(crate) fn new(alloc: Global, client: Session<C>, to_server: Wire, service: u32) -> Pair<C> {
-        let to_client = to_server.other();
+impl Pair {
+    /// This client, and a wire in each direction, which loses by draws from this number.
+    pub(crate) fn new(alloc: Global, client: Session<Kinds>, seed: u64) -> Pair {
         Pair {
             alloc,
             now: 5_000,
-            service,
             client,
             server: None,
-            to_server,
-            to_client,
+            to_server: Wire::new(alloc, seed),
+            to_client: Wire::new(alloc, seed.wrapping_add(1_000)),
             client_ended: None,
             server_ended: None,
             got: Vec::new(alloc),
@@ -116,12 +106,6 @@ impl<C: Congestion> Pair<C> {
         true
     }
 
-    /// So many milliseconds go by, and nothing arrives.
-    pub(crate) fn wait(&mut self, time: u64) {
-        self.now = self.now.saturating_add(time);
-        self.tick();
-    }
-
     /// So many milliseconds go by in one turn: a frame arrives at each side, if there is one, and the timers get the
     /// time.
     pub(crate) fn pass(&mut self, time: u64) -> bool {
@@ -153,9 +137,7 @@ impl<C: Congestion> Pair<C> {
         if self.server.is_some() {
             return self.serve(datagram);
         }
-        let mut config = Config::usual(Role::Server);
-        config.service = self.service;
-        self.server = accepted(self.alloc, config, datagram, self.now, &mut self.to_client);
+        self.server = accepted(self.alloc, datagram, self.now, &mut self.to_client);
         true
     }
 
@@ -177,15 +159,12 @@ impl<C: Congestion> Pair<C> {
     // The client's owner.
     fn client_takes(&mut self) {
         if let Some(datagram) = self.to_client.take()
-            && let News::Ended { code } = self.hear(&datagram)
+            && let News::Ended { code } = self
+                .client
+                .arrived(&datagram, self.now, &mut self.to_server)
         {
             self.client_ended = Some(code);
         }
-    }
-
-    /// A datagram arrives at the client: what its owner is told.
-    pub(crate) fn hear(&mut self, datagram: &[u8]) -> News {
-        self.client.arrived(datagram, self.now, &mut self.to_server)
     }
 
     /// The client sends data if there is room: whether they went out. None where they may not be sent at all.
@@ -197,11 +176,6 @@ impl<C: Congestion> Pair<C> {
         }
     }
 
-    /// How long it is until the client's first timer runs out.
-    pub(crate) fn until_first(&self) -> Option<u64> {
-        self.client.until_first(self.now)
-    }
-
     /// The wait of a timer of this side, if it runs.
     pub(crate) fn wait_of(&self, role: Role, timer: Timer) -> Option<u64> {
         match (role, &self.server) {
@@ -209,11 +183,6 @@ impl<C: Congestion> Pair<C> {
             (Role::Server, Some(server)) => wait_in(&server.alarms(), timer),
             (Role::Server, None) => None,
         }
-    }
-
-    /// How many packets the client may send.
-    pub(crate) fn room(&self) -> u32 {
-        self.client.room()
     }
 
     pub(crate) fn close(&mut self, role: Role) -> bool {

@@ -13,7 +13,7 @@ use Rattle.dccp_endpoint.specs.End.{EndState}
 use Rattle.dccp_endpoint.specs.Receiving.{receives}
 use Rattle.dccp_endpoint.specs.Usual.{usual}
 use Rattle.dccp_states.specs.declared.outcome.Outcome.TheVariants.{SentReset, Took}
-use Rattle.dccp_endpoint.proofs.RowsSeen.{arrives, bytes, client_ack, closed, initial_rows, listening, offering, open_client, open_server, plain, requesting, requests_as, responds_as, response, row, seen, sent, server_ack, shown, wishing}
+use Rattle.tests_ends.proofs.RowsSeen.{arrives, bytes, client_ack, closed, initial_rows, listening, offering, open_client, open_server, plain, requesting, requests_as, responds_as, response, row, seen, sent, server_ack, shown, wishing}
 
 -- Sequence Window at a server: 31 is too small, 32 and 2^46 - 1 are taken, and 2^46 is too large.
 sequence-window-values :

@@ -15,8 +15,8 @@ use Rattle.dccp_endpoint.specs.Steps.{Step}
 use Rattle.dccp_states.specs.declared.calls.Timer.TheVariants as timers
 use Rattle.dccp_states.specs.declared.outcome.Outcome.{Outcome}
 use Rattle.dccp_states.specs.declared.outcome.Outcome.TheVariants.{Took}
-use Rattle.dccp_endpoint.proofs.RowsOffers.{usual_open, usual_part_open, usual_vector}
-use Rattle.dccp_endpoint.proofs.RowsSeen.{arrives, open_client, requesting, response, seen, sent}
+use Rattle.tests_ends.proofs.RowsOffers.{usual_open, usual_part_open, usual_vector}
+use Rattle.tests_ends.proofs.RowsSeen.{arrives, open_client, requesting, response, seen, sent}
 
 -- these numbers were taken, in this order
 abbrev took : Kept → List ℕ → Kept

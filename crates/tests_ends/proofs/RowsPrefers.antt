@@ -16,7 +16,7 @@ use Rattle.dccp_endpoint.specs.Receiving.{receives}
 use Rattle.dccp_endpoint.specs.Usual.{usual}
 use Rattle.dccp_states.specs.declared.calls.Timer.TheVariants as timers
 use Rattle.dccp_states.specs.declared.outcome.Outcome.TheVariants.{SentReset, Synced, Took, WasReset}
-use Rattle.dccp_endpoint.proofs.RowsSeen.{arrives, initial_rows, open_client, open_client_as, open_server, open_server_as, plain, requesting, requests_as, responding, response, row, seen, sent, shown, wishing}
+use Rattle.tests_ends.proofs.RowsSeen.{arrives, initial_rows, open_client, open_client_as, open_server, open_server_as, plain, requesting, requests_as, responding, response, row, seen, sent, shown, wishing}
 
 -- The feature of these rows is Minimum Checksum Coverage, at the client; the server prefers 1 to 2 for it.
 abbrev server : EndState

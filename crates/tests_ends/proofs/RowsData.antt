@@ -11,9 +11,9 @@ use Rattle.dccp_states.specs.declared.calls.SendFault.TheVariants.{NotNegotiated
 use Rattle.dccp_states.specs.declared.calls.Timer.TheVariants as timers
 use Rattle.dccp_states.specs.declared.outcome.Outcome.{Outcome}
 use Rattle.dccp_states.specs.declared.outcome.Outcome.TheVariants.{Took}
-use Rattle.dccp_endpoint.proofs.RowsOffers.{offering_2, usual_ack, usual_open, usual_part_open, usual_responding, usual_response, usual_requesting, usual_vector}
-use Rattle.dccp_endpoint.proofs.RowsSeen.{Reported, Sent, TimedOut, arrives, calls_at, open_client, seen, sends, sent, server_ack}
-use Rattle.dccp_endpoint.proofs.RowsVectors.{heard_1002, heard_1003, heard_1004, heard_1005}
+use Rattle.tests_ends.proofs.RowsOffers.{offering_2, usual_ack, usual_open, usual_part_open, usual_responding, usual_response, usual_requesting, usual_vector}
+use Rattle.tests_ends.proofs.RowsSeen.{Reported, Sent, TimedOut, arrives, calls_at, open_client, seen, sends, sent, server_ack}
+use Rattle.tests_ends.proofs.RowsVectors.{heard_1002, heard_1003, heard_1004, heard_1005}
 
 -- The usual connection with data, at the client. It owes an acknowledgement of the server's Ack, so its first data go out on a DataAck, and
 -- the next on Data. The server's Ack tells that 1004 and 1002 came, and not 1003; it is owed one, too.

@@ -13,9 +13,9 @@ use Rattle.dccp_states.specs.declared.calls.SendFault.{SendFault}
 use Rattle.dccp_states.specs.declared.calls.SendFault.TheVariants.{NotNegotiated, NotOpen, TooLong, WindowFull}
 use Rattle.dccp_states.specs.declared.outcome.Outcome.{Outcome}
 use Rattle.dccp_states.specs.declared.outcome.Outcome.TheVariants.{Took}
-use Rattle.dccp_endpoint.proofs.RowsData.{longest, too_long, usual_client}
-use Rattle.dccp_endpoint.proofs.RowsOffers.{usual_ack, usual_open, usual_part_open, usual_responding}
-use Rattle.dccp_endpoint.proofs.RowsSeen.{Reported, Sent, arrives, calls_at, requesting, response, seen, sent}
+use Rattle.tests_ends.proofs.RowsData.{longest, too_long, usual_client}
+use Rattle.tests_ends.proofs.RowsOffers.{usual_ack, usual_open, usual_part_open, usual_responding}
+use Rattle.tests_ends.proofs.RowsSeen.{Reported, Sent, arrives, calls_at, requesting, response, seen, sent}
 
 -- The client of the usual connection sends two packets with data behind its Ack 1001, before the server's first Ack: each a DataAck that
 -- acknowledges the Response, though nothing is owed.

@@ -2,8 +2,8 @@
 use Rattle.std.proofs.Common.{◌≡◌, refl, ℕ, [], ◌∷◌, Option, Some, None, true, false, Result, Err}
 use Rattle.std.specs.Prelude.{codes, is_ok}
 use Prim.Native.String.{String}
-use Rattle.dccp_endpoint.proofs.RowsSeen.{bytes, open_server, plain}
-use Rattle.dccp_endpoint.proofs.RowsShort.{holding}
+use Rattle.tests_ends.proofs.RowsSeen.{bytes, open_server, plain}
+use Rattle.tests_ends.proofs.RowsShort.{holding}
 use Rattle.dccp_endpoint.specs.Drafts.{framed}
 use Rattle.dccp_endpoint.specs.End.{EndState, new_end}
 use Rattle.dccp_endpoint.specs.Receiving.{receives}

@@ -17,7 +17,7 @@ use Rattle.dccp_endpoint.specs.Drafts.{framed}
 use Rattle.dccp_endpoint.specs.End.{EndState, new_end, with_rows}
 use Rattle.dccp_endpoint.specs.Receiving.{receives}
 use Rattle.dccp_endpoint.specs.Steps.{Step, in_phase}
-use Rattle.dccp_endpoint.proofs.RowsSeen.{arrives, open_server, plain, request, seen, sent}
+use Rattle.tests_ends.proofs.RowsSeen.{arrives, open_server, plain, request, seen, sent}
 use Rattle.dccp_states.specs.declared.outcome.Outcome.{Outcome}
 use Rattle.dccp_states.specs.declared.outcome.Outcome.TheVariants.{Dropped, Synced, Took}
 use Rattle.dccp_states.specs.declared.outcome.Why.TheVariants as why

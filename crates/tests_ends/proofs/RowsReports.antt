@@ -16,9 +16,9 @@ use Rattle.dccp_endpoint.specs.Receiving.{receives}
 use Rattle.dccp_endpoint.specs.Steps.{Step}
 use Rattle.dccp_states.specs.declared.outcome.Outcome.{Outcome}
 use Rattle.dccp_states.specs.declared.outcome.Outcome.TheVariants.{SentReset, Synced, Took, WasReset}
-use Rattle.dccp_endpoint.proofs.RowsData.{usual_client}
-use Rattle.dccp_endpoint.proofs.RowsOffers.{choosing_248, offering_2, offering_248, usual_vector}
-use Rattle.dccp_endpoint.proofs.RowsSeen.{Reported, Sent, Started, arrives, calls_at, listening, open_client, seen, sends, sent}
+use Rattle.tests_ends.proofs.RowsData.{usual_client}
+use Rattle.tests_ends.proofs.RowsOffers.{choosing_248, offering_2, offering_248, usual_vector}
+use Rattle.tests_ends.proofs.RowsSeen.{Reported, Sent, Started, arrives, calls_at, listening, open_client, seen, sends, sent}
 
 -- A Sync reports nothing, whatever its options, and neither does a packet that acknowledges nothing, as a Data.
 pub sync-reports-nothing : (a : Incoming) (old new : List Row) → a.kind ≡ types.Sync

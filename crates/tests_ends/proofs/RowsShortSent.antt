@@ -17,8 +17,8 @@ use Rattle.dccp_endpoint.specs.Drafts.{framed}
 use Rattle.dccp_endpoint.specs.End.{EndState, new_end}
 use Rattle.dccp_endpoint.specs.Receiving.{receives}
 use Rattle.dccp_endpoint.specs.Steps.{Step, in_phase}
-use Rattle.dccp_endpoint.proofs.RowsSeen.{arrives, client_ack, initial_rows, offering, open_server, plain, row, seen, sends, sent, server_ack, shown, wishing}
-use Rattle.dccp_endpoint.proofs.RowsShort.{holding, short_ack}
+use Rattle.tests_ends.proofs.RowsSeen.{arrives, client_ack, initial_rows, offering, open_server, plain, row, seen, sends, sent, server_ack, shown, wishing}
+use Rattle.tests_ends.proofs.RowsShort.{holding, short_ack}
 use Rattle.dccp_states.specs.declared.calls.OpenFault.{OpenFault}
 use Rattle.dccp_states.specs.declared.calls.SendFault.{SendFault}
 use Rattle.dccp_states.specs.declared.calls.Timer.TheVariants as timers

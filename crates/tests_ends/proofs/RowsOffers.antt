@@ -15,7 +15,7 @@ use Rattle.dccp_endpoint.specs.Usual.{usual}
 use Rattle.dccp_states.specs.declared.calls.Timer.TheVariants as timers
 use Rattle.dccp_endpoint.specs.declared.config.Config.{Config}
 use Rattle.dccp_states.specs.declared.outcome.Outcome.TheVariants.{SentReset, Took, WasReset}
-use Rattle.dccp_endpoint.proofs.RowsSeen.{arrives, client_ack, initial_rows, listening, offering, open_client, open_server, plain, request, requesting, requests_as, responds_as, response, row, seen, sent, server_ack, shown, usual_rows, wishing}
+use Rattle.tests_ends.proofs.RowsSeen.{arrives, client_ack, initial_rows, listening, offering, open_client, open_server, plain, request, requesting, requests_as, responds_as, response, row, seen, sent, server_ack, shown, usual_rows, wishing}
 
 -- the packets of a handshake in which both ends offer ECN Incapable here and Send Ack Vector at the peer, both behind Mandatory
 abbrev usual_request : String

@@ -12,7 +12,7 @@ use Rattle.dccp_states.specs.declared.calls.AbortFault.TheVariants.{NotLive}
 use Rattle.dccp_states.specs.declared.calls.CloseFault.TheVariants.{NotOpen}
 use Rattle.dccp_states.specs.declared.calls.Timer.TheVariants as timers
 use Rattle.dccp_endpoint.specs.Steps.{Step}
-use Rattle.dccp_endpoint.proofs.RowsSeen.{arrives, client_ack, close, closed, initial_rows, listening, open_client, open_server, plain, request, requesting, responding, response, response_again, seen, sent, server_ack, shown}
+use Rattle.tests_ends.proofs.RowsSeen.{arrives, client_ack, close, closed, initial_rows, listening, open_client, open_server, plain, request, requesting, responding, response, response_again, seen, sent, server_ack, shown}
 use Rattle.dccp_states.specs.declared.outcome.Outcome.{Outcome}
 use Rattle.dccp_states.specs.declared.outcome.Outcome.TheVariants.{Dropped, SentReset, Synced, Took, WasReset}
 use Rattle.dccp_states.specs.declared.outcome.Why.TheVariants as why

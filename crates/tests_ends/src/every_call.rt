@@ -1,0 +1,115 @@
+//! Public calls of dccp_endpoint, dccp_uses and data_dropped, each once with ample memory, that neither the program nor
+//! another test makes.
+use ccid_two::Kinds;
+use data_dropped::DropReport;
+use dccp_endpoint::{Config, Congestion, Endpoint, Frame, Ports, Pseudo, Role, Seq48, feed};
+use dccp_options::{AckReport, options};
+use dccp_uses::{AdditiveWindow, Network, OneAtATime, Session};
+use std::alloc::Global;
+
+// A Request of the usual client.
+const REQUEST: [u8; 20] = [
+    0x9c, 0x40, 0x13, 0x89, 5, 0, 0x31, 0xec, 1, 0, 0, 0, 0, 0, 0x03, 0xe8, 0, 0, 0, 42,
+];
+
+// The configuration of the usual client.
+fn client() -> Option<Config> {
+    let addresses = Pseudo::V4 {
+        from: [10, 0, 0, 1],
+        to: [10, 0, 0, 2],
+    };
+    let ports = Ports {
+        own: 40000,
+        peer: 5001,
+    };
+    Some(Config::client(addresses, ports, 42, Seq48::new(1000)?))
+}
+
+// Whether an end has taken a Request, and its number was not reported.
+fn takes(end: &mut Endpoint<Kinds>) -> Option<bool> {
+    let frames = [Frame::of(&REQUEST)?];
+    let taken = feed(end, &frames);
+    Some(taken == 1 && !end.is_reported(Seq48::new(1000)?))
+}
+
+fn is_fed(alloc: Global) -> Option<bool> {
+    let congestion = Kinds::new(alloc).ok()?;
+    let mut end = Endpoint::new(alloc, Config::usual(Role::Server), congestion).ok()?;
+    takes(&mut end)
+}
+
+#[test]
+fn an_end_is_fed(rt: HostRuntime) {
+    assert!(rt; is_fed(rt.alloc()) == Some(true));
+}
+
+// Counts the frames that it is handed.
+#[derive(Drop)]
+struct Count(u64);
+
+impl Network for Count {
+    ghost sends = { λ _ _ _. Unit {0} };
+
+    fn send(&mut self, _frame: &[u8]) {
+        self.0 = self.0.saturating_add(1);
+    }
+}
+
+// A client that opens, shows its room and its first wait, and aborts.
+fn opens_and_aborts(session: &mut Session<OneAtATime>) -> bool {
+    let mut network = Count(0);
+    session.open(0, &mut network).is_ok()
+        && session.room() == 1
+        && session.until_first(400) == Some(600)
+        && session.alarms().request.is_some()
+        && session.abort(500, &mut network).is_ok()
+        && network.0 == 1
+}
+
+fn is_aborted(alloc: Global) -> Option<bool> {
+    let congestion = OneAtATime::new(alloc).ok()?;
+    let mut session = Session::new(alloc, client()?, congestion).ok()?;
+    Some(opens_and_aborts(&mut session))
+}
+
+#[test]
+fn a_session_is_aborted(rt: HostRuntime) {
+    assert!(rt; is_aborted(rt.alloc()) == Some(true));
+}
+
+// Sends a packet, and hears that the number 1 was received.
+fn hears(kind: &mut AdditiveWindow) -> Option<bool> {
+    if !kind.may_send() {
+        return None;
+    }
+    kind.on_sent(Seq48::new(1)?);
+    let report = AckReport::of(Seq48::new(1)?, options(&[38, 3, 0x00], false))?;
+    kind.on_report(&report, 2);
+    Some(kind.window() == 2 && kind.in_flight() == 0)
+}
+
+fn starts_anew(kind: &mut AdditiveWindow) -> bool {
+    kind.on_timeout();
+    kind.start(249);
+    kind.knows(249) && kind.window() == 1
+}
+
+fn grows(alloc: Global) -> Option<bool> {
+    let mut kind = AdditiveWindow::new(alloc).ok()?;
+    Some(hears(&mut kind)? && starts_anew(&mut kind))
+}
+
+#[test]
+fn an_own_window_grows(rt: HostRuntime) {
+    assert!(rt; grows(rt.alloc()) == Some(true));
+}
+
+fn code() -> Option<u8> {
+    let report = DropReport::of(Seq48::new(20)?, options(&[40, 3, 0xa0], false))?;
+    report.code(Seq48::new(20)?)
+}
+
+#[test]
+fn a_report_of_drops_is_read(rt: HostRuntime) {
+    assert!(rt; code() == Some(2));
+}
