@@ -1,22 +1,14 @@
-//! The tests of the crates below an end, on their public calls: seq_circle, dccp_sum, dccp_states, dccp_packets,
-//! dccp_options and validity_windows; in `marks` run_list, ack_vectors, dccp_ecn, congestion_trait and ccid_two; in
-//! `streams` dccp_io, capture_reader, packet_show and schedule_text. They stand in a crate of their own since a crate
-//! with tests is proved twice, with them and without; and in one, since each loads its statements anew.
+//! The tests of the crates below an end, on their public calls: in `once` seq_circle, dccp_sum, dccp_states,
+//! dccp_packets, dccp_options and validity_windows; in `marks` run_list, ack_vectors, dccp_ecn, congestion_trait and
+//! ccid_two; in `streams` dccp_io, capture_reader, packet_show and schedule_text. Tables of values are worked rows in
+//! `proofs/`, since the calls answer what their definitions say: the rows are computed from those. The tests stand in a
+//! crate of their own since a crate with tests is proved twice, with them and without; and in one, since each loads its
+//! statements anew.
 #![tactic(auto)]
 
 #[cfg(test)]
-mod circle;
-#[cfg(test)]
 mod marks;
 #[cfg(test)]
-mod options;
-#[cfg(test)]
-mod packets;
-#[cfg(test)]
-mod phases;
+mod once;
 #[cfg(test)]
 mod streams;
-#[cfg(test)]
-mod sums;
-#[cfg(test)]
-mod windows;

@@ -1,297 +1,184 @@
-//! Sets of numbers as runs, linked and plain: marks and floors.
-use crate::marks::calls::{Called, all_come};
-use run_list::{Marked, PlainRuns, RunList, Runs, Stretch};
+//! Full sets, linked and plain: thousands of marks, which take the checker too long; and each public call of run_list.
+//! All other lists of calls stand in proofs/RowsRuns.antt.
+use run_list::{PlainRuns, RunCall, RunList, Runs, Stretch, replay_runs};
 use seq_circle::Seq48;
-use std::alloc::Global;
 use std::test::Fail;
 
-// The number before 0.
-const LAST: u64 = 281_474_976_710_655;
+// So many steps up lead one number down, and two.
+const ONE_DOWN: u64 = 281_474_976_710_655;
 
-// A call of a set, and what has to come of it.
-enum Call {
+const TWO_DOWN: u64 = 281_474_976_710_654;
+
+// Calls of one kind.
+enum Calls {
     Start(u64),
-    Mark(u64, Marked),
-    // Each of these is new.
-    MarkAll(&'static [u64]),
+    // The first number, how many steps up the next one lies, and how many marks there are.
+    Marks(u64, u64, u32),
     Raise(u64),
-    // So many times two runs become one, and all start anew.
-    Join(u32),
-    // The floor is this one.
-    Floor(u64),
 }
 
-fn start<R: Runs>(set: &mut R, first: u64) -> Option<bool> {
-    set.start(Seq48::new(first)?);
-    Some(true)
-}
+// Lists of calls, each with how many marks are New, and the floor in the end.
+const FULL: [(&[Calls], u32, u64); 13] = [
+    (
+        &[Calls::Marks(0, 1, 2_048), Calls::Marks(0, 1, 2_048)],
+        2_048,
+        0,
+    ),
+    (
+        &[
+            Calls::Marks(2_047, ONE_DOWN, 2_048),
+            Calls::Marks(2_047, ONE_DOWN, 2_048),
+        ],
+        2_048,
+        0,
+    ),
+    (
+        &[Calls::Marks(0, 2, 1_024), Calls::Marks(1, 2, 1_024)],
+        2_048,
+        0,
+    ),
+    (
+        &[
+            Calls::Marks(0, 2, 1_024),
+            Calls::Marks(2_047, TWO_DOWN, 1_024),
+        ],
+        2_048,
+        0,
+    ),
+    (
+        &[
+            Calls::Marks(2_046, TWO_DOWN, 1_024),
+            Calls::Marks(1, 2, 1_024),
+        ],
+        2_048,
+        0,
+    ),
+    (
+        &[
+            Calls::Marks(2_046, TWO_DOWN, 1_024),
+            Calls::Marks(2_047, TWO_DOWN, 1_024),
+            Calls::Marks(5, 1, 1),
+        ],
+        2_048,
+        0,
+    ),
+    (
+        &[
+            Calls::Marks(0, 2, 1_024),
+            Calls::Raise(1_024),
+            Calls::Marks(1_025, 2, 512),
+            Calls::Marks(2_048, 2, 512),
+        ],
+        2_048,
+        1_024,
+    ),
+    (
+        &[
+            Calls::Marks(0, 2, 1_024),
+            Calls::Raise(2_046),
+            Calls::Marks(2_047, 2, 1_023),
+        ],
+        2_047,
+        2_046,
+    ),
+    (
+        &[Calls::Marks(0, 2, 2_000), Calls::Marks(1, 2, 2_000)],
+        3_025,
+        1_952,
+    ),
+    (
+        &[
+            Calls::Marks(0, 3, 700),
+            Calls::Marks(1, 3, 700),
+            Calls::Marks(2, 3, 700),
+        ],
+        2_066,
+        52,
+    ),
+    (
+        &[
+            Calls::Marks(0, 2, 1_024),
+            Calls::Start(7),
+            Calls::Marks(7, 2, 1_024),
+            Calls::Marks(8, 2, 1_023),
+        ],
+        3_071,
+        7,
+    ),
+    (
+        &[
+            Calls::Start(281_474_976_709_655),
+            Calls::Marks(281_474_976_709_655, 2, 1_024),
+            Calls::Marks(281_474_976_709_656, 2, 1_024),
+        ],
+        2_048,
+        281_474_976_709_655,
+    ),
+    (
+        &[
+            Calls::Start(281_474_976_709_655),
+            Calls::Marks(1_045, TWO_DOWN, 1_024),
+            Calls::Raise(0),
+            Calls::Marks(1_046, TWO_DOWN, 1_024),
+        ],
+        1_548,
+        0,
+    ),
+];
 
-fn mark<R: Runs>(set: &mut R, number: u64, answer: Marked) -> Option<bool> {
-    Some(set.mark(Seq48::new(number)?) == answer)
-}
-
-fn mark_all<R: Runs>(set: &mut R, numbers: &[u64]) -> Option<bool> {
-    for number in numbers {
-        if mark(set, *number, Marked::New) != Some(true) {
-            return None;
-        }
-    }
-    Some(true)
-}
-
-fn raise<R: Runs>(set: &mut R, floor: u64) -> Option<bool> {
-    set.raise(Seq48::new(floor)?);
-    Some(true)
-}
-
-fn join<R: Runs>(set: &mut R, times: u32) -> Option<bool> {
+fn mark_each<R: Runs>(set: &mut R, first: Seq48, steps: u64, times: u32) -> u32 {
+    let mut new = 0_u32;
+    let mut number = first;
     for _ in 0..times {
-        start(set, 0)?;
-        mark_all(set, &[1, 3, 2])?;
+        let twice = [RunCall::Mark(number), RunCall::Mark(number)];
+        new = new.saturating_add(replay_runs(set, &twice));
+        number = number.add(steps);
     }
-    Some(true)
+    new
 }
 
-// Whether a call comes to what it has to. None where a number is too large, which no list has.
-fn holds<R: Runs>(set: &mut R, call: &Call) -> Option<bool> {
-    match *call {
-        Call::Start(first) => start(set, first),
-        Call::Mark(number, answer) => mark(set, number, answer),
-        Call::MarkAll(numbers) => mark_all(set, numbers),
-        Call::Raise(floor) => raise(set, floor),
-        Call::Join(times) => join(set, times),
-        Call::Floor(number) => Some(set.floor().get() == number),
+// How many marks are New. None where a number is too large, which no list has.
+fn make<R: Runs>(set: &mut R, calls: &Calls) -> Option<u32> {
+    match *calls {
+        Calls::Start(first) => Some(replay_runs(set, &[RunCall::Start(Seq48::new(first)?)])),
+        Calls::Raise(floor) => Some(replay_runs(set, &[RunCall::Raise(Seq48::new(floor)?)])),
+        Calls::Marks(first, steps, times) => Some(mark_each(set, Seq48::new(first)?, steps, times)),
     }
 }
 
-impl Called<Call> for RunList {
-    fn holds(&mut self, call: &Call) -> Option<bool> {
-        holds(self, call)
+fn make_all<R: Runs>(set: &mut R, list: &[Calls]) -> Option<u32> {
+    let mut new = 0_u32;
+    for calls in list {
+        new = new.saturating_add(make(set, calls)?);
     }
+    Some(new)
 }
 
-impl Called<Call> for PlainRuns {
-    fn holds(&mut self, call: &Call) -> Option<bool> {
-        holds(self, call)
-    }
-}
-
-// Whether this is the next of the runs that are wanted, by its greatest number and how many it has.
-fn is_wanted(stretch: &Stretch, wanted: Option<&(u64, u16)>) -> bool {
-    match wanted {
-        Some((hi, count)) => stretch.hi.get() == *hi && stretch.count == *count,
-        None => false,
-    }
-}
-
-// Whether the runs are these, from the greatest number down.
-fn has_runs(set: &RunList, runs: &[(u64, u16)]) -> bool {
-    let mut wanted = runs.iter();
-    for stretch in set.walk() {
-        if !is_wanted(&stretch, wanted.next()) {
-            return false;
+fn all_come<R: Runs>(set: &mut R) -> Result<(), Fail> {
+    for (place, (list, new, floor)) in FULL.iter().enumerate() {
+        set.start(Seq48::new(0).ok_or("zero")?);
+        if make_all(set, *list) != Some(*new) || set.floor().get() != *floor {
+            return Err(Fail::new(format_args!("list {place}")));
         }
-    }
-    wanted.next().is_none()
-}
-
-// Calls, and the runs that are there after them.
-struct Case<'a> {
-    name: &'a str,
-    calls: &'a [Call],
-    runs: &'a [(u64, u16)],
-}
-
-fn play(set: &mut RunList, case: &Case<'_>) -> Result<(), Fail> {
-    all_come(set, case.name, case.calls)?;
-    if has_runs(set, case.runs) {
-        Ok(())
-    } else {
-        Err(Fail::new(format_args!("{}: the runs", case.name)))
-    }
-}
-
-// Plays the cases on one set, one after another.
-fn play_all(alloc: Global, cases: &[Case<'_>]) -> Result<(), Fail> {
-    let mut set = RunList::new(alloc).ok().ok_or("no memory")?;
-    for case in cases {
-        play(&mut set, case)?;
     }
     Ok(())
 }
 
-// A mark by what happens to the runs.
-const MARKS: [Case<'static>; 12] = [
-    Case {
-        name: "begins the first run",
-        calls: &[
-            Call::Start(10),
-            Call::Mark(12, Marked::New),
-            Call::Floor(10),
-        ],
-        runs: &[(12, 1)],
-    },
-    Case {
-        name: "extends the first run",
-        calls: &[
-            Call::Start(10),
-            Call::MarkAll(&[10, 11]),
-            Call::Mark(12, Marked::New),
-            Call::Floor(10),
-        ],
-        runs: &[(12, 3)],
-    },
-    Case {
-        name: "extends a run downwards",
-        calls: &[
-            Call::Start(10),
-            Call::MarkAll(&[20, 12]),
-            Call::Mark(19, Marked::New),
-            Call::Floor(10),
-        ],
-        runs: &[(20, 2), (12, 1)],
-    },
-    Case {
-        name: "joins two",
-        calls: &[
-            Call::Start(10),
-            Call::MarkAll(&[10, 12, 13]),
-            Call::Mark(11, Marked::New),
-            Call::Floor(10),
-        ],
-        runs: &[(13, 4)],
-    },
-    Case {
-        name: "links between",
-        calls: &[
-            Call::Start(10),
-            Call::MarkAll(&[10, 20]),
-            Call::Mark(15, Marked::New),
-            Call::Floor(10),
-        ],
-        runs: &[(20, 1), (15, 1), (10, 1)],
-    },
-    Case {
-        name: "below the floor",
-        calls: &[
-            Call::Start(10),
-            Call::MarkAll(&[11]),
-            Call::Mark(9, Marked::BelowFloor),
-            Call::Floor(10),
-        ],
-        runs: &[(11, 1)],
-    },
-    Case {
-        name: "half the circle ahead",
-        calls: &[
-            Call::Start(10),
-            Call::MarkAll(&[11]),
-            Call::Mark(140_737_488_355_338, Marked::BelowFloor),
-            Call::Floor(10),
-        ],
-        runs: &[(11, 1)],
-    },
-    Case {
-        name: "again",
-        calls: &[
-            Call::Start(10),
-            Call::MarkAll(&[10, 11, 12]),
-            Call::Mark(11, Marked::Again),
-            Call::Floor(10),
-        ],
-        runs: &[(12, 3)],
-    },
-    Case {
-        name: "2,047 above the floor",
-        calls: &[
-            Call::Start(10),
-            Call::MarkAll(&[10, 11]),
-            Call::Mark(2_057, Marked::New),
-            Call::Floor(10),
-        ],
-        runs: &[(2_057, 1), (11, 2)],
-    },
-    Case {
-        name: "pushes the floor",
-        calls: &[
-            Call::Start(10),
-            Call::MarkAll(&[10, 11]),
-            Call::Mark(2_058, Marked::New),
-            Call::Floor(11),
-        ],
-        runs: &[(2_058, 1), (11, 1)],
-    },
-    Case {
-        name: "over the wrap",
-        calls: &[
-            Call::Start(LAST - 1),
-            Call::MarkAll(&[LAST - 1, LAST, 1]),
-            Call::Mark(0, Marked::New),
-            Call::Floor(LAST - 1),
-        ],
-        runs: &[(1, 4)],
-    },
-    Case {
-        name: "more often than a set has nodes: 1,024",
-        calls: &[Call::Join(1_025), Call::Floor(0)],
-        runs: &[(3, 3)],
-    },
-];
-
+// The last list ends with 0 to 1,046.
 #[test]
-fn marks_by_name(rt: HostRuntime) -> Result<(), Fail> {
-    play_all(rt.alloc(), &MARKS)
+fn full_linked_sets(rt: HostRuntime) -> Result<(), Fail> {
+    let mut set = RunList::new(rt.alloc()).ok().ok_or("no memory")?;
+    all_come(&mut set)?;
+    let run = Stretch {
+        hi: Seq48::new(1_046).ok_or("a number")?,
+        count: 1_047,
+    };
+    assert_eq!(rt; set.walk().next(), Some(run));
+    Ok(())
 }
 
-// A floor that never falls, one that is raised into a run, one that is raised over all, and a new start.
-const RAISED: [Case<'static>; 4] = [
-    Case {
-        name: "raised to less",
-        calls: &[
-            Call::Start(10),
-            Call::MarkAll(&[10, 11, 12, 20, 21, 22]),
-            Call::Raise(5),
-            Call::Floor(10),
-        ],
-        runs: &[(22, 3), (12, 3)],
-    },
-    Case {
-        name: "raised into a run",
-        calls: &[Call::Raise(21), Call::Floor(21)],
-        runs: &[(22, 2)],
-    },
-    Case {
-        name: "raised over all",
-        calls: &[Call::Raise(30)],
-        runs: &[],
-    },
-    Case {
-        name: "begun again",
-        calls: &[Call::Start(7), Call::Floor(7)],
-        runs: &[],
-    },
-];
-
 #[test]
-fn a_raised_floor(rt: HostRuntime) -> Result<(), Fail> {
-    play_all(rt.alloc(), &RAISED)
-}
-
-// The row of runs is made too, and answers as the linked runs do.
-const ROW: [Call; 9] = [
-    Call::Start(10),
-    Call::MarkAll(&[10, 12, 13, 11]),
-    Call::Mark(9, Marked::BelowFloor),
-    Call::Mark(11, Marked::Again),
-    Call::Mark(2_058, Marked::New),
-    Call::Floor(11),
-    Call::Raise(12),
-    Call::Floor(12),
-    Call::Mark(11, Marked::BelowFloor),
-];
-
-#[test]
-fn a_plain_row(rt: HostRuntime) -> Result<(), Fail> {
+fn full_plain_sets(rt: HostRuntime) -> Result<(), Fail> {
     let mut set = PlainRuns::new(rt.alloc()).ok().ok_or("no memory")?;
-    all_come(&mut set, "a row", &ROW)
+    all_come(&mut set)
 }

@@ -1,0 +1,17 @@
+pub mod RowsCaptures
+pub mod RowsCircle
+pub mod RowsControls
+pub mod RowsFlights
+pub mod RowsLines
+pub mod RowsMemory
+pub mod RowsNonces
+pub mod RowsOptions
+pub mod RowsPackets
+pub mod RowsPhases
+pub mod RowsReceived
+pub mod RowsRuns
+pub mod RowsSchedules
+pub mod RowsSeen
+pub mod RowsSums
+pub mod RowsTexts
+pub mod RowsWindows

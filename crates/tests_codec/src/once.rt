@@ -1,0 +1,285 @@
+//! Each public call of seq_circle, dccp_sum, dccp_packets, dccp_options, validity_windows and dccp_states once, as it
+//! runs. What the calls answer on other values is computed from their definitions by the worked rows of `proofs/`.
+ghost use Rattle.std.specs.Prelude.{◌≤◌, length};
+
+use dccp_options::kinds::{ACK_VECTOR_0, CHANGE_L};
+use dccp_options::{AckReport, OptFull, OptWriter, options};
+use dccp_packets::{
+    Frame, Header, Kind, MOST_FRAME_BYTES, Number, OptionsTooLong, Outbox, PacketType, ResetCode,
+    decode, encode,
+};
+use dccp_states::{Entrance, Phase, Reply, Role, after, gate, unexpected};
+use dccp_sum::{Pseudo, check, checksum, covered, seal};
+use seq_circle::{Seq24, Seq48, extend};
+use std::test::Fail;
+use validity_windows::{Marks, Verdict};
+
+// The last number and the first, which follows it.
+fn are_around_the_end(last: Seq48, first: Seq48) -> bool {
+    last.next() == first
+        && last.add(2).get() == 1
+        && last.sub(3).get() == 281_474_976_710_652
+        && last.distance(first) == 1
+        && last.before(first)
+        && last.max_of(first) == first
+        && first.is_from(last)
+        && first.open_end().get() == 140_737_488_355_327
+        && last.within(last, first)
+        && !first.is_far(last)
+        && extend(last.low(), first) == last
+}
+
+fn around_the_end() -> Option<bool> {
+    let last = Seq48::new(281_474_976_710_655)?;
+    Some(are_around_the_end(last, Seq48::new(0)?))
+}
+
+#[test]
+fn numbers_around_the_end(rt: HostRuntime) {
+    assert!(rt; around_the_end() == Some(true));
+}
+
+#[test]
+fn widths_of_numbers(rt: HostRuntime) {
+    assert!(rt; Seq48::new(281_474_976_710_656).is_none());
+    assert!(rt; Seq24::new(16_777_215).map(Seq24::get) == Some(16_777_215));
+    assert!(rt; Seq24::new(16_777_216).is_none());
+}
+
+// A Request from port 40000 to 5001 with number 1000 and service 42, over IPv4.
+const REQUEST: [u8; 20] = [
+    0x9c, 0x40, 0x13, 0x89, 5, 0, 0x31, 0xec, 1, 0, 0, 0, 0, 0, 0x03, 0xe8, 0, 0, 0, 42,
+];
+
+const TO_SERVER: Pseudo = Pseudo::V4 {
+    from: [10, 0, 0, 1],
+    to: [10, 0, 0, 2],
+};
+
+#[test]
+fn a_request_is_sealed(rt: HostRuntime) {
+    let mut packet = REQUEST;
+    packet[6] = 0;
+    assert!(rt; check(&TO_SERVER, &packet).is_err() && covered(&packet) == Some(20));
+    assert!(rt; seal(&TO_SERVER, &mut packet) && packet == REQUEST);
+    assert!(rt; checksum(&TO_SERVER, &packet, 20) == 0x31ec);
+}
+
+// The header of a packet.
+fn header_of(bytes: &[u8]) -> Option<Header> {
+    match decode(bytes) {
+        Ok(packet) => Some(packet.header),
+        Err(_) => None,
+    }
+}
+
+// Whether more options are refused than fit, and what was written before then stands.
+fn keeps_its_frame(header: &Header, bytes: &[u8]) -> bool {
+    let Some(mut out) = Frame::of(bytes) else {
+        return false;
+    };
+    header.valid()
+        && encode(header, &[0; 1001], &[], &mut out) == Err(OptionsTooLong)
+        && out.bytes() == bytes
+}
+
+// Whether the longest frame is written, and its options then have three zeros behind them.
+fn writes_the_longest(header: &Header) -> bool {
+    let mut out = Frame::new();
+    if !header.valid() || encode(header, &[2; 997], &[7; 1024], &mut out).is_err() {
+        return false;
+    }
+    out.bytes().len() == MOST_FRAME_BYTES && options_end_in_zeros(out.bytes())
+}
+
+fn options_end_in_zeros(frame: &[u8]) -> bool {
+    match decode(frame) {
+        Ok(packet) => packet.options.len() == 1000 && packet.options.ends_with(&[2, 0, 0, 0]),
+        Err(_) => false,
+    }
+}
+
+// What does not hold of the header of the Request.
+fn fault_of_lengths() -> Option<&'static str> {
+    let Some(header) = header_of(&REQUEST) else {
+        return Some("a Request");
+    };
+    if !keeps_its_frame(&header, &REQUEST) {
+        return Some("a byte of options too many");
+    }
+    if !writes_the_longest(&header) {
+        return Some("as many as fit");
+    }
+    if Frame::of(&[0; 2045]).is_some() {
+        return Some("a byte of a frame too many");
+    }
+    None
+}
+
+#[test]
+fn options_that_do_not_fit(rt: HostRuntime) {
+    let fault = fault_of_lengths();
+    assert!(rt; MOST_FRAME_BYTES == 2044 && fault.is_none(), "{fault:?}");
+}
+
+// A frame of three bytes, of which the middle one was changed.
+fn changed_frame() -> Option<Frame> {
+    let mut frame = Frame::of(&[1, 2, 3])?;
+    let bytes = frame.bytes_mut();
+    if bytes.len() != 3 {
+        return None;
+    }
+    bytes[1] = 9;
+    Some(frame)
+}
+
+// Whether an Outbox holds a frame of these bytes.
+fn has_frame(out: &Outbox, bytes: &[u8]) -> bool {
+    match out.frame() {
+        Some(frame) => frame.bytes() == bytes,
+        None => false,
+    }
+}
+
+// Whether it holds the frame, and nothing once it is emptied.
+fn holds_until_emptied(out: &mut Outbox) -> bool {
+    if !has_frame(out, &[1, 9, 3]) {
+        return false;
+    }
+    out.clear();
+    out.frame().is_none()
+}
+
+// Whether it holds a frame of no bytes that is begun.
+fn holds_begun(out: &mut Outbox) -> bool {
+    out.begin().bytes().is_empty() && has_frame(out, &[])
+}
+
+#[test]
+fn one_frame_in_an_outbox(rt: HostRuntime) -> Result<(), Fail> {
+    let mut out = Outbox::new();
+    assert!(rt; out.frame().is_none(), "a new one");
+    out.put(changed_frame().ok_or("three bytes")?);
+    assert!(rt; holds_until_emptied(&mut out), "what was put");
+    assert!(rt; holds_begun(&mut out), "what was begun");
+    Ok(())
+}
+
+fn is_short_ack(kind: &Kind, number: Seq48) -> bool {
+    let packet_type = kind.packet_type();
+    packet_type.code() == 3
+        && packet_type.has_ack()
+        && packet_type.may_be_short()
+        && !packet_type.is_data()
+        && kind.ack() == Some(Number::in_form(number, true).value())
+        && kind.ack_near(number.next()) == Some(number)
+        && Number::in_form(number, true).near(number.next()) == number
+        && kind.service().is_none()
+        && kind.reset_code() == 0
+}
+
+// Whether an Ack of the number has its short form, from which it is found again.
+fn has_short_ack(number: u64) -> Option<bool> {
+    let number = Seq48::new(number)?;
+    let long = Kind::Ack {
+        ack: Number::in_form(number, false),
+    };
+    Some(is_short_ack(&long.in_form(true), number))
+}
+
+#[test]
+fn a_short_ack(rt: HostRuntime) {
+    assert!(rt; has_short_ack(1_108_160_546_054) == Some(true));
+}
+
+#[test]
+fn codes_of_resets(rt: HostRuntime) {
+    assert!(rt; ResetCode::of(11) == Some(ResetCode::AggressionPenalty));
+    assert!(rt; ResetCode::AggressionPenalty.number() == 11);
+}
+
+// The states of the numbers 100 and 99 by an Ack Vector behind another option, and the length of its first run.
+fn states_told() -> Option<(u8, u8, u8)> {
+    let ack = Seq48::new(100)?;
+    let list = options(&[2, ACK_VECTOR_0, 4, 0xc0, 0x03], false);
+    let report = AckReport::of(ack, list.again())?;
+    let run = report.runs().next()?;
+    Some((report.state(ack)?, report.state(ack.sub(1))?, run.count))
+}
+
+// Whether the first option is understood.
+fn is_first_understood(area: &[u8]) -> bool
+    requires { length area.now ≤ 1008 }
+{
+    match options(area, false).next() {
+        Some(Ok(option)) => option.is_understood(),
+        _ => false,
+    }
+}
+
+#[test]
+fn options_that_are_read(rt: HostRuntime) {
+    assert!(rt; states_told() == Some((3, 0, 1)));
+    assert!(rt; is_first_understood(&[CHANGE_L, 4, 6, 1]));
+}
+
+// Whether an option is written.
+fn puts(writer: &mut OptWriter, mandatory: bool, kind: u8, body: &[u8]) -> bool {
+    32 <= kind && body.len() <= 253 && writer.put(mandatory, kind, body).is_ok()
+}
+
+// Whether an option is refused for want of room.
+fn is_full(writer: &mut OptWriter, mandatory: bool, body: &[u8]) -> bool {
+    body.len() <= 253 && writer.put(mandatory, CHANGE_L, body) == Err(OptFull)
+}
+
+// Whether the room is for three long options, and a fourth that is not longer than this.
+fn is_filled(writer: &mut OptWriter) -> bool {
+    let body = [0; 253];
+    for _ in 0..3 {
+        if !puts(writer, false, 255, &body) {
+            return false;
+        }
+    }
+    is_full(writer, true, &body[..241])
+        && writer.bytes().len() == 765
+        && puts(writer, true, CHANGE_L, &body[..240])
+}
+
+#[test]
+fn full_writer(rt: HostRuntime) {
+    let mut writer = OptWriter::new();
+    assert!(rt; is_filled(&mut writer), "room for 1,008 bytes");
+    assert!(rt;
+        writer.bytes().len() == 1008 && is_full(&mut writer, false, &[]),
+        "and no more"
+    );
+}
+
+// Whether marks that began with a Response take the numbers of a Sync, and by which windows.
+fn take_a_sync(number: Seq48, first: Seq48) -> bool {
+    let mut marks = Marks::new(first, 100);
+    marks.begin(PacketType::Response, number, Some(first));
+    let next = number.next();
+    if marks.check(PacketType::Sync, next, Some(first)) != Verdict::Valid {
+        return false;
+    }
+    marks.take(PacketType::Sync, next, Some(first));
+    marks.gsr == next && marks.acknowledges(Some(first)) && marks.windows().swl == number
+}
+
+fn taken() -> Option<bool> {
+    Some(take_a_sync(Seq48::new(2000)?, Seq48::new(0)?))
+}
+
+#[test]
+fn marks_take_a_sync(rt: HostRuntime) {
+    assert!(rt; taken() == Some(true));
+}
+
+#[test]
+fn a_close_in_an_open_phase(rt: HostRuntime) {
+    assert!(rt; gate(Phase::Open, PacketType::Close) == Entrance::Check);
+    assert!(rt; !unexpected(Role::Server, Phase::Open, PacketType::Close, true));
+    assert!(rt; after(Phase::Open, PacketType::Close) == (Phase::Closed, Reply::ResetClosed));
+}
