@@ -6,6 +6,7 @@ from pathlib import Path
 TOP = Path(__file__).resolve().parent.parent
 TABLES = TOP / "crates" / "tests_tool" / "src" / "worked.rt"
 EXAMPLES = TOP / "examples"
+WIDTH = 200
 
 # Played over streams of 1, 7 and 4,096 bytes a call, and of 4,096 alone.
 IN_PIECES = """usual_connection_with_data mandatory_before_nothing options_passed_over option_faults""".split()
@@ -17,19 +18,20 @@ WHOLE = """empty comments_alone no_such_frame handshake open_both_ways number_wr
 
 HEAD = '''//! The worked cases that have words and an input, one after another over the tool's one call. `tools/worked_cases.py`
 //! writes these texts from examples/, where the cases are told.
-use crate::calls::{cases_come, cases_come_in_pieces};
+use crate::calls::Tool;
+use crate::cases::{Way, cases_come};
 use std::test::Fail;
 
 '''
 
 FOOT = '''#[test]
 fn worked_cases_in_pieces(rt: HostRuntime) -> Result<(), Fail> {
-    cases_come_in_pieces(&rt, rt.alloc(), IN_PIECES)
+    cases_come(&rt, rt.alloc(), (Tool::Dccp, Way::InPieces), IN_PIECES)
 }
 
 #[test]
 fn worked_cases(rt: HostRuntime) -> Result<(), Fail> {
-    cases_come(&rt, rt.alloc(), 4096, WHOLE)
+    cases_come(&rt, rt.alloc(), (Tool::Dccp, Way::Whole), WHOLE)
 }
 '''
 
@@ -51,10 +53,15 @@ def answers(text, words):
 
 
 def literal(text):
-    """A text as a literal, a line of it on each line, and empty lines forty on one."""
+    """A text as a literal, as many of its lines on one as fit: rt sets memory aside by the lines of a crate."""
     spelled = re.sub("^ ", r"\\x20", text.replace("\\", "\\\\").replace('"', '\\"'), flags=re.M)
-    pieces = re.findall(r"\n{1,40}|.+\n?", spelled)
-    return '"\\\n' + "\\\n".join(it.replace("\n", "\\n") for it in pieces) + '"'
+    rows = [""]
+    for piece in re.findall(r"\n{1,40}|.+\n?", spelled):
+        piece = piece.replace("\n", "\\n")
+        if len(rows[-1]) + len(piece) > WIDTH:
+            rows.append("")
+        rows[-1] += piece
+    return '"\\\n' + "\\\n".join(it for it in rows if it) + '"'
 
 
 def case_of(words, given, told):

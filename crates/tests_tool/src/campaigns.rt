@@ -1,5 +1,5 @@
 //! Workers that run beside each other.
-use crate::calls::answer_to;
+use crate::calls::{Tool, end_of};
 use crate::gates::HoldFirst;
 use crate::words::{FOUR_SEEDS, UNREAD};
 use dccp_command::Status;
@@ -11,8 +11,9 @@ use std::thread::Threads;
 fn held<R: Threads + Sync>(rt: &R, alloc: Global) -> Result<(bool, bool), Fail> {
     let gate = HoldFirst::new();
     let words = "campaign,--first,5,--seeds,4,--events,120,--workers,2";
-    let answer = answer_to(rt, alloc, &gate, &UNREAD, words, b"")?;
-    Ok((answer.is(Status::Done, FOUR_SEEDS), gate.has_met()))
+    let call = (Tool::Dccp, words, "".as_bytes());
+    let ended = end_of(rt, alloc, &gate, &UNREAD, call, FOUR_SEEDS.as_bytes())?;
+    Ok((ended.is(Status::Done), gate.has_met()))
 }
 
 // Two workers run beside each other and claim as they go: one alone, or two with two seeds each from the start, would

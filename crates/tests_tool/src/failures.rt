@@ -1,10 +1,11 @@
-//! Streams that fail at each of their calls in turn, in all six forms.
+//! Streams that fail at each of their calls in turn, in all forms of both tools.
 //!
-//! The streams tell whether one of their calls failed. Exactly where one did, the tool ends with the status of a failed
+//! The streams tell whether one of their calls failed. Exactly where one did, a tool ends with the status of a failed
 //! read or write and has written a front of its text; else it ends as ever.
-use crate::calls::{Answer, Streams, answer_to, parts_of};
+use crate::bridge::CALLS;
+use crate::calls::{Ended, Streams, Tool};
+use crate::cases::{Case, Way, cases_come, end_over};
 use dccp_command::Status;
-use fault_campaign::OpenGate;
 use std::alloc::Global;
 use std::test::Fail;
 use std::thread::Threads;
@@ -105,85 +106,53 @@ synced 0\nwas_reset 0\nsent_reset 0\nrefused 0\nsettled 48\n";
 // More than any call here reads or writes.
 const MOST_CALLS: u64 = 1000;
 
-fn has_failed(answer: &Answer) -> bool {
-    answer.failed_reads != 0 || answer.failed_writes != 0
-}
-
-// The status that a call has to end with whose reads and writes failed so often, if it ends with this one where none
-// does.
-fn wanted(answer: &Answer, status: Status) -> Status {
-    if answer.failed_reads != 0 {
+fn wanted(ended: &Ended, status: Status) -> Status {
+    if ended.failed_reads != 0 {
         Status::Read
-    } else if answer.failed_writes != 0 {
+    } else if ended.failed_writes != 0 {
         Status::Write
     } else {
         status
     }
 }
 
-// Whether a call ended as it has to: with a front of the text that lacks something where a read or a write failed, and
-// else with all of it.
-fn holds(answer: &Answer, status: Status, text: &str) -> bool {
-    let is_front = text.as_bytes().starts_with(answer.text.as_slice());
-    let is_whole = answer.text.len() == text.len();
-    answer.status == wanted(answer, status) && is_front && is_whole != has_failed(answer)
+// Whether a call that is to end with this status where nothing fails ended as it has to: with all of the text, or where
+// a read or a write failed, with a front of it that lacks something. Where the second tool fails to read that the input
+// ends, nothing may be left to write.
+fn is_told(ended: &Ended, tool: Tool, status: Status) -> bool {
+    let all_is_told = tool == Tool::Bridge && ended.failed_reads != 0;
+    let is_whole = ended.begins && !all_is_told;
+    ended.status == wanted(ended, status) && ended.is_front && is_whole != ended.has_failed()
 }
 
-fn input_of(alloc: Global, words: &str, input: &str) -> Result<Vec<u8>, Fail> {
-    if words == "show" {
-        Ok(hex::decode(alloc, input)?)
-    } else {
-        Ok(input.as_bytes().to_vec(alloc)?)
+// How many bytes a call gives or takes of the inputs of a tool; those of the second are longer.
+fn piece_of(tool: Tool) -> usize {
+    match tool {
+        Tool::Dccp => 7,
+        Tool::Bridge => 50,
     }
-}
-
-// Whether a call ends as it has to over these streams, and whether one of their calls failed.
-fn holds_over<R: Threads + Sync>(
-    rt: &R,
-    alloc: Global,
-    form: &str,
-    streams: &Streams,
-) -> Result<(bool, bool), Fail> {
-    let (words, input, status, text) = parts_of(form).ok_or("a form")?;
-    let bytes = input_of(alloc, words, input)?;
-    let answer = answer_to(rt, alloc, &OpenGate, streams, words, &bytes)?;
-    Ok((holds(&answer, status, text), has_failed(&answer)))
 }
 
 // Whether each read fails in turn, or each write, up to the first number that none has.
 fn holds_in_turn<R: Threads + Sync>(
     rt: &R,
     alloc: Global,
-    form: &str,
+    case: &Case<'_>,
     of_reads: bool,
 ) -> Result<bool, Fail> {
     for number in 1..MOST_CALLS {
         let streams = if of_reads {
-            Streams::failing(Some(number), None)
+            Streams::failing(piece_of(case.tool), Some(number), None)
         } else {
-            Streams::failing(None, Some(number))
+            Streams::failing(piece_of(case.tool), None, Some(number))
         };
-        let (holds, failed) = holds_over(rt, alloc, form, &streams)?;
-        if !holds || !failed {
+        let ended = end_over(rt, alloc, &streams, case)?;
+        let holds = is_told(&ended, case.tool, case.status);
+        if !holds || !ended.has_failed() {
             return Ok(holds);
         }
     }
     Ok(false)
-}
-
-fn all_hold_in_turn<R: Threads + Sync>(rt: &R, alloc: Global, of_reads: bool) -> Result<(), Fail> {
-    for form in FORMS.split("~ ") {
-        if !form.is_empty() && !holds_in_turn(rt, alloc, form, of_reads)? {
-            return Err(Fail::new(format_args!("{form}")));
-        }
-    }
-    Ok(())
-}
-
-#[test]
-fn each_read_and_write_fails_in_turn(rt: HostRuntime) -> Result<(), Fail> {
-    all_hold_in_turn(&rt, rt.alloc(), true)?;
-    all_hold_in_turn(&rt, rt.alloc(), false)
 }
 
 // A sink that takes one byte a call, and whose call with this number fails.
@@ -197,20 +166,33 @@ fn by_the_byte(write: u64) -> Streams {
 }
 
 // Whether the last byte fails behind all the others, and one write more is not made.
-fn holds_for_last_byte<R: Threads + Sync>(rt: &R, alloc: Global, form: &str) -> Result<bool, Fail> {
-    let (_, _, _, text) = parts_of(form).ok_or("a form")?;
-    let size = text.len() as u64;
-    let last = holds_over(rt, alloc, form, &by_the_byte(size))?;
-    let more = holds_over(rt, alloc, form, &by_the_byte(size.saturating_add(1)))?;
-    Ok(last == (true, true) && more == (true, false))
+fn holds_for_last_byte<R: Threads + Sync>(
+    rt: &R,
+    alloc: Global,
+    case: &Case<'_>,
+) -> Result<bool, Fail> {
+    let size = case.text.len() as u64;
+    let last = end_over(rt, alloc, &by_the_byte(size), case)?;
+    let more = end_over(rt, alloc, &by_the_byte(size.saturating_add(1)), case)?;
+    let holds = is_told(&last, case.tool, case.status) && is_told(&more, case.tool, case.status);
+    Ok(holds && last.has_failed() && !more.has_failed())
+}
+
+/// Whether each read fails in turn, and then each write, and the last byte that is written.
+pub(crate) fn fails_in_turn<R: Threads + Sync>(
+    rt: &R,
+    alloc: Global,
+    case: &Case<'_>,
+) -> Result<bool, Fail> {
+    Ok(
+        holds_in_turn(rt, alloc, case, true)?
+            && holds_in_turn(rt, alloc, case, false)?
+            && holds_for_last_byte(rt, alloc, case)?,
+    )
 }
 
 #[test]
-fn the_last_byte_fails(rt: HostRuntime) -> Result<(), Fail> {
-    for form in FORMS.split("~ ") {
-        if !form.is_empty() {
-            assert!(rt; holds_for_last_byte(&rt, rt.alloc(), form)?, "{form}");
-        }
-    }
-    Ok(())
+fn each_read_and_write_fails_in_turn(rt: HostRuntime) -> Result<(), Fail> {
+    cases_come(&rt, rt.alloc(), (Tool::Dccp, Way::Failing), FORMS)?;
+    cases_come(&rt, rt.alloc(), (Tool::Bridge, Way::Failing), CALLS)
 }

@@ -9,6 +9,8 @@ mod calls;
 #[cfg(test)]
 mod campaigns;
 #[cfg(test)]
+mod cases;
+#[cfg(test)]
 mod claims;
 #[cfg(test)]
 mod failures;

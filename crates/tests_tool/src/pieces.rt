@@ -1,5 +1,6 @@
 //! Whole calls over streams of any length.
-use crate::calls::cases_come_in_pieces;
+use crate::calls::Tool;
+use crate::cases::{Way, cases_come};
 use std::test::Fail;
 
 // With a newline at the end, and without.
@@ -73,7 +74,7 @@ flows 0\n";
 #[test]
 fn calls_in_pieces(rt: HostRuntime) -> Result<(), Fail> {
     for cases in &[HANDSHAKES, DATA, TURNS] {
-        cases_come_in_pieces(&rt, rt.alloc(), *cases)?;
+        cases_come(&rt, rt.alloc(), (Tool::Dccp, Way::InPieces), *cases)?;
     }
     Ok(())
 }

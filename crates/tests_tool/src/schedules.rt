@@ -1,86 +1,12 @@
-//! Whole calls of the forms `run` and `show`: pieces of any length, lines that are refused, and streams that fail. What
-//! a text can say by itself is played from `examples/`.
-use crate::calls::{Answer, Streams, answer_to, comes};
+//! Whole calls of the forms `run` and `show`: pieces of any length, and streams that fail. What a text can say by itself
+//! is played from `examples/`, and which lines are refused is worked out in `proofs/`.
+use crate::calls::{Streams, Tool, comes, end_of};
 use crate::words::{HANDSHAKE, SEVEN};
 use dccp_command::Status;
 use fault_campaign::OpenGate;
 use std::alloc::Global;
 use std::test::Fail;
 use std::thread::Threads;
-
-// Whether each schedule of a text is refused, and its answer ends with the line behind `=> `: the first that does not.
-fn are_refused<R: Threads + Sync>(
-    rt: &R,
-    alloc: Global,
-    name: &str,
-    rows: &str,
-) -> Result<(), Fail> {
-    for row in rows.split("~ ") {
-        if !row.is_empty() && !is_refused(rt, alloc, row)? {
-            return Err(Fail::new(format_args!("{name}: {row}")));
-        }
-    }
-    Ok(())
-}
-
-fn is_refused<R: Threads + Sync>(rt: &R, alloc: Global, row: &str) -> Result<bool, Fail> {
-    let (schedule, wanted) = row.split_once("=> ").ok_or("a line")?;
-    let bytes = schedule.as_bytes();
-    let answer = answer_to(rt, alloc, &OpenGate, &Streams::of(4096), "run", bytes)?;
-    Ok(answer.is_refused(wanted))
-}
-
-// The faults of a line by itself, some behind a schedule that has begun.
-const LINES: &str = "\
-    ~ version 0\n=> line 1 column 9: BadNumber\n\
-    ~ plain\n#\t\n=> line 2 column 2: NotText\n\
-    ~ set\x7f=> line 1 column 4: NotText\n\
-    ~ send\n=> line 1 column 6: Missing\n\
-    ~ #\nsend client  x\n=> line 2 column 13: Missing\n\
-    ~ send client abc\n=> line 1 column 16: BadHex\n\
-    ~ set\n=> line 1 column 5: Missing\n\
-    ~ #\nprefer client  x\n=> line 2 column 15: Missing\n\
-    ~ settle\n=> line 1 column 1: UnknownWord\n\
-    ~ set client here 1 3\n=> line 1 column 19: BadList\n\
-    ~ plain\nset client there 3 200\n=> line 2 column 20: NotOurs\n\
-    ~ offer server there 5 mandatory\n=> line 1 column 20: NotOurs\n\
-    ~  plain\n=> line 1 column 1: Missing\n\
-    ~ deliver\n=> line 1 column 9: Missing\n\
-    ~ deliver x0\n=> line 1 column 9: UnknownWord\n\
-    ~ deliver c00\n=> line 1 column 9: BadNumber\n\
-    ~ iss server 281474976710656=> line 1 column 12: BadNumber\n\
-    ~ plain\nopen \n=> line 2 column 6: Trailing\n";
-
-// The faults that need the lines before, and which of two comes first.
-const PLACES: &str = "\
-    ~ plain\nversion 2\n=> line 2 column 1: HeaderLate\n\
-    ~ version 1\nversion 2\n=> line 2 column 1: HeaderLate\n\
-    ~ open\nversion 1\n=> line 2 column 1: HeaderLate\n\
-    ~ open\nversion 3\n=> line 2 column 9: BadNumber\n\
-    ~ plain\nopen\nplain\n=> line 3 column 1: HeaderLate\n\
-    ~ plain\nopen\niss client 1\n=> line 3 column 1: HeaderLate\n\
-    ~ plain\nopen\niss client 1 2\n=> line 3 column 14: Trailing\n\
-    ~ open\nset client here 3 200\n=> line 2 column 1: HeaderLate\n\
-    ~ open\nset client there 3 200\n=> line 2 column 1: HeaderLate\n\
-    ~ open\nset client here 1 3\n=> line 2 column 1: HeaderLate\n\
-    ~ open\nset client here 1 3 x\n=> line 2 column 21: Trailing\n\
-    ~ open\noffer client there 3\n=> line 2 column 1: HeaderLate\n\
-    ~ open\noffer client here 1 mandatory\n=> line 2 column 1: HeaderLate\n\
-    ~ send client 00\niss client 1\n=> line 2 column 1: HeaderLate\n\
-    ~ timer server rto\ndeliver s0\n=> line 2 column 9: NoSuchFrame\n\
-    ~ timer server rto 1\n=> line 1 column 18: Trailing\n\
-    ~ deliver c140737488355327\n=> line 1 column 9: NoSuchFrame\n\
-    ~ close client\ndeliver s0\n=> line 2 column 9: NoSuchFrame\n";
-
-const FAULTS: [(&str, &str); 2] = [("faults_of_a_line", LINES), ("faults_of_a_place", PLACES)];
-
-#[test]
-fn faults_of_schedules(rt: HostRuntime) -> Result<(), Fail> {
-    for (name, rows) in &FAULTS {
-        are_refused(&rt, rt.alloc(), name, rows)?;
-    }
-    Ok(())
-}
 
 // Streams that fail, with the status and the text of the handshake over them.
 const FAILING: [(&str, Streams, Status, &str); 5] = [
@@ -179,14 +105,7 @@ const SECOND_PIECE: Streams = Streams {
     taken: 131_072,
 };
 
-// Whether a call whose second write failed has written a text of so many bytes, with this front.
-fn is_block(answer: &Answer, front: &str, least: usize, most: usize) -> bool {
-    let written = &answer.text;
-    let begins = answer.status == Status::Write && written.starts_with(front.as_bytes());
-    begins && least <= written.len() && written.len() < most
-}
-
-// Whether a call whose second write fails does so.
+// Whether a call whose second write fails has written a text of so many bytes, with this front.
 fn writes_block<R: Threads + Sync>(
     rt: &R,
     alloc: Global,
@@ -194,8 +113,10 @@ fn writes_block<R: Threads + Sync>(
     front: &str,
     (least, most): (usize, usize),
 ) -> Result<bool, Fail> {
-    let answer = answer_to(rt, alloc, &OpenGate, &SECOND_BLOCK, words, input)?;
-    Ok(is_block(&answer, front, least, most))
+    let call = (Tool::Dccp, words, input);
+    let ended = end_of(rt, alloc, &OpenGate, &SECOND_BLOCK, call, front.as_bytes())?;
+    let begins = ended.status == Status::Write && ended.begins;
+    Ok(begins && least <= ended.written && ended.written < most)
 }
 
 fn many_openings(alloc: Global) -> Result<Vec<u8>, Fail> {

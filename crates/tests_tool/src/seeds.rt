@@ -1,9 +1,6 @@
-//! Each call once, and that workers run beside each other. `examples/` has the sums of campaigns.
-use crate::gates::HoldFirst;
+//! Each call once. `examples/` has the sums of campaigns.
 use fault_campaign::{OpenGate, Report, campaign, run_seed};
-use std::alloc::Global;
 use std::test::Fail;
-use std::thread::Threads;
 
 // Seed 1: open, a preference and data, both refused outside a connection, the Request again, its delivery, the Response
 // six times, and a timer of the server that has nothing to do. The events were drawn apart, by a second generator over
@@ -29,22 +26,5 @@ fn twelve_events_of_seed_one(rt: HostRuntime) -> Result<(), Fail> {
     assert!(rt; run_seed(rt.alloc(), 1, 12)? == SEED_ONE, "by itself");
     let total = campaign(&rt, rt.alloc(), &OpenGate, 1, 1, 12, 1)?;
     assert!(rt; total == SEED_ONE, "as a campaign");
-    Ok(())
-}
-
-// How many seeds are counted whose first is held until the other three have begun, and whether they did.
-fn held<R: Threads + Sync>(rt: &R, alloc: Global) -> Result<(u64, bool), Fail> {
-    let gate = HoldFirst::new();
-    let total = campaign(rt, alloc, &gate, 5, 4, 60, 2)?;
-    Ok((total.seeds, gate.has_met()))
-}
-
-// Workers run beside each other, and claim as they go: one alone, or two with two seeds each from the start, would
-// leave the first seed held.
-#[test]
-fn workers_run_beside_each_other(rt: HostRuntime) -> Result<(), Fail> {
-    let (seeds, met) = held(&rt, rt.alloc())?;
-    assert!(rt; met, "the other three began meanwhile");
-    assert!(rt; seeds == 4, "seeds");
     Ok(())
 }

@@ -1,0 +1,5 @@
+pub mod RowsBlocks
+pub mod RowsCaptures
+pub mod RowsFrames
+pub mod RowsPlaces
+pub mod RowsSeen

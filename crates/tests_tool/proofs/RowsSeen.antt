@@ -1,0 +1,15 @@
+-- What the worked rows of the second tool are seen by: bytes spelled by hexadecimal digits, and what is refused behind a front of a text.
+use Rattle.std.specs.Prelude.{ℕ, ◌+◌, ◌-◌, ◌*◌, nat_le, if◌then◌else◌, Bool, true, List, [], ◌∷◌, ◌++◌, take, codes}
+use Prim.Native.String.{String}
+
+abbrev pub digit : ℕ → ℕ
+digit code = if nat_le 97 code then code - 87 else code - 48
+
+abbrev pub bytes : List ℕ → List ℕ
+bytes [] = []
+bytes (digit_alone ∷ []) = []
+bytes (high ∷ low ∷ rest) = (16 * digit high + digit low) ∷ bytes rest
+
+-- what a refused input comes to: so many bytes of what the whole one does, then this line
+abbrev pub refused_behind : List ℕ → ℕ → String → List ℕ × Bool
+refused_behind text written line = (take written text ++ codes line, true)
