@@ -110,5 +110,7 @@ timer-of-data :
     × (calls_at [] (fires usual_client timers.Rto false) ≡ [])
     × (seen (fires usual_part_open timers.Rto true) ≡ (false, None, phase.PartOpen))
     × (calls_at [] (fires usual_part_open timers.Rto true) ≡ [])
+    × (seen (fires (record usual_client { phase = phase.CloseReq }) timers.Rto true) ≡ (false, None, phase.CloseReq))
+    × (calls_at [] (fires (record usual_client { phase = phase.CloseReq }) timers.Rto true) ≡ [])
 unfolding receives opens fires framed
-timer-of-data = (refl, refl, refl, refl, refl, refl)
+timer-of-data = (refl, refl, refl, refl, refl, refl, refl, refl)
