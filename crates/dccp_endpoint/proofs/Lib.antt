@@ -28,3 +28,5 @@ pub mod Handing
 pub mod Asking
 pub mod Keeping
 pub mod Quiet
+pub mod Fresh
+pub mod Spelled

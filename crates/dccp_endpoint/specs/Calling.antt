@@ -81,9 +81,7 @@ closes_now e who = sends (in_phase e (closing_phase who)) (alone (closing_packet
 
 -- closing is open to PARTOPEN and OPEN alone (own)
 abbrev pub closes_in : EndState → Phase → Called CloseFault
-closes_in e phases.PartOpen = closes_now e e.config.role
-closes_in e phases.Open = closes_now e e.config.role
-closes_in e _ = idle e (Err NotOpen)
+closes_in e phase = if is_connected phase then closes_now e e.config.role else idle e (Err NotOpen)
 
 -- the phase alone decides whether the connection is closed or the call refused
 unfoldable pub closes : EndState → Called CloseFault
@@ -181,30 +179,64 @@ sends_unless e payload acknowledges None = with_calls (Sends (next_number e) ∷
 unfoldable pub sends_payload : EndState → List ℕ → Bool → Called SendFault
 sends_payload e payload may_send = sends_unless e payload e.owed (send_fault e payload may_send)
 
--- The phases in which a timer has something to do; the timer negotiate only if a row asks, and the timer rto only if
--- something is in flight.
+-- the phase of a client that waits for the answer to its Request (section 8.1.1)
+abbrev pub is_requesting : Phase → Bool
+is_requesting phases.Closed = false
+is_requesting phases.Listen = false
+is_requesting phases.Request = true
+is_requesting phases.Respond = false
+is_requesting phases.PartOpen = false
+is_requesting phases.Open = false
+is_requesting phases.CloseReq = false
+is_requesting phases.Closing = false
+is_requesting phases.TimeWait = false
+
+-- the phases in which an end repeats its CloseReq or its Close (section 8.3)
+abbrev pub is_closing : Phase → Bool
+is_closing phases.Closed = false
+is_closing phases.Listen = false
+is_closing phases.Request = false
+is_closing phases.Respond = false
+is_closing phases.PartOpen = false
+is_closing phases.Open = false
+is_closing phases.CloseReq = true
+is_closing phases.Closing = true
+is_closing phases.TimeWait = false
+
+-- the phase that time alone ends (section 8.3)
+abbrev pub is_in_time_wait : Phase → Bool
+is_in_time_wait phases.Closed = false
+is_in_time_wait phases.Listen = false
+is_in_time_wait phases.Request = false
+is_in_time_wait phases.Respond = false
+is_in_time_wait phases.PartOpen = false
+is_in_time_wait phases.Open = false
+is_in_time_wait phases.CloseReq = false
+is_in_time_wait phases.Closing = false
+is_in_time_wait phases.TimeWait = true
+
+-- the phases in which a timer has something to do
 abbrev pub applies_in : Timer → Phase → Bool
-applies_in timers.Request phases.Request = true
-applies_in timers.Ack phases.PartOpen = true
-applies_in timers.Ack phases.Open = true
-applies_in timers.Negotiate phases.PartOpen = true
-applies_in timers.Negotiate phases.Open = true
-applies_in timers.Rto phases.Open = true
-applies_in timers.Close phases.CloseReq = true
-applies_in timers.Close phases.Closing = true
-applies_in timers.TimeWait phases.TimeWait = true
-applies_in _ _ = false
+applies_in timers.Request phase = is_requesting phase
+applies_in timers.Ack phase = is_connected phase
+applies_in timers.Negotiate phase = is_connected phase
+applies_in timers.Rto phase = is_open phase
+applies_in timers.Close phase = is_closing phase
+applies_in timers.TimeWait phase = is_in_time_wait phase
 
 -- some row has its Change due
 abbrev pub has_keys : List Key → Bool
 has_keys [] = false
 has_keys (k ∷ keys) = true
 
--- what else it needs
+-- What else it needs: the timer negotiate, that a row asks, and the timer rto, that something is in flight.
 abbrev pub has_cause : Timer → EndState → Bool → Bool
+has_cause timers.Request e in_flight = true
+has_cause timers.Ack e in_flight = true
 has_cause timers.Negotiate e in_flight = has_keys (due_keys e.rows)
 has_cause timers.Rto e in_flight = in_flight
-has_cause _ e in_flight = true
+has_cause timers.Close e in_flight = true
+has_cause timers.TimeWait e in_flight = true
 
 -- a timer applies where its phase and its cause both hold
 abbrev pub applies : Timer → EndState → Bool → Bool
@@ -220,19 +252,31 @@ abbrev pub times_out : EndState → Bool → Step Bool
 times_out e true = with_calls (TimesOut ∷ []) (idle e true)
 times_out e false = idle e false
 
--- What a timer does: the Request, Close or CloseReq goes out again, an Ack goes out, alone or with the Changes, the
--- congestion control hears of it, and TIMEWAIT ends.
+-- the CloseReq or the Close that goes out again, by the phase
+abbrev pub closing_again : Phase → ℕ → Kind
+closing_again phases.CloseReq ack = kind.CloseReq ack
+closing_again phases.Closed ack = kind.Close ack
+closing_again phases.Listen ack = kind.Close ack
+closing_again phases.Request ack = kind.Close ack
+closing_again phases.Respond ack = kind.Close ack
+closing_again phases.PartOpen ack = kind.Close ack
+closing_again phases.Open ack = kind.Close ack
+closing_again phases.Closing ack = kind.Close ack
+closing_again phases.TimeWait ack = kind.Close ack
+
+-- What a timer does where its phase holds: the Request, Close or CloseReq goes out again, an Ack goes out, alone or
+-- with the Changes, the congestion control hears of it, and TIMEWAIT ends.
+abbrev pub fires_now : EndState → Timer → Bool → Phase → Step Bool
+fires_now e timers.Request in_flight phase = requests e true
+fires_now e timers.Ack in_flight phase = sends_ack e (alone (kind.Ack (Long e.marks.gsr))) true
+fires_now e timers.Negotiate in_flight phase = asks_all e (due_keys e.rows)
+fires_now e timers.Rto in_flight phase = times_out e in_flight
+fires_now e timers.Close in_flight phase = sends e (alone (closing_again phase e.marks.gsr)) true
+fires_now e timers.TimeWait in_flight phase = idle (in_phase e phases.Closed) true
+
+-- in any other phase it does nothing
 abbrev pub fires_in : EndState → Timer → Bool → Phase → Step Bool
-fires_in e timers.Request in_flight phases.Request = requests e true
-fires_in e timers.Ack in_flight phases.PartOpen = sends_ack e (alone (kind.Ack (Long e.marks.gsr))) true
-fires_in e timers.Ack in_flight phases.Open = sends_ack e (alone (kind.Ack (Long e.marks.gsr))) true
-fires_in e timers.Negotiate in_flight phases.PartOpen = asks_all e (due_keys e.rows)
-fires_in e timers.Negotiate in_flight phases.Open = asks_all e (due_keys e.rows)
-fires_in e timers.Rto in_flight phases.Open = times_out e in_flight
-fires_in e timers.Close in_flight phases.CloseReq = sends e (alone (kind.CloseReq e.marks.gsr)) true
-fires_in e timers.Close in_flight phases.Closing = sends e (alone (kind.Close e.marks.gsr)) true
-fires_in e timers.TimeWait in_flight phases.TimeWait = idle (in_phase e phases.Closed) true
-fires_in e _ in_flight _ = idle e false
+fires_in e timer in_flight phase = if applies_in timer phase then fires_now e timer in_flight phase else idle e false
 
 -- Whether something is in flight comes with the timer.
 unfoldable pub fires : EndState → Timer → Bool → Step Bool

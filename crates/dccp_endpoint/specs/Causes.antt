@@ -5,6 +5,7 @@ use Rattle.congestion_trait.specs.Calls.{Call}
 use Rattle.congestion_trait.specs.Calls as call
 use Rattle.dccp_options.specs.Written.{Item}
 use Rattle.dccp_packets.specs.Grammar.{Parts, decoded, packet_type}
+use Rattle.dccp_packets.specs.Outgoing.{Outgoing}
 use Rattle.dccp_packets.specs.declared.header.Kind.{Kind}
 use Rattle.dccp_packets.specs.declared.header.Kind.TheVariants as kind
 use Rattle.dccp_packets.specs.declared.header.PacketType.{PacketType}
@@ -295,7 +296,7 @@ pub record IsCaused (e : EndState) (given : Input) (f : Effect) : Type 0 where
   pub calls : IsCalling e given f.hearing f.sending f.calls
 
 -- The step is this effect's.
-pub record HasEffect (e : EndState) (given : Input) (after : EndState) (frame : Option (List ℕ)) (calls : List Call) : Type 0 where
+pub record HasEffect (e : EndState) (given : Input) (after : EndState) (frame : Option Outgoing) (calls : List Call) : Type 0 where
   pub effect : Effect
   pub after_is : after ≡ end_after e effect
   pub frame_is : frame ≡ frame_by e effect effect.sending

@@ -6,6 +6,7 @@ use Rattle.congestion_trait.specs.Control.{Control}
 use Rattle.congestion_trait.specs.Flight.{numbers_reported, pipe_of}
 use Rattle.feature_lists.specs.Features.{initial_of}
 use Rattle.feature_lists.specs.declared.features.Feature.TheVariants.{Ccid}
+use Rattle.dccp_packets.specs.Outgoing.{Outgoing}
 use Rattle.dccp_endpoint.specs.End.{EndState, new_end}
 use Rattle.dccp_endpoint.specs.Steps.{Step}
 use Rattle.dccp_endpoint.specs.declared.config.Config.{Config}
@@ -22,7 +23,7 @@ end_with state congestion = record { state = state; congestion = congestion }
 -- both after a step, the frame that goes out, if any, and the answer
 pub record EndStep (C Answer : Type 0) : Type 0 where
   pub after : End C
-  pub frame : Option (List ℕ)
+  pub frame : Option Outgoing
   pub answer : Answer
 
 -- A start with a CCID that the congestion control does not know is passed over (own); all other calls are made.

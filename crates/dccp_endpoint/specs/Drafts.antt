@@ -8,12 +8,13 @@ use Rattle.dccp_options.specs.Grammar.{options_of}
 use Rattle.dccp_options.specs.Written.{Item, IsWritable, written, entries_at}
 use Rattle.dccp_packets.specs.Forms.{in_form, number_in_form}
 use Rattle.dccp_packets.specs.Grammar.{decoded, fixed_length, has_forms, packet_type, padded, spelling}
-use Rattle.dccp_packets.specs.Widths.{HasDetail}
+use Rattle.dccp_packets.specs.Outgoing.{Outgoing}
+use Rattle.dccp_packets.specs.Widths.{HasDetail, kind_in_widths}
 use Rattle.dccp_packets.specs.declared.header.Header.{Header}
 use Rattle.dccp_packets.specs.declared.header.Kind.{Kind}
 use Rattle.dccp_sum.specs.Checksum.{checked, sealed}
 use Rattle.dccp_sum.specs.declared.pseudo_header.Pseudo.{Pseudo}
-use Rattle.dccp_packets.specs.Kinds.{is_data}
+use Rattle.dccp_packets.specs.Kinds.{ack_of, is_data}
 use Rattle.feature_machine.specs.Lists.{IsLists}
 use Rattle.dccp_endpoint.specs.declared.config.Config.{Config}
 
@@ -52,6 +53,14 @@ framed config short number kind area payload = sealed config.pseudo_out (spellin
 -- the frame of a draft, in which the form of its numbers is chosen
 abbrev pub frame_of : Config → Bool → ℕ → Draft → List ℕ
 frame_of config short number draft = framed config short number draft.kind (written draft.options) draft.payload
+
+-- bytes that go out under a number, with the number that their type acknowledges, in the width of its field
+abbrev pub sent_as : ℕ → Kind → List ℕ → Outgoing
+sent_as number kind bytes = record { bytes = bytes; number = number; ack = ack_of (kind_in_widths kind) }
+
+-- a draft as it goes out: its frame, with its numbers
+abbrev pub sent_of : Config → Bool → ℕ → Draft → Outgoing
+sent_of config short number draft = sent_as number draft.kind (frame_of config short number draft)
 
 -- the widths of the fields (RFC 4340, section 5) and the order of the lists, which every configuration of the program
 -- keeps

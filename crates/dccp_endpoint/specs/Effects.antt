@@ -6,11 +6,12 @@ use Rattle.ack_vectors.specs.Kept as kept
 use Rattle.seq_circle.specs.Circle.{later_of}
 use Rattle.congestion_trait.specs.Calls.{Call}
 use Rattle.dccp_packets.specs.Grammar.{packet_type}
+use Rattle.dccp_packets.specs.Outgoing.{Outgoing}
 use Rattle.dccp_packets.specs.declared.header.Kind.{Kind}
 use Rattle.dccp_packets.specs.declared.header.PacketType.{PacketType}
 use Rattle.dccp_packets.specs.declared.header.PacketType.TheVariants as types
 use Rattle.dccp_states.specs.declared.phase.Phase.{Phase}
-use Rattle.dccp_endpoint.specs.Drafts.{Draft, alone, frame_of}
+use Rattle.dccp_endpoint.specs.Drafts.{Draft, alone, sent_of}
 use Rattle.dccp_endpoint.specs.End.{EndState, value_in}
 use Rattle.dccp_endpoint.specs.Receiving.{osr_after}
 use Rattle.dccp_endpoint.specs.ShortForm.{goes_short}
@@ -174,6 +175,17 @@ abbrev pub count_by : ℕ → Kept → Hearing → ℕ
 count_by count old Unheard = count
 count_by count old (Heard first number how) = count_as how count (begun_or first number old) number
 
+-- the number that was taken last, by what became of a valid packet
+abbrev pub last_as : Passing → ℕ → ℕ → ℕ
+last_as Taken old number = number
+last_as Refused old number = old
+last_as Shut old number = old
+
+-- the number that was taken last, by what was heard
+abbrev pub last_by : ℕ → Hearing → ℕ
+last_by old Unheard = old
+last_by old (Heard first number how) = last_as how old number
+
 -- What was marked and looked up: the Ack Vector of a packet that goes out tells of this.
 abbrev pub told_by : Kept → Effect → Kept
 told_by old f = looked_by (heard_by old f.hearing) f.looked_up
@@ -214,11 +226,12 @@ end_after e f =
       marked = count_by e.marked e.received f.hearing;
       owed = f.owed;
       unacked = f.unacked;
+      last = last_by e.last f.hearing;
     }
 
 -- The frame of a step, in the form in which the end as the step leaves it sends the packet; a Reset without a
 -- connection is long.
-abbrev pub frame_by : EndState → Effect → Sending → Option (List ℕ)
+abbrev pub frame_by : EndState → Effect → Sending → Option Outgoing
 frame_by e f Silent = None
-frame_by e f (Next packet) = Some (frame_of e.config (goes_short (end_after e f) packet) (next_number e) packet)
-frame_by e f (WithoutConnection number packet) = Some (frame_of e.config false number (alone packet))
+frame_by e f (Next packet) = Some (sent_of e.config (goes_short (end_after e f) packet) (next_number e) packet)
+frame_by e f (WithoutConnection number packet) = Some (sent_of e.config false number (alone packet))

@@ -25,7 +25,8 @@ use Rattle.validity_windows.specs.Windows.{InRange}
 -- and greatest numbers sent and received and the widths of the windows (RFC 4340, section 7.1); until isr is set, isr,
 -- gsr and osr are 0. There is a row for each feature at each place. Then the set of the numbers that were taken, with
 -- the records of the Ack Vectors that were sent (section 11.4); how many numbers were taken; whether a packet was taken
--- since the last Ack or DataAck went out; and how many data packets were delivered since then (section 11.3).
+-- since the last Ack or DataAck went out; how many data packets were delivered since then (section 11.3); and the
+-- number that was taken last, or 0 (own).
 pub record EndState : Type 0 where
   pub config : Config
   pub phase : Phase
@@ -36,6 +37,7 @@ pub record EndState : Type 0 where
   pub marked : ℕ
   pub owed : Bool
   pub unacked : ℕ
+  pub last : ℕ
 
 -- whose end the rows are of: the server's list decides (section 6.3.1)
 abbrev pub end_of : Role → Role2
@@ -166,6 +168,7 @@ new_end config =
       marked = 0;
       owed = false;
       unacked = 0;
+      last = 0;
     }
 
 -- what a row shows: its value and stand
@@ -179,3 +182,7 @@ floor_of e = e.received.set.floor
 -- how many numbers were taken
 abbrev pub marked_of : EndState → ℕ
 marked_of e = e.marked
+
+-- the number that was taken last, or 0 before the first was
+abbrev pub last_taken : EndState → ℕ
+last_taken e = e.last

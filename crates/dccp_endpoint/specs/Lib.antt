@@ -10,6 +10,7 @@ pub mod Heeding
 pub mod ShortForm
 pub mod NearWindows
 pub mod Steps
+pub mod Strangers
 pub mod Speaking
 pub mod Reporting
 pub mod Saying
@@ -18,6 +19,7 @@ pub mod Receiving
 pub mod Calling
 pub mod Early
 pub mod Inputs
+pub mod Spelled
 pub mod Controlled
 pub mod Effects
 pub mod Causes

@@ -12,6 +12,7 @@ use Rattle.congestion_trait.specs.Calls.{Call}
 use Rattle.dccp_sum.specs.Checksum.{checked}
 use Rattle.dccp_sum.specs.declared.packet_sum.SumFault.{SumFault}
 use Rattle.dccp_packets.specs.Grammar.{Parts, decoded}
+use Rattle.dccp_packets.specs.Outgoing.{Outgoing}
 use Rattle.dccp_packets.specs.declared.header.Kind.{Kind}
 use Rattle.dccp_packets.specs.declared.header.Kind.TheVariants as kind
 use Rattle.dccp_packets.specs.declared.header.Number.TheVariants.{Long, Short}
@@ -291,7 +292,7 @@ HasForm e bytes (SentReset code detail) cause f turns = f ≡ effect_of_reset e 
 HasForm e bytes (Took delivered) cause f turns = IsTaking e bytes delivered cause f turns
 
 -- The step is this effect's, and the effect has the form of the outcome's cause.
-pub record HasEffectOf (e : EndState) (bytes : List ℕ) (outcome : Outcome) (after : EndState) (frame : Option (List ℕ)) (calls : List Call) : Type 0 where
+pub record HasEffectOf (e : EndState) (bytes : List ℕ) (outcome : Outcome) (after : EndState) (frame : Option Outgoing) (calls : List Call) : Type 0 where
   pub effect : Effect
   pub after_is : after ≡ end_after e effect
   pub frame_is : frame ≡ frame_by e effect effect.sending

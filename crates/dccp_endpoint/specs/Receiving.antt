@@ -42,7 +42,7 @@ use Rattle.validity_windows.specs.Windows.{ack_low, ack_high}
 use Rattle.validity_windows.specs.Verdict.{verdict, is_ack_within, taken}
 use Rattle.validity_windows.specs.declared.verdict.Verdict.{Verdict}
 use Rattle.validity_windows.specs.declared.verdict.Verdict.TheVariants as verdicts
-use Rattle.dccp_endpoint.specs.Drafts.{alone, frame_of}
+use Rattle.dccp_endpoint.specs.Drafts.{alone, sent_of}
 use Rattle.dccp_endpoint.specs.End.{EndState, is_connected, is_live, is_open, value_in, with_rows}
 use Rattle.dccp_endpoint.specs.Faults.{counts}
 use Rattle.dccp_endpoint.specs.Heeding.{Due, Heeding, heeds, unheeded}
@@ -316,7 +316,7 @@ abbrev pub resets_without_connection : EndState → Incoming → Fault → Step 
 resets_without_connection e a fault =
     record {
       after = e;
-      frame = Some (frame_of e.config false (number_without_connection a.ack) (reset_of a.number fault));
+      frame = Some (sent_of e.config false (number_without_connection a.ack) (reset_of a.number fault));
       calls = [];
       answer = SentReset fault.code (detail_of fault);
     }

@@ -56,13 +56,15 @@ abbrev pub one_more_taken : ℕ → Bool → ℕ
 one_more_taken count true = min (count + 1) (2 ^ 64 - 1)
 one_more_taken count false = count
 
--- The number of a packet is marked, and an acknowledgement is owed, whatever the mark answers.
+-- The number of a packet is marked and is the one that was taken last, and an acknowledgement is owed, whatever the mark
+-- answers.
 abbrev pub marks : EndState → ℕ → EndState
 marks e number =
     record e {
       received = marked_by e.received number;
       marked = one_more_taken e.marked (is_new (answer_to e.received.set number));
       owed = true;
+      last = number;
     }
 
 -- What an Ack or a DataAck acknowledges is looked up among the records; of other types nothing is (own).

@@ -5,6 +5,7 @@ use Rattle.std.specs.List.{list_any}
 use Rattle.byteorder.specs.Endian.{big_bytes}
 use Rattle.dccp_options.specs.Kinds as options
 use Rattle.dccp_options.specs.Written.{Item, written}
+use Rattle.dccp_packets.specs.Outgoing.{Outgoing}
 use Rattle.dccp_packets.specs.declared.header.Kind.{Kind}
 use Rattle.feature_lists.specs.Features.{described, feature_number}
 use Rattle.feature_lists.specs.declared.features.Feature.{Feature}
@@ -106,7 +107,7 @@ abbrev pub saying : Kind → List Due → List Row → List Key → Draft
 saying kind confirms rows keys = record { kind = kind; options = confirm_items confirms ++ change_items rows keys; payload = [] }
 
 -- The next frame of an end whose rows ask: it says all that is due, once the Changes of these rows went out.
-abbrev pub asking_frame : EndState → Kind → List Due → List Key → List ℕ
+abbrev pub asking_frame : EndState → Kind → List Due → List Key → Outgoing
 asking_frame e kind confirms keys = next_frame (asks e keys) (saying kind confirms (asks e keys).rows keys)
 
 -- a packet with Confirms alone

@@ -2,18 +2,19 @@
 use Rattle.std.specs.Prelude.{ℕ, ◌+◌, List, [], ◌∷◌, Option, Some, None}
 use Rattle.seq_circle.specs.Circle.{residue}
 use Rattle.congestion_trait.specs.Calls.{Call}
+use Rattle.dccp_packets.specs.Outgoing.{Outgoing}
 use Rattle.dccp_packets.specs.declared.header.Kind.TheVariants as kind
 use Rattle.dccp_states.specs.declared.phase.Phase.{Phase}
-use Rattle.dccp_endpoint.specs.Drafts.{Draft, alone, frame_of}
+use Rattle.dccp_endpoint.specs.Drafts.{Draft, alone, sent_of}
 use Rattle.dccp_endpoint.specs.End.{EndState}
 use Rattle.dccp_endpoint.specs.ShortForm.{goes_short}
 use Rattle.dccp_states.specs.declared.outcome.Fault.{Fault}
 
--- An end after a step, the frame that it sends, if any, the calls that are due to its congestion control, in order, and
+-- An end after a step, the frame that it sends with its numbers, if any, the calls that are due to its congestion control, in order, and
 -- its answer.
 pub record Step (Answer : Type 0) : Type 0 where
   pub after : EndState
-  pub frame : Option (List ℕ)
+  pub frame : Option Outgoing
   pub calls : List Call
   pub answer : Answer
 
@@ -30,8 +31,8 @@ abbrev pub with_next_number : EndState → EndState
 with_next_number e = record e { marks = record e.marks { gss = next_number e } }
 
 -- the frame of a packet under the next number, in the form in which the end sends it
-abbrev pub next_frame : EndState → Draft → List ℕ
-next_frame e draft = frame_of e.config (goes_short e draft) (next_number e) draft
+abbrev pub next_frame : EndState → Draft → Outgoing
+next_frame e draft = sent_of e.config (goes_short e draft) (next_number e) draft
 
 -- a packet goes out under the next number
 abbrev pub sends : {Answer : Type 0} → EndState → Draft → Answer → Step Answer

@@ -2,6 +2,7 @@
 ghost use Rattle.std.specs.Prelude.{◌≡◌};
 ghost use Rattle.dccp_endpoint.specs.End.{end_of, first_phase, with_widths};
 
+use crate::config::number as seq48;
 use crate::{Config, Held};
 use ack_vectors::Received;
 use dccp_states::{Phase, Role};
@@ -21,6 +22,7 @@ mod receiving;
 mod replying;
 mod sending;
 
+pub use calling::applies_in;
 pub(crate) use classes::is_open;
 
 // Whose end the rows of the negotiation are of.
@@ -64,6 +66,7 @@ pub(crate) struct Connection {
     marked: u64,
     owed: bool,
     unacked: u16,
+    last: Seq48,
 }
 
 impl Model for Connection {
@@ -71,14 +74,14 @@ impl Model for Connection {
 
     ghost Value = { EndState };
 
-    ghost view = { λ e. record { config = e.config; phase = e.phase; opened = e.opened; marks = e.marks; rows = e.rows; received = e.received; marked = e.marked; owed = e.owed; unacked = e.unacked } };
+    ghost view = { λ e. record { config = e.config; phase = e.phase; opened = e.opened; marks = e.marks; rows = e.rows; received = e.received; marked = e.marked; owed = e.owed; unacked = e.unacked; last = e.last } };
 
-    ghost invariant = { λ e. IsProper (record { config = e.config; phase = e.phase; opened = e.opened; marks = e.marks; rows = e.rows; received = e.received; marked = e.marked; owed = e.owed; unacked = e.unacked }) };
+    ghost invariant = { λ e. IsProper (record { config = e.config; phase = e.phase; opened = e.opened; marks = e.marks; rows = e.rows; received = e.received; marked = e.marked; owed = e.owed; unacked = e.unacked; last = e.last }) };
 }
 
 impl Connection {
     ghost use Rattle.std.specs.Prelude.{◌≡◌, IfOk};
-    ghost use Rattle.dccp_endpoint.specs.End.{EndState, IsProper, floor_of, held_of, marked_of, new_end, with_rows};
+    ghost use Rattle.dccp_endpoint.specs.End.{EndState, IsProper, floor_of, held_of, last_taken, marked_of, new_end, with_rows};
     ghost use Rattle.feature_machine.specs.Negotiating.{AreRowsOf};
     ghost use Rattle.run_list.specs.MarkedSet.{IsSound};
     ghost use Rattle.validity_windows.specs.Windows.{InRange};
@@ -92,6 +95,7 @@ impl Connection {
         let marks = Marks::new(config.iss, initial(Feature::SequenceWindow));
         let rows = Negotiation::new(end_of(config.role), &config.lists);
         let received = Received::new(alloc)?;
+        let last = seq48(0);
         Ok(Connection {
             config,
             phase,
@@ -102,6 +106,7 @@ impl Connection {
             marked: 0,
             owed: false,
             unacked: 0,
+            last,
         })
     }
 
@@ -166,5 +171,12 @@ impl Connection {
         ensures { result ≡ marked_of self.now }
     {
         self.marked
+    }
+
+    /// The number that was taken last, or 0 before the first was.
+    pub(crate) fn last_taken(&self) -> Seq48
+        ensures { result ≡ last_taken self.now }
+    {
+        self.last
     }
 }

@@ -5,7 +5,7 @@ use crate::{
     PreferFault, Pseudo, Role, SendFault, Timer,
 };
 use congestion_trait::Congestion;
-use dccp_packets::Outbox;
+use dccp_packets::{Outbox, Packet};
 use seq_circle::{NoMemory, Seq48};
 use std::alloc::Global;
 use std::marker::Model;
@@ -30,8 +30,8 @@ const FIRST_CCID: u8 = 2;
 /// - `send` for data, in OPEN, `send_early` of a client that speaks first, in PARTOPEN, and `send_soon` in both
 /// - `prefer` for another value of a feature, in PARTOPEN and OPEN
 /// - `close` to end the connection in order, in PARTOPEN and OPEN, and `abort` to end it at once
-/// - the readers `phase`, `pseudo_out`, `marks`, `held`, `window`, `in_flight`, `is_reported`, `floor` and `marked`, at
-///   any time
+/// - the readers `phase`, `pseudo_out`, `marks`, `held`, `window`, `in_flight`, `is_reported`, `floor`, `marked`,
+///   `last_taken` and `takes_short`, at any time
 ///
 /// A feature's value, as `held` shows it, is settled for this end where its stand is Stable; that tells nothing of the
 /// other end, which may hold another one until it is Stable too. The connection has ended once the phase
@@ -108,7 +108,7 @@ impl<C: Congestion + Drop> Endpoint<C> {
 }
 
 impl<C: Congestion> Endpoint<C> {
-    ghost use Rattle.std.specs.Prelude.{◌≡◌, ◌≢◌, ◌↔◌, ◌⊎◌, ◌≤◌, ◌<◌, IsTrue, true, false, None, Err, OnErr, length};
+    ghost use Rattle.std.specs.Prelude.{◌≡◌, ◌≢◌, ◌↔◌, ◌⊎◌, ◌≤◌, ◌<◌, IsTrue, true, false, None, Ok, Err, OnErr, length};
     ghost use Rattle.congestion_trait.specs.Control.{may_send};
     ghost use Rattle.congestion_trait.specs.Flight.{Has};
     ghost use Rattle.congestion_trait.specs.declared.flight.Standing.TheVariants.{Reported};
@@ -121,9 +121,11 @@ impl<C: Congestion> Endpoint<C> {
     ghost use Rattle.dccp_endpoint.specs.Calling.{aborts, applies, closes, fires, opens, prefers, sends_payload};
     ghost use Rattle.dccp_endpoint.specs.Controlled.{has_in_flight, in_flight_of, window_of, with_control};
     ghost use Rattle.dccp_endpoint.specs.Early.{sends_early, sends_soon};
-    ghost use Rattle.dccp_endpoint.specs.End.{IsProper, floor_of, held_of, is_connected, marked_of, value_in};
+    ghost use Rattle.dccp_endpoint.specs.End.{IsProper, floor_of, held_of, is_connected, last_taken, marked_of, value_in};
     ghost use Rattle.dccp_endpoint.specs.Outcomes.{HasCause, HasEffectOf, HasNoOtherCause, OnDropped};
-    ghost use Rattle.dccp_endpoint.specs.Receiving.{receives};
+    ghost use Rattle.dccp_endpoint.specs.Incoming.{parts_of_packet};
+    ghost use Rattle.dccp_endpoint.specs.Receiving.{receives, takes_short};
+    ghost use Rattle.dccp_packets.specs.Grammar.{decoded};
     ghost use Rattle.dccp_states.specs.declared.calls.Timer.TheVariants as timers;
 
     /// Where the connection stands.
@@ -188,6 +190,22 @@ impl<C: Congestion> Endpoint<C> {
         ensures sound { IsSound self.now.state.received.set }
     {
         self.connection.floor()
+    }
+
+    /// The number of the packet that was taken last, in full, or 0 before the first was (own): after a `receive` that
+    /// answers `Took` that packet's, whatever the form of its number (RFC 4340, section 7.6).
+    pub fn last_taken(&self) -> Seq48
+        ensures { result ≡ last_taken self.now.state }
+    {
+        self.connection.last_taken()
+    }
+
+    /// Tells whether packets with short numbers are taken (RFC 4340, section 7.6.1): the peer's Allow Short Sequence
+    /// Numbers is 1, and a first number was received.
+    pub fn takes_short(&self) -> bool
+        ensures { result ≡ takes_short self.now.state }
+    {
+        self.connection.takes_short()
     }
 
     /// How many numbers were taken: how many marks answered New. At 2^64 - 1 it stays.
@@ -342,7 +360,9 @@ impl<C: Congestion> Endpoint<C> {
     {
         match timer {
             Timer::Rto => self.time_out(out),
-            _ => self.connection.timer(timer, out),
+            Timer::Request | Timer::Ack | Timer::Negotiate | Timer::Close | Timer::TimeWait => {
+                self.connection.timer(timer, out)
+            }
         }
     }
 
@@ -403,5 +423,21 @@ impl<C: Congestion> Endpoint<C> {
         ensures effect { HasEffectOf self.old.state bytes.now result self.new.state out.new (receives self.old.state bytes.now).calls }
     {
         self.connection.receive(bytes, out, &mut self.congestion)
+    }
+
+    /// Takes bytes that arrived, as [`Endpoint::receive`] does, of an owner that has decoded them: `packet` is what
+    /// `decode` made of `bytes`.
+    pub fn receive_packet(&mut self, packet: &Packet<'_>, bytes: &[u8], out: &mut Outbox) -> Outcome
+        requires short { length bytes.now ≤ 2044 }
+        requires read { decoded bytes.now ≡ Ok (parts_of_packet packet.now) }
+        requires options { length packet.now.options.now ≤ 1008 }
+        ensures step { record { after = self.new; frame = out.new; answer = result } ≡ with_control C.control self.old.congestion (receives self.old.state bytes.now) }
+        ensures cause { HasCause self.old.state bytes.now result }
+        ensures no_other_cause { HasNoOtherCause self.old.state bytes.now result }
+        ensures dropped { OnDropped result ((self.new ≡ self.old) × (out.new ≡ None)) }
+        ensures effect { HasEffectOf self.old.state bytes.now result self.new.state out.new (receives self.old.state bytes.now).calls }
+    {
+        self.connection
+            .receive_packet(packet, bytes, out, &mut self.congestion)
     }
 }

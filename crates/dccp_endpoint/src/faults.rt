@@ -56,7 +56,24 @@ pub(crate) fn counts(phase: Phase, kind: PacketType) -> bool
             | PacketType::Sync
             | PacketType::SyncAck,
         ) => true,
-        _ => false,
+        (
+            Phase::Request,
+            PacketType::Request
+            | PacketType::Data
+            | PacketType::Ack
+            | PacketType::DataAck
+            | PacketType::CloseReq
+            | PacketType::Close
+            | PacketType::Reset
+            | PacketType::Sync
+            | PacketType::SyncAck,
+        )
+        | (
+            Phase::Respond | Phase::PartOpen | Phase::Open,
+            PacketType::Data | PacketType::CloseReq | PacketType::Close | PacketType::Reset,
+        )
+        | (Phase::Closed | Phase::Listen | Phase::CloseReq | Phase::Closing | Phase::TimeWait, _) =>
+            false,
     }
 }
 

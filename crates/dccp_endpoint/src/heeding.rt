@@ -339,7 +339,7 @@ fn heed_freshly(lists: &Lists, area: &[u8]) -> Result<(), Fault>
 /// Reads the option area of a Request for its service that reaches a server's end in LISTEN, without such an end, whose
 /// configuration has these lists: Ok where the end would answer the Request, and else the fault for which it would
 /// close and that its Reset would tell (RFC 4340, sections 5.8 and 8.5, step 8). It takes no memory.
-pub fn heed_request(lists: &Lists, area: &[u8]) -> Result<(), Fault>
+pub(crate) fn heed_request(lists: &Lists, area: &[u8]) -> Result<(), Fault>
     requires { length area.now ≤ 1008 }
     ensures { result ≡ fault_if (reads_request lists.now area.now) }
 {

@@ -9,6 +9,7 @@ ghost use Rattle.dccp_endpoint.specs.Drafts.{Draft, Fits, IsSendable, ReadsAs, f
 ghost use Rattle.dccp_endpoint.specs.InFull.{FramesAreReadInFull};
 ghost use Rattle.dccp_endpoint.specs.NearWindows.{ValidNumbersAreNear};
 ghost use Rattle.dccp_endpoint.specs.FirstFault.{ReadingGoesThrough, ReadingStopsAtTheFirstFault};
+ghost use Rattle.dccp_endpoint.specs.Spelled.{FramesSpellWhatIsTold};
 ghost use Rattle.dccp_endpoint.specs.Saying.{ConfirmsAreSingle, OwnPacketsSayOfARow, OwnPacketsSpeakOnce, RowsHearThePacket};
 
 use validity_windows::verdicts_are_those_of_whole_numbers;
@@ -49,6 +50,13 @@ pub fn valid_numbers_are_near()
 /// their steps.
 pub fn every_step_has_one_effect()
     ensures { EveryStepHasOneEffect }
+{}
+
+/// The numbers that are told of a frame are those that its bytes spell, over every step and every input: the sequence
+/// number and the acknowledgement number, each in the width of the frame's form; and no acknowledgement number is told
+/// of a packet that has none (RFC 4340, sections 5.1 and 7.6).
+pub fn told_numbers_are_spelled()
+    ensures { FramesSpellWhatIsTold }
 {}
 
 /// The options of a packet are read in order, and the first that goes wrong is the fault: Mandatory with no option

@@ -20,23 +20,27 @@ mod feeding;
 mod heeding;
 mod incoming;
 mod laws;
+mod outgoing;
 mod sealing;
 mod speaking;
+mod strangers;
 
 pub use crate::config::{Config, Ports};
+pub use crate::connection::applies_in;
 pub use crate::endpoint::Endpoint;
 pub(crate) use crate::exit::Exit;
 pub use crate::feeding::feed;
-pub use crate::heeding::heed_request;
 pub use crate::laws::{
     every_step_has_one_effect, frames_are_read_in_full, own_frames_are_read,
     own_packets_say_one_thing_of_a_row, own_packets_speak_once, packets_say_one_thing_to_a_row,
-    reading_stops_at_the_first_fault, valid_numbers_are_near,
+    reading_stops_at_the_first_fault, told_numbers_are_spelled, valid_numbers_are_near,
 };
+pub use crate::outgoing::put_reset;
 pub use crate::sealing::seal_frame;
+pub use crate::strangers::answer_stranger;
 pub use ack_vectors::Vectors;
 pub use congestion_trait::Congestion;
-pub use dccp_packets::{Frame, MOST_FRAME_BYTES, Malformed, Outbox, ResetCode};
+pub use dccp_packets::{Frame, MOST_FRAME_BYTES, Malformed, Numbers, Outbox, ResetCode, Sent};
 pub use dccp_states::{
     AbortFault, CloseFault, Fault, OpenFault, Outcome, Phase, Role, SendFault, Timer, Why,
 };

@@ -12,6 +12,7 @@ use Rattle.dccp_packets.specs.declared.header.Kind.{Kind}
 use Rattle.dccp_packets.specs.declared.header.Kind.TheVariants.{Request, Response, Data, Ack, DataAck, CloseReq, Close, Reset, Sync, SyncAck}
 use Rattle.dccp_packets.specs.declared.header.Header.{Header}
 use Rattle.dccp_packets.specs.Grammar.{NumberFits, KindFits, HeaderFits, type_of, code_of, is_long, has_form, has_forms, is_valid, packet_type, header_length, number_at, data_offset_bytes, number_in, kind_of, header_of, decoded, number_bytes, kind_bytes, common_bytes, header_bytes, padded, spelling}
+use Rattle.dccp_packets.specs.Kinds.{ack_of}
 use Rattle.dccp_packets.specs.Widths.{number_in_width, kind_in_widths, in_widths, HasDetail}
 use Rattle.dccp_packets.proofs.Pieces.{same_response, same_reset, same_header, same_parts, decoded_ok}
 use Rattle.dccp_packets.proofs.Lengths.{forms_of_valid, detail_of_fits, length-header_bytes, shortest, offset_in_words}
@@ -158,6 +159,10 @@ kind-kept (Close ack) fits = ap Close (mod-eq_of_lt fits)
 kind-kept (Reset ack code detail) fits = same_reset (mod-eq_of_lt fits.0) refl refl
 kind-kept (Sync ack) fits = ap Sync (mod-eq_of_lt fits)
 kind-kept (SyncAck ack) fits = ap SyncAck (mod-eq_of_lt fits)
+
+-- nor is the acknowledgement number of a type whose fields fit
+pub ack_kept : (kind : Kind) → KindFits kind → ack_of kind ≡ ack_of (kind_in_widths kind)
+ack_kept kind fits = ap ack_of (sym (kind-kept kind fits))
 
 -- a header whose fields fit is itself in the widths
 pub header-kept : (h : Header) → HeaderFits h → in_widths h ≡ h

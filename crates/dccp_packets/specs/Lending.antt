@@ -4,11 +4,13 @@ use Rattle.std.specs.Borrow.{Lends, MutBor, Fml, Array, u8}
 use Rattle.std.specs.List.{refill}
 use Rattle.dccp_packets.specs.contracts.frame.Frame as frame
 use Rattle.dccp_packets.specs.contracts.frame.Outbox as outbox
+use Rattle.dccp_packets.specs.declared.frame.Numbers.{Numbers}
+use Rattle.dccp_packets.specs.Outgoing.{Outgoing, outgoing}
 
 -- once the borrow ends, the frame has the bytes that were written through it
 abbrev pub LendsBytes : MutBor (List ℕ) → MutBor (List ℕ) → Fml
 LendsBytes f r = Lends frame.the_row (Array u8 0) f r (λ bytes. refill (length f.now) f.now bytes)
 
--- once the borrow ends, the Outbox holds the frame that was written through it
-abbrev pub LendsFrame : MutBor (Option (List ℕ)) → MutBor (List ℕ) → Fml
-LendsFrame o r = Lends outbox.the_row frame.the_row o r (λ bytes. Some bytes)
+-- once the borrow ends, the Outbox holds the frame that was written through it, with these numbers
+abbrev pub LendsFrame : Numbers → MutBor (Option Outgoing) → MutBor (List ℕ) → Fml
+LendsFrame numbers o r = Lends outbox.the_row frame.the_row o r (λ bytes. Some (outgoing numbers bytes))

@@ -59,7 +59,14 @@ impl Kind {
     {
         match self {
             Kind::Ack { ack } | Kind::DataAck { ack } => Some(ack.near(reference)),
-            _ => self.ack(),
+            Kind::Request { .. }
+            | Kind::Response { .. }
+            | Kind::Data
+            | Kind::CloseReq { .. }
+            | Kind::Close { .. }
+            | Kind::Reset { .. }
+            | Kind::Sync { .. }
+            | Kind::SyncAck { .. } => self.ack(),
         }
     }
 
@@ -80,7 +87,14 @@ impl Kind {
             Kind::DataAck { ack } => Kind::DataAck {
                 ack: ack.shortened(),
             },
-            _ => *self,
+            Kind::Request { .. }
+            | Kind::Response { .. }
+            | Kind::Data
+            | Kind::CloseReq { .. }
+            | Kind::Close { .. }
+            | Kind::Reset { .. }
+            | Kind::Sync { .. }
+            | Kind::SyncAck { .. } => *self,
         }
     }
 }

@@ -1,8 +1,9 @@
-//! The bytes of one packet, and the place where an end leaves it.
-ghost use Rattle.std.specs.Prelude.{◌≡◌, ◌+◌, ◌<◌, ◌≤◌, ◌↔◌, [], ◌++◌, length, IsSome, IfSome, MatchOption};
+//! The bytes of one packet, and the place where an end leaves it with its numbers.
+ghost use Rattle.std.specs.Prelude.{◌≡◌, ◌+◌, ◌<◌, ◌≤◌, ◌↔◌, [], ◌++◌, length, Some, None, IsSome, IfSome, MatchOption};
 ghost use Rattle.std.specs.Borrow.{sem};
 
 use arrayvec::ArrayVec;
+use seq_circle::Seq48;
 use std::marker::Model;
 
 /// The most bytes of a frame: 1,020 of header and options, which is all that a Data Offset counts (RFC 4340, section
@@ -80,26 +81,51 @@ impl Frame {
     }
 }
 
-/// Where an end leaves the frame that one of its calls sends: it holds no frame, or one. Contracts see no list of
-/// bytes, or one. Each call of an end that takes an Outbox empties it first. Its frame has room for the longest one and
-/// stays where it is, so an Outbox is made once and handed to many calls.
+/// The sequence number and the acknowledgement number of a packet, whole, whatever the form in which its frame has them
+/// (RFC 4340, section 7.6).
+#[derive(Clone, Copy, Debug, PartialEq, Eq)]
+pub struct Numbers {
+    /// The sequence number.
+    pub number: Seq48,
+    /// The acknowledgement number, or None for a Request and a Data, which have none (RFC 4340, section 5.1).
+    pub ack: Option<Seq48>,
+}
+
+/// A frame that goes out, with its numbers.
+#[derive(Clone, Copy, Debug)]
+pub struct Sent<'a> {
+    /// The bytes, at most 2,044.
+    pub bytes: &'a [u8],
+    /// The sequence number, whole.
+    pub number: Seq48,
+    /// The acknowledgement number, whole, or None where the packet has none.
+    pub ack: Option<Seq48>,
+}
+
+/// Where an end leaves the frame that one of its calls sends, with its numbers: it holds no frame, or one. Contracts
+/// see nothing, or the bytes and the numbers. Each call of an end that takes an Outbox empties it first. Its frame has
+/// room for the longest one and stays where it is, so an Outbox is made once and handed to many calls.
+///
+/// The numbers are the word of who fills it: an end's calls say that they are those of the frame.
 #[derive(Debug, Drop)]
 pub struct Outbox {
-    // of an earlier call, where it holds none
+    // of an earlier call, where there are no numbers
     frame: Frame,
-    holds: bool,
+    numbers: Option<Numbers>,
 }
 
 impl Model for Outbox {
-    ghost use Rattle.std.specs.Prelude.{List, Option, Some, None, ℕ, if◌then◌else◌};
+    ghost use Rattle.std.specs.Prelude.{Option};
+    ghost use Rattle.dccp_packets.specs.Outgoing.{Outgoing, outgoing_if};
 
-    ghost Value = { Option (List ℕ) };
+    ghost Value = { Option Outgoing };
 
-    ghost view = { λ o. if o.holds then Some o.frame else None };
+    ghost view = { λ o. outgoing_if o.numbers o.frame };
 }
 
 impl Outbox {
     ghost use Rattle.dccp_packets.specs.Lending.{LendsFrame};
+    ghost use Rattle.dccp_packets.specs.Outgoing.{bytes_sent, outgoing};
 
     /// An Outbox that holds no frame.
     pub fn new() -> Outbox
@@ -107,40 +133,59 @@ impl Outbox {
     {
         Outbox {
             frame: Frame::new(),
-            holds: false,
+            numbers: None,
         }
     }
 
     /// The frame that it holds.
     pub fn frame(&self) -> Option<&Frame>
-        ensures { MatchOption result (self.now ≡ None) (λ f. self.now ≡ Some f.now) }
+        ensures { MatchOption result (self.now ≡ None) (λ f. bytes_sent self.now ≡ Some f.now) }
     {
-        if self.holds { Some(&self.frame) } else { None }
+        match self.numbers {
+            Some(_) => Some(&self.frame),
+            None => None,
+        }
+    }
+
+    /// The frame that it holds and its numbers.
+    pub fn sent(&self) -> Option<Sent<'_>>
+        ensures value { MatchOption result (self.now ≡ None)
+            (λ sent. self.now ≡ Some (record { bytes = sent.bytes.now; number = sent.number; ack = sent.ack })) }
+        ensures fits { IfSome result (λ sent. length sent.bytes.now ≤ 2044) }
+    {
+        match self.numbers {
+            Some(Numbers { number, ack }) => Some(Sent {
+                bytes: self.frame.bytes(),
+                number,
+                ack,
+            }),
+            None => None,
+        }
     }
 
     /// Takes the frame away, if it holds one.
     pub fn clear(&mut self)
         ensures { self.new ≡ None }
     {
-        self.holds = false;
+        self.numbers = None;
     }
 
-    /// Holds `frame` alone.
-    pub fn put(&mut self, frame: Frame)
-        ensures { self.new ≡ Some frame }
+    /// Holds `frame` alone, with its numbers.
+    pub fn put(&mut self, frame: Frame, numbers: Numbers)
+        ensures { self.new ≡ Some (outgoing numbers frame) }
     {
         self.frame = frame;
-        self.holds = true;
+        self.numbers = Some(numbers);
     }
 
-    /// Holds a frame of no bytes alone, to be written where it stands: a frame has room for 2,044 bytes, and moving one
-    /// copies them all.
-    pub fn begin(&mut self) -> &mut Frame
-        ensures* writes_back { sem 𝓛 (LendsFrame self.entry result) }
+    /// Holds a frame of no bytes alone, with these numbers, to be written where it stands: a frame has room for 2,044
+    /// bytes, and moving one copies them all.
+    pub fn begin(&mut self, numbers: Numbers) -> &mut Frame
+        ensures* writes_back { sem 𝓛 (LendsFrame numbers self.entry result) }
         ensures empty { result.now ≡ [] }
     {
         self.frame.clear();
-        self.holds = true;
+        self.numbers = Some(numbers);
         &mut self.frame
     }
 }

@@ -161,7 +161,13 @@ impl PacketType {
     {
         match self {
             PacketType::Data | PacketType::Ack | PacketType::DataAck => true,
-            _ => long,
+            PacketType::Request
+            | PacketType::Response
+            | PacketType::CloseReq
+            | PacketType::Close
+            | PacketType::Reset
+            | PacketType::Sync
+            | PacketType::SyncAck => long,
         }
     }
 }
@@ -210,7 +216,8 @@ impl Kind {
         }
     }
 
-    fn known_to_fit(&self)
+    // What the types of the fields keep, as a fact for callers.
+    pub(crate) fn known_to_fit(&self)
         ensures { KindFits self.now }
     {
         match *self {
@@ -242,7 +249,14 @@ impl Kind {
     {
         match self {
             Kind::Ack { ack } | Kind::DataAck { ack } => ack.is_long() == long,
-            _ => self.packet_type().has_form(long),
+            Kind::Request { .. }
+            | Kind::Response { .. }
+            | Kind::Data
+            | Kind::CloseReq { .. }
+            | Kind::Close { .. }
+            | Kind::Reset { .. }
+            | Kind::Sync { .. }
+            | Kind::SyncAck { .. } => self.packet_type().has_form(long),
         }
     }
 }

@@ -2,6 +2,7 @@
 ghost use Rattle.std.specs.Prelude.{◌≡◌, is_some};
 ghost use Rattle.dccp_packets.specs.Grammar.{packet_type};
 ghost use Rattle.dccp_packets.specs.Kinds.{value_of, ack_of, has_ack, service_of, reset_code, is_data};
+ghost use Rattle.dccp_packets.specs.Widths.{kind_in_widths};
 
 use crate::{Kind, Number, PacketType};
 use seq_circle::Seq48;
@@ -40,11 +41,14 @@ impl PacketType {
 
 impl Kind {
     /// The acknowledgement number, or None exactly for the types that have none. A short form gives its 24 bits alone,
-    /// as `Number::value` does (RFC 4340, section 5.1).
+    /// as `Number::value` does (RFC 4340, section 5.1). It lies in the width of its field.
+    #[tactic(auto, using(crate::proofs::ReadBack::ack_kept))]
     pub fn ack(&self) -> Option<Seq48>
         ensures value { result ≡ ack_of self.now }
         ensures by_type { is_some result ≡ has_ack (packet_type self.now) }
+        ensures fits { result ≡ ack_of (kind_in_widths self.now) }
     {
+        self.known_to_fit();
         match self {
             Kind::Request { .. } | Kind::Data => None,
             Kind::Ack { ack } | Kind::DataAck { ack } => Some(ack.value()),
@@ -63,7 +67,14 @@ impl Kind {
     {
         match *self {
             Kind::Request { service } | Kind::Response { service, .. } => Some(service),
-            _ => None,
+            Kind::Data
+            | Kind::Ack { .. }
+            | Kind::DataAck { .. }
+            | Kind::CloseReq { .. }
+            | Kind::Close { .. }
+            | Kind::Reset { .. }
+            | Kind::Sync { .. }
+            | Kind::SyncAck { .. } => None,
         }
     }
 
@@ -73,7 +84,15 @@ impl Kind {
     {
         match *self {
             Kind::Reset { code, .. } => code,
-            _ => 0,
+            Kind::Request { .. }
+            | Kind::Response { .. }
+            | Kind::Data
+            | Kind::Ack { .. }
+            | Kind::DataAck { .. }
+            | Kind::CloseReq { .. }
+            | Kind::Close { .. }
+            | Kind::Sync { .. }
+            | Kind::SyncAck { .. } => 0,
         }
     }
 }

@@ -13,7 +13,7 @@ mod reading;
 mod reset_code;
 mod writing;
 
-pub use crate::frame::{Frame, MOST_FRAME_BYTES, Outbox};
+pub use crate::frame::{Frame, MOST_FRAME_BYTES, Numbers, Outbox, Sent};
 pub use crate::header::{Header, Kind, Number, PacketType};
 pub use crate::laws::{
     numbers_in_a_form_are_read_in_full, one_spelling_has_no_reserved_bit,

@@ -1,4 +1,7 @@
 //! The calls and timers of an end (RFC 4340, sections 8.1 to 8.3). Each call empties the Outbox first.
+ghost use Rattle.std.specs.Prelude.{◌≡◌};
+ghost use Rattle.dccp_endpoint.specs.Calling.{applies_in};
+
 use super::classes::{is_connected, is_open};
 use super::{Connection, fit};
 use crate::speaking::asking;
@@ -8,13 +11,28 @@ use dccp_states::{Phase, Role};
 use feature_lists::{Feature, Place, PreferFault, Wanted, wish};
 use feature_machine::Opening;
 
+/// Tells whether a timer has something to do in a phase: Request in REQUEST; Ack and Negotiate in PARTOPEN and OPEN;
+/// Rto in OPEN; Close in CLOSEREQ and CLOSING; TimeWait in TIMEWAIT. Negotiate needs a row that asks beside it, and Rto
+/// something in flight (RFC 4340, sections 8.1.1, 8.1.5, 6.6.3 and 8.3; RFC 4341, section 5).
+pub fn applies_in(timer: Timer, phase: Phase) -> bool
+    ensures { result ≡ applies_in timer phase }
+{
+    match timer {
+        Timer::Request => matches!(phase, Phase::Request),
+        Timer::Ack | Timer::Negotiate => is_connected(phase),
+        Timer::Rto => is_open(phase),
+        Timer::Close => matches!(phase, Phase::CloseReq | Phase::Closing),
+        Timer::TimeWait => matches!(phase, Phase::TimeWait),
+    }
+}
+
 // A packet may have so many bytes of data.
 const MOST_DATA: usize = 1024;
 
 impl Connection {
     ghost use Rattle.std.specs.Prelude.{◌≡◌, ◌≢◌, ◌↔◌, ◌⊎◌, ◌≤◌, ◌<◌, Bool, [], None, Ok, Err, OnErr, true, false, length};
     ghost use Rattle.dccp_states.specs.declared.phase.Role.TheVariants as role;
-    ghost use Rattle.dccp_endpoint.specs.Calling.{aborts, aborts_now, applies, asks_all, asks_now, closes, closes_now, fault_where, fires};
+    ghost use Rattle.dccp_endpoint.specs.Calling.{aborts, aborts_now, applies, asks_all, asks_now, closes, closes_now, closing_again, fault_where, fires};
     ghost use Rattle.dccp_endpoint.specs.Calling.{has_keys, is_asking_now, lacks_vectors, opens, opens_as, preferring, prefers, prefers_wish, requests, send_fault};
     ghost use Rattle.dccp_endpoint.specs.End.{is_connected};
     ghost use Rattle.dccp_endpoint.specs.Speaking.{AreDue};
@@ -26,8 +44,6 @@ impl Connection {
     ghost use Rattle.dccp_packets.specs.declared.header.Number.TheVariants.{Long};
     ghost use Rattle.dccp_endpoint.specs.Reporting.{sends_ack};
     ghost use Rattle.dccp_endpoint.specs.Steps.{sends};
-    ghost use Rattle.dccp_packets.specs.Forms.{may_be_short};
-    ghost use Rattle.dccp_packets.specs.Grammar.{packet_type};
 
     /// The client sends its Request.
     #[tactic(auto, unfolding(crate::specs::Calling::opens))]
@@ -74,13 +90,11 @@ impl Connection {
         ensures sends_nothing { OnErr result (out.new ≡ None) }
     {
         out.clear();
-        match self.phase {
-            Phase::PartOpen | Phase::Open => {
-                self.begin_closing(out);
-                Ok(())
-            }
-            _ => Err(CloseFault::NotOpen),
+        if !is_connected(self.phase) {
+            return Err(CloseFault::NotOpen);
         }
+        self.begin_closing(out);
+        Ok(())
     }
 
     fn begin_closing(&mut self, out: &mut Outbox)
@@ -203,24 +217,25 @@ impl Connection {
         ensures sends_nothing { result ≡ false → out.new ≡ None }
     {
         out.clear();
-        let ack = self.marks.gsr;
-        match (timer, self.phase) {
-            (Timer::Request, Phase::Request) => {
+        if !applies_in(timer, self.phase) {
+            return false;
+        }
+        match timer {
+            Timer::Request => {
                 self.send_request(out);
                 true
             }
-            (Timer::Ack, Phase::PartOpen | Phase::Open) => {
+            Timer::Ack => {
                 self.acknowledge_now(out);
                 true
             }
-            (Timer::Negotiate, Phase::PartOpen | Phase::Open) => self.ask_all(out),
-            (Timer::Close, Phase::CloseReq) => self.fire(Kind::CloseReq { ack }, out),
-            (Timer::Close, Phase::Closing) => self.fire(Kind::Close { ack }, out),
-            (Timer::TimeWait, Phase::TimeWait) => {
+            Timer::Negotiate => self.ask_all(out),
+            Timer::Close => self.close_again(out),
+            Timer::TimeWait => {
                 self.phase = Phase::Closed;
                 true
             }
-            _ => false,
+            Timer::Rto => unreachable!(),
         }
     }
 
@@ -285,11 +300,17 @@ impl Connection {
         true
     }
 
-    fn fire(&mut self, kind: Kind, out: &mut Outbox) -> bool
-        requires { may_be_short (packet_type kind) ≡ false }
-        ensures { record { after = self.new; frame = out.new; calls = []; answer = result } ≡ sends self.old (alone kind) true }
+    // The CloseReq or the Close goes out again.
+    fn close_again(&mut self, out: &mut Outbox) -> bool
+        ensures { record { after = self.new; frame = out.new; calls = []; answer = result }
+            ≡ sends self.old (alone (closing_again self.old.phase self.old.marks.gsr)) true }
     {
-        self.send(kind, out);
+        let ack = self.marks.gsr;
+        if matches!(self.phase, Phase::CloseReq) {
+            self.send(Kind::CloseReq { ack }, out);
+        } else {
+            self.send(Kind::Close { ack }, out);
+        }
         true
     }
 }

@@ -1,13 +1,9 @@
-//! Classes of phases and of packet types that the steps of an end ask for (RFC 4340, sections 8.1 and 8.5), and a Reset
-//! code without details.
+//! Classes of phases and of packet types that the steps of an end ask for (RFC 4340, sections 8.1 and 8.5).
 ghost use Rattle.std.specs.Prelude.{◌≡◌};
 ghost use Rattle.dccp_endpoint.specs.End.{is_connected, is_live, is_open};
 ghost use Rattle.dccp_endpoint.specs.Reporting.{carries_data, is_acking};
-ghost use Rattle.dccp_endpoint.specs.Steps.{without_detail};
-ghost use Rattle.dccp_packets.specs.ResetCodes.{number_of_code};
 
-use crate::Fault;
-use dccp_packets::{PacketType, ResetCode};
+use dccp_packets::PacketType;
 use dccp_states::Phase;
 
 // The phase is OPEN.
@@ -32,18 +28,6 @@ pub(super) fn is_connected(phase: Phase) -> bool
     ensures { result ≡ is_connected phase }
 {
     matches!(phase, Phase::PartOpen | Phase::Open)
-}
-
-// A Reset code without details.
-pub(super) fn without_detail(code: ResetCode) -> Fault
-    ensures { result ≡ without_detail (number_of_code code) }
-{
-    Fault {
-        code: code.number(),
-        first: 0,
-        second: 0,
-        third: 0,
-    }
 }
 
 // Ack and DataAck.

@@ -38,7 +38,15 @@ fn reported_from(packet: &IncomingPacket<'_>) -> Option<Seq48>
 {
     match packet.kind {
         PacketType::Sync => None,
-        _ => packet.ack,
+        PacketType::Request
+        | PacketType::Response
+        | PacketType::Data
+        | PacketType::Ack
+        | PacketType::DataAck
+        | PacketType::CloseReq
+        | PacketType::Close
+        | PacketType::Reset
+        | PacketType::SyncAck => packet.ack,
     }
 }
 

@@ -1,15 +1,16 @@
-//! What an end does with a packet that arrives: the sixteen steps of RFC 4340, section 8.5. `take_bytes`, `take`,
-//! `take_steps`, `take_options`, `negotiate` and `process` list them, and each has a function of its own, below or in
+//! What an end does with a packet that arrives: the sixteen steps of RFC 4340, section 8.5. `take_packet`,
+//! `take`, `take_steps`, `take_options`, `negotiate` and `process` list them, and each has a function of its own, below or in
 //! `replying`.
 use super::Connection;
-use super::classes::{carries_data, is_acking, is_live, is_open, without_detail};
+use super::classes::{carries_data, is_acking, is_live, is_open};
 use super::handing::hand_over;
 use crate::faults::heeds_negotiation;
 use crate::heeding::{Reading, are_silent, heed};
 use crate::incoming::IncomingPacket;
+use crate::strangers::{is_of_connection, without_detail};
 use crate::{Exit, Fault, Outcome, Why};
 use congestion_trait::Congestion;
-use dccp_packets::{Header, Number, Outbox, PacketType, ResetCode, decode};
+use dccp_packets::{Header, Number, Outbox, Packet, PacketType, ResetCode, decode};
 use dccp_states::{Entrance, Phase, after, gate, unexpected};
 use dccp_sum::check;
 use feature_lists::{Feature, Place};
@@ -28,8 +29,9 @@ impl Connection {
     ghost use Rattle.dccp_endpoint.specs.End.{IsPhaseOf, IsProper};
     ghost use Rattle.dccp_endpoint.specs.Heeding.{due_of, heeding_or, unheeded};
     ghost use Rattle.dccp_endpoint.specs.Speaking.{HaveRoom};
-    ghost use Rattle.dccp_endpoint.specs.Incoming.{is_newest};
-    ghost use Rattle.dccp_endpoint.specs.Receiving.{receives, takes, checks_header, read_number, takes_short, is_of_connection, course, Goes, the_steps, through, finds_connection, is_own_service, accepts_request, started};
+    ghost use Rattle.dccp_endpoint.specs.Incoming.{is_newest, parts_of_packet};
+    ghost use Rattle.dccp_packets.specs.Grammar.{decoded};
+    ghost use Rattle.dccp_endpoint.specs.Receiving.{receives, takes, checks_header, read_number, takes_short, course, Goes, the_steps, through, finds_connection, is_own_service, accepts_request, started};
     ghost use Rattle.dccp_endpoint.specs.Receiving.{acknowledges_in_window, answers, takes_answer, raises, checks_numbers, ends_by_reset, is_unexpected, is_other_service, checks_type, heeded, reads_options, moved_to, processes};
     ghost use Rattle.dccp_endpoint.specs.Reporting.{counts_data, delivered_if, delivers, looked_up, looks_up, marks};
     ghost use Rattle.run_list.specs.MarkedSet.{answer_to};
@@ -54,6 +56,28 @@ impl Connection {
         self.take_bytes(bytes, out, congestion)
     }
 
+    /// The same of bytes that the caller has decoded.
+    pub(crate) fn receive_packet<C: Congestion>(
+        &mut self,
+        packet: &Packet<'_>,
+        bytes: &[u8],
+        out: &mut Outbox,
+        congestion: &mut C,
+    ) -> Outcome
+        requires short { length bytes.now ≤ 2044 }
+        requires read { decoded bytes.now ≡ Ok (parts_of_packet packet.now) }
+        requires options { length packet.now.options.now ≤ 1008 }
+        ensures step { record { after = record { state = self.new; congestion = congestion.new }; frame = out.new; answer = result } ≡ with_control C.control congestion.old (receives self.old bytes.now) }
+        ensures cause { HasCause self.old bytes.now result }
+        ensures no_other_cause { HasNoOtherCause self.old bytes.now result }
+        ensures dropped { OnDropped result ((end_with self.new congestion.new ≡ end_with self.old congestion.old) × (out.new ≡ None)) }
+        ensures effect { HasEffectOf self.old bytes.now result self.new out.new (receives self.old bytes.now).calls }
+    {
+        self.shows_proper();
+        out.clear();
+        self.take_packet(packet, bytes, out, congestion)
+    }
+
     // Reading a field gives the prover the type's invariant.
     fn shows_proper(&self)
         ensures { IsProper self.now }
@@ -73,15 +97,33 @@ impl Connection {
         requires short { length bytes.now ≤ 2044 }
         ensures { record { after = record { state = self.new; congestion = congestion.new }; frame = out.new; answer = result } ≡ with_control C.control congestion.old (receives self.old bytes.now) }
     {
-        let packet = match decode(bytes) {
-            Ok(packet) => packet,
-            Err(fault) => return Outcome::Dropped(Why::Malformed(fault)),
-        };
+        match decode(bytes) {
+            Ok(packet) => self.take_packet(&packet, bytes, out, congestion),
+            Err(fault) => Outcome::Dropped(Why::Malformed(fault)),
+        }
+    }
+
+    // The same of bytes that were decoded: what the header and the checksum say, and with what they let pass the other
+    // steps.
+    #[tactic(auto, unfolding(crate::specs::Receiving::receives))]
+    fn take_packet<C: Congestion>(
+        &mut self,
+        packet: &Packet<'_>,
+        bytes: &[u8],
+        out: &mut Outbox,
+        congestion: &mut C,
+    ) -> Outcome
+        requires empty { out.old ≡ None }
+        requires short { length bytes.now ≤ 2044 }
+        requires read { decoded bytes.now ≡ Ok (parts_of_packet packet.now) }
+        requires options { length packet.now.options.now ≤ 1008 }
+        ensures { record { after = record { state = self.new; congestion = congestion.new }; frame = out.new; answer = result } ≡ with_control C.control congestion.old (receives self.old bytes.now) }
+    {
         match self.check_header(bytes, &packet.header) {
             Ok(number) => {
                 let newest = self.is_newest(number);
                 let ack = packet.header.kind.ack_near(self.marks.gss);
-                let packet = IncomingPacket::of(&packet, number, ack, bytes.len(), newest);
+                let packet = IncomingPacket::of(packet, number, ack, bytes.len(), newest);
                 self.take(&packet, out, congestion)
             }
             Err(why) => Outcome::Dropped(why),
@@ -174,7 +216,7 @@ impl Connection {
         if let Err(fault) = check(&self.config.pseudo_in, bytes) {
             return Err(Why::Sum(fault));
         }
-        if !self.is_of_connection(header) {
+        if !is_of_connection(&self.config, header) {
             return Err(Why::OtherFlow);
         }
         self.read_number(&header.number)
@@ -196,17 +238,11 @@ impl Connection {
         }
     }
 
-    // The peer may send short numbers, and a first number was received.
-    fn takes_short(&self) -> bool
+    /// The peer may send short numbers, and a first number was received.
+    pub(crate) fn takes_short(&self) -> bool
         ensures { result ≡ takes_short self.now }
     {
         is_live(self.phase) && self.rows.held(Feature::ShortSeqnos, Place::There).value == 1
-    }
-
-    fn is_of_connection(&self, header: &Header) -> bool
-        ensures { result ≡ is_of_connection self.now header.now }
-    {
-        header.from == self.config.peer_port && header.to == self.config.own_port
     }
 
     // The first packet of the connection is newest, and so is one after GSR.
@@ -223,7 +259,9 @@ impl Connection {
         match entrance {
             Entrance::NoConnection => Err(Exit::ResetWithoutConnection(ResetCode::NoConnection)),
             Entrance::Stray => Err(Exit::Drop(Why::StrayReset)),
-            _ => Ok(()),
+            Entrance::Accept | Entrance::InRequest | Entrance::PacketError | Entrance::Check => Ok(
+                (),
+            ),
         }
     }
 
@@ -276,7 +314,7 @@ impl Connection {
         match entrance {
             Entrance::InRequest => self.take_response(packet),
             Entrance::PacketError => Err(Exit::PacketError),
-            _ => Ok(()),
+            Entrance::NoConnection | Entrance::Stray | Entrance::Accept | Entrance::Check => Ok(()),
         }
     }
 
@@ -339,7 +377,15 @@ impl Connection {
     {
         match packet.kind {
             PacketType::Reset => Err(Exit::TimeWait(packet.code)),
-            _ => Ok(()),
+            PacketType::Request
+            | PacketType::Response
+            | PacketType::Data
+            | PacketType::Ack
+            | PacketType::DataAck
+            | PacketType::CloseReq
+            | PacketType::Close
+            | PacketType::Sync
+            | PacketType::SyncAck => Ok(()),
         }
     }
 
@@ -367,10 +413,10 @@ impl Connection {
     fn is_other_service(&self, packet: &IncomingPacket<'_>) -> bool
         ensures { result ≡ is_other_service self.now self.now.phase packet.now.kind packet.now.service }
     {
-        match (self.phase, packet.kind) {
-            (Phase::Request, PacketType::Response) => !self.is_own_service(&packet.service),
-            _ => false,
-        }
+        matches!(
+            (self.phase, packet.kind),
+            (Phase::Request, PacketType::Response)
+        ) && !self.is_own_service(&packet.service)
     }
 
     // No option of the packet has a fault or says anything to the rows.
@@ -391,7 +437,7 @@ impl Connection {
         heed(reading, packet.options, on_data, count, &packet.ack)
     }
 
-    // The packet is marked, and an acknowledgement is owed.
+    // The packet is marked, it is the one that was taken last, and an acknowledgement is owed.
     fn mark(&mut self, number: Seq48) -> Marked
         ensures marks { self.new ≡ marks self.old number }
         ensures answer { result ≡ answer_to self.old.received.set number }
@@ -401,6 +447,7 @@ impl Connection {
             self.marked = self.marked.saturating_add(1);
         }
         self.owed = true;
+        self.last = number;
         mark
     }
 

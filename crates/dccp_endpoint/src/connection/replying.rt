@@ -4,9 +4,10 @@ ghost use Rattle.std.specs.Prelude.{◌≡◌};
 ghost use Rattle.dccp_endpoint.specs.Receiving.{packet_fault};
 
 use super::Connection;
-use super::classes::{is_connected, is_open, without_detail};
-use crate::config::number as seq48;
+use super::classes::{is_connected, is_open};
 use crate::incoming::IncomingPacket;
+use crate::outgoing::{number_without_connection, put_reset};
+use crate::strangers::without_detail;
 use crate::{Exit, Fault, Outcome};
 use dccp_packets::{Kind, Number, Outbox, ResetCode};
 use dccp_states::{Phase, Reply};
@@ -198,14 +199,7 @@ impl Connection {
     ) -> Outcome
         ensures { record { after = self.new; frame = out.new; calls = []; answer = result } ≡ resets_without_connection self.old packet.now fault }
     {
-        let code = fault.code;
-        let detail = [fault.first, fault.second, fault.third];
-        let own = match packet.ack {
-            Some(ack) => ack.next(),
-            None => seq48(0),
-        };
-        let ack = packet.number;
-        self.put_alone(own, Kind::Reset { ack, code, detail }, out);
-        Outcome::SentReset { code, detail }
+        let number = number_without_connection(packet.ack);
+        put_reset(&self.config, number, packet.number, fault, out)
     }
 }

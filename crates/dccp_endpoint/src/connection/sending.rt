@@ -11,12 +11,12 @@ ghost use Rattle.dccp_endpoint.specs.Speaking.{has_confirms};
 
 use super::classes::is_open;
 use super::{Connection, fit};
-use crate::sealing::seal_frame;
+use crate::outgoing::{put_alone, put_frame};
 use crate::speaking::{asking, open_offers, put_changes, put_confirms, send_all};
 use ack_vectors::VectorBytes;
 use dccp_options::OptWriter;
 use dccp_options::kinds::ACK_VECTOR_0;
-use dccp_packets::{Header, Kind, Number, Outbox, encode};
+use dccp_packets::{Kind, Number, Outbox};
 use feature_lists::{Feature, Place};
 use feature_machine::{ConfirmOut, Held, Stand};
 use seq_circle::Seq48;
@@ -80,7 +80,7 @@ impl Connection {
     ghost use Rattle.dccp_endpoint.specs.Reporting.{acknowledged, recorded_by, reporting, sends_vectors, vector_items};
     ghost use Rattle.dccp_packets.specs.Forms.{may_be_short};
     ghost use Rattle.dccp_packets.specs.Grammar.{fixed_length, has_forms, packet_type, padded};
-    ghost use Rattle.dccp_endpoint.specs.Drafts.{alone, carrying, frame_of, framed};
+    ghost use Rattle.dccp_endpoint.specs.Drafts.{alone, carrying, framed, sent_as};
     ghost use Rattle.dccp_endpoint.specs.ShortForm.{allows_short};
     ghost use Rattle.dccp_endpoint.specs.Calling.{sends_data};
     ghost use Rattle.dccp_packets.specs.declared.header.Kind.TheVariants as kind;
@@ -97,7 +97,7 @@ impl Connection {
         ensures sent { out.new ≡ Some (next_frame self.old (alone kind)) }
     {
         let number = self.take_number();
-        self.put_alone(number, kind, out);
+        put_alone(&self.config, number, kind, out);
     }
 
     // Sends a packet under the next number, with short numbers or with long ones.
@@ -114,10 +114,18 @@ impl Connection {
         requires area { fixed_length true (packet_type kind) + length (padded options.now) ≤ 1020 }
         requires short { length payload.now ≤ 1024 }
         ensures counted { self.new ≡ with_next_number self.old }
-        ensures sent { out.new ≡ Some (framed self.old.config short (next_number self.old) kind options.now payload.now) }
+        ensures sent { out.new ≡ Some (sent_as (next_number self.old) kind (framed self.old.config short (next_number self.old) kind options.now payload.now)) }
     {
         let number = self.take_number();
-        self.put_frame(number, short, kind, options.bytes(), payload, out);
+        put_frame(
+            &self.config,
+            number,
+            short,
+            kind,
+            options.bytes(),
+            payload,
+            out,
+        );
     }
 
     // Sends a packet with Confirms alone under the next number.
@@ -295,7 +303,7 @@ impl Connection {
     {
         let short = self.allows_short();
         let number = self.take_number();
-        self.put_frame(number, short, Kind::Data, &[], payload, out);
+        put_frame(&self.config, number, short, Kind::Data, &[], payload, out);
     }
 
     /// Sends data, and tells under which number: on a DataAck where an acknowledgement is owed, else on a Data.
@@ -385,48 +393,5 @@ impl Connection {
         let number = self.marks.gss.next();
         self.marks.gss = number;
         number
-    }
-
-    // Leaves a packet without options and data in the Outbox; its type has long numbers alone.
-    #[tactic(auto, using(crate::proofs::Frames::fixed_part_is_short))]
-    pub(crate) fn put_alone(&self, number: Seq48, kind: Kind, out: &mut Outbox)
-        requires { may_be_short (packet_type kind) ≡ false }
-        ensures { out.new ≡ Some (frame_of self.now.config false number (alone kind)) }
-    {
-        self.put_frame(number, false, kind, &[], &[], out);
-    }
-
-    // Leaves a packet in the Outbox, where it is written: a frame is large.
-    #[tactic(auto, unfolding(crate::specs::Drafts::framed), using(crate::proofs::Short::is_formed, crate::proofs::Short::no_longer))]
-    fn put_frame(
-        &self,
-        number: Seq48,
-        short: bool,
-        kind: Kind,
-        options: &[u8],
-        payload: &[u8],
-        out: &mut Outbox,
-    )
-        requires form { has_forms true kind ≡ true }
-        requires may { short ≡ true → may_be_short (packet_type kind) ≡ true }
-        requires area { fixed_length true (packet_type kind) + length (padded options.now) ≤ 1020 }
-        requires short { length payload.now ≤ 1024 }
-        ensures { out.new ≡ Some (framed self.now.config short number kind options.now payload.now) }
-    {
-        let header = Header {
-            from: self.config.own_port,
-            to: self.config.peer_port,
-            ccval: 0,
-            cscov: 0,
-            checksum: 0,
-            number: Number::in_form(number, short),
-            kind: kind.in_form(short),
-        };
-        let frame = out.begin();
-        match encode(&header, options, payload, frame) {
-            Ok(()) => {}
-            Err(_) => unreachable!(),
-        }
-        seal_frame(&self.config.pseudo_out, frame);
     }
 }

@@ -1,6 +1,6 @@
 use Rattle.std.proofs.Common.{◌≡◌, ◌∙◌, ◌++◌, ℕ, Bool, List, [], Some, ap, sym, map}
 use Rattle.dccp_options.specs.Written.{Item, written}
-use Rattle.dccp_endpoint.specs.Drafts.{framed}
+use Rattle.dccp_endpoint.specs.Drafts.{framed, sent_as}
 use Rattle.dccp_endpoint.specs.End.{EndState}
 use Rattle.dccp_endpoint.specs.Reporting.{sends_vectors, vector_items}
 use Rattle.dccp_endpoint.specs.Steps.{next_number}
@@ -21,6 +21,6 @@ returns-clause-sent c =
     ∙ ap (λ (front : List ℕ). front ++ written said) (c.report-whole.ensures.bytes ∙ ap (λ (front : List ℕ). front ++ written vector) c.new-area.ensures)
     ∙ written_confirms vector said in
     c.send_with.ensures.sent
-    ∙ ap (λ (options : List ℕ). Some (framed e.config c.goes_short-short.result (next_number e) c.args.kind options [])) area
-    ∙ ap (λ (short : Bool). Some (framed e.config short (next_number e) c.args.kind (written (vector ++ (said ++ []))) []))
+    ∙ ap (λ (options : List ℕ). Some (sent_as (next_number e) c.args.kind (framed e.config c.goes_short-short.result (next_number e) c.args.kind options []))) area
+    ∙ ap (λ (short : Bool). Some (sent_as (next_number e) c.args.kind (framed e.config short (next_number e) c.args.kind (written (vector ++ (said ++ []))) [])))
     (c.goes_short-short.ensures ∙ sym (short_ack e c.args.kind confirms e.rows [] c.requires.may))

@@ -1,4 +1,5 @@
-use Rattle.std.proofs.Common.{◌≡◌, ◌∙◌, ℕ, List, Option, Some, ap, map, sym}
+use Rattle.std.proofs.Common.{◌≡◌, ◌∙◌, List, Option, Some, ap, map, sym}
+use Rattle.dccp_packets.specs.Outgoing.{Outgoing}
 use Rattle.feature_machine.specs.declared.row.Row.{Row}
 use Rattle.dccp_endpoint.specs.End.{EndState}
 use Rattle.dccp_endpoint.specs.Heeding.{Due, due_of}
@@ -16,7 +17,7 @@ returns-then-asks_nothing-clause-counted c =
 pub returns-then-asks_nothing-clause-sent : goal.returns-then-asks_nothing-clause-sent
 returns-then-asks_nothing-clause-sent c =
     c.send_confirming.ensures.sent
-    ∙ ap (λ (frame : List ℕ). Some frame)
+    ∙ ap (λ (frame : Outgoing). Some frame)
     (sym (c.asks_nothing.ensures.said c.if-asks_nothing.true c.args.kind (map due_of c.args.confirms.now)))
 
 -- something may
@@ -24,7 +25,7 @@ pub returns-clause-sent : goal.returns-clause-sent
 returns-clause-sent c =
     let e : EndState = c.args.self.now in
     let confirms : List Due = map due_of c.args.confirms.now in
-    let frame : EndState → List Key → Option (List ℕ) =
+    let frame : EndState → List Key → Option Outgoing =
     λ x keys. Some (next_frame (asks x keys) (saying c.args.kind confirms (asks x keys).rows keys)) in
     let keys : c.as_slice.result.now ≡ asking (offers e confirms).rows confirms =
     c.as_slice.ensures.keys ∙ c.asking-keys.ensures.keys ∙ ap (λ (r : List Row). asking r confirms) c.rows.ensures.value
