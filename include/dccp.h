@@ -185,9 +185,11 @@ typedef struct dccp_wish {
     bool is_mandatory;                 /* of an offer: a peer that does not understand it has to end the connection */
 } dccp_wish;
 
-/* The frame that a call leaves: `length` bytes, 0 to 2,044, at `bytes`. */
+/* The frame that a call leaves: `length` bytes, 0 to 2,044, at `bytes`, under the sequence number `number`, in full; where there are none, both
+ * are 0. */
 typedef struct dccp_frame {
     size_t length;
+    uint64_t number;
     uint8_t bytes[DCCP_MOST_FRAME_BYTES];
 } dccp_frame;
 

@@ -4,13 +4,14 @@ use Rattle.std.specs.Prelude.{slice_range}
 use Rattle.std.specs.List.{list_any}
 use Rattle.congestion_trait.specs.Control.{Control}
 use Rattle.dccp_endpoint.specs.Controlled.{EndStep, with_control}
+use Rattle.dccp_endpoint.specs.End.{last_taken}
 use Rattle.dccp_endpoint.specs.Receiving.{receives}
 use Rattle.dccp_endpoint.specs.declared.config.Config.{Config}
 use Rattle.dccp_states.specs.declared.outcome.Outcome.{Outcome}
 use Rattle.dccp_states.specs.declared.outcome.Outcome.TheVariants.{Took, Dropped, Synced, WasReset, SentReset}
-use Rattle.data_dropped.specs.Buffering.{arriving_number, buffers, delivery_by, data_delivered}
+use Rattle.data_dropped.specs.Buffering.{buffers, delivery_by, data_delivered}
 use Rattle.data_dropped.specs.Drops.{HaveCodes}
-use Rattle.data_dropped.specs.EndHistory.{BufferedPast, EndCall, EndOpens, EndReceives, EndTakes, EndStops, buffered_now, calls_by, data_call, is_end_stop, no_past, past_after, past_all}
+use Rattle.data_dropped.specs.EndHistory.{BufferedPast, EndCall, EndCalls, EndReceives, EndTakes, EndStops, buffered_now, calls_by, data_call, is_end_stop, no_past, past_after, past_all}
 use Rattle.data_dropped.specs.History.{History, IsAccounted, Takes, Stops, history_after, history_after_all, is_stop}
 use Rattle.data_dropped.specs.Inbox.{InboxState, fits_item}
 use Rattle.data_dropped.proofs.History.{all-accounted, history_after-accounted, counted-codes, first-accounted}
@@ -35,8 +36,8 @@ module _ {C : Type 0} (control : Control C) where
   pub receives-held : (p : BufferedPast C) (bytes : List ℕ)
       → (buffers control (buffered_now p) bytes).after ≡ buffered_now (past_after control p (EndReceives bytes))
   receives-held p bytes =
-      let n : ℕ = arriving_number p.end.state.marks.gsr bytes in
       let step : EndStep C Outcome = with_control control p.end.congestion (receives p.end.state bytes) in
+      let n : ℕ = last_taken step.after.state in
       ap (λ (inbox : InboxState). record { end = step.after; inbox = inbox }) (held-by p.past n bytes step.answer)
 
   data_call-goes_on : (short : Bool) (n : ℕ) (payload : List ℕ) → is_stop (data_call short n payload) ≡ false
@@ -58,9 +59,9 @@ module _ {C : Type 0} (control : Control C) where
 
   after-accounted : (capacity : ℕ) (stopped : Bool) (p : BufferedPast C) (call : EndCall) → IsAccounted capacity stopped p.past
       → IsAccounted capacity (stopped || is_end_stop call) (past_after control p call).past
-  after-accounted capacity stopped p EndOpens before = subst (λ (b : Bool). IsAccounted capacity b p.past) (sym (or-false stopped)) before
+  after-accounted capacity stopped p (EndCalls given) before = subst (λ (b : Bool). IsAccounted capacity b p.past) (sym (or-false stopped)) before
   after-accounted capacity stopped p (EndReceives bytes) before =
-      let n : ℕ = arriving_number p.end.state.marks.gsr bytes in
+      let n : ℕ = last_taken (receives p.end.state bytes).after in
       let outcome : Outcome = (receives p.end.state bytes).answer in
       subst (λ (b : Bool). IsAccounted capacity (stopped || b) (history_after_all p.past (calls_by n bytes outcome))) (none-stops n bytes outcome)
       (all-accounted capacity stopped p.past (calls_by n bytes outcome) before)

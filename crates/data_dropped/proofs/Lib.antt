@@ -10,5 +10,6 @@ pub mod Places
 pub mod ReadBack
 pub mod Reading
 pub mod Table
+pub mod Silent
 pub mod Telling
 pub mod Runs

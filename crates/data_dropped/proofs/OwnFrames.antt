@@ -1,9 +1,7 @@
 -- The frames of an end tell the drops of its inbox.
-use Rattle.std.proofs.Common.{◌≡◌, ℕ, ◌-◌, ◌%◌, ◌^◌, ◌==◌, ◌&&◌, not, Bool, true, false, IsTrue, List, [], ◌∷◌, ◌++◌, length, map, Option, Some, None, Result, refl, ap, sym, ◌∙◌, subst, All}
+use Rattle.std.proofs.Common.{◌≡◌, ℕ, ◌-◌, ◌%◌, ◌^◌, ◌==◌, ◌&&◌, Bool, true, false, IsTrue, List, [], ◌∷◌, ◌++◌, length, map, Option, Some, None, Result, refl, ap, sym, ◌∙◌, subst, All}
 use Rattle.ack_vectors.specs.declared.room.Vectors.{Vectors}
-use Rattle.std.specs.List.{list_any}
 use Rattle.std.proofs.Math.Nat.{mod-mod}
-use Rattle.std.proofs.lemmas.Bool.{and_parts}
 use Rattle.std.proofs.lemmas.List.Elements.{All-append, All-cons, All-nil}
 use Rattle.std.proofs.lemmas.Option.{same_Some}
 use Rattle.dccp_options.specs.Grammar.{options_of}
@@ -19,19 +17,19 @@ use Rattle.dccp_packets.specs.declared.header.Kind.TheVariants as kind
 use Rattle.dccp_packets.specs.declared.header.Number.{Number}
 use Rattle.dccp_packets.specs.declared.header.Number.TheVariants.{Long, Short}
 use Rattle.dccp_packets.specs.declared.reading.Malformed.{Malformed}
+use Rattle.dccp_packets.specs.Outgoing.{Outgoing}
+use Rattle.dccp_packets.proofs.Pieces.{same_reset, same_response}
 use Rattle.dccp_sum.specs.declared.pseudo_header.Pseudo.{Pseudo}
 use Rattle.run_list.specs.MarkedSet.{MarkedSet}
-use Rattle.seq_circle.specs.Circle.{extended}
 use Rattle.dccp_endpoint.specs.Causes.{HasEffect, HasFrame, Says, SaysNothing, SaysAll, SaysApart, vector_of}
-use Rattle.dccp_endpoint.specs.Drafts.{Draft, IsSendable, ReadsAs, alone, frame_of, own_header}
+use Rattle.dccp_endpoint.specs.Drafts.{Draft, IsSendable, ReadsAs, alone, own_header, sent_of}
 use Rattle.dccp_endpoint.specs.Effects.{Effect, Sending, end_after, frame_by, greatest_by, rows_by, told_by}
 use Rattle.dccp_endpoint.specs.End.{EndState, IsProper}
 use Rattle.dccp_endpoint.specs.Heeding.{Due}
-use Rattle.dccp_endpoint.specs.Inputs.{Arrives}
-use Rattle.dccp_endpoint.specs.Receiving.{receives}
+use Rattle.dccp_endpoint.specs.Inputs.{Input, end_stepped}
 use Rattle.dccp_endpoint.specs.Reporting.{is_acking, sends_vectors, vector_item, vector_items}
 use Rattle.dccp_endpoint.specs.Steps.{next_number}
-use Rattle.dccp_endpoint.specs.ShortForm.{allows_short, goes_short, is_negotiating}
+use Rattle.dccp_endpoint.specs.ShortForm.{goes_short}
 use Rattle.dccp_endpoint.specs.Speaking.{change_item, change_items, change_type, confirm_item, confirm_items, confirm_type}
 use Rattle.dccp_endpoint.specs.Turns.{Key}
 use Rattle.dccp_endpoint.specs.declared.config.Config.{Config}
@@ -39,12 +37,13 @@ use Rattle.dccp_endpoint.proofs.Calling.{every_step_has_an_effect}
 use Rattle.dccp_endpoint.proofs.OwnFrames.{own_frames_read_in_widths}
 use Rattle.dccp_endpoint.proofs.OwnPackets.{parts-are, vector_parts}
 use Rattle.dccp_endpoint.proofs.Short.{is_formed}
+use Rattle.dccp_endpoint.proofs.Spelled.{goes-may}
 use Rattle.feature_lists.specs.declared.features.Place.{Place}
 use Rattle.feature_lists.specs.declared.features.Place.TheVariants.{Here, There}
 use Rattle.feature_machine.specs.Negotiating.{row_at}
 use Rattle.feature_machine.specs.declared.row.Row.{Row}
 use Rattle.data_dropped.specs.Drops.{drop_bytes}
-use Rattle.data_dropped.specs.Frames.{acknowledged_by, buffered, buffered_ack, buffered_packet, lengthened, lengthened_if, said, says_more}
+use Rattle.data_dropped.specs.Frames.{acknowledged_by, buffered_ack, buffered_packet, buffered_sent, lengthened, lengthened_if, said, says_more}
 use Rattle.data_dropped.specs.Inbox.{InboxState}
 use Rattle.data_dropped.specs.Reports.{drop_options}
 use Rattle.data_dropped.specs.Telling.{TellsItsDrops, told_by_ack, told_if}
@@ -105,33 +104,41 @@ valid-read short number k long may =
     ap (λ (b : Bool). has_forms b (kind_in_widths (in_form short k))) (long-kept (number_in_form short number))
     ∙ forms-kept (is_long (number_in_form short number)) (in_form short k) ∙ is_formed short number k long may
 
--- read once more, it acknowledges the same
-ack-kept : (gsr : ℕ) (k : Kind) → acknowledged_by gsr (kind_in_widths (kind_in_widths k)) ≡ acknowledged_by gsr (kind_in_widths k)
-ack-kept gsr (kind.Ack (Long n)) = ap Some (mod-mod n (2 ^ 48))
-ack-kept gsr (kind.Ack (Short n)) = ap (λ (s : ℕ). Some (extended s gsr)) (mod-mod n (2 ^ 24))
-ack-kept gsr (kind.DataAck (Long n)) = ap Some (mod-mod n (2 ^ 48))
-ack-kept gsr (kind.DataAck (Short n)) = ap (λ (s : ℕ). Some (extended s gsr)) (mod-mod n (2 ^ 24))
-ack-kept gsr kind.Data = refl
-ack-kept gsr _ = refl
+-- read once more, its number, type and fields are the same
+number-again : (n : Number) → number_in_width (number_in_width n) ≡ number_in_width n
+number-again (Long n) = ap Long (mod-mod n (2 ^ 48))
+number-again (Short n) = ap Short (mod-mod n (2 ^ 24))
 
-acking-no_data : (gsr ack : ℕ) (k : Kind) → acknowledged_by gsr k ≡ Some ack → is_data (packet_type (kind_in_widths k)) ≡ false
-acking-no_data gsr ack kind.Data is = absurd cc
-acking-no_data gsr ack _ is = refl
+kind-again : (k : Kind) → kind_in_widths (kind_in_widths k) ≡ kind_in_widths k
+kind-again (kind.Request service) = ap kind.Request (mod-mod service (2 ^ 32))
+kind-again (kind.Response ack service) = same_response (mod-mod ack (2 ^ 48)) (mod-mod service (2 ^ 32))
+kind-again kind.Data = refl
+kind-again (kind.Ack ack) = ap kind.Ack (number-again ack)
+kind-again (kind.DataAck ack) = ap kind.DataAck (number-again ack)
+kind-again (kind.CloseReq ack) = ap kind.CloseReq (mod-mod ack (2 ^ 48))
+kind-again (kind.Close ack) = ap kind.Close (mod-mod ack (2 ^ 48))
+kind-again (kind.Reset ack code detail) = same_reset (mod-mod ack (2 ^ 48)) refl refl
+kind-again (kind.Sync ack) = ap kind.Sync (mod-mod ack (2 ^ 48))
+kind-again (kind.SyncAck ack) = ap kind.SyncAck (mod-mod ack (2 ^ 48))
 
-module _ (config : Config) (short : Bool) (number gsr : ℕ) (draft : Draft) (held : InboxState) (sendable : IsSendable draft)
+acking-no_data : (told : Option ℕ) (ack : ℕ) (k : Kind) → acknowledged_by told k ≡ Some ack → is_data (packet_type (kind_in_widths k)) ≡ false
+acking-no_data told ack kind.Data is = absurd cc
+acking-no_data told ack _ is = refl
+
+module _ (config : Config) (short : Bool) (number : ℕ) (draft : Draft) (held : InboxState) (sendable : IsSendable draft)
     (may : short ≡ true → may_be_short (packet_type draft.kind) ≡ true) (others : All IsOther draft.options) where
   abbrev header : Header
   header = in_widths (own_header config short number draft.kind)
 
-  abbrev own : List ℕ
-  own = frame_of config short number draft
+  abbrev own : Outgoing
+  own = sent_of config short number draft
 
   abbrev parts : ℕ → Parts
   parts sum = record { header = record header { checksum = sum }; options = padded (written draft.options); payload = draft.payload }
 
   -- it goes out as it is
-  stays-telling : (read : ReadsAs header config.pseudo_out draft own) (told : List (List ℕ))
-      → told ≡ told_by_ack held (parts read.sum) (acknowledged_by gsr header.kind) → told ≡ [] → TellsItsDrops config.pseudo_out gsr held own own
+  stays-telling : (read : ReadsAs header config.pseudo_out draft own.bytes) (told : List (List ℕ))
+      → told ≡ told_by_ack held (parts read.sum) (acknowledged_by own.ack header.kind) → told ≡ [] → TellsItsDrops config.pseudo_out held own own
   stays-telling read told is none =
       record {
         before = parts read.sum;
@@ -139,18 +146,20 @@ module _ (config : Config) (short : Bool) (number gsr : ℕ) (draft : Draft) (he
         was_packet = read.is_packet;
         is_packet = read.is_packet;
         is_accepted = read.is_accepted;
-        same_ack = refl;
+        same_told = refl;
+        same_number = refl;
+        same_kind = refl;
         tells = ap drop_options read.are_listed ∙ others-tell_nothing 0 draft.options others ∙ sym none ∙ is;
       }
 
   -- it goes out with more options
-  longer-telling : (read : ReadsAs header config.pseudo_out draft own) (ack : ℕ) → acknowledged_by gsr header.kind ≡ Some ack
+  longer-telling : (read : ReadsAs header config.pseudo_out draft own.bytes) (ack : ℕ) → acknowledged_by own.ack header.kind ≡ Some ack
       → says_more (parts read.sum) (said held ack) ≡ true
-      → TellsItsDrops config.pseudo_out gsr held own (lengthened config.pseudo_out (parts read.sum) (said held ack))
+      → TellsItsDrops config.pseudo_out held own (record own { bytes = lengthened config.pseudo_out (parts read.sum) (said held ack) })
   longer-telling read ack acks says =
       let p : Parts = parts read.sum in
       let valid : IsTrue (is_valid p.header) = valid-read short number draft.kind sendable.is_long may in
-      let sealed = lengthened-read config.pseudo_out gsr ack p (said held ack) acks refl valid says in
+      let sealed = lengthened-read config.pseudo_out own.ack ack p (said held ack) acks refl valid says in
       let area : List ℕ = padded (p.options ++ said held ack) in
       record {
         before = p;
@@ -158,59 +167,58 @@ module _ (config : Config) (short : Bool) (number gsr : ℕ) (draft : Draft) (he
         was_packet = read.is_packet;
         is_packet = sealed.is_packet;
         is_accepted = sealed.is_accepted;
-        same_ack = ack-kept gsr (in_form short draft.kind);
-        tells = ap (λ (b : Bool). drop_options (options_of area b)) (acking-no_data gsr ack header.kind acks)
+        same_told = refl;
+        same_number = number-again (number_in_form short number);
+        same_kind = kind-again (in_form short draft.kind);
+        tells = ap (λ (b : Bool). drop_options (options_of area b)) (acking-no_data own.ack ack header.kind acks)
             ∙ area-tells draft.options ((4 - length (written draft.options) % 4) % 4) held ack sendable.items others
             ∙ sym (ap (λ (b : Bool). told_if b (drop_bytes held.drops ack)) says)
             ∙ sym (ap (told_by_ack held p) acks);
       }
 
-  by-says : (read : ReadsAs header config.pseudo_out draft own) (ack : ℕ) (says : Bool) → acknowledged_by gsr header.kind ≡ Some ack
+  by-says : (read : ReadsAs header config.pseudo_out draft own.bytes) (ack : ℕ) (says : Bool) → acknowledged_by own.ack header.kind ≡ Some ack
       → says_more (parts read.sum) (said held ack) ≡ says
-      → TellsItsDrops config.pseudo_out gsr held own (lengthened_if says config.pseudo_out (parts read.sum) own (said held ack))
+      → TellsItsDrops config.pseudo_out held own (record own { bytes = lengthened_if says config.pseudo_out (parts read.sum) own.bytes (said held ack) })
   by-says read ack true acks says = longer-telling read ack acks says
   by-says read ack false acks says =
       stays-telling read (told_if false (drop_bytes held.drops ack))
       (sym (ap (λ (b : Bool). told_if b (drop_bytes held.drops ack)) says) ∙ sym (ap (told_by_ack held (parts read.sum)) acks)) refl
 
-  by-ack : (read : ReadsAs header config.pseudo_out draft own) (ack : Option ℕ) → acknowledged_by gsr header.kind ≡ ack
-      → TellsItsDrops config.pseudo_out gsr held own (buffered_ack config.pseudo_out held (parts read.sum) own ack)
+  by-ack : (read : ReadsAs header config.pseudo_out draft own.bytes) (ack : Option ℕ) → acknowledged_by own.ack header.kind ≡ ack
+      → TellsItsDrops config.pseudo_out held own (record own { bytes = buffered_ack config.pseudo_out held (parts read.sum) own.bytes ack })
   by-ack read None acks = stays-telling read [] (sym (ap (told_by_ack held (parts read.sum)) acks)) refl
   by-ack read (Some ack) acks = by-says read ack (says_more (parts read.sum) (said held ack)) acks refl
 
   -- the frame of a draft, as it goes out
-  pub draft-tells : TellsItsDrops config.pseudo_out gsr held own (buffered config.pseudo_out gsr held own)
+  pub draft-tells : TellsItsDrops config.pseudo_out held own (buffered_sent config.pseudo_out held own)
   draft-tells =
       let read = own_frames_read_in_widths config short number draft sendable may in
-      subst (λ (frame : List ℕ). TellsItsDrops config.pseudo_out gsr held own frame)
-      (sym (ap (λ (packet : Result Parts Malformed). buffered_packet config.pseudo_out gsr held own packet) read.is_packet))
-      (by-ack read (acknowledged_by gsr header.kind) refl)
-
-short-may : (e : EndState) (draft : Draft) → goes_short e draft ≡ true → may_be_short (packet_type draft.kind) ≡ true
-short-may e draft is = (and_parts (may_be_short (packet_type draft.kind)) (allows_short e && not (list_any is_negotiating draft.options)) is).0
+      subst (λ (bytes : List ℕ). TellsItsDrops config.pseudo_out held own (record own { bytes = bytes }))
+      (sym (ap (λ (packet : Result Parts Malformed). buffered_packet config.pseudo_out own.ack held own.bytes packet) read.is_packet))
+      (by-ack read (acknowledged_by own.ack header.kind) refl)
 
 never : (draft : Draft) → false ≡ true → may_be_short (packet_type draft.kind) ≡ true
 never draft is = absurd cc
 
 -- what is sent
-sending-tells : (gsr : ℕ) (held : InboxState) {e : EndState} {f : Effect} {confirms : List Due} {keys : List Key} {sending : Sending}
-    → Says e f confirms keys sending → HasFrame sending → (own : List ℕ) → frame_by e f sending ≡ Some own
-    → TellsItsDrops e.config.pseudo_out gsr held own (buffered e.config.pseudo_out gsr held own)
-sending-tells gsr held (SaysNothing no_confirms no_keys) framed sent is = absurd cc
-sending-tells gsr held {e} {f} {confirms} {keys} (SaysAll packet options_are acks) framed sent is =
-    subst (λ (bytes : List ℕ). TellsItsDrops e.config.pseudo_out gsr held bytes (buffered e.config.pseudo_out gsr held bytes)) (same_Some _ sent is)
-    (draft-tells e.config (goes_short (end_after e f) packet) (next_number e) gsr packet held framed (short-may (end_after e f) packet)
+sending-tells : (held : InboxState) {e : EndState} {f : Effect} {confirms : List Due} {keys : List Key} {sending : Sending}
+    → Says e f confirms keys sending → HasFrame sending → (own : Outgoing) → frame_by e f sending ≡ Some own
+    → TellsItsDrops e.config.pseudo_out held own (buffered_sent e.config.pseudo_out held own)
+sending-tells held (SaysNothing no_confirms no_keys) framed sent is = absurd cc
+sending-tells held {e} {f} {confirms} {keys} (SaysAll packet options_are acks) framed sent is =
+    subst (λ (own : Outgoing). TellsItsDrops e.config.pseudo_out held own (buffered_sent e.config.pseudo_out held own)) (same_Some _ sent is)
+    (draft-tells e.config (goes_short (end_after e f) packet) (next_number e) packet held framed (goes-may (end_after e f) packet)
     (subst (λ (items : List Item). All IsOther items) (sym options_are) (own-other e f packet.kind confirms keys)))
-sending-tells gsr held {e} (SaysApart number packet no_confirms no_keys) framed sent is =
-    subst (λ (bytes : List ℕ). TellsItsDrops e.config.pseudo_out gsr held bytes (buffered e.config.pseudo_out gsr held bytes)) (same_Some _ sent is)
-    (draft-tells e.config false number gsr (alone packet) held framed (never (alone packet)) (All-nil IsOther))
+sending-tells held {e} (SaysApart number packet no_confirms no_keys) framed sent is =
+    subst (λ (own : Outgoing). TellsItsDrops e.config.pseudo_out held own (buffered_sent e.config.pseudo_out held own)) (same_Some _ sent is)
+    (draft-tells e.config false number (alone packet) held framed (never (alone packet)) (All-nil IsOther))
 
 -- The frame of a step, by the effect that the step has.
-pub step-tells : (e : EndState) (bytes own : List ℕ) (gsr : ℕ) (held : InboxState) → IsProper e → (receives e bytes).frame ≡ Some own
-    → TellsItsDrops (receives e bytes).after.config.pseudo_out gsr held own (buffered (receives e bytes).after.config.pseudo_out gsr held own)
-step-tells e bytes own gsr held proper is =
-    let step : HasEffect e (Arrives bytes) (receives e bytes).after (receives e bytes).frame (receives e bytes).calls =
-    every_step_has_an_effect e (Arrives bytes) proper in
-    let same : (receives e bytes).after.config.pseudo_out ≡ e.config.pseudo_out = ap (λ (x : EndState). x.config.pseudo_out) step.after_is in
-    subst (λ (pseudo : Pseudo). TellsItsDrops pseudo gsr held own (buffered pseudo gsr held own)) (sym same)
-    (sending-tells gsr held step.because.says step.because.framed own (sym step.frame_is ∙ is))
+pub step-tells : (e : EndState) (given : Input) (own : Outgoing) (held : InboxState) → IsProper e → (end_stepped e given).frame ≡ Some own
+    → TellsItsDrops (end_stepped e given).after.config.pseudo_out held own (buffered_sent (end_stepped e given).after.config.pseudo_out held own)
+step-tells e given own held proper is =
+    let step : HasEffect e given (end_stepped e given).after (end_stepped e given).frame (end_stepped e given).calls =
+    every_step_has_an_effect e given proper in
+    let same : (end_stepped e given).after.config.pseudo_out ≡ e.config.pseudo_out = ap (λ (x : EndState). x.config.pseudo_out) step.after_is in
+    subst (λ (pseudo : Pseudo). TellsItsDrops pseudo held own (buffered_sent pseudo held own)) (sym same)
+    (sending-tells held step.because.says step.because.framed own (sym step.frame_is ∙ is))

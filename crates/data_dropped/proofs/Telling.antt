@@ -2,14 +2,13 @@
 use Rattle.std.proofs.Common.{◌≡◌, ℕ, ◌^◌, ◌<◌, Bool, true, false, List, [], ◌++◌, length, Option, Some, None, ap, sym, subst, ◌∙◌, inl, inr, append-nil}
 use Rattle.std.proofs.lemmas.Bool.{cases_eq, eq-eqb, ne_eqb}
 use Rattle.std.proofs.lemmas.Option.{same_Some}
-use Rattle.congestion_trait.specs.Control.{Control}
 use Rattle.dccp_options.specs.Vectors.{Report, joined_report}
 use Rattle.dccp_sum.specs.declared.pseudo_header.Pseudo.{Pseudo}
-use Rattle.dccp_endpoint.specs.End.{IsProper}
-use Rattle.dccp_endpoint.specs.Receiving.{receives}
-use Rattle.data_dropped.specs.Buffering.{Buffered, buffers}
+use Rattle.dccp_packets.specs.Outgoing.{Outgoing}
+use Rattle.dccp_endpoint.specs.End.{EndState, IsProper}
+use Rattle.dccp_endpoint.specs.Inputs.{Input, end_stepped}
 use Rattle.data_dropped.specs.Drops.{HaveCodes, drop_bytes}
-use Rattle.data_dropped.specs.Frames.{acknowledged_by, buffered, buffered_frame, said, says_more}
+use Rattle.data_dropped.specs.Frames.{acknowledged_by, buffered_frame, buffered_sent, said, says_more}
 use Rattle.data_dropped.specs.Inbox.{InboxState}
 use Rattle.data_dropped.specs.Telling.{FrameTells, IsReadAsDrops, TellsItsDrops, drops_in_packet, one_option, report_in_packet, told_by_ack, told_if}
 use Rattle.data_dropped.proofs.OwnFrames.{step-tells}
@@ -28,13 +27,15 @@ told-is : (ack : ℕ) (says : Bool) (bytes : List ℕ) (r : Report) → joined_r
 told-is ack true bytes r is = option-is ack bytes r is
 told-is ack false bytes r is = absurd cc
 
-pub read_as_drops : (pseudo : Pseudo) (gsr : ℕ) (held : InboxState) (own frame : List ℕ) (tells : TellsItsDrops pseudo gsr held own frame) (ack : ℕ)
-    (r : Report)
-    → acknowledged_by gsr tells.packet.header.kind ≡ Some ack → report_in_packet ack tells.packet ≡ Some r → HaveCodes held.drops → ack < 2 ^ 48
+pub read_as_drops : (pseudo : Pseudo) (held : InboxState) (own frame : Outgoing) (tells : TellsItsDrops pseudo held own frame) (ack : ℕ) (r : Report)
+    → acknowledged_by frame.ack tells.packet.header.kind ≡ Some ack → report_in_packet ack tells.packet ≡ Some r → HaveCodes held.drops → ack < 2 ^ 48
     → IsReadAsDrops held ack r
-read_as_drops pseudo gsr held own frame tells ack r acks is have fits =
+read_as_drops pseudo held own frame tells ack r acks is have fits =
+    let before : acknowledged_by own.ack tells.before.header.kind ≡ Some ack =
+    ap (acknowledged_by own.ack) (sym tells.same_kind)
+    ∙ ap (λ (f : Outgoing). acknowledged_by f.ack tells.packet.header.kind) (sym tells.same_told) ∙ acks in
     let told : drops_in_packet tells.packet ≡ told_if (says_more tells.before (said held ack)) (drop_bytes held.drops ack) =
-    tells.tells ∙ ap (told_by_ack held tells.before) (sym tells.same_ack ∙ acks) in
+    tells.tells ∙ ap (told_by_ack held tells.before) before in
     let report : record { ack = ack; bytes = drop_bytes held.drops ack } ≡ r =
     told-is ack (says_more tells.before (said held ack)) (drop_bytes held.drops ack) r (sym (ap (joined_report ack) told) ∙ is) in
     subst (λ (x : Report). IsReadAsDrops held ack x) report
@@ -43,18 +44,16 @@ read_as_drops pseudo gsr held own frame tells ack r acks is have fits =
       all = λ n small whole near. all_codes_read held.drops ack n have fits small whole near;
     })
 
-module _ {C : Type 0} (control : Control C) where
-  pub frames-tell : (b : Buffered C) (bytes own : List ℕ) → IsProper b.end.state → (receives b.end.state bytes).frame ≡ Some own
-      → FrameTells C (buffers control b bytes) own
-  frames-tell b bytes own proper is =
-      let after = (buffers control b bytes).after in
-      record {
-        frame = buffered after.end.state.config.pseudo_out after.end.state.marks.gsr after.inbox own;
-        goes_out = ap (λ (frame : Option (List ℕ)). buffered_frame after.end.state.config.pseudo_out after.end.state.marks.gsr after.inbox frame) is;
-        tells = step-tells b.end.state bytes own after.end.state.marks.gsr after.inbox proper is;
-      }
+-- a step of the end on any input, beside an inbox
+pub calls-tell : (e : EndState) (held : InboxState) (given : Input) (own : Outgoing) → IsProper e → (end_stepped e given).frame ≡ Some own
+    → FrameTells (end_stepped e given).after.config.pseudo_out held own
+    (buffered_frame (end_stepped e given).after.config.pseudo_out held (end_stepped e given).frame)
+calls-tell e held given own proper is =
+    record {
+      frame = buffered_sent (end_stepped e given).after.config.pseudo_out held own;
+      goes_out = ap (buffered_frame (end_stepped e given).after.config.pseudo_out held) is;
+      tells = step-tells e given own held proper is;
+    }
 
-  pub silent-stay : (b : Buffered C) (bytes : List ℕ) → (receives b.end.state bytes).frame ≡ None → (buffers control b bytes).frame ≡ None
-  silent-stay b bytes is =
-      let after = (buffers control b bytes).after in
-      ap (λ (frame : Option (List ℕ)). buffered_frame after.end.state.config.pseudo_out after.end.state.marks.gsr after.inbox frame) is
+pub silent-stay : (pseudo : Pseudo) (held : InboxState) (sent : Option Outgoing) → sent ≡ None → buffered_frame pseudo held sent ≡ None
+silent-stay pseudo held sent is = ap (buffered_frame pseudo held) is

@@ -1,13 +1,12 @@
--- An end with a bounded inbox, and what it does with bytes that arrive (own; the end's part is RFC 4340's, section
+-- An end with a bounded inbox, what it does with bytes that arrive, and what its calls are beside the inbox (own; the end's part is RFC 4340's, section
 -- 8.5).
-use Rattle.std.specs.Prelude.{ℕ, ◌≤◌, Bool, true, false, List, length, Option, Some, None, Result, Ok, Err, slice_range}
+use Rattle.std.specs.Prelude.{ℕ, ◌≤◌, Bool, true, false, List, length, Option, Some, None, slice_range}
 use Rattle.congestion_trait.specs.Control.{Control}
 use Rattle.dccp_endpoint.specs.Controlled.{End, EndStep, begins, with_control}
+use Rattle.dccp_endpoint.specs.End.{last_taken}
 use Rattle.dccp_endpoint.specs.Receiving.{receives}
 use Rattle.dccp_endpoint.specs.declared.config.Config.{Config}
-use Rattle.dccp_packets.specs.Forms.{near}
-use Rattle.dccp_packets.specs.Grammar.{Parts, decoded}
-use Rattle.dccp_packets.specs.declared.reading.Malformed.{Malformed}
+use Rattle.dccp_packets.specs.Outgoing.{Outgoing}
 use Rattle.dccp_states.specs.declared.outcome.Outcome.{Outcome}
 use Rattle.dccp_states.specs.declared.outcome.Outcome.TheVariants.{Took, Dropped, Synced, WasReset, SentReset}
 use Rattle.data_dropped.specs.Frames.{buffered_frame}
@@ -24,16 +23,6 @@ pub record Buffered (C : Type 0) : Type 0 where
 abbrev pub begins_buffered : {C : Type 0} → Control C → Config → C → ℕ → Buffered C
 begins_buffered control config congestion capacity =
     record { end = begins control config congestion; inbox = empty_inbox capacity }
-
--- The number of the packet that bytes are, in full: a short one is near GSR as it was before (section 7.6). Of bytes
--- that are no packet none is asked for.
-abbrev pub number_of_packet : ℕ → Result Parts Malformed → ℕ
-number_of_packet gsr (Ok p) = near gsr p.header.number
-number_of_packet gsr (Err fault) = gsr
-
--- the same of bytes
-abbrev pub arriving_number : ℕ → List ℕ → ℕ
-arriving_number gsr bytes = number_of_packet gsr (decoded bytes)
 
 -- the inbox once a packet was received, and what became of its data, if any were delivered
 pub record Delivery : Type 0 where
@@ -78,7 +67,7 @@ HasDataWithin bytes (SentReset code detail) = Unit {0}
 -- both after a step, the frame that goes out, if any, the outcome, and what became of data, if any were delivered
 pub record BufferedStep (C : Type 0) : Type 0 where
   pub after : Buffered C
-  pub frame : Option (List ℕ)
+  pub frame : Option Outgoing
   pub outcome : Outcome
   pub arrival : Option Arrival
 
@@ -87,16 +76,31 @@ abbrev pub with_inbox : {C : Type 0} → EndStep C Outcome → Delivery → Buff
 with_inbox step delivery =
     record {
       after = record { end = step.after; inbox = delivery.inbox };
-      frame = buffered_frame step.after.state.config.pseudo_out step.after.state.marks.gsr delivery.inbox step.frame;
+      frame = buffered_frame step.after.state.config.pseudo_out delivery.inbox step.frame;
       outcome = step.answer;
       arrival = delivery.arrival;
     }
 
--- by the end's step, for a packet of this number
-abbrev pub buffers_step : {C : Type 0} → InboxState → ℕ → List ℕ → EndStep C Outcome → BufferedStep C
-buffers_step held n bytes step = with_inbox step (delivery_by held n bytes step.answer)
+-- by the end's step: data come under the number that it took last
+abbrev pub buffers_step : {C : Type 0} → InboxState → List ℕ → EndStep C Outcome → BufferedStep C
+buffers_step held bytes step = with_inbox step (delivery_by held (last_taken step.after.state) bytes step.answer)
 
 -- What an end with an inbox does with bytes that arrive: the end's step is that of any end.
 abbrev pub buffers : {C : Type 0} → Control C → Buffered C → List ℕ → BufferedStep C
 buffers control b bytes =
-    buffers_step b.inbox (arriving_number b.end.state.marks.gsr bytes) bytes (with_control control b.end.congestion (receives b.end.state bytes))
+    buffers_step b.inbox bytes (with_control control b.end.congestion (receives b.end.state bytes))
+
+-- both after a call of the end, the frame that goes out, if any, and the end's answer
+pub record BufferedCall (C Answer : Type 0) : Type 0 where
+  pub after : Buffered C
+  pub frame : Option Outgoing
+  pub answer : Answer
+
+-- A step of the end beside an inbox, which stays: the frame says what the inbox has to say.
+abbrev pub beside : {C Answer : Type 0} → InboxState → EndStep C Answer → BufferedCall C Answer
+beside held step =
+    record {
+      after = record { end = step.after; inbox = held };
+      frame = buffered_frame step.after.state.config.pseudo_out held step.frame;
+      answer = step.answer;
+    }

@@ -1,19 +1,20 @@
 -- An end with an inbox, call by call (own).
 use Rattle.std.specs.Prelude.{ℕ, Bool, true, false, List, [], ◌∷◌, Option, Some, None, slice_range}
 use Rattle.congestion_trait.specs.Control.{Control}
-use Rattle.dccp_endpoint.specs.Calling.{opens}
+use Rattle.dccp_endpoint.specs.End.{last_taken}
+use Rattle.dccp_endpoint.specs.Inputs.{Input, end_stepped}
 use Rattle.dccp_endpoint.specs.Controlled.{End, EndStep, begins, with_control}
 use Rattle.dccp_endpoint.specs.Receiving.{receives}
 use Rattle.dccp_endpoint.specs.declared.config.Config.{Config}
 use Rattle.dccp_states.specs.declared.outcome.Outcome.{Outcome}
 use Rattle.dccp_states.specs.declared.outcome.Outcome.TheVariants.{Took, Dropped, Synced, WasReset, SentReset}
-use Rattle.data_dropped.specs.Buffering.{Buffered, arriving_number}
+use Rattle.data_dropped.specs.Buffering.{Buffered}
 use Rattle.data_dropped.specs.History.{History, InboxCall, DataArrive, LongDataArrive, Takes, Stops, history_after, history_after_all, no_history}
 use Rattle.data_dropped.specs.Inbox.{fits_item}
 
--- a call of an end with an inbox that changes it
+-- a call of an end with an inbox that changes it: of the end alone, or of both
 pub data EndCall : Type 0 where
-  EndOpens : EndCall
+  EndCalls : (given : Input) → EndCall
   EndReceives : (bytes : List ℕ) → EndCall
   EndTakes EndStops : EndCall
 
@@ -50,14 +51,15 @@ calls_by n bytes (WasReset code) = []
 calls_by n bytes (SentReset code detail) = []
 
 -- an end's step, and the calls that it makes of the inbox
-abbrev pub past_step : {C : Type 0} → History → ℕ → List ℕ → EndStep C Outcome → BufferedPast C
-past_step past n bytes step = record { end = step.after; past = history_after_all past (calls_by n bytes step.answer) }
+abbrev pub past_step : {C : Type 0} → History → List ℕ → EndStep C Outcome → BufferedPast C
+past_step past bytes step =
+    record { end = step.after; past = history_after_all past (calls_by (last_taken step.after.state) bytes step.answer) }
 
 -- one call more: the end's step is that of any end
 abbrev pub past_after : {C : Type 0} → Control C → BufferedPast C → EndCall → BufferedPast C
-past_after control p EndOpens = record p { end = (with_control control p.end.congestion (opens p.end.state)).after }
+past_after control p (EndCalls given) = record p { end = (with_control control p.end.congestion (end_stepped p.end.state given)).after }
 past_after control p (EndReceives bytes) =
-    past_step p.past (arriving_number p.end.state.marks.gsr bytes) bytes (with_control control p.end.congestion (receives p.end.state bytes))
+    past_step p.past bytes (with_control control p.end.congestion (receives p.end.state bytes))
 past_after control p EndTakes = record p { past = history_after p.past Takes }
 past_after control p EndStops = record p { past = history_after p.past Stops }
 
@@ -68,7 +70,7 @@ past_all control p (call ∷ calls) = past_all control (past_after control p cal
 
 -- the application stopped listening by this call
 abbrev pub is_end_stop : EndCall → Bool
-is_end_stop EndOpens = false
+is_end_stop (EndCalls given) = false
 is_end_stop (EndReceives bytes) = false
 is_end_stop EndTakes = false
 is_end_stop EndStops = true

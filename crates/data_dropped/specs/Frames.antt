@@ -3,13 +3,13 @@
 use Rattle.std.specs.Prelude.{ℕ, ◌+◌, ◌==◌, ◌&&◌, not, nat_le, Bool, true, false, List, [], ◌∷◌, ◌++◌, length, Option, Some, None, Result, Ok, Err, if◌then◌else◌}
 use Rattle.dccp_options.specs.Kinds.{data_dropped, slow_receiver}
 use Rattle.dccp_options.specs.Written.{spelled}
-use Rattle.dccp_packets.specs.Forms.{near}
-use Rattle.dccp_packets.specs.Grammar.{Parts, decoded, header_length, padded, spelling}
+use Rattle.dccp_packets.specs.Grammar.{Parts, decoded, header_length, packet_type, padded, spelling}
+use Rattle.dccp_packets.specs.Outgoing.{Outgoing}
 use Rattle.dccp_packets.specs.declared.header.Kind.{Kind}
-use Rattle.dccp_packets.specs.declared.header.Kind.TheVariants as kind
 use Rattle.dccp_packets.specs.declared.reading.Malformed.{Malformed}
 use Rattle.dccp_sum.specs.Checksum.{sealed}
 use Rattle.dccp_sum.specs.declared.pseudo_header.Pseudo.{Pseudo}
+use Rattle.dccp_endpoint.specs.Reporting.{is_acking}
 use Rattle.data_dropped.specs.Drops.{drop_bytes}
 use Rattle.data_dropped.specs.Inbox.{InboxState, is_slow}
 
@@ -26,11 +26,9 @@ slow_said true = slow_receiver ∷ []
 abbrev pub said : InboxState → ℕ → List ℕ
 said held ack = drops_said (drop_bytes held.drops ack) ++ slow_said (is_slow held)
 
--- the acknowledgement number of an Ack or a DataAck in full, which is near GSR (section 7.6)
-abbrev pub acknowledged_by : ℕ → Kind → Option ℕ
-acknowledged_by gsr (kind.Ack ack) = Some (near gsr ack)
-acknowledged_by gsr (kind.DataAck ack) = Some (near gsr ack)
-acknowledged_by gsr _ = None
+-- the acknowledgement number that is told of a frame, of an Ack or a DataAck
+abbrev pub acknowledged_by : Option ℕ → Kind → Option ℕ
+acknowledged_by told kind = if is_acking (packet_type kind) then told else None
 
 -- The packet has room for these options behind its own: a Data Offset counts 1,020 bytes at most (section 5.1), and a
 -- frame has room for 1,024 bytes of data (own).
@@ -56,15 +54,19 @@ buffered_ack pseudo held p frame None = frame
 buffered_ack pseudo held p frame (Some ack) = lengthened_if (says_more p (said held ack)) pseudo p frame (said held ack)
 
 -- the same, by the packet that it is
-abbrev pub buffered_packet : Pseudo → ℕ → InboxState → List ℕ → Result Parts Malformed → List ℕ
-buffered_packet pseudo gsr held frame (Ok p) = buffered_ack pseudo held p frame (acknowledged_by gsr p.header.kind)
-buffered_packet pseudo gsr held frame (Err fault) = frame
+abbrev pub buffered_packet : Pseudo → Option ℕ → InboxState → List ℕ → Result Parts Malformed → List ℕ
+buffered_packet pseudo told held frame (Ok p) = buffered_ack pseudo held p frame (acknowledged_by told p.header.kind)
+buffered_packet pseudo told held frame (Err fault) = frame
 
--- A frame of an end as it goes out.
-abbrev pub buffered : Pseudo → ℕ → InboxState → List ℕ → List ℕ
-buffered pseudo gsr held frame = buffered_packet pseudo gsr held frame (decoded frame)
+-- A frame of an end, of which this acknowledgement number is told, as it goes out.
+abbrev pub buffered : Pseudo → Option ℕ → InboxState → List ℕ → List ℕ
+buffered pseudo told held frame = buffered_packet pseudo told held frame (decoded frame)
+
+-- the same with the numbers that are told of it, which stay
+abbrev pub buffered_sent : Pseudo → InboxState → Outgoing → Outgoing
+buffered_sent pseudo held sent = record sent { bytes = buffered pseudo sent.ack held sent.bytes }
 
 -- the frame that goes out, if one does
-abbrev pub buffered_frame : Pseudo → ℕ → InboxState → Option (List ℕ) → Option (List ℕ)
-buffered_frame pseudo gsr held None = None
-buffered_frame pseudo gsr held (Some frame) = Some (buffered pseudo gsr held frame)
+abbrev pub buffered_frame : Pseudo → InboxState → Option Outgoing → Option Outgoing
+buffered_frame pseudo held None = None
+buffered_frame pseudo held (Some sent) = Some (buffered_sent pseudo held sent)

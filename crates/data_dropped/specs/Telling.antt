@@ -5,9 +5,9 @@ use Rattle.dccp_options.specs.Grammar.{options_of}
 use Rattle.dccp_options.specs.Vectors.{Report, joined_report}
 use Rattle.dccp_packets.specs.Grammar.{Parts, decoded, packet_type}
 use Rattle.dccp_packets.specs.Kinds.{is_data}
+use Rattle.dccp_packets.specs.Outgoing.{Outgoing}
 use Rattle.dccp_sum.specs.Checksum.{checked}
 use Rattle.dccp_sum.specs.declared.pseudo_header.Pseudo.{Pseudo}
-use Rattle.data_dropped.specs.Buffering.{BufferedStep}
 use Rattle.data_dropped.specs.Drops.{code_at, drop_bytes, drop_code, tells_all}
 use Rattle.data_dropped.specs.Frames.{acknowledged_by, said, says_more}
 use Rattle.data_dropped.specs.Inbox.{InboxState}
@@ -32,22 +32,24 @@ abbrev pub told_by_ack : InboxState → Parts → Option ℕ → List (List ℕ)
 told_by_ack held p None = []
 told_by_ack held p (Some ack) = told_if (says_more p (said held ack)) (drop_bytes held.drops ack)
 
--- A frame of the end went out as this one: it is a packet that acknowledges what that did, its checksum fits, and its
--- Data Dropped options are what is to be told.
-pub record TellsItsDrops (pseudo : Pseudo) (gsr : ℕ) (held : InboxState) (own frame : List ℕ) : Type 0 where
+-- A frame of the end went out as this one: the same numbers are told of it, it is a packet with the same number and
+-- the same type and fields, its checksum fits, and its Data Dropped options are what is to be told.
+pub record TellsItsDrops (pseudo : Pseudo) (held : InboxState) (own frame : Outgoing) : Type 0 where
   pub before : Parts
   pub packet : Parts
-  pub was_packet : decoded own ≡ Ok before
-  pub is_packet : decoded frame ≡ Ok packet
-  pub is_accepted : checked pseudo frame ≡ Ok tt
-  pub same_ack : acknowledged_by gsr packet.header.kind ≡ acknowledged_by gsr before.header.kind
-  pub tells : drops_in_packet packet ≡ told_by_ack held before (acknowledged_by gsr before.header.kind)
+  pub was_packet : decoded own.bytes ≡ Ok before
+  pub is_packet : decoded frame.bytes ≡ Ok packet
+  pub is_accepted : checked pseudo frame.bytes ≡ Ok tt
+  pub same_told : frame ≡ record own { bytes = frame.bytes }
+  pub same_number : packet.header.number ≡ before.header.number
+  pub same_kind : packet.header.kind ≡ before.header.kind
+  pub tells : drops_in_packet packet ≡ told_by_ack held before (acknowledged_by own.ack before.header.kind)
 
 -- the frame of a step went out, as one that tells its drops
-pub record FrameTells (C : Type 0) (step : BufferedStep C) (own : List ℕ) : Type 0 where
-  pub frame : List ℕ
-  pub goes_out : step.frame ≡ Some frame
-  pub tells : TellsItsDrops step.after.end.state.config.pseudo_out step.after.end.state.marks.gsr step.after.inbox own frame
+pub record FrameTells (pseudo : Pseudo) (held : InboxState) (own : Outgoing) (sent : Option Outgoing) : Type 0 where
+  pub frame : Outgoing
+  pub goes_out : sent ≡ Some frame
+  pub tells : TellsItsDrops pseudo held own frame
 
 -- what is read of the Data Dropped options of a packet that acknowledges this number
 abbrev pub report_in_packet : ℕ → Parts → Option Report

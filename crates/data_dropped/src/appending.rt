@@ -14,7 +14,7 @@ use crate::item::MOST_DATA;
 use arrayvec::ArrayVec;
 use dccp_endpoint::seal_frame;
 use dccp_options::kinds::{DATA_DROPPED, SLOW_RECEIVER};
-use dccp_packets::{Frame, Kind, Outbox, Packet, decode, encode};
+use dccp_packets::{Frame, Kind, Numbers, Outbox, Packet, decode, encode};
 use dccp_sum::Pseudo;
 use seq_circle::Seq48;
 
@@ -24,13 +24,20 @@ type Said = ArrayVec<u8, 256>;
 // An option area with what is said behind it.
 type Area = ArrayVec<u8, 1264>;
 
-// The acknowledgement number of an Ack or a DataAck in full.
-fn acknowledged_by(kind: &Kind, gsr: Seq48) -> Option<Seq48>
-    ensures { result ≡ acknowledged_by gsr kind.now }
+// The acknowledgement number that is told of a frame, of an Ack or a DataAck.
+fn acknowledged_by(kind: &Kind, told: Option<Seq48>) -> Option<Seq48>
+    ensures { result ≡ acknowledged_by told kind.now }
 {
     match kind {
-        Kind::Ack { ack } | Kind::DataAck { ack } => Some(ack.near(gsr)),
-        _ => None,
+        Kind::Ack { .. } | Kind::DataAck { .. } => told,
+        Kind::Request { .. }
+        | Kind::Response { .. }
+        | Kind::Data
+        | Kind::CloseReq { .. }
+        | Kind::Close { .. }
+        | Kind::Reset { .. }
+        | Kind::Sync { .. }
+        | Kind::SyncAck { .. } => None,
     }
 }
 
@@ -87,19 +94,19 @@ fn lengthen(packet: &Packet<'_>, more: &[u8], pseudo: &Pseudo, longer: &mut Fram
 // Writes a frame with what is to be said behind its options, where anything is and it has room; tells whether it did.
 fn write_buffered(
     frame: &[u8],
+    told: Option<Seq48>,
     inbox: &Inbox,
-    gsr: Seq48,
     pseudo: &Pseudo,
     longer: &mut Frame,
 ) -> bool
-    ensures longer { OnTrue result (longer.new ≡ buffered pseudo.now gsr inbox.now frame.now) }
-    ensures same { OnFalse result (buffered pseudo.now gsr inbox.now frame.now ≡ frame.now) }
+    ensures longer { OnTrue result (longer.new ≡ buffered pseudo.now told inbox.now frame.now) }
+    ensures same { OnFalse result (buffered pseudo.now told inbox.now frame.now ≡ frame.now) }
 {
     let packet = match decode(frame) {
         Ok(packet) => packet,
         Err(_) => return false,
     };
-    let Some(ack) = acknowledged_by(&packet.header.kind, gsr) else {
+    let Some(ack) = acknowledged_by(&packet.header.kind, told) else {
         return false;
     };
     let mut more = Said::new();
@@ -107,15 +114,29 @@ fn write_buffered(
     lengthen(&packet, more.as_slice(), pseudo, longer)
 }
 
-/// The frame in the box as it goes out: an Ack or a DataAck says behind its options what the inbox has to say.
-pub(crate) fn buffer(out: &mut Outbox, inbox: &Inbox, gsr: Seq48, pseudo: &Pseudo)
-    ensures { out.new ≡ buffered_frame pseudo.now gsr inbox.now out.old }
+// The same of the frame in the box, in whose place the longer one comes. It stands apart, for the room that it takes for
+// a second frame is large, and mostly nothing is to be said.
+#[inline(never)]
+fn lengthen_sent(out: &mut Outbox, inbox: &Inbox, pseudo: &Pseudo)
+    ensures { out.new ≡ buffered_frame pseudo.now inbox.now out.old }
 {
-    let Some(frame) = out.frame() else {
+    let Some(sent) = out.sent() else {
         return;
     };
+    let (number, ack) = (sent.number, sent.ack);
     let mut longer = Frame::new();
-    if write_buffered(frame.bytes(), inbox, gsr, pseudo, &mut longer) {
-        out.put(longer);
+    if write_buffered(sent.bytes, ack, inbox, pseudo, &mut longer) {
+        out.put(longer, Numbers { number, ack });
     }
+}
+
+/// The frame in the box as it goes out: an Ack or a DataAck says behind its options what the inbox has to say.
+#[tactic(auto, using(crate::proofs::Silent::silent_same))]
+pub(crate) fn buffer(out: &mut Outbox, inbox: &Inbox, pseudo: &Pseudo)
+    ensures { out.new ≡ buffered_frame pseudo.now inbox.now out.old }
+{
+    if inbox.is_silent() {
+        return;
+    }
+    lengthen_sent(out, inbox, pseudo);
 }

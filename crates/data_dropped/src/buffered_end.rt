@@ -1,26 +1,18 @@
 //! An end with a bounded inbox.
 ghost use Rattle.std.specs.Prelude.{◌≡◌, Some};
-ghost use Rattle.data_dropped.specs.Buffering.{HasDataWithin, arriving_number, delivery_by, delivered_data};
+ghost use Rattle.data_dropped.specs.Buffering.{HasDataWithin, delivery_by, delivered_data};
 
 use crate::answers::{Arrival, Got};
 use crate::appending::buffer;
 use crate::inbox::Inbox;
 use crate::item::MOST_DATA;
 use congestion_trait::Congestion;
-use dccp_endpoint::{Config, Endpoint, NoMemory, OpenFault, Outbox, Outcome, Role, Seq48};
-use dccp_packets::decode;
+use dccp_endpoint::{
+    AbortFault, CloseFault, Config, Endpoint, Feature, NoMemory, OpenFault, Outbox, Outcome, Phase,
+    Place, PreferFault, Role, SendFault, Seq48, Timer,
+};
 use std::alloc::Global;
 use std::marker::Model;
-
-// The number of the packet that these bytes are, in full.
-fn arriving_number(bytes: &[u8], gsr: Seq48) -> Seq48
-    ensures { result ≡ arriving_number gsr bytes.now }
-{
-    match decode(bytes) {
-        Ok(packet) => packet.header.number.near(gsr),
-        Err(_) => gsr,
-    }
-}
 
 // Data were delivered.
 fn deliver(inbox: &mut Inbox, number: Seq48, payload: &[u8]) -> Arrival
@@ -52,7 +44,7 @@ fn settle(inbox: &mut Inbox, number: Seq48, bytes: &[u8], outcome: &Outcome) -> 
 /// and as far as they have room (RFC 4340, sections 11.6 and 11.7; that, and when, is own). Nothing else is changed of
 /// the end, and each packet is acknowledged whether its data were kept or dropped.
 ///
-/// It has the calls of an end that receives; `end` shows the rest. Only `new` takes memory. The `Outbox` is the end's.
+/// It has every call of an end, and `end` shows what an end shows. Only `new` takes memory. The `Outbox` is the end's.
 #[derive(Drop)]
 pub struct BufferedEnd<C> {
     end: Endpoint<C>,
@@ -91,21 +83,141 @@ impl<C: Congestion + Drop> BufferedEnd<C> {
 }
 
 impl<C: Congestion> BufferedEnd<C> {
-    ghost use Rattle.std.specs.Prelude.{◌≡◌, ◌≤◌, ◌↔◌, ◌⊎◌, [], Err, IsNone, None, OnErr, length, true};
-    ghost use Rattle.dccp_endpoint.specs.Calling.{opens};
-    ghost use Rattle.dccp_endpoint.specs.Controlled.{with_control};
-    ghost use Rattle.data_dropped.specs.Buffering.{HasDataWithin, buffers};
+    ghost use Rattle.std.specs.Prelude.{◌≡◌, ◌≢◌, ◌<◌, ◌≤◌, ◌↔◌, ◌⊎◌, [], Err, IsNone, None, OnErr, false, length, true};
+    ghost use Rattle.congestion_trait.specs.Control.{may_send};
+    ghost use Rattle.feature_lists.specs.Wishes.{wish_of};
+    ghost use Rattle.feature_lists.specs.declared.features.Feature.TheVariants as feature;
+    ghost use Rattle.feature_lists.specs.declared.features.Place.TheVariants as place;
+    ghost use Rattle.feature_lists.specs.declared.wishes.PreferFault.TheVariants as prefer;
+    ghost use Rattle.dccp_endpoint.specs.Calling.{aborts, applies, closes, fires, opens, prefers, sends_payload};
+    ghost use Rattle.dccp_endpoint.specs.Controlled.{has_in_flight, in_flight_of, window_of, with_control};
+    ghost use Rattle.dccp_endpoint.specs.Early.{sends_early, sends_soon};
+    ghost use Rattle.dccp_endpoint.specs.End.{is_connected, value_in};
+    ghost use Rattle.data_dropped.specs.Buffering.{HasDataWithin, beside, buffers};
+    ghost use Rattle.data_dropped.specs.Frames.{buffered_frame};
     ghost use Rattle.data_dropped.specs.Inbox.{first_over, first_taken, stopping, taking};
 
-    /// The client sends its Request, as by `Endpoint::open`; the inbox stays.
+    /// The client sends its Request, as by `Endpoint::open`; the inbox stays, as by each call of the end but `receive`.
     pub fn open(&mut self, out: &mut Outbox) -> Result<(), OpenFault>
-        ensures step { record { after = self.new.end; frame = out.new; answer = result } ≡ with_control C.control self.old.end.congestion (opens self.old.end.state) }
-        ensures inbox { self.new.inbox ≡ self.old.inbox }
+        ensures step { record { after = self.new; frame = out.new; answer = result } ≡ beside self.old.inbox (with_control C.control self.old.end.congestion (opens self.old.end.state)) }
         ensures not_fresh { (result ≡ Err OpenFault.NotFresh) ↔ ((self.old.end.state.config.role ≡ Role.Server) ⊎ (self.old.end.state.opened ≡ true)) }
         ensures refused { OnErr result (self.new ≡ self.old) }
         ensures sends_nothing { OnErr result (out.new ≡ None) }
     {
-        self.end.open(out)
+        let answer = self.end.open(out);
+        self.speak(out);
+        answer
+    }
+
+    /// Sends data, as by `Endpoint::send`; a DataAck tells beside them of the drops.
+    pub fn send(&mut self, payload: &[u8], out: &mut Outbox) -> Result<(), SendFault>
+        ensures step { record { after = self.new; frame = out.new; answer = result } ≡ beside self.old.inbox (with_control C.control self.old.end.congestion (sends_payload self.old.end.state payload.now (may_send C.control self.old.end.congestion))) }
+        ensures not_open { (result ≡ Err SendFault.NotOpen) ↔ (self.old.end.state.phase ≢ Phase.Open) }
+        ensures too_long { (result ≡ Err SendFault.TooLong) ↔ ((self.old.end.state.phase ≡ Phase.Open) × (1024 < length payload.now)) }
+        ensures not_negotiated { (result ≡ Err SendFault.NotNegotiated) ↔ ((self.old.end.state.phase ≡ Phase.Open) × (length payload.now ≤ 1024)
+            × (value_in self.old.end.state.rows feature.Ccid place.Here ≡ 2) × (value_in self.old.end.state.rows feature.SendAckVector place.There ≢ 1)) }
+        ensures window_full { (result ≡ Err SendFault.WindowFull) ↔ ((self.old.end.state.phase ≡ Phase.Open) × (length payload.now ≤ 1024)
+            × ((value_in self.old.end.state.rows feature.Ccid place.Here ≢ 2) ⊎ (value_in self.old.end.state.rows feature.SendAckVector place.There ≡ 1))
+            × (window_of C.control self.old.end.congestion ≤ in_flight_of C.control self.old.end.congestion)) }
+        ensures refused { OnErr result (self.new ≡ self.old) }
+        ensures sends_nothing { OnErr result (out.new ≡ None) }
+    {
+        let answer = self.end.send(payload, out);
+        self.speak(out);
+        answer
+    }
+
+    /// Sends data of a client that speaks first, as by `Endpoint::send_early`.
+    pub fn send_early(&mut self, payload: &[u8], out: &mut Outbox) -> Result<(), SendFault>
+        ensures step { record { after = self.new; frame = out.new; answer = result } ≡ beside self.old.inbox (with_control C.control self.old.end.congestion (sends_early self.old.end.state payload.now (may_send C.control self.old.end.congestion))) }
+        ensures not_open { (result ≡ Err SendFault.NotOpen) ↔ (self.old.end.state.phase ≢ Phase.PartOpen) }
+        ensures too_long { (result ≡ Err SendFault.TooLong) ↔ ((self.old.end.state.phase ≡ Phase.PartOpen) × (1024 < length payload.now)) }
+        ensures not_negotiated { (result ≡ Err SendFault.NotNegotiated) ↔ ((self.old.end.state.phase ≡ Phase.PartOpen) × (length payload.now ≤ 1024)
+            × (value_in self.old.end.state.rows feature.Ccid place.Here ≡ 2) × (value_in self.old.end.state.rows feature.SendAckVector place.There ≢ 1)) }
+        ensures window_full { (result ≡ Err SendFault.WindowFull) ↔ ((self.old.end.state.phase ≡ Phase.PartOpen) × (length payload.now ≤ 1024)
+            × ((value_in self.old.end.state.rows feature.Ccid place.Here ≢ 2) ⊎ (value_in self.old.end.state.rows feature.SendAckVector place.There ≡ 1))
+            × (window_of C.control self.old.end.congestion ≤ in_flight_of C.control self.old.end.congestion)) }
+        ensures stays { self.new.end.state.phase ≡ self.old.end.state.phase }
+        ensures refused { OnErr result (self.new ≡ self.old) }
+        ensures sends_nothing { OnErr result (out.new ≡ None) }
+    {
+        let answer = self.end.send_early(payload, out);
+        self.speak(out);
+        answer
+    }
+
+    /// Sends data as soon as the phase lets them go, as by `Endpoint::send_soon`.
+    pub fn send_soon(&mut self, payload: &[u8], out: &mut Outbox) -> Result<(), SendFault>
+        ensures step { record { after = self.new; frame = out.new; answer = result } ≡ beside self.old.inbox (with_control C.control self.old.end.congestion (sends_soon self.old.end.state payload.now (may_send C.control self.old.end.congestion))) }
+        ensures refused { OnErr result (self.new ≡ self.old) }
+        ensures sends_nothing { OnErr result (out.new ≡ None) }
+    {
+        let answer = self.end.send_soon(payload, out);
+        self.speak(out);
+        answer
+    }
+
+    /// Ends the connection in order, as by `Endpoint::close`.
+    pub fn close(&mut self, out: &mut Outbox) -> Result<(), CloseFault>
+        ensures step { record { after = self.new; frame = out.new; answer = result } ≡ beside self.old.inbox (with_control C.control self.old.end.congestion (closes self.old.end.state)) }
+        ensures not_open { (result ≡ Err CloseFault.NotOpen) ↔ ((self.old.end.state.phase ≢ Phase.PartOpen) × (self.old.end.state.phase ≢ Phase.Open)) }
+        ensures refused { OnErr result (self.new ≡ self.old) }
+        ensures sends_nothing { OnErr result (out.new ≡ None) }
+    {
+        let answer = self.end.close(out);
+        self.speak(out);
+        answer
+    }
+
+    /// Ends the connection at once, as by `Endpoint::abort`.
+    pub fn abort(&mut self, out: &mut Outbox) -> Result<(), AbortFault>
+        ensures step { record { after = self.new; frame = out.new; answer = result } ≡ beside self.old.inbox (with_control C.control self.old.end.congestion (aborts self.old.end.state)) }
+        ensures not_live { (result ≡ Err AbortFault.NotLive) ↔ ((self.old.end.state.phase ≡ Phase.Closed) ⊎ (self.old.end.state.phase ≡ Phase.Listen) ⊎ (self.old.end.state.phase ≡ Phase.TimeWait)) }
+        ensures refused { OnErr result (self.new ≡ self.old) }
+        ensures sends_nothing { OnErr result (out.new ≡ None) }
+    {
+        let answer = self.end.abort(out);
+        self.speak(out);
+        answer
+    }
+
+    /// The end wants these values for a feature, as by `Endpoint::prefer`; an Ack tells of the drops beside its Change.
+    pub fn prefer(
+        &mut self,
+        feature: Feature,
+        place: Place,
+        values: &[u64],
+        out: &mut Outbox,
+    ) -> Result<(), PreferFault>
+        ensures step { record { after = self.new; frame = out.new; answer = result } ≡ beside self.old.inbox (with_control C.control self.old.end.congestion (prefers self.old.end.state (feature, place) values.now)) }
+        ensures not_open { (result ≡ Err PreferFault.NotOpen) ↔ ((self.old.end.state.phase ≢ Phase.PartOpen) × (self.old.end.state.phase ≢ Phase.Open)) }
+        ensures bad_list { (result ≡ Err PreferFault.BadList) ↔ ((is_connected self.old.end.state.phase ≡ true) × (wish_of feature place values.now ≡ Err prefer.BadList)) }
+        ensures not_ours { (result ≡ Err PreferFault.NotOurs) ↔ ((is_connected self.old.end.state.phase ≡ true) × (wish_of feature place values.now ≡ Err prefer.NotOurs)) }
+        ensures refused { OnErr result (self.new ≡ self.old) }
+        ensures sends_nothing { OnErr result (out.new ≡ None) }
+    {
+        let answer = self.end.prefer(feature, place, values, out);
+        self.speak(out);
+        answer
+    }
+
+    /// A timer has run out, as by `Endpoint::timer`; an Ack tells of the drops.
+    pub fn timer(&mut self, timer: Timer, out: &mut Outbox) -> bool
+        ensures step { record { after = self.new; frame = out.new; answer = result } ≡ beside self.old.inbox (with_control C.control self.old.end.congestion (fires self.old.end.state timer (has_in_flight C.control self.old.end.congestion))) }
+        ensures applies { result ≡ applies timer self.old.end.state (has_in_flight C.control self.old.end.congestion) }
+        ensures idle { result ≡ false → self.new ≡ self.old }
+        ensures sends_nothing { result ≡ false → out.new ≡ None }
+    {
+        let answer = self.end.timer(timer, out);
+        self.speak(out);
+        answer
+    }
+
+    // The frame in the box says what the inbox has to say.
+    fn speak(&self, out: &mut Outbox)
+        ensures { out.new ≡ buffered_frame self.now.end.state.config.pseudo_out self.now.inbox out.old }
+    {
+        buffer(out, &self.inbox, &self.end.pseudo_out());
     }
 
     /// Takes bytes that arrived, at most 2,044, as `Endpoint::receive` does. Data that are delivered come into the
@@ -117,11 +229,10 @@ impl<C: Congestion> BufferedEnd<C> {
         ensures step { record { after = self.new; frame = out.new; outcome = result.outcome; arrival = result.arrival } ≡ buffers C.control self.old bytes.now }
         ensures within { HasDataWithin bytes.now result.outcome }
     {
-        let number = arriving_number(bytes, self.end.marks().gsr);
         let outcome = self.end.receive(bytes, out);
+        let number = self.end.last_taken();
         let arrival = settle(&mut self.inbox, number, bytes, &outcome);
-        let gsr = self.end.marks().gsr;
-        buffer(out, &self.inbox, gsr, &self.end.pseudo_out());
+        self.speak(out);
         Got { outcome, arrival }
     }
 

@@ -98,6 +98,14 @@ impl Inbox {
         Arrival::Dropped(code)
     }
 
+    // It has nothing to say: no drop counts, and it is not slow.
+    pub(crate) fn is_silent(&self) -> bool
+        ensures no_drop { result ≡ true → self.now.drops ≡ [] }
+        ensures not_slow { result ≡ true → is_slow self.now ≡ false }
+    {
+        self.drops.is_empty() && !self.slow()
+    }
+
     /// Data of at most 1,024 bytes have arrived under this packet's number. `Dropped(1)` exactly after `stop`; then
     /// `Dropped(2)` exactly where `capacity` items are held; otherwise they are kept, behind the others.
     pub fn arrived(&mut self, number: Seq48, payload: &[u8]) -> Arrival

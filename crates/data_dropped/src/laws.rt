@@ -7,7 +7,10 @@ ghost use Rattle.dccp_sum.specs.declared.pseudo_header.Pseudo.{Pseudo};
 ghost use Rattle.dccp_endpoint.specs.End.{IsProper};
 ghost use Rattle.dccp_endpoint.specs.Receiving.{receives};
 ghost use Rattle.dccp_endpoint.specs.declared.config.Config.{Config};
-ghost use Rattle.data_dropped.specs.Buffering.{Buffered, buffers};
+ghost use Rattle.dccp_endpoint.specs.Controlled.{with_control};
+ghost use Rattle.dccp_endpoint.specs.Inputs.{Input, end_stepped};
+ghost use Rattle.dccp_packets.specs.Outgoing.{Outgoing};
+ghost use Rattle.data_dropped.specs.Buffering.{Buffered, beside, buffers};
 ghost use Rattle.data_dropped.specs.Drops.{HaveCodes, code_at, drop_bytes, drop_code, numbers_reached, tells_all};
 ghost use Rattle.data_dropped.specs.EndHistory.{BufferedPast, EndCall, EndReceives, buffered_now, is_end_stop, no_past, past_after, past_all};
 ghost use Rattle.data_dropped.specs.Frames.{acknowledged_by};
@@ -61,21 +64,26 @@ pub fn what_an_end_keeps_is_taken<C: Congestion>()
         → HaveCodes (past_all C.control (no_past C.control config congestion capacity) calls).past.held.drops }
 {}
 
-/// Each frame of a step of an end with an inbox tells its drops: it is a packet, its checksum fits, and beside the
-/// end's own options its Data Dropped options are just the report at the number that it acknowledges, as the inbox is
-/// after the step, where that has a byte and the packet has room for it; no other frame has one (own; RFC 4340, section
-/// 11.7). Where the end sends nothing, nothing goes out.
+/// Each frame of an end with an inbox tells its drops: it is a packet, its checksum fits, the numbers that are told of
+/// it are the end's, and beside the end's own options its Data Dropped options are just the report at the number that
+/// it acknowledges, as the inbox is after the step, where that has a byte and the packet has room for it; no other
+/// frame has one (own; RFC 4340, section 11.7). That holds of every input of the end beside any inbox (`calls`), and of
+/// bytes that arrive, whose data come into the inbox (`tells`). Where the end sends nothing, nothing goes out.
 pub fn every_frame_tells_its_drops<C: Congestion>()
-    ensures tells { (b : Buffered C) (bytes own : List ℕ) → IsProper b.end.state
+    ensures calls { (b : Buffered C) (given : Input) (own : Outgoing) → IsProper b.end.state
+        → (end_stepped b.end.state given).frame ≡ Some own
+        → FrameTells (end_stepped b.end.state given).after.config.pseudo_out b.inbox own
+        (beside b.inbox (with_control C.control b.end.congestion (end_stepped b.end.state given))).frame }
+    ensures tells { (b : Buffered C) (bytes : List ℕ) (own : Outgoing) → IsProper b.end.state
         → (receives b.end.state bytes).frame ≡ Some own
-        → FrameTells C (buffers C.control b bytes) own }
+        → FrameTells (buffers C.control b bytes).after.end.state.config.pseudo_out (buffers C.control b bytes).after.inbox own (buffers C.control b bytes).frame }
     ensures silent { (b : Buffered C) (bytes : List ℕ) → (receives b.end.state bytes).frame ≡ None
         → (buffers C.control b bytes).frame ≡ None }
 {}
 
 /// What is read of such a frame: a code only where it is the number's, and every code where nothing was cut off.
 pub fn a_frame_is_read_as_its_drops()
-    ensures { (pseudo : Pseudo) (gsr : ℕ) (held : InboxState) (own frame : List ℕ) (tells : TellsItsDrops pseudo gsr held own frame) (ack : ℕ) (r : Report)
-        → acknowledged_by gsr tells.packet.header.kind ≡ Some ack → report_in_packet ack tells.packet ≡ Some r → HaveCodes held.drops → ack < 2 ^ 48
+    ensures { (pseudo : Pseudo) (held : InboxState) (own frame : Outgoing) (tells : TellsItsDrops pseudo held own frame) (ack : ℕ) (r : Report)
+        → acknowledged_by frame.ack tells.packet.header.kind ≡ Some ack → report_in_packet ack tells.packet ≡ Some r → HaveCodes held.drops → ack < 2 ^ 48
         → IsReadAsDrops held ack r }
 {}

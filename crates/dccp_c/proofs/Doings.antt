@@ -1,6 +1,7 @@
 -- What the listener's own clauses say of a call, as it is computed.
 use Rattle.std.proofs.Common.{◌≡◌, ap, ◌∙◌, ℕ, List, Option, Result, Ok, Err}
 use Rattle.std.specs.Prelude.{IfOk}
+use Rattle.dccp_packets.specs.Outgoing.{Outgoing}
 use Rattle.dccp_listener.specs.Chain.{Arrives}
 use Rattle.dccp_listener.specs.Listens.{Listened, listens}
 use Rattle.dccp_listener.specs.Peers.{Flows, Listening}
@@ -20,7 +21,7 @@ same-config before after turn HadNoMemory is = ap (λ (l : Listening). l.config)
 abbrev listening : ListenConfig → Flows → Listening
 listening config flows = record { config = config; flows = flows }
 
-pub done_as : (before after : Listening) (turn : CallTurn) (frame : Option (List ℕ)) (told : CallTold) → IsTurn before after turn
+pub done_as : (before after : Listening) (turn : CallTurn) (frame : Option Outgoing) (told : CallTold) → IsTurn before after turn
     → record { flows = after.flows; frame = frame; told = told } ≡ listens before turn.peer turn.deed → IsDone before after turn.peer turn.deed frame told
 done_as before after turn frame told turned is = (
   ap (λ (config : ListenConfig). listening config after.flows) (same-config before after turn turn.told turned)
@@ -29,7 +30,7 @@ done_as before after turn frame told turned is = (
   ap (λ (x : Listened). x.told) is,
 )
 
-pub heard_as : (before after : Listening) (peer : Peer) (iss : ℕ) (bytes : List ℕ) (frame : Option (List ℕ)) (result : Result Heard NoMemory)
+pub heard_as : (before after : Listening) (peer : Peer) (iss : ℕ) (bytes : List ℕ) (frame : Option Outgoing) (result : Result Heard NoMemory)
     → IsTurn before after (arrival peer iss bytes frame result)
     → IfOk result (λ heard. record { flows = after.flows; frame = frame; told = told_of (Ok heard) } ≡ listens before peer (Arrives iss bytes))
     → IfOk result (λ heard. IsDone before after peer (Arrives iss bytes) frame (told_of (Ok heard)))

@@ -9,6 +9,7 @@ use Rattle.std.specs.Map.{keys_of, lookup, values_of}
 use Rattle.std.specs.Option.{option_map}
 use Rattle.std.specs.Prelude.{unwrap_or}
 use Rattle.ccid_two.specs.Kinds.{kinds_control}
+use Rattle.dccp_packets.specs.Outgoing.{Outgoing}
 use Rattle.dccp_listener.proofs.Computing.{computed_runs}
 use Rattle.dccp_listener.proofs.OnePeer.{one_peer, peers_alike, peers_total}
 use Rattle.dccp_listener.specs.Chain.{Calls, ChainStep, Fires, chain_step, flow_step, is_given_up}
@@ -204,7 +205,7 @@ module _ (now : ℕ) where
   is-stepped WasBusy = false
   is-stepped HadNoMemory = false
 
-  end-then : (l after : Listening) (peer : Peer) (timer : Timer) (e : FlowEnd) (frame : Option (List ℕ)) (turned told : CallTold)
+  end-then : (l after : Listening) (peer : Peer) (timer : Timer) (e : FlowEnd) (frame : Option Outgoing) (turned told : CallTold)
       → end_of_peer l.flows peer ≡ Some e → is-stepped told ≡ true
       → IsTurnSo l after (record { peer = peer; deed = Calls (Fires timer); frame = frame; told = turned }) told
       → end_of_peer after.flows peer

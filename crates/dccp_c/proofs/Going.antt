@@ -1,5 +1,6 @@
 -- The timers of a peer go on from its place as the definitions say.
 use Rattle.std.proofs.Common.{◌≡◌, ap, ◌∙◌, ℕ, Bool, List, Option}
+use Rattle.dccp_packets.specs.Outgoing.{Outgoing}
 use Rattle.dccp_listener.specs.Chain.{Deed, Arrives, Calls, FlowCall}
 use Rattle.dccp_listener.specs.Listens.{listening_after}
 use Rattle.dccp_listener.specs.Peers.{FlowEnd, Listening, end_of_peer}
@@ -19,7 +20,7 @@ served-as now had before after timers placed then' peer deed alarms is-placed is
     (timers_then now timers peer (end_of_peer (listening_after before peer deed).flows peer) a)) is-alarms
 
 pub heard_served : (now : ℕ) (had : Bool) (before after : Listening) (timers placed then' : Timers) (peer : Peer) (iss : ℕ) (bytes : List ℕ)
-    (frame : Option (List ℕ)) (told : CallTold) (alarms : Alarms) → IsPlaced had timers placed peer → IsDone before after peer (Arrives iss bytes) frame told
+    (frame : Option Outgoing) (told : CallTold) (alarms : Alarms) → IsPlaced had timers placed peer → IsDone before after peer (Arrives iss bytes) frame told
     → then' ≡ timers_then now placed peer (end_of_peer after.flows peer) alarms
     → alarms ≡ timers_heard (timers_of timers peer) (end_of_peer before.flows peer) (end_of_peer after.flows peer) told
     → served after then' ≡ deed_served now (served before timers) peer (Arrives iss bytes)
@@ -30,7 +31,7 @@ heard_served now had before after timers placed then' peer iss bytes frame told 
     ∙ ap (timers_heard (timers_of timers peer) was (end_of_peer (listening_after before peer (Arrives iss bytes)).flows peer)) done.2)
 
 pub called_served : (now : ℕ) (had : Bool) (before after : Listening) (timers placed then' : Timers) (peer : Peer) (call : FlowCall)
-    (frame : Option (List ℕ)) (told : CallTold) (alarms : Alarms) → IsPlaced had timers placed peer → IsDone before after peer (Calls call) frame told
+    (frame : Option Outgoing) (told : CallTold) (alarms : Alarms) → IsPlaced had timers placed peer → IsDone before after peer (Calls call) frame told
     → then' ≡ timers_then now placed peer (end_of_peer after.flows peer) alarms → alarms ≡ timers_called now (timers_of timers peer) call
     → served after then' ≡ deed_served now (served before timers) peer (Calls call)
 called_served now had before after timers placed then' peer call frame told alarms is-placed done is-then is-alarms =

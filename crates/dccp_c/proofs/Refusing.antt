@@ -12,6 +12,8 @@ use Rattle.std.specs.Ordering.{match_ordering}
 use Rattle.std.specs.Prelude.{unwrap_or}
 use Rattle.ccid_two.specs.Kinds.{Both, kinds_control}
 use Rattle.congestion_trait.specs.Control.{may_send}
+use Rattle.dccp_packets.specs.Outgoing.{Outgoing}
+use Rattle.dccp_endpoint.specs.Strangers.{stays_in}
 use Rattle.dccp_endpoint.specs.Calling.{aborts, aborts_in, closes, closes_in, send_fault, sends_payload, sends_unless}
 use Rattle.dccp_endpoint.specs.Controlled.{with_control}
 use Rattle.dccp_endpoint.specs.End.{EndState}
@@ -25,7 +27,7 @@ use Rattle.dccp_states.specs.declared.calls.Timer.{Timer}
 use Rattle.dccp_states.specs.declared.calls.Timer.TheVariants as timers
 use Rattle.dccp_listener.proofs.Computing.{computed_runs}
 use Rattle.dccp_listener.proofs.OnePeer.{exact_peers, one_peer, peers_alike}
-use Rattle.dccp_listener.specs.Chain.{Aborts, Arrives, Calls, ChainStep, Closes, Deed, Fires, FlowCall, Sends, chain_step, flow_step, fresh_end, is_flow, is_given_up}
+use Rattle.dccp_listener.specs.Chain.{Aborts, Arrives, Calls, ChainStep, Closes, Deed, Fires, FlowCall, Sends, chain_step, flow_step, fresh_end, is_given_up}
 use Rattle.dccp_listener.specs.Listens.{AreInOrder, listens, listens_by, with_end}
 use Rattle.dccp_listener.specs.Peers.{FlowEnd, Flows, Listening, end_of_peer, is_peer, peer_cmp}
 use Rattle.dccp_listener.specs.Runs.{CallTold, HadNoMemory, IsTurnSo, Stepped, WasBusy}
@@ -217,7 +219,7 @@ live-until : (e : FlowEnd) (over : Bool) → is_given_up e.state.phase ≡ over 
 live-until e true is = tt
 live-until e false is = is
 
-flow-lives : (phase : Phase) → is_flow phase ≡ true → is_given_up phase ≡ false
+flow-lives : (phase : Phase) → stays_in phase ≡ true → is_given_up phase ≡ false
 flow-lives phases.Closed is = absurd (false≢true is)
 flow-lives phases.Listen is = refl
 flow-lives phases.Request is = refl
@@ -228,7 +230,7 @@ flow-lives phases.CloseReq is = refl
 flow-lives phases.Closing is = refl
 flow-lives phases.TimeWait is = refl
 
-live-if : (e : FlowEnd) (stays : Bool) → is_flow e.state.phase ≡ stays → IfSome (if stays then Some e else None) IsLive
+live-if : (e : FlowEnd) (stays : Bool) → stays_in e.state.phase ≡ stays → IfSome (if stays then Some e else None) IsLive
 live-if e true is = flow-lives e.state.phase is
 live-if e false is = tt
 
@@ -238,7 +240,7 @@ chain-lives config peer (Some e) deed =
     live-until next (is_given_up next.state.phase) refl
 chain-lives config peer None (Arrives iss bytes) =
     let next : FlowEnd = (flow_step (fresh_end config peer iss bytes) (Arrives iss bytes)).after in
-    live-if next (is_flow next.state.phase) refl
+    live-if next (stays_in next.state.phase) refl
 chain-lives config peer None (Calls call) = tt
 
 module _ (now : ℕ) (peer : Peer) (l : Listening) (timers : Timers) (alarms : Alarms) (ordered : IsStrictlySortedBy peer_cmp (keys_of timers)) where
@@ -285,7 +287,7 @@ module _ (now : ℕ) (peer : Peer) (l : Listening) (timers : Timers) (alarms : A
       (live-from (end_of_peer l.flows peer) (timers_of timers peer) (rests peer)))
       (λ other apart. ap (λ (x : Listening). end_of_peer x.flows other) same) q (is_peer peer q) refl
 
-  all-rest : AllRest l timers → (after : Listening) (deed : Deed) (frame : Option (List ℕ)) (turned told : CallTold)
+  all-rest : AllRest l timers → (after : Listening) (deed : Deed) (frame : Option Outgoing) (turned told : CallTold)
       → IsTurnSo l after (record { peer = peer; deed = deed; frame = frame; told = turned }) told → AllRest after (then' (end_of_peer after.flows peer))
   all-rest rests next deed frame turned (Stepped it) step q =
       by-peer rests next

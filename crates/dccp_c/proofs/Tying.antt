@@ -9,13 +9,15 @@ use Rattle.std.specs.List.Sorted.{IsStrictlySortedBy}
 use Rattle.std.specs.Map.{keys_of, lookup, remove_entry, set_value}
 use Rattle.std.specs.Ordering.{match_ordering}
 use Rattle.ccid_two.specs.Kinds.{Both, kinds_control}
+use Rattle.dccp_packets.specs.Outgoing.{Outgoing}
+use Rattle.dccp_endpoint.specs.Strangers.{stays_in}
 use Rattle.dccp_endpoint.specs.Controlled.{EndStep}
 use Rattle.dccp_endpoint.specs.Inputs.{Answer}
 use Rattle.dccp_listener.proofs.Computing.{computed_runs}
 use Rattle.dccp_listener.proofs.InOrder.{found_insert}
 use Rattle.dccp_listener.proofs.OnePeer.{peers_alike, peers_total}
 use Rattle.dccp_listener.specs.Calls.{Arrived}
-use Rattle.dccp_listener.specs.Chain.{Arrives, Calls, Deed, flow_step, fresh_end, is_flow, is_given_up}
+use Rattle.dccp_listener.specs.Chain.{Arrives, Calls, Deed, flow_step, fresh_end, is_given_up}
 use Rattle.dccp_listener.specs.Listens.{AreInOrder, fresh_met, is_table_full, listens_by}
 use Rattle.dccp_listener.specs.Peers.{FlowEnd, Flows, Listening, end_of_peer, is_peer, peer_cmp}
 use Rattle.dccp_listener.specs.declared.calls.Heard.{Heard}
@@ -151,7 +153,7 @@ module _ (now : ℕ) (peer : Peer) (timers : Timers) (alarms : Alarms) where
       stepped l.flows (flow_step e deed).after (is_given_up (flow_step e deed).after.state.phase) tied ordered (ap is_some is)
   tied-by l None (Arrives iss bytes) is tied ordered =
       met l iss bytes (flow_step (fresh_end l.config peer iss bytes) (Arrives iss bytes))
-      (is_flow (flow_step (fresh_end l.config peer iss bytes) (Arrives iss bytes)).after.state.phase) (is_table_full l) tied is
+      (stays_in (flow_step (fresh_end l.config peer iss bytes) (Arrives iss bytes)).after.state.phase) (is_table_full l) tied is
   tied-by l None (Calls call) is tied ordered = untouched l.flows tied is
 
 pub tied_after : (now : ℕ) (s : Served) (peer : Peer) (deed : Deed) → keys_of s.timers ≡ keys_of s.listening.flows → AreInOrder s.listening.flows
@@ -212,7 +214,7 @@ pub there_from_due : (now : ℕ) (timers : Timers) (due : Option (Peer × Timer)
 there_from_due now timers due is = subst (λ (x : Option (Peer × Timer)). IfSome x (λ it. IsSome (lookup (is_peer it.0) timers))) (sym is) (due-there now timers)
 
 -- memory for a datagram is wanting where it would open a flow
-pub stranger_from_arrived : (before after : Listening) (peer : Peer) (iss : ℕ) (bytes : List ℕ) (frame : Option (List ℕ)) (result : Result Heard NoMemory)
+pub stranger_from_arrived : (before after : Listening) (peer : Peer) (iss : ℕ) (bytes : List ℕ) (frame : Option Outgoing) (result : Result Heard NoMemory)
     → Arrived before after peer iss bytes frame result → OnErr result (end_of_peer before.flows peer ≡ None)
 stranger_from_arrived before after peer iss bytes frame (Ok heard) is = tt
 stranger_from_arrived before after peer iss bytes frame (Err fault) is = is.0.has_none

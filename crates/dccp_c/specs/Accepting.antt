@@ -4,7 +4,7 @@ use Rattle.ccid_two.specs.Kinds.{Both, at_first, kinds_control}
 use Rattle.dccp_endpoint.specs.declared.config.Config.{Config}
 use Rattle.dccp_uses.specs.Session.{SessionStep, is_listening, session_begins}
 use Rattle.dccp_states.specs.declared.outcome.Outcome.{Outcome}
-use Rattle.dccp_c.specs.Framing.{bytes_of}
+use Rattle.dccp_c.specs.Framing.{Handed, handed_of, nothing_handed}
 use Rattle.dccp_c.specs.Outcomes.{told_outcome}
 use Rattle.dccp_c.specs.declared.told.Told.{Told}
 use Rattle.dccp_c.specs.Stepping.{CEnd, c_receives}
@@ -44,10 +44,10 @@ accepted_from false _ = None
 abbrev pub accepted_end : List ℕ → ℕ → ℕ → Result Config ℕ → Option CEnd
 accepted_end bytes now code config = accepted_from (code == 0) (accept_step bytes now code config)
 
--- the bytes that answer the datagram, if it was heard
-abbrev pub step_bytes : Option (SessionStep Both Outcome) → List ℕ
-step_bytes None = []
-step_bytes (Some step) = bytes_of step.frame
+-- the frame that answers the datagram, if it was heard
+abbrev pub step_frame : Option (SessionStep Both Outcome) → Handed
+step_frame None = nothing_handed
+step_frame (Some step) = handed_of step.frame
 
 -- what C is told of it; where it was not heard, what it had stays
 abbrev pub step_told : Option (SessionStep Both Outcome) → Told → Told

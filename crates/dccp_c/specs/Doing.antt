@@ -5,7 +5,7 @@ use Rattle.dccp_uses.specs.Alarms.{alarm_of, has_run_out, until_first}
 use Rattle.dccp_uses.specs.Session.{SessionStep, every_timer}
 use Rattle.dccp_uses.specs.declared.alarms.Alarms.{Alarms}
 use Rattle.dccp_states.specs.declared.calls.Timer.{Timer}
-use Rattle.dccp_c.specs.Framing.{bytes_of}
+use Rattle.dccp_c.specs.Framing.{Handed, handed_of, nothing_handed}
 use Rattle.dccp_c.specs.Keeping.{Inner}
 use Rattle.dccp_c.specs.Stepping.{CDoing, CEnd, c_fires, with_alarms}
 
@@ -42,25 +42,25 @@ abbrev pub kept_after : {Answer : Type 0} → CDoing Answer → Option CEnd → 
 kept_after doing None = None
 kept_after doing (Some s) = Some (doing s).session
 
--- The frame that a call hands out: the step's, or no bytes where there is no end.
-abbrev pub frame_after : {Answer : Type 0} → CDoing Answer → Option CEnd → List ℕ
-frame_after doing None = []
-frame_after doing (Some s) = bytes_of (doing s).frame
+-- The frame that a call hands out: the step's, or none where there is no end.
+abbrev pub frame_after : {Answer : Type 0} → CDoing Answer → Option CEnd → Handed
+frame_after doing None = nothing_handed
+frame_after doing (Some s) = handed_of (doing s).frame
 
 -- The code of a call: the step's, or 1 where there is no end.
 abbrev pub code_after : {Answer : Type 0} → (Answer → ℕ) → CDoing Answer → Option CEnd → ℕ
 code_after code doing None = 1
 code_after code doing (Some s) = code (doing s).answer
 
--- A call that names a feature or a timer: where there is none of that number, nothing happens, no bytes go out, and the
+-- A call that names a feature or a timer: where there is none of that number, nothing happens, no frame goes out, and the
 -- code is 11.
 abbrev pub end_if_known : {Name Answer : Type 0} → (Name → CDoing Answer) → Option Name → Option CEnd → Option CEnd
 end_if_known doing None held = held
 end_if_known doing (Some name) held = kept_after (doing name) held
 
--- the bytes that such a call leaves
-abbrev pub frame_if_known : {Name Answer : Type 0} → (Name → CDoing Answer) → Option Name → Option CEnd → List ℕ
-frame_if_known doing None held = []
+-- the frame that such a call leaves
+abbrev pub frame_if_known : {Name Answer : Type 0} → (Name → CDoing Answer) → Option Name → Option CEnd → Handed
+frame_if_known doing None held = nothing_handed
 frame_if_known doing (Some name) held = frame_after (doing name) held
 
 -- its code

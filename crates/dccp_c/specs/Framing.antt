@@ -1,12 +1,22 @@
--- The bytes of a frame as C finds them (own).
+-- A frame as C finds it: its bytes and its number (own).
 use Rattle.std.specs.Prelude.{ℕ, List, [], take, Option, Some, None}
+use Rattle.dccp_packets.specs.Outgoing.{Outgoing}
 use Rattle.dccp_c.specs.declared.frame.Frame.{Frame}
 
--- the bytes of a frame, none where there is no frame
-abbrev pub bytes_of : Option (List ℕ) → List ℕ
-bytes_of None = []
-bytes_of (Some bytes) = bytes
+-- what C finds in the frame that it gave: the bytes, none where nothing goes out, and the number, then 0
+pub record Handed : Type 0 where
+  pub bytes : List ℕ
+  pub number : ℕ
 
--- the bytes that C finds in the frame that it gave
-abbrev pub bytes_in : Frame → List ℕ
-bytes_in frame = take frame.length frame.bytes
+-- nothing goes out
+abbrev pub nothing_handed : Handed
+nothing_handed = record { bytes = []; number = 0 }
+
+-- what goes out, as it is handed to C
+abbrev pub handed_of : Option Outgoing → Handed
+handed_of None = nothing_handed
+handed_of (Some sent) = record { bytes = sent.bytes; number = sent.number }
+
+-- what C finds in its frame
+abbrev pub handed_in : Frame → Handed
+handed_in frame = record { bytes = take frame.length frame.bytes; number = frame.number }

@@ -12,7 +12,7 @@ use Rattle.world_events.specs.declared.event.Refusal.{Refusal}
 use Rattle.world_events.specs.declared.event.Refusal.TheVariants as refusal
 use Rattle.world_events.specs.declared.event.Seen.{Seen}
 use Rattle.world_events.specs.declared.event.Seen.TheVariants as seen
-use Rattle.dccp_c.specs.Framing.{bytes_of}
+use Rattle.dccp_c.specs.Framing.{Handed, handed_of, nothing_handed}
 use Rattle.dccp_c.specs.Outcomes.{told_outcome}
 use Rattle.dccp_c.specs.declared.told.Told.{Told}
 use Rattle.dccp_c.specs.Codes.{timer_code}
@@ -71,23 +71,23 @@ listen_told _ old = old
 abbrev pub deed_of_datagram : ℕ → List ℕ → Result Deed ℕ
 deed_of_datagram first bytes = if nat_lt first (2 ^ 48) then (if is_short bytes then Ok (Arrives first bytes) else Err 5) else Err 11
 
--- Nothing has happened: the listener is as it was, and no bytes are left.
-abbrev pub IsUnserved : Option Served → Option Served → List ℕ → Type 0
-IsUnserved before after bytes = (after ≡ before) × (bytes ≡ [])
+-- Nothing has happened: the listener is as it was, and no frame is left.
+abbrev pub IsUnserved : Option Served → Option Served → Handed → Type 0
+IsUnserved before after frame = (after ≡ before) × (frame ≡ nothing_handed)
 
--- The deed of a peer was done: these are the listener, the bytes for the peer and the code.
-abbrev pub IsServed : ℕ → Served → Option Served → Peer → Deed → List ℕ → ℕ → Type 0
-IsServed now s after peer deed bytes code =
-    (after ≡ Some (deed_served now s peer deed)) × (bytes ≡ bytes_of (listens s.listening peer deed).frame)
+-- The deed of a peer was done: these are the listener, the frame for the peer and the code.
+abbrev pub IsServed : ℕ → Served → Option Served → Peer → Deed → Handed → ℕ → Type 0
+IsServed now s after peer deed frame code =
+    (after ≡ Some (deed_served now s peer deed)) × (frame ≡ handed_of (listens s.listening peer deed).frame)
     × (code ≡ listen_code (listens s.listening peer deed).told)
 
 -- What a call comes to: it is done, or nothing happens and the code says why: that of the refusal, 1 where there is no
 -- listener, or 2 where memory is wanting for the deed.
-abbrev pub Serves : ℕ → Option Served → Option Served → Peer → Result Deed ℕ → List ℕ → ℕ → Type 0
-Serves now before after peer (Err refused) bytes code = IsUnserved before after bytes × (code ≡ refused)
-Serves now None after peer (Ok deed) bytes code = IsUnserved None after bytes × (code ≡ 1)
-Serves now (Some s) after peer (Ok deed) bytes code =
-    (IsUnserved (Some s) after bytes × WantsMemory s peer deed × (code ≡ 2)) ⊎ IsServed now s after peer deed bytes code
+abbrev pub Serves : ℕ → Option Served → Option Served → Peer → Result Deed ℕ → Handed → ℕ → Type 0
+Serves now before after peer (Err refused) frame code = IsUnserved before after frame × (code ≡ refused)
+Serves now None after peer (Ok deed) frame code = IsUnserved None after frame × (code ≡ 1)
+Serves now (Some s) after peer (Ok deed) frame code =
+    (IsUnserved (Some s) after frame × WantsMemory s peer deed × (code ≡ 2)) ⊎ IsServed now s after peer deed frame code
 
 -- What C is told of a datagram; where the call was not done, or for want of memory, by 2, what it had stays.
 abbrev pub TellsC : Option Served → Peer → Result Deed ℕ → ℕ → Told → Told → Type 0
@@ -102,11 +102,11 @@ due_in now (Some s) = first_due_flow now s.timers
 
 -- What a tick comes to: the timer is told, and its peer named, or nothing happens: 1 where there is no listener, 12
 -- where no timer has run out. It takes no memory.
-abbrev pub Ticks : ℕ → Option Served → Option Served → Option (Peer × Timer) → List ℕ → PeerAddress → PeerAddress → ℕ → Type 0
-Ticks now None after due bytes old new code = IsUnserved None after bytes × (new ≡ old) × (code ≡ 1)
-Ticks now (Some s) after None bytes old new code = IsUnserved (Some s) after bytes × (new ≡ old) × (code ≡ 12)
-Ticks now (Some s) after (Some due) bytes old new code =
-    (after ≡ Some (deed_served now s due.0 (Calls (Fires due.1)))) × (bytes ≡ bytes_of (listens s.listening due.0 (Calls (Fires due.1))).frame)
+abbrev pub Ticks : ℕ → Option Served → Option Served → Option (Peer × Timer) → Handed → PeerAddress → PeerAddress → ℕ → Type 0
+Ticks now None after due frame old new code = IsUnserved None after frame × (new ≡ old) × (code ≡ 1)
+Ticks now (Some s) after None frame old new code = IsUnserved (Some s) after frame × (new ≡ old) × (code ≡ 12)
+Ticks now (Some s) after (Some due) frame old new code =
+    (after ≡ Some (deed_served now s due.0 (Calls (Fires due.1)))) × (frame ≡ handed_of (listens s.listening due.0 (Calls (Fires due.1))).frame)
     × (new ≡ address_of due.0) × (code ≡ 0)
 
 -- how long it is until a timer of a listener runs out, if any does

@@ -3,6 +3,7 @@ use Rattle.std.specs.Prelude.{◌≡◌, ◌⊎◌, nat_lt, ℕ, Bool, true, fal
 use Rattle.std.specs.BTreeMap.{insert_entry}
 use Rattle.std.specs.Map.{keys_of, lookup, remove_entry}
 use Rattle.ccid_two.specs.Kinds.{kinds_control}
+use Rattle.dccp_packets.specs.Outgoing.{Outgoing}
 use Rattle.dccp_endpoint.specs.Controlled.{in_flight_of}
 use Rattle.dccp_listener.specs.Chain.{Deed, Arrives, Calls, FlowCall, Fires, Sends, Closes, Aborts}
 use Rattle.dccp_listener.specs.Listens.{listening_after, listens, turns_of}
@@ -104,7 +105,7 @@ least_wait now least [] = least
 least_wait now least (one ∷ rest) = least_wait now (min least (unwrap_or (until_first one.1 now) never)) rest
 
 -- The listener has done what is computed of a deed.
-abbrev pub IsDone : Listening → Listening → Peer → Deed → Option (List ℕ) → CallTold → Type 0
+abbrev pub IsDone : Listening → Listening → Peer → Deed → Option Outgoing → CallTold → Type 0
 IsDone before after peer deed frame told =
     (after ≡ listening_after before peer deed) × (frame ≡ (listens before peer deed).frame) × (told ≡ (listens before peer deed).told)
 

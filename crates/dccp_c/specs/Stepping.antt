@@ -2,6 +2,7 @@
 use Rattle.std.specs.Prelude.{ℕ, Bool, List, Option, Result}
 use Rattle.ccid_two.specs.Kinds.{Both, kinds_control}
 use Rattle.congestion_trait.specs.Control.{may_send}
+use Rattle.dccp_packets.specs.Outgoing.{Outgoing}
 use Rattle.dccp_endpoint.specs.Calling.{aborts, closes, opens, prefers}
 use Rattle.dccp_endpoint.specs.Controlled.{End, with_control}
 use Rattle.dccp_endpoint.specs.Early.{sends_soon}
@@ -35,7 +36,7 @@ abbrev pub with_alarms : End Both → Alarms → CEnd
 with_alarms end alarms = record { end = end; alarms = alarms }
 
 -- what a call has done
-abbrev pub done : {Answer : Type 0} → End Both → Alarms → Option (List ℕ) → Answer → SessionStep Both Answer
+abbrev pub done : {Answer : Type 0} → End Both → Alarms → Option Outgoing → Answer → SessionStep Both Answer
 done end alarms frame answer = record { session = with_alarms end alarms; frame = frame; answer = answer }
 
 -- a client asks for its service (RFC 4340, section 8.1.1)

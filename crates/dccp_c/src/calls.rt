@@ -1,9 +1,9 @@
 //! The functions that C calls: each does one step of the end that its handle holds, and of its timers.
 ghost use Rattle.std.specs.Prelude.{◌≡◌, None, Ok};
 ghost use Rattle.feature_lists.specs.Features.{feature_numbered};
-ghost use Rattle.dccp_c.specs.Framing.{bytes_in};
+ghost use Rattle.dccp_c.specs.Framing.{handed_in};
 ghost use Rattle.dccp_c.specs.Codes.{abort_code, close_code, open_code, place_by, send_code, timer_code, timer_coded, wish_code};
-ghost use Rattle.dccp_c.specs.Accepting.{AcceptsCode, accepted_end, as_server, accept_step, step_bytes, step_told};
+ghost use Rattle.dccp_c.specs.Accepting.{AcceptsCode, accepted_end, as_server, accept_step, step_frame, step_told};
 ghost use Rattle.dccp_c.specs.Doing.{c_ticks, c_waits, code_after, code_if_known, end_if_known, end_in, frame_after, frame_if_known, kept_after};
 ghost use Rattle.dccp_c.specs.Making.{MakesCode, configured_by, made_of};
 ghost use Rattle.dccp_c.specs.Seeing.{feature_after, feature_code, look_code, seen_after, seen};
@@ -66,7 +66,7 @@ pub extern "C" fn dccp_accept(
     told: &mut Told,
 ) -> u32
     ensures end { end_in end.new.kept.value ≡ accepted_end datagram.now now result (configured_by (as_server settings.now) wishes.now) }
-    ensures frame { bytes_in frame.new ≡ step_bytes (accept_step datagram.now now result (configured_by (as_server settings.now) wishes.now)) }
+    ensures frame { handed_in frame.new ≡ step_frame (accept_step datagram.now now result (configured_by (as_server settings.now) wishes.now)) }
     ensures told { told.new ≡ step_told (accept_step datagram.now now result (configured_by (as_server settings.now) wishes.now)) told.old }
     ensures code { AcceptsCode datagram.now now (configured_by (as_server settings.now) wishes.now) result }
 {
@@ -91,7 +91,7 @@ fn accept(
     told: &mut Told,
 ) -> u32
     ensures end { end_in end.new.kept.value ≡ accepted_end datagram.now now result (Ok config) }
-    ensures frame { bytes_in frame.new ≡ step_bytes (accept_step datagram.now now result (Ok config)) }
+    ensures frame { handed_in frame.new ≡ step_frame (accept_step datagram.now now result (Ok config)) }
     ensures told { told.new ≡ step_told (accept_step datagram.now now result (Ok config)) told.old }
     ensures code { AcceptsCode datagram.now now (Ok config) result }
 {
@@ -124,7 +124,7 @@ pub extern "C" fn dccp_free(end: &mut End, alloc: Global)
 #[unsafe(no_mangle)]
 pub extern "C" fn dccp_open(end: &mut End, alloc: Global, now: u64, frame: &mut Frame) -> u32
     ensures end { end_in end.new.kept.value ≡ kept_after (c_opens now) (end_in end.old.kept.value) }
-    ensures frame { bytes_in frame.new ≡ frame_after (c_opens now) (end_in end.old.kept.value) }
+    ensures frame { handed_in frame.new ≡ frame_after (c_opens now) (end_in end.old.kept.value) }
     ensures code { result ≡ code_after open_code (c_opens now) (end_in end.old.kept.value) }
 {
     let Some(mut held) = end.take(alloc) else {
@@ -147,7 +147,7 @@ pub extern "C" fn dccp_send(
     frame: &mut Frame,
 ) -> u32
     ensures end { end_in end.new.kept.value ≡ kept_after (c_sends payload.now now) (end_in end.old.kept.value) }
-    ensures frame { bytes_in frame.new ≡ frame_after (c_sends payload.now now) (end_in end.old.kept.value) }
+    ensures frame { handed_in frame.new ≡ frame_after (c_sends payload.now now) (end_in end.old.kept.value) }
     ensures code { result ≡ code_after send_code (c_sends payload.now now) (end_in end.old.kept.value) }
 {
     let Some(mut held) = end.take(alloc) else {
@@ -164,7 +164,7 @@ pub extern "C" fn dccp_send(
 #[unsafe(no_mangle)]
 pub extern "C" fn dccp_close(end: &mut End, alloc: Global, now: u64, frame: &mut Frame) -> u32
     ensures end { end_in end.new.kept.value ≡ kept_after (c_closes now) (end_in end.old.kept.value) }
-    ensures frame { bytes_in frame.new ≡ frame_after (c_closes now) (end_in end.old.kept.value) }
+    ensures frame { handed_in frame.new ≡ frame_after (c_closes now) (end_in end.old.kept.value) }
     ensures code { result ≡ code_after close_code (c_closes now) (end_in end.old.kept.value) }
 {
     let Some(mut held) = end.take(alloc) else {
@@ -181,7 +181,7 @@ pub extern "C" fn dccp_close(end: &mut End, alloc: Global, now: u64, frame: &mut
 #[unsafe(no_mangle)]
 pub extern "C" fn dccp_abort(end: &mut End, alloc: Global, now: u64, frame: &mut Frame) -> u32
     ensures end { end_in end.new.kept.value ≡ kept_after (c_aborts now) (end_in end.old.kept.value) }
-    ensures frame { bytes_in frame.new ≡ frame_after (c_aborts now) (end_in end.old.kept.value) }
+    ensures frame { handed_in frame.new ≡ frame_after (c_aborts now) (end_in end.old.kept.value) }
     ensures code { result ≡ code_after abort_code (c_aborts now) (end_in end.old.kept.value) }
 {
     let Some(mut held) = end.take(alloc) else {
@@ -206,7 +206,7 @@ pub extern "C" fn dccp_prefer(
     frame: &mut Frame,
 ) -> u32
     ensures end { end_in end.new.kept.value ≡ end_if_known (λ f. c_prefers f (place_by at_peer) values.now now) (feature_numbered feature) (end_in end.old.kept.value) }
-    ensures frame { bytes_in frame.new ≡ frame_if_known (λ f. c_prefers f (place_by at_peer) values.now now) (feature_numbered feature) (end_in end.old.kept.value) }
+    ensures frame { handed_in frame.new ≡ frame_if_known (λ f. c_prefers f (place_by at_peer) values.now now) (feature_numbered feature) (end_in end.old.kept.value) }
     ensures code { result ≡ code_if_known wish_code (λ f. c_prefers f (place_by at_peer) values.now now) (feature_numbered feature) (end_in end.old.kept.value) }
 {
     frame.clear();
@@ -233,7 +233,7 @@ pub extern "C" fn dccp_timer(
     frame: &mut Frame,
 ) -> u32
     ensures end { end_in end.new.kept.value ≡ end_if_known (λ t. c_fires t now) (timer_coded timer) (end_in end.old.kept.value) }
-    ensures frame { bytes_in frame.new ≡ frame_if_known (λ t. c_fires t now) (timer_coded timer) (end_in end.old.kept.value) }
+    ensures frame { handed_in frame.new ≡ frame_if_known (λ t. c_fires t now) (timer_coded timer) (end_in end.old.kept.value) }
     ensures code { result ≡ code_if_known timer_code (λ t. c_fires t now) (timer_coded timer) (end_in end.old.kept.value) }
 {
     frame.clear();
@@ -253,7 +253,7 @@ pub extern "C" fn dccp_timer(
 #[unsafe(no_mangle)]
 pub extern "C" fn dccp_tick(end: &mut End, alloc: Global, now: u64, frame: &mut Frame) -> u32
     ensures end { end_in end.new.kept.value ≡ kept_after (c_ticks now) (end_in end.old.kept.value) }
-    ensures frame { bytes_in frame.new ≡ frame_after (c_ticks now) (end_in end.old.kept.value) }
+    ensures frame { handed_in frame.new ≡ frame_after (c_ticks now) (end_in end.old.kept.value) }
     ensures code { result ≡ code_after timer_code (c_ticks now) (end_in end.old.kept.value) }
 {
     frame.clear();
@@ -296,7 +296,7 @@ pub extern "C" fn dccp_receive(
     told: &mut Told,
 ) -> u32
     ensures end { end_in end.new.kept.value ≡ hears_if_short datagram.now now (end_in end.old.kept.value) }
-    ensures frame { bytes_in frame.new ≡ hear_frame datagram.now now (end_in end.old.kept.value) }
+    ensures frame { handed_in frame.new ≡ hear_frame datagram.now now (end_in end.old.kept.value) }
     ensures told { told.new ≡ hear_told datagram.now now (end_in end.old.kept.value) told.old }
     ensures code { result ≡ hear_code datagram.now now (end_in end.old.kept.value) }
 {

@@ -1,15 +1,18 @@
 //! The frame that a call hands to C.
-ghost use Rattle.std.specs.Prelude.{◌≡◌, []};
-ghost use Rattle.dccp_c.specs.Framing.{bytes_in, bytes_of};
+ghost use Rattle.std.specs.Prelude.{◌≡◌};
+ghost use Rattle.dccp_c.specs.Framing.{handed_in, handed_of, nothing_handed};
 
 use dccp_endpoint::{MOST_FRAME_BYTES, Outbox};
 
-/// The frame that a call leaves for the peer: its first `length` bytes, at most 2,044; none where `length` is 0.
+/// The frame that a call leaves for the peer: its first `length` bytes, at most 2,044, and its sequence number; none
+/// where `length` is 0, and then the number is 0.
 #[repr(C)]
 #[derive(Drop)]
 pub struct Frame {
     /// How many bytes it has.
     pub length: usize,
+    /// Its sequence number, in full (RFC 4340, section 7.6).
+    pub number: u64,
     /// The bytes; what is behind the length says nothing.
     pub bytes: [u8; MOST_FRAME_BYTES],
 }
@@ -17,21 +20,22 @@ pub struct Frame {
 impl Frame {
     /// Leaves no bytes.
     pub fn clear(&mut self)
-        ensures { bytes_in self.new ≡ [] }
+        ensures { handed_in self.new ≡ nothing_handed }
     {
         self.length = 0;
+        self.number = 0;
     }
 
-    /// Leaves the bytes of the frame that stands in the Outbox, none where none does.
+    /// Leaves the bytes of the frame that stands in the Outbox and its number, none where none does.
     pub fn fill(&mut self, out: &Outbox)
-        ensures { bytes_in self.new ≡ bytes_of out.now }
+        ensures { handed_in self.new ≡ handed_of out.now }
     {
-        match out.frame() {
-            None => self.length = 0,
-            Some(frame) => {
-                let bytes = frame.bytes();
-                self.length = bytes.len();
-                self.bytes[..bytes.len()].copy_from_slice(bytes);
+        match out.sent() {
+            None => self.clear(),
+            Some(sent) => {
+                self.number = sent.number.get();
+                self.length = sent.bytes.len();
+                self.bytes[..sent.bytes.len()].copy_from_slice(sent.bytes);
             }
         }
     }

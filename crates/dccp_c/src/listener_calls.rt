@@ -3,7 +3,7 @@ ghost use Rattle.std.specs.Prelude.{◌≡◌, ◌≢◌, None, Ok, unwrap_or};
 ghost use Rattle.dccp_listener.specs.Calls.{seen_if};
 ghost use Rattle.dccp_listener.specs.Chain.{Calls, Sends, Closes, Aborts, call_of};
 ghost use Rattle.dccp_listener.specs.Runs.{Stepped, told_of};
-ghost use Rattle.dccp_c.specs.Framing.{bytes_in};
+ghost use Rattle.dccp_c.specs.Framing.{handed_in};
 ghost use Rattle.dccp_c.specs.Founding.{FoundsCode, founded_of, listening_by};
 ghost use Rattle.dccp_c.specs.Listening.{Serves, TellsC, Ticks, deed_of_datagram, due_in, flow_code, flow_in, listen_code, listen_told, listener_waits, peer_in, peer_named, refusal_code, seen_code, served_in};
 
@@ -121,7 +121,7 @@ pub extern "C" fn dccp_listener_arrive(
     frame: &mut Frame,
     told: &mut Told,
 ) -> u32
-    ensures serves { Serves now (served_in listener.old.kept.value) (served_in listener.new.kept.value) (peer_named peer.now) (deed_of_datagram first_number datagram.now) (bytes_in frame.new) result }
+    ensures serves { Serves now (served_in listener.old.kept.value) (served_in listener.new.kept.value) (peer_named peer.now) (deed_of_datagram first_number datagram.now) (handed_in frame.new) result }
     ensures told { TellsC (served_in listener.old.kept.value) (peer_named peer.now) (deed_of_datagram first_number datagram.now) result told.old told.new }
 {
     frame.clear();
@@ -156,7 +156,7 @@ fn call(
     now: u64,
     frame: &mut Frame,
 ) -> u32
-    ensures { Serves now (served_in listener.old.kept.value) (served_in listener.new.kept.value) peer (Ok (Calls (call_of act.entry))) (bytes_in frame.new) result }
+    ensures { Serves now (served_in listener.old.kept.value) (served_in listener.new.kept.value) peer (Ok (Calls (call_of act.entry))) (handed_in frame.new) result }
 {
     frame.clear();
     let Some(mut serving) = listener.take(alloc) else {
@@ -187,7 +187,7 @@ pub extern "C" fn dccp_listener_send(
     now: u64,
     frame: &mut Frame,
 ) -> u32
-    ensures { Serves now (served_in listener.old.kept.value) (served_in listener.new.kept.value) (peer_named peer.now) (Ok (Calls (Sends payload.now))) (bytes_in frame.new) result }
+    ensures { Serves now (served_in listener.old.kept.value) (served_in listener.new.kept.value) (peer_named peer.now) (Ok (Calls (Sends payload.now))) (handed_in frame.new) result }
 {
     call(
         listener,
@@ -208,7 +208,7 @@ pub extern "C" fn dccp_listener_close(
     now: u64,
     frame: &mut Frame,
 ) -> u32
-    ensures { Serves now (served_in listener.old.kept.value) (served_in listener.new.kept.value) (peer_named peer.now) (Ok (Calls Closes)) (bytes_in frame.new) result }
+    ensures { Serves now (served_in listener.old.kept.value) (served_in listener.new.kept.value) (peer_named peer.now) (Ok (Calls Closes)) (handed_in frame.new) result }
 {
     call(listener, alloc, peer_named(peer), Act::Close, now, frame)
 }
@@ -222,7 +222,7 @@ pub extern "C" fn dccp_listener_abort(
     now: u64,
     frame: &mut Frame,
 ) -> u32
-    ensures { Serves now (served_in listener.old.kept.value) (served_in listener.new.kept.value) (peer_named peer.now) (Ok (Calls Aborts)) (bytes_in frame.new) result }
+    ensures { Serves now (served_in listener.old.kept.value) (served_in listener.new.kept.value) (peer_named peer.now) (Ok (Calls Aborts)) (handed_in frame.new) result }
 {
     call(listener, alloc, peer_named(peer), Act::Abort, now, frame)
 }
@@ -237,7 +237,7 @@ pub extern "C" fn dccp_listener_tick(
     peer: &mut PeerAddress,
     frame: &mut Frame,
 ) -> u32
-    ensures { Ticks now (served_in listener.old.kept.value) (served_in listener.new.kept.value) (due_in now (served_in listener.old.kept.value)) (bytes_in frame.new) peer.old peer.new result }
+    ensures { Ticks now (served_in listener.old.kept.value) (served_in listener.new.kept.value) (due_in now (served_in listener.old.kept.value)) (handed_in frame.new) peer.old peer.new result }
 {
     frame.clear();
     let Some(mut serving) = listener.take(alloc) else {

@@ -28,7 +28,7 @@ use Rattle.dccp_endpoint.proofs.OwnFrames.{own_frames_read_in_widths}
 cut-again : (n : ℕ) → n % 2 ^ 24 % 2 ^ 24 ≡ n % 2 ^ 48 % 2 ^ 24
 cut-again n = omega arith
 
-number-spells : (short : Bool) (number : ℕ) → value_of (number_in_width (number_in_form short number))
+pub number-spells : (short : Bool) (number : ℕ) → value_of (number_in_width (number_in_form short number))
     ≡ in_width (is_long (number_in_width (number_in_form short number))) (number % 2 ^ 48)
 number-spells true number = cut-again number
 number-spells false number = refl
@@ -38,7 +38,7 @@ width-kept None = refl
 width-kept (Some ack) = refl
 
 -- the acknowledgement number that a packet in the form spells
-ack-spells : (short : Bool) (number : ℕ) (k : Kind) → has_forms true k ≡ true → (short ≡ true → may_be_short (packet_type k) ≡ true)
+pub ack-spells : (short : Bool) (number : ℕ) (k : Kind) → has_forms true k ≡ true → (short ≡ true → may_be_short (packet_type k) ≡ true)
     → ack_of (kind_in_widths (in_form short k)) ≡ ack_in_width (is_long (number_in_width (number_in_form short number))) (ack_of (kind_in_widths k))
 ack-spells false number k long may = width-kept (ack_of (kind_in_widths k))
 ack-spells true number (kind.Request service) long may = cc (may refl)

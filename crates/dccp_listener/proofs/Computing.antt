@@ -7,8 +7,9 @@ use Rattle.ccid_two.specs.Kinds.{Both}
 use Rattle.dccp_endpoint.specs.Controlled.{EndStep}
 use Rattle.dccp_endpoint.specs.Inputs.{Answer}
 use Rattle.two_ends.specs.World.{seen_of}
+use Rattle.dccp_endpoint.specs.Strangers.{stays_in}
 use Rattle.dccp_listener.specs.Calls.{IsStep}
-use Rattle.dccp_listener.specs.Chain.{Arrives, Calls, ChainStep, Deed, chain_step, flow_step, fresh_end, is_flow, is_given_up}
+use Rattle.dccp_listener.specs.Chain.{Arrives, Calls, ChainStep, Deed, chain_step, flow_step, fresh_end, is_given_up}
 use Rattle.dccp_listener.specs.Listens.{AreInOrder, WhatIsComputedIsARun, is_table_full, listening_after, listens_by, fresh_met, with_end}
 use Rattle.dccp_listener.specs.Peers.{FlowEnd, Flows, Listening, end_of_peer, is_peer, peer_cmp}
 use Rattle.dccp_listener.specs.Runs.{IsTurnSo}
@@ -58,7 +59,7 @@ stands-step l peer deed e found ordered =
 
 -- a fresh end meets a datagram
 meets : (l : Listening) (peer : Peer) (iss : ℕ) (bytes : List ℕ) → end_of_peer l.flows peer ≡ None → (stays full : Bool)
-    → is_flow (flow_step (fresh_end l.config peer iss bytes) (Arrives iss bytes)).after.state.phase ≡ stays
+    → stays_in (flow_step (fresh_end l.config peer iss bytes) (Arrives iss bytes)).after.state.phase ≡ stays
     → IsTurnSo l (record l { flows = (fresh_met l peer iss bytes (flow_step (fresh_end l.config peer iss bytes) (Arrives iss bytes)) stays full).flows })
     (record {
       peer = peer;
@@ -94,7 +95,7 @@ turn-so : (l : Listening) (peer : Peer) (found : Option FlowEnd) (deed : Deed) �
     (listens_by l peer found deed).told
 turn-so l peer (Some e) deed is ordered = stands-step l peer deed e is ordered
 turn-so l peer None (Arrives iss bytes) is ordered =
-    meets l peer iss bytes is (is_flow (flow_step (fresh_end l.config peer iss bytes) (Arrives iss bytes)).after.state.phase) (is_table_full l) refl
+    meets l peer iss bytes is (stays_in (flow_step (fresh_end l.config peer iss bytes) (Arrives iss bytes)).after.state.phase) (is_table_full l) refl
 turn-so l peer None (Calls call) is ordered =
     record {
       own = ap (λ (x : Option FlowEnd). nothing_shown x) is ∙ ap (λ (x : Option FlowEnd). chain_step l.config peer x (Calls call)) (sym is);
@@ -118,7 +119,7 @@ order-so l peer (Some e) deed ordered =
     order-with peer (flow_step e deed).after l.flows (is_given_up (flow_step e deed).after.state.phase) ordered
 order-so l peer None (Arrives iss bytes) ordered =
     order-met l peer iss bytes (flow_step (fresh_end l.config peer iss bytes) (Arrives iss bytes))
-    (is_flow (flow_step (fresh_end l.config peer iss bytes) (Arrives iss bytes)).after.state.phase) (is_table_full l) ordered
+    (stays_in (flow_step (fresh_end l.config peer iss bytes) (Arrives iss bytes)).after.state.phase) (is_table_full l) ordered
 order-so l peer None (Calls call) ordered = ordered
 
 pub computed_runs : WhatIsComputedIsARun

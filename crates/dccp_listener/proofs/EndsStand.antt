@@ -15,8 +15,10 @@ use Rattle.feature_machine.proofs.Listing.{without_offers_are_lists}
 use Rattle.feature_machine.specs.Lists.{IsLists}
 use Rattle.seq_circle.specs.declared.memory.NoMemory.{NoMemory}
 use Rattle.world_events.specs.declared.event.Seen.{Seen}
+use Rattle.dccp_packets.specs.Outgoing.{Outgoing}
+use Rattle.dccp_endpoint.specs.Strangers.{stays_in}
 use Rattle.dccp_listener.specs.Calls.{Arrived, IsStep}
-use Rattle.dccp_listener.specs.Chain.{Arrives, Calls, ChainStep, Deed, chain_step, config_for, flow_step, fresh_end, input_of_deed, is_flow, is_given_up}
+use Rattle.dccp_listener.specs.Chain.{Arrives, Calls, ChainStep, Deed, chain_step, config_for, flow_step, fresh_end, input_of_deed, is_given_up}
 use Rattle.dccp_listener.specs.Peers.{FlowEnd, Listening, end_of_peer, is_peer}
 use Rattle.dccp_listener.specs.Standing.{ChainsStand, IsSoundListener, Stands}
 use Rattle.dccp_listener.specs.declared.calls.Heard.{Heard}
@@ -26,7 +28,7 @@ use Rattle.dccp_listener.specs.declared.peer.Peer.{Peer}
 use Rattle.dccp_listener.proofs.OnePeer.{one_peer}
 
 -- a server's end that is neither CLOSED nor in LISTEN waits for no first packet
-waits-in : (phase : Phase) (role : Role) → role ≡ roles.Server → is_flow phase ≡ true → is_phase_of phase role ≡ true → is_waiting phase ≡ true → ⊥
+waits-in : (phase : Phase) (role : Role) → role ≡ roles.Server → stays_in phase ≡ true → is_phase_of phase role ≡ true → is_waiting phase ≡ true → ⊥
 waits-in phases.Closed role server live fits waits = false≢true waits
 waits-in phases.Listen role server live fits waits = false≢true live
 waits-in phases.Request roles.Client server live fits waits = cc server
@@ -38,14 +40,14 @@ waits-in phases.CloseReq role server live fits waits = false≢true waits
 waits-in phases.Closing role server live fits waits = false≢true waits
 waits-in phases.TimeWait role server live fits waits = false≢true waits
 
-no-wait : (e : EndState) (given : Input) (opens : Bool) (hearing : Hearing) → e.config.role ≡ roles.Server → is_flow e.phase ≡ true → IsProper e
+no-wait : (e : EndState) (given : Input) (opens : Bool) (hearing : Hearing) → e.config.role ≡ roles.Server → stays_in e.phase ≡ true → IsProper e
     → IsOpened e given opens → ((is_waiting e.phase ≡ true) × (hearing ≡ Unheard)) ⊎ (opens ≡ true) → ⊥
 no-wait e given opens hearing server live proper opened (inl waits) = waits-in e.phase e.config.role server live proper.phase_fits waits.0
 no-wait e given _ hearing server live proper NotNow (inr is) = false≢true is
 no-wait e given _ hearing server live proper (ByCall call client fresh) (inr is) = cc (sym server ∙ client)
 
 -- so it never goes back to LISTEN
-stays-live : (phase : Phase) → (is_waiting phase ≡ true → ⊥) → is_given_up phase ≡ false → is_flow phase ≡ true
+stays-live : (phase : Phase) → (is_waiting phase ≡ true → ⊥) → is_given_up phase ≡ false → stays_in phase ≡ true
 stays-live phases.Closed not over = sym over
 stays-live phases.Listen not over = absurd (not refl)
 stays-live phases.Request not over = refl
@@ -56,8 +58,8 @@ stays-live phases.CloseReq not over = refl
 stays-live phases.Closing not over = refl
 stays-live phases.TimeWait not over = refl
 
-live-after : (e : EndState) (given : Input) → e.config.role ≡ roles.Server → is_flow e.phase ≡ true → IsProper e
-    → is_given_up (end_stepped e given).after.phase ≡ false → is_flow (end_stepped e given).after.phase ≡ true
+live-after : (e : EndState) (given : Input) → e.config.role ≡ roles.Server → stays_in e.phase ≡ true → IsProper e
+    → is_given_up (end_stepped e given).after.phase ≡ false → stays_in (end_stepped e given).after.phase ≡ true
 live-after e given server live proper over =
     let step = every_step_has_an_effect e given proper in
     let same = ap (λ (x : EndState). x.phase) step.after_is in
@@ -68,7 +70,7 @@ live-after e given server live proper over =
 
 -- the end that a step of a proper end leaves stands where its phase is a flow's
 stands-after : (config : ListenConfig) (peer : Peer) (iss : ℕ) (bytes : List ℕ) (e : EndState) (given : Input) (next : FlowEnd)
-    → e.config ≡ config_for config peer iss bytes → IsProper e → next.state ≡ (end_stepped e given).after → is_flow next.state.phase ≡ true
+    → e.config ≡ config_for config peer iss bytes → IsProper e → next.state ≡ (end_stepped e given).after → stays_in next.state.phase ≡ true
     → Stands config peer next
 stands-after config peer iss bytes e given next made proper is live =
     let step = every_step_has_an_effect e given proper in
@@ -102,13 +104,13 @@ ends_stand config peer (Some e) deed lists stands =
 ends_stand config peer None (Arrives iss bytes) lists none =
     let fresh : FlowEnd = fresh_end config peer iss bytes in
     let next : FlowEnd = (flow_step fresh (Arrives iss bytes)).after in
-    if-flow config peer next (is_flow next.state.phase)
+    if-flow config peer next (stays_in next.state.phase)
     (λ live. stands-after config peer iss bytes fresh.state (input_of_deed (Arrives iss bytes) fresh.congestion) next refl
     (first-proper (config_for config peer iss bytes) (without_offers_are_lists config.lists lists)) refl live)
 ends_stand config peer None (Calls call) lists none = tt
 
 -- each peer's end stands after a step of one peer
-stand-after : (before after : Listening) (peer : Peer) (deed : Deed) (frame : Option (List ℕ)) (seen : Option Seen)
+stand-after : (before after : Listening) (peer : Peer) (deed : Deed) (frame : Option Outgoing) (seen : Option Seen)
     → IsSoundListener before.config before.flows → IsStep before after peer deed frame seen
     → (q : Peer) (same : Bool) → is_peer peer q ≡ same → IfSome (end_of_peer after.flows q) (Stands before.config q)
 stand-after before after peer deed frame seen sound step q true is =
@@ -120,7 +122,7 @@ stand-after before after peer deed frame seen sound step q true is =
 stand-after before after peer deed frame seen sound step q false is =
     subst (λ (x : Option FlowEnd). IfSome x (Stands before.config q)) (sym (step.others q is)) (sound.stand q)
 
-pub sound_step : (before after : Listening) (peer : Peer) (deed : Deed) (frame : Option (List ℕ)) (seen : Option Seen)
+pub sound_step : (before after : Listening) (peer : Peer) (deed : Deed) (frame : Option Outgoing) (seen : Option Seen)
     → IsSoundListener before.config before.flows → IsStep before after peer deed frame seen → length after.flows ≤ before.config.most
     → IsSoundListener after.config after.flows
 sound_step before after peer deed frame seen sound step room =
@@ -131,7 +133,7 @@ sound_step before after peer deed frame seen sound step room =
       stand = λ q. stand-after before after peer deed frame seen sound step q (is_peer peer q) refl;
     })
 
-pub sound_arrival : (before after : Listening) (peer : Peer) (iss : ℕ) (bytes : List ℕ) (frame : Option (List ℕ)) (result : Result Heard NoMemory)
+pub sound_arrival : (before after : Listening) (peer : Peer) (iss : ℕ) (bytes : List ℕ) (frame : Option Outgoing) (result : Result Heard NoMemory)
     → IsSoundListener before.config before.flows → Arrived before after peer iss bytes frame result → length after.flows ≤ before.config.most
     → IsSoundListener after.config after.flows
 sound_arrival before after peer iss bytes frame (Ok (heard.Flow outcome)) sound arrived room =

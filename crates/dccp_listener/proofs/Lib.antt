@@ -6,4 +6,3 @@ pub mod Computing
 pub mod EndsStand
 pub mod Requests
 pub mod Places
-pub mod Fresh

@@ -7,12 +7,13 @@ use Rattle.dccp_packets.specs.declared.header.Number.{Number}
 use Rattle.dccp_packets.specs.declared.header.Number.TheVariants.{Long, Short}
 use Rattle.dccp_packets.specs.declared.reading.Malformed.{Malformed}
 use Rattle.dccp_packets.specs.declared.reset_code.ResetCode.TheVariants as codes
-use Rattle.dccp_endpoint.specs.Drafts.{frame_of}
+use Rattle.dccp_endpoint.specs.Drafts.{sent_of}
 use Rattle.dccp_endpoint.specs.Steps.{reset_of, without_detail}
 use Rattle.dccp_endpoint.specs.declared.config.Config.{Config}
 use Rattle.seq_circle.specs.declared.memory.NoMemory.{NoMemory}
 use Rattle.world_events.specs.declared.event.Seen.{Seen}
 use Rattle.world_events.specs.declared.event.Seen.TheVariants as seen
+use Rattle.dccp_packets.specs.Outgoing.{Outgoing}
 use Rattle.dccp_listener.specs.Chain.{Deed, Arrives, chain_step, config_for}
 use Rattle.dccp_listener.specs.Peers.{Listening, end_of_peer, is_peer}
 use Rattle.dccp_listener.specs.declared.calls.NoFlow.{NoFlow}
@@ -21,7 +22,7 @@ use Rattle.dccp_listener.specs.declared.calls.Heard.TheVariants as heard
 use Rattle.dccp_listener.specs.declared.peer.Peer.{Peer}
 
 -- A deed of a peer is a step of its own chain, and each other peer has what it had.
-pub record IsStep (before after : Listening) (peer : Peer) (deed : Deed) (frame : Option (List ℕ)) (seen : Option Seen) : Type 0 where
+pub record IsStep (before after : Listening) (peer : Peer) (deed : Deed) (frame : Option Outgoing) (seen : Option Seen) : Type 0 where
   pub own : record { after = end_of_peer after.flows peer; frame = frame; seen = seen } ≡ chain_step before.config peer (end_of_peer before.flows peer) deed
   pub others : (other : Peer) → is_peer peer other ≡ false → end_of_peer after.flows other ≡ end_of_peer before.flows other
   pub same_config : after.config ≡ before.config
@@ -40,21 +41,21 @@ pub record OpensFlow (l : Listening) (peer : Peer) (deed : Deed) : Type 0 where
 
 -- The Reset with the code Too Busy (RFC 4340, section 5.6), sent without a connection: its number is 0, and it
 -- acknowledges the packet with this number.
-abbrev pub busy_reset : Config → ℕ → List ℕ
-busy_reset config number = frame_of config false 0 (reset_of number (without_detail (number_of_code codes.TooBusy)))
+abbrev pub busy_reset : Config → ℕ → Outgoing
+busy_reset config number = sent_of config false 0 (reset_of number (without_detail (number_of_code codes.TooBusy)))
 
 -- A Request has a long number (RFC 4340, section 5.1).
-abbrev pub busy_reply : Config → Number → Option (List ℕ)
+abbrev pub busy_reply : Config → Number → Option Outgoing
 busy_reply config (Long number) = Some (busy_reset config number)
 busy_reply config (Short _) = None
 
 -- What is sent to a peer whose packet finds the listener busy. That is a Request: bytes that are no packet do not.
-abbrev pub busy_frame : Config → Result Parts Malformed → Option (List ℕ)
+abbrev pub busy_frame : Config → Result Parts Malformed → Option Outgoing
 busy_frame config (Ok parts) = busy_reply config parts.header.number
 busy_frame config (Err _) = None
 
 -- What `arrive` does, by its answer.
-abbrev pub Arrived : Listening → Listening → Peer → ℕ → List ℕ → Option (List ℕ) → Result Heard NoMemory → Type 0
+abbrev pub Arrived : Listening → Listening → Peer → ℕ → List ℕ → Option Outgoing → Result Heard NoMemory → Type 0
 Arrived before after peer iss bytes frame (Ok (heard.Flow outcome)) =
     IsStep before after peer (Arrives iss bytes) frame (Some (seen.Received outcome)) × (IsBusy before peer (Arrives iss bytes) → ⊥)
 Arrived before after peer iss bytes frame (Ok heard.Busy) =

@@ -21,6 +21,8 @@ use Rattle.dccp_endpoint.specs.Inputs as input
 use Rattle.dccp_endpoint.specs.declared.config.Config.{Config}
 use Rattle.world_events.specs.declared.event.Seen.{Seen}
 use Rattle.two_ends.specs.World.{seen_of}
+use Rattle.dccp_packets.specs.Outgoing.{Outgoing}
+use Rattle.dccp_endpoint.specs.Strangers.{stays_in}
 use Rattle.dccp_listener.specs.Peers.{FlowEnd}
 use Rattle.dccp_listener.specs.declared.calls.Act.{Act}
 use Rattle.dccp_listener.specs.declared.calls.Act.TheVariants as act
@@ -78,29 +80,34 @@ service_for services None = unwrap_or (slice_get services 0) 0
 service_for services (Some asked) = if list_any (λ one. one == asked) services then asked else unwrap_or (slice_get services 0) 0
 
 -- A fresh end is a server's, between the listener's address and port and the peer's. It offers no feature by itself.
-abbrev pub config_for : ListenConfig → Peer → ℕ → List ℕ → Config
-config_for config peer iss bytes =
+abbrev pub config_asked : ListenConfig → Peer → ℕ → Option ℕ → Config
+config_asked config peer iss asked =
     record (configured Server (V4 config.own_address peer.address) (record { own = config.own_port; peer = peer.port })
-    (service_for config.services.items (asked_service (decoded bytes))) iss) { lists = without_offers config.lists }
+    (service_for config.services.items asked) iss) { lists = without_offers config.lists }
+
+-- by the bytes that it is made for
+abbrev pub config_for : ListenConfig → Peer → ℕ → List ℕ → Config
+config_for config peer iss bytes = config_asked config peer iss (asked_service (decoded bytes))
 
 -- an end for the peer that has sent and received nothing
 abbrev pub fresh_end : ListenConfig → Peer → ℕ → List ℕ → FlowEnd
 fresh_end config peer iss bytes = begins kinds_control (config_for config peer iss bytes) at_first
 
--- The phases in which a peer has an end: all but CLOSED and LISTEN.
-abbrev pub is_flow : Phase → Bool
-is_flow phases.Closed = false
-is_flow phases.Listen = false
-is_flow _ = true
-
 -- the phase in which an end is given up
 abbrev pub is_given_up : Phase → Bool
 is_given_up phases.Closed = true
-is_given_up _ = false
+is_given_up phases.Listen = false
+is_given_up phases.Request = false
+is_given_up phases.Respond = false
+is_given_up phases.PartOpen = false
+is_given_up phases.Open = false
+is_given_up phases.CloseReq = false
+is_given_up phases.Closing = false
+is_given_up phases.TimeWait = false
 
 -- a fresh end stays where it has left LISTEN and is not CLOSED
 abbrev pub kept_if_open : FlowEnd → Option FlowEnd
-kept_if_open e = if is_flow e.state.phase then Some e else None
+kept_if_open e = if stays_in e.state.phase then Some e else None
 
 -- an end that stands is given up where it is CLOSED
 abbrev pub kept_until_over : FlowEnd → Option FlowEnd
@@ -110,7 +117,7 @@ kept_until_over e = if is_given_up e.state.phase then None else Some e
 -- there is no end to call
 pub record ChainStep : Type 0 where
   pub after : Option FlowEnd
-  pub frame : Option (List ℕ)
+  pub frame : Option Outgoing
   pub seen : Option Seen
 
 -- the step of an end, of which this stays

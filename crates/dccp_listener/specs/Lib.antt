@@ -5,4 +5,3 @@ pub mod Runs
 pub mod Listens
 pub mod Moves
 pub mod Standing
-pub mod Turning

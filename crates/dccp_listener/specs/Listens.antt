@@ -8,8 +8,10 @@ use Rattle.dccp_endpoint.specs.Controlled.{EndStep}
 use Rattle.dccp_endpoint.specs.Inputs.{Answer}
 use Rattle.dccp_packets.specs.Grammar.{decoded}
 use Rattle.two_ends.specs.World.{seen_of}
+use Rattle.dccp_packets.specs.Outgoing.{Outgoing}
+use Rattle.dccp_endpoint.specs.Strangers.{stays_in}
 use Rattle.dccp_listener.specs.Calls.{busy_frame}
-use Rattle.dccp_listener.specs.Chain.{Arrives, Calls, Deed, config_for, flow_step, fresh_end, is_flow, is_given_up}
+use Rattle.dccp_listener.specs.Chain.{Arrives, Calls, Deed, config_for, flow_step, fresh_end, is_given_up}
 use Rattle.dccp_listener.specs.Peers.{FlowEnd, Flows, Listening, end_of_peer, is_peer, peer_cmp}
 use Rattle.dccp_listener.specs.Runs.{IsRunOfTurns, Stepped, CallTold, CallTurn, WasBusy}
 use Rattle.dccp_listener.specs.declared.peer.Peer.{Peer}
@@ -17,7 +19,7 @@ use Rattle.dccp_listener.specs.declared.peer.Peer.{Peer}
 -- the flows after a call, the frame that goes to the peer, and what was told
 pub record Listened : Type 0 where
   pub flows : Flows
-  pub frame : Option (List ℕ)
+  pub frame : Option Outgoing
   pub told : CallTold
 
 -- the flows once the peer's end is this one, which goes where it is CLOSED
@@ -44,7 +46,7 @@ abbrev pub listens_by : Listening → Peer → Option FlowEnd → Deed → Liste
 listens_by l peer (Some e) deed = flow_answered (with_end l.flows peer (flow_step e deed).after) (flow_step e deed)
 listens_by l peer None (Arrives iss bytes) =
     fresh_met l peer iss bytes (flow_step (fresh_end l.config peer iss bytes) (Arrives iss bytes))
-    (is_flow (flow_step (fresh_end l.config peer iss bytes) (Arrives iss bytes)).after.state.phase) (is_table_full l)
+    (stays_in (flow_step (fresh_end l.config peer iss bytes) (Arrives iss bytes)).after.state.phase) (is_table_full l)
 listens_by l peer None (Calls call) = record { flows = l.flows; frame = None; told = Stepped None }
 
 -- a deed of a peer, where memory is found

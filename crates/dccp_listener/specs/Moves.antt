@@ -6,6 +6,7 @@ use Rattle.std.specs.Map.{set_value}
 use Rattle.ccid_two.specs.Kinds.{Both}
 use Rattle.dccp_endpoint.specs.Controlled.{EndStep}
 use Rattle.dccp_states.specs.declared.outcome.Outcome.{Outcome}
+use Rattle.dccp_packets.specs.Outgoing.{Outgoing}
 use Rattle.dccp_listener.specs.Chain.{is_given_up, kept_until_over}
 use Rattle.dccp_listener.specs.Listens.{with_end}
 use Rattle.dccp_listener.specs.Peers.{FlowEnd, Flows, end_of_peer, is_peer, peer_cmp}
@@ -14,7 +15,7 @@ use Rattle.dccp_listener.specs.declared.peer.Peer.{Peer}
 -- the peer's own end after the first half, all flows, the frame, and what is shown of the answer beside whether the end
 -- is over
 abbrev pub FlowMoves : {A B : Type 0} → (FlowEnd → EndStep Both A) → (A → B) → Option FlowEnd → (own : Option FlowEnd) (before after : Flows) → Peer
-    → Option (List ℕ) → Option (B × Bool) → Type 0
+    → Option Outgoing → Option (B × Bool) → Type 0
 FlowMoves step show (Some e) own before after peer frame told =
     (own ≡ Some (step e).after) × (after ≡ set_value (is_peer peer) before (step e).after) × (frame ≡ (step e).frame)
     × (told ≡ Some (show (step e).answer, is_given_up (step e).after.state.phase))
@@ -22,13 +23,13 @@ FlowMoves step show None own before after peer frame told = (own ≡ None) × (a
 
 -- the same after both
 abbrev pub FlowSteps : {A B : Type 0} → (FlowEnd → EndStep Both A) → (A → B) → Option FlowEnd → (own : Option FlowEnd) (before after : Flows) → Peer
-    → Option (List ℕ) → Option B → Type 0
+    → Option Outgoing → Option B → Type 0
 FlowSteps step show (Some e) own before after peer frame told =
     (own ≡ kept_until_over (step e).after) × (after ≡ with_end before peer (step e).after) × (frame ≡ (step e).frame)
     × (told ≡ Some (show (step e).answer))
 FlowSteps step show None own before after peer frame told = (own ≡ None) × (after ≡ before) × (frame ≡ None) × (told ≡ None)
 
 -- a peer that has no end gets a fresh one, which this step has left
-abbrev pub IsTakenIn : EndStep Both Outcome → (before after : Flows) → Peer → Option (List ℕ) → Outcome → Type 0
+abbrev pub IsTakenIn : EndStep Both Outcome → (before after : Flows) → Peer → Option Outgoing → Outcome → Type 0
 IsTakenIn step before after peer frame outcome =
     (end_of_peer after peer ≡ Some step.after) × (after ≡ insert_entry peer_cmp before peer step.after) × (frame ≡ step.frame) × (outcome ≡ step.answer)

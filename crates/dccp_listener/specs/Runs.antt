@@ -3,6 +3,7 @@ use Rattle.std.specs.Prelude.{◌≡◌, ℕ, Bool, true, false, List, [], ◌�
 use Rattle.seq_circle.specs.declared.memory.NoMemory.{NoMemory}
 use Rattle.world_events.specs.declared.event.Seen.{Seen}
 use Rattle.world_events.specs.declared.event.Seen.TheVariants as seen
+use Rattle.dccp_packets.specs.Outgoing.{Outgoing}
 use Rattle.dccp_listener.specs.Calls.{IsStep, seen_if}
 use Rattle.dccp_listener.specs.Chain.{Deed, Arrives, Calls, FlowCall, chain_step}
 use Rattle.dccp_listener.specs.Peers.{FlowEnd, Listening, end_of_peer, is_peer}
@@ -21,7 +22,7 @@ pub data CallTold : Type 0 where
 pub record CallTurn : Type 0 where
   pub peer : Peer
   pub deed : Deed
-  pub frame : Option (List ℕ)
+  pub frame : Option Outgoing
   pub told : CallTold
 
 -- what `arrive` told
@@ -31,11 +32,11 @@ told_of (Ok heard.Busy) = WasBusy
 told_of (Err _) = HadNoMemory
 
 -- a call `arrive`
-abbrev pub arrival : Peer → ℕ → List ℕ → Option (List ℕ) → Result Heard NoMemory → CallTurn
+abbrev pub arrival : Peer → ℕ → List ℕ → Option Outgoing → Result Heard NoMemory → CallTurn
 arrival peer iss bytes frame result = record { peer = peer; deed = Arrives iss bytes; frame = frame; told = told_of result }
 
 -- a call `act`
-abbrev pub call_turn : Peer → FlowCall → Option (List ℕ) → Result Seen NoFlow → CallTurn
+abbrev pub call_turn : Peer → FlowCall → Option Outgoing → Result Seen NoFlow → CallTurn
 call_turn peer call frame result = record { peer = peer; deed = Calls call; frame = frame; told = Stepped (seen_if result) }
 
 -- by what was told, the turn is a step, or nothing changes
@@ -56,7 +57,7 @@ IsRunOfTurns before after (turn ∷ turns) = (between : Listening) × IsTurn bef
 -- what one peer sees of a turn that was not busy and had memory
 pub record PeerTurn : Type 0 where
   pub deed : Deed
-  pub frame : Option (List ℕ)
+  pub frame : Option Outgoing
   pub seen : Option Seen
 
 -- a turn of the peer that was answered by its end

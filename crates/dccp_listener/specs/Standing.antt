@@ -3,7 +3,8 @@ use Rattle.std.specs.Prelude.{◌≡◌, ◌≤◌, ℕ, true, List, length, Opt
 use Rattle.feature_lists.specs.Lists.{is_distinct}
 use Rattle.feature_machine.specs.Lists.{IsLists}
 use Rattle.dccp_endpoint.specs.End.{IsProper}
-use Rattle.dccp_listener.specs.Chain.{Deed, chain_step, config_for, is_flow}
+use Rattle.dccp_endpoint.specs.Strangers.{stays_in}
+use Rattle.dccp_listener.specs.Chain.{Deed, chain_step, config_for}
 use Rattle.dccp_listener.specs.Peers.{FlowEnd, Flows, end_of_peer}
 use Rattle.dccp_listener.specs.declared.config.ListenConfig.{ListenConfig}
 use Rattle.dccp_listener.specs.declared.peer.Peer.{Peer}
@@ -21,7 +22,7 @@ pub record Stands (config : ListenConfig) (peer : Peer) (e : FlowEnd) : Type 0 w
   pub bytes : List ℕ
   pub made_for : e.state.config ≡ config_for config peer iss bytes
   pub proper : IsProper e.state
-  pub phase_is : is_flow e.state.phase ≡ true
+  pub phase_is : stays_in e.state.phase ≡ true
 
 -- There are no more flows than may be, and the end of each peer stands.
 pub record IsSoundListener (config : ListenConfig) (flows : Flows) : Type 0 where

@@ -1,13 +1,16 @@
 //! What one end answers, as a listener tells it.
-ghost use Rattle.std.specs.Prelude.{◌≡◌, ◌≤◌, None, length};
+ghost use Rattle.std.specs.Prelude.{◌≡◌, ◌≤◌, None, Ok, length};
 ghost use Rattle.ccid_two.specs.Kinds.{kinds_control};
 ghost use Rattle.dccp_endpoint.specs.Feeding.{receiving};
+ghost use Rattle.dccp_endpoint.specs.Incoming.{parts_of_packet};
+ghost use Rattle.dccp_packets.specs.Grammar.{decoded};
 ghost use Rattle.two_ends.specs.World.{seen_of};
 ghost use Rattle.dccp_listener.specs.Chain.{Calls, call_of, flow_step, is_given_up};
 
 use crate::Act;
 use ccid_two::Kinds;
 use dccp_endpoint::{AbortFault, CloseFault, Endpoint, NoMemory, Outbox, Outcome, Phase};
+use dccp_packets::Packet;
 use world_events::{Refusal, Seen};
 
 /// The phase in which an end is given up.
@@ -38,6 +41,21 @@ pub(crate) fn call(end: &mut Endpoint<Kinds>, act: Act<'_>, out: &mut Outbox) ->
             Err(AbortFault::NotLive) => Seen::Called(Err(Refusal::NotLive)),
         },
     }
+}
+
+/// A fresh end hears a datagram that was decoded.
+pub(crate) fn receive_packet(
+    end: &mut Endpoint<Kinds>,
+    packet: &Packet<'_>,
+    bytes: &[u8],
+    out: &mut Outbox,
+) -> Outcome
+    requires short { length bytes.now ≤ 2044 }
+    requires read { decoded bytes.now ≡ Ok (parts_of_packet packet.now) }
+    requires options { length packet.now.options.now ≤ 1008 }
+    ensures { record { after = end.new; frame = out.new; answer = result } ≡ receiving kinds_control end.old bytes.now }
+{
+    end.receive_packet(packet, bytes, out)
 }
 
 /// The end hears a datagram.

@@ -1,12 +1,11 @@
 //! What a listener is made from, and what a peer's end is made from then.
 ghost use Rattle.std.specs.Prelude.{◌≡◌, length};
-ghost use Rattle.dccp_packets.specs.Grammar.{decoded};
-ghost use Rattle.dccp_listener.specs.Chain.{asked_service, config_for, service_for};
+ghost use Rattle.dccp_listener.specs.Chain.{config_asked, requested, service_for};
 
 use crate::Peer;
 use arrayvec::ArrayVec;
 use dccp_endpoint::{Config, Lists, Pseudo, Role, Seq48, Vectors};
-use dccp_packets::{Kind, decode};
+use dccp_packets::Kind;
 
 /// What a listener is made from (own).
 #[derive(Clone, Debug, Drop)]
@@ -23,16 +22,21 @@ pub struct ListenConfig {
     pub most: u16,
 }
 
-// The Service Code that bytes ask for.
-fn asked_service(bytes: &[u8]) -> Option<u32>
-    ensures { result ≡ asked_service (decoded bytes.now) }
+// The Service Code that a packet asks for.
+fn requested(kind: &Kind) -> Option<u32>
+    ensures { result ≡ requested kind.now }
 {
-    match decode(bytes) {
-        Ok(packet) => match packet.header.kind {
-            Kind::Request { service } => Some(service),
-            _ => None,
-        },
-        Err(_) => None,
+    match *kind {
+        Kind::Request { service } => Some(service),
+        Kind::Response { .. }
+        | Kind::Data
+        | Kind::Ack { .. }
+        | Kind::DataAck { .. }
+        | Kind::CloseReq { .. }
+        | Kind::Close { .. }
+        | Kind::Reset { .. }
+        | Kind::Sync { .. }
+        | Kind::SyncAck { .. } => None,
     }
 }
 
@@ -56,9 +60,9 @@ fn service_for(services: &[u32], asked: Option<u32>) -> u32
     }
 }
 
-/// What a fresh end for the peer is made from.
-pub(crate) fn config_for(config: &ListenConfig, peer: Peer, iss: Seq48, bytes: &[u8]) -> Config
-    ensures { result ≡ config_for config.now peer iss bytes.now }
+/// What a fresh end for the peer is made from, where a packet with this type is the first.
+pub(crate) fn config_for(config: &ListenConfig, peer: Peer, iss: Seq48, kind: &Kind) -> Config
+    ensures { result ≡ config_asked config.now peer iss (requested kind.now) }
 {
     let own_address = config.own_address;
     let address = peer.address;
@@ -74,7 +78,7 @@ pub(crate) fn config_for(config: &ListenConfig, peer: Peer, iss: Seq48, bytes: &
         },
         own_port: config.own_port,
         peer_port: peer.port,
-        service: service_for(config.services.as_slice(), asked_service(bytes)),
+        service: service_for(config.services.as_slice(), requested(kind)),
         iss,
         lists: config.lists,
         vectors: Vectors::One,

@@ -15,7 +15,6 @@ mod laws;
 mod listener;
 mod meeting;
 mod peer;
-mod strangers;
 
 pub use crate::calls::{Act, Heard, NoFlow};
 pub use crate::config::ListenConfig;

@@ -3,6 +3,8 @@ ghost use Rattle.std.specs.Prelude.{◌≡◌, ◌≤◌, ◌+◌, ◌↔◌, No
 ghost use Rattle.ccid_two.specs.Kinds.{at_first, kinds_control};
 ghost use Rattle.dccp_endpoint.specs.Controlled.{begins};
 ghost use Rattle.dccp_endpoint.specs.Feeding.{receiving};
+ghost use Rattle.dccp_endpoint.specs.Incoming.{parts_of_packet};
+ghost use Rattle.dccp_packets.specs.Grammar.{decoded};
 ghost use Rattle.dccp_listener.specs.Calls.{Arrived, IsStep, seen_if};
 ghost use Rattle.dccp_listener.specs.Chain.{Arrives, Calls, call_of};
 ghost use Rattle.dccp_listener.specs.Listens.{listens};
@@ -13,10 +15,10 @@ ghost use Rattle.dccp_listener.specs.Runs.{Stepped, told_of};
 use crate::answers::without_memory;
 use crate::config::config_for;
 use crate::flows::{Held, act_at, hear_at, put_flow};
-use crate::greeting::{greet, refuse};
-use crate::strangers::turn_away;
+use crate::greeting::{drop_malformed, greet, refuse};
 use crate::{Act, Heard, ListenConfig, NoFlow, Peer};
-use dccp_endpoint::{Config, NoMemory, Outbox, Outcome, Seq48};
+use dccp_endpoint::{Config, NoMemory, Outbox, Outcome, Seq48, answer_stranger};
+use dccp_packets::{Packet, decode};
 use std::alloc::Global;
 use std::collections::BTreeMap;
 use world_events::Seen;
@@ -27,18 +29,21 @@ fn admit(
     config: &Config,
     flows: &mut BTreeMap<Peer, Held>,
     peer: Peer,
+    packet: &Packet<'_>,
     bytes: &[u8],
     out: &mut Outbox,
 ) -> Result<Outcome, NoMemory>
     requires empty { out.old ≡ None }
     requires short { length bytes.now ≤ 2044 }
+    requires read { decoded bytes.now ≡ Ok (parts_of_packet packet.now) }
+    requires options { length packet.now.options.now ≤ 1008 }
     ensures admitted { IfOk result (λ outcome. IsTakenIn (receiving kinds_control (begins kinds_control config.now at_first) bytes.now) flows.old.entries flows.new.entries peer out.new outcome) }
     ensures others { (other : Peer) → is_peer peer other ≡ false
         → end_of_peer flows.new.entries other ≡ end_of_peer flows.old.entries other }
     ensures count { length flows.new.entries ≤ length flows.old.entries + 1 }
     ensures unchanged { OnErr result ((flows.new.entries ≡ flows.old.entries) × (out.new ≡ None)) }
 {
-    let (end, outcome) = greet(alloc, config, bytes, out)?;
+    let (end, outcome) = greet(alloc, config, packet, bytes, out)?;
     match put_flow(alloc, flows, peer, end) {
         Ok(()) => Ok(outcome),
         Err(_) => Err(without_memory(out)),
@@ -71,15 +76,19 @@ pub(crate) fn arrive(
     if let Some(outcome) = hear_at(flows, peer, bytes, out) {
         return Ok(Heard::Flow(outcome));
     }
-    let own = config_for(config, peer, iss, bytes);
-    if let Some(outcome) = turn_away(&own, bytes, out) {
+    let packet = match decode(bytes) {
+        Ok(packet) => packet,
+        Err(fault) => return Ok(Heard::Flow(drop_malformed(config, peer, iss, bytes, fault))),
+    };
+    let own = config_for(config, peer, iss, &packet.header.kind);
+    if let Some(outcome) = answer_stranger(&own, &packet, bytes, out) {
         return Ok(Heard::Flow(outcome));
     }
     if is_full(config, flows) {
-        refuse(&own, bytes, out);
+        refuse(&own, &packet.header.number, out);
         return Ok(Heard::Busy);
     }
-    let outcome = admit(alloc, &own, flows, peer, bytes, out)?;
+    let outcome = admit(alloc, &own, flows, peer, &packet, bytes, out)?;
     Ok(Heard::Flow(outcome))
 }
 

@@ -1,6 +1,7 @@
 -- The timers of a session, one after another.
 use Rattle.std.proofs.Common.{◌≡◌, refl, sym, ap, ◌∙◌, subst, ℕ, ◌≤◌, ◌-◌, ◌==◌, List, [], ◌∷◌, Bool, true, false, if◌then◌else◌, Option, Some, None, arith}
 use Rattle.congestion_trait.specs.Control.{Control}
+use Rattle.dccp_packets.specs.Outgoing.{Outgoing}
 use Rattle.dccp_endpoint.specs.Calling.{fires}
 use Rattle.dccp_endpoint.specs.Controlled.{End, EndStep, has_in_flight, with_control}
 use Rattle.dccp_states.specs.declared.calls.Timer.{Timer}
@@ -137,7 +138,7 @@ module _ {C N : Type 0} (sends : N → List ℕ → N → Type 0) (control : Con
   by-due s new timer n n' answer false is does = cc is
 
   -- A timer that has run out, told by hand.
-  pub ring_does : (s new : SessionState C) (timer : Timer) (n n' : N) (out : Option (List ℕ)) (end : End C) (answer : Bool)
+  pub ring_does : (s new : SessionState C) (timer : Timer) (n n' : N) (out : Option Outgoing) (end : End C) (answer : Bool)
       → has_run_out (alarm_of s.alarms timer) now ≡ true
       → record { after = end; frame = out; answer = answer } ≡ with_control control s.end.congestion
       (fires s.end.state timer (has_in_flight control s.end.congestion))
@@ -151,6 +152,6 @@ module _ {C N : Type 0} (sends : N → List ℕ → N → Type 0) (control : Con
         session_is =
             ap (λ (e : End C). both e new.alarms) (end_is ∙ after_is)
             ∙ ap (both step.after) (alarms_are ∙ ap (λ (e : End C). arranged (rung s.alarms timer now) (condition_of control e) now) after_is);
-        handed = subst (λ (f : Option (List ℕ)). Hands sends n f n') (ap (λ (x : EndStep C Bool). x.frame) is) hands;
+        handed = subst (λ (f : Option Outgoing). Hands sends n f n') (ap (λ (x : EndStep C Bool). x.frame) is) hands;
         answer_is = ap (λ (x : EndStep C Bool). x.answer) is;
       })

@@ -1,6 +1,7 @@
 -- An end with the timers that its owner keeps for it (own; the end is RFC 4340's).
 use Rattle.std.specs.Prelude.{◌≡◌, nat_lt, nat_le, ℕ, Bool, true, false, not, ◌&&◌, List, [], ◌∷◌, length, Option, Some, None, is_some, Result, Ok, Err, if◌then◌else◌}
 use Rattle.congestion_trait.specs.Control.{Control}
+use Rattle.dccp_packets.specs.Outgoing.{Outgoing}
 use Rattle.dccp_endpoint.specs.Calling.{fires}
 use Rattle.dccp_endpoint.specs.Controlled.{End, EndStep, begins, has_in_flight, in_flight_of, with_control}
 use Rattle.dccp_endpoint.specs.Receiving.{receives}
@@ -26,7 +27,7 @@ pub record SessionState (C : Type 0) : Type 0 where
 -- a session after something happened, the frame that its end made, if any, and the answer
 pub record SessionStep (C Answer : Type 0) : Type 0 where
   pub session : SessionState C
-  pub frame : Option (List ℕ)
+  pub frame : Option Outgoing
   pub answer : Answer
 
 -- The session did that step: the frame that its end made was handed to the network.
@@ -131,7 +132,7 @@ rings control now s timer =
 -- a session after several steps, and their frames
 pub record SessionSteps (C : Type 0) : Type 0 where
   pub session : SessionState C
-  pub frames : List (Option (List ℕ))
+  pub frames : List (Option Outgoing)
 
 -- a step in front of those that come after it, with its frame as the first
 abbrev pub followed : {C : Type 0} → SessionStep C Bool → SessionSteps C → SessionSteps C

@@ -21,7 +21,7 @@ pub trait Network {
 pub(crate) fn hand_over<N: Network>(out: &Outbox, network: &mut N)
     ensures { Hands N.sends network.old out.now network.new }
 {
-    if let Some(frame) = out.frame() {
-        network.send(frame.bytes());
+    if let Some(sent) = out.sent() {
+        network.send(sent.bytes);
     }
 }

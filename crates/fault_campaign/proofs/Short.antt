@@ -51,8 +51,8 @@ seen-size r (Received outcome) = outcome-size r outcome
 one-frame : (half : Half) (number : Option ℕ) (given : Input) → length (half_steps half number given).half.frames ≤ length half.frames + 1
 one-frame half number given =
     let step = end_stepped half.end given in
-    let sent = as_sent step.after.marks (length (half_steps half number given).half.processed) (floor_of step.after) step.frame in
-    let few : length sent ≤ 1 = sent-few step.after.marks _ _ step.frame in
+    let sent = as_sent (length (half_steps half number given).half.processed) (floor_of step.after) step.frame in
+    let few : length sent ≤ 1 = sent-few _ _ step.frame in
     let both : length (half.frames ++ sent) ≡ length half.frames + length sent = length-append half.frames sent in
     omega arith
 

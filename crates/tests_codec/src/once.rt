@@ -5,8 +5,8 @@ ghost use Rattle.std.specs.Prelude.{◌≤◌, length};
 use dccp_options::kinds::{ACK_VECTOR_0, CHANGE_L};
 use dccp_options::{AckReport, OptFull, OptWriter, options};
 use dccp_packets::{
-    Frame, Header, Kind, MOST_FRAME_BYTES, Number, OptionsTooLong, Outbox, PacketType, ResetCode,
-    decode, encode,
+    Frame, Header, Kind, MOST_FRAME_BYTES, Number, Numbers, OptionsTooLong, Outbox, PacketType,
+    ResetCode, decode, encode,
 };
 use dccp_states::{Entrance, Phase, Reply, Role, after, gate, unexpected};
 use dccp_sum::{Pseudo, check, checksum, covered, seal};
@@ -151,17 +151,35 @@ fn holds_until_emptied(out: &mut Outbox) -> bool {
 }
 
 // Whether it holds a frame of no bytes that is begun.
-fn holds_begun(out: &mut Outbox) -> bool {
-    out.begin().bytes().is_empty() && has_frame(out, &[])
+fn holds_begun(out: &mut Outbox, numbers: Numbers) -> bool {
+    out.begin(numbers).bytes().is_empty() && has_frame(out, &[])
+}
+
+// The numbers of a packet that acknowledges another.
+fn two_numbers() -> Option<Numbers> {
+    Some(Numbers {
+        number: Seq48::new(7)?,
+        ack: Seq48::new(5),
+    })
+}
+
+// Whether an Outbox tells these numbers of its frame.
+fn has_numbers(out: &Outbox, numbers: Numbers) -> bool {
+    match out.sent() {
+        Some(sent) => sent.number == numbers.number && sent.ack == numbers.ack,
+        None => false,
+    }
 }
 
 #[test]
 fn one_frame_in_an_outbox(rt: HostRuntime) -> Result<(), Fail> {
     let mut out = Outbox::new();
     assert!(rt; out.frame().is_none(), "a new one");
-    out.put(changed_frame().ok_or("three bytes")?);
+    let numbers = two_numbers().ok_or("two numbers")?;
+    out.put(changed_frame().ok_or("three bytes")?, numbers);
+    assert!(rt; has_numbers(&out, numbers), "the numbers of what was put");
     assert!(rt; holds_until_emptied(&mut out), "what was put");
-    assert!(rt; holds_begun(&mut out), "what was begun");
+    assert!(rt; holds_begun(&mut out, numbers), "what was begun");
     Ok(())
 }
 

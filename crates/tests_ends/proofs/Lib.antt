@@ -15,6 +15,7 @@ pub mod RowsFed
 pub mod RowsHandshake
 pub mod RowsInboxes
 pub mod RowsNegotiations
+pub mod RowsNumbers
 pub mod RowsOffers
 pub mod RowsOptions
 pub mod RowsPairs

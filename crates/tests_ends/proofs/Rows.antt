@@ -1,5 +1,6 @@
 -- Worked packets, computed from the definitions: what the standard's numbers and the RFC 1071 sum come to by hand, as bytes.
 use Rattle.std.proofs.Common.{◌≡◌, refl, true, false, [], ◌∷◌, None, Ok, Err}
+use Rattle.dccp_packets.specs.Outgoing.{bytes_sent}
 use Rattle.dccp_packets.specs.declared.reading.Malformed.TheVariants as malformed
 use Rattle.dccp_sum.specs.declared.packet_sum.SumFault.TheVariants as sums
 use Rattle.dccp_states.specs.declared.phase.Phase.TheVariants as phase
@@ -138,7 +139,7 @@ abbrev late_answered : Step Outcome
 late_answered = arrives late_client "13899c40070029fd03000000000007d00000fffffffffffe0000002a"
 
 number-wrap :
-    (late_answered.frame ≡ sent "9c4013890600272a0700ffffffffffff00000000000007d0")
+    (bytes_sent late_answered.frame ≡ sent "9c4013890600272a0700ffffffffffff00000000000007d0")
     × (seen (fires (arrives late_answered.after "13899c400600272907000000000007d10000ffffffffffff").after timers.Ack false)
     ≡ (true, sent "9c40138906002729070000000000000000000000000007d1", phase.Open))
 unfolding receives opens fires framed

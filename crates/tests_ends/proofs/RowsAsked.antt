@@ -3,6 +3,7 @@
 -- asked for a Close answers to types that its peer may not send (RFC 4340, section 8.5). The values were worked out by hand.
 use Rattle.std.proofs.Common.{◌≡◌, refl, ℕ, false, List, [], ◌∷◌, Option, None}
 use Prim.Native.String.{String}
+use Rattle.dccp_packets.specs.Outgoing.{bytes_sent}
 use Rattle.dccp_states.specs.declared.calls.Timer.TheVariants as timers
 use Rattle.dccp_states.specs.declared.outcome.Outcome.{Outcome}
 use Rattle.dccp_states.specs.declared.outcome.Outcome.TheVariants.{Dropped, SentReset, Synced, Took}
@@ -47,7 +48,7 @@ unstable e place = asks (changing e place) f.MinCsCov place (2 ∷ [])
 -- what it answers to a packet, holds for a feature then, and sends
 abbrev answered : Feature → Place → Step Outcome → Outcome × ℕ × Stand × Option (List ℕ)
 answered feature place step =
-    (step.answer, (row_at step.after.rows feature place).value, (row_at step.after.rows feature place).stand, step.frame)
+    (step.answer, (row_at step.after.rows feature place).value, (row_at step.after.rows feature place).stand, bytes_sent step.frame)
 
 abbrev answers : EndState → Feature → Place → String → Outcome × ℕ × Stand × Option (List ℕ)
 answers e feature place digits = answered feature place (arrives e digits)

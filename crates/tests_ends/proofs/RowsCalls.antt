@@ -2,6 +2,7 @@
 use Rattle.std.proofs.Common.{ℕ, ◌==◌, Bool, List, [], ◌∷◌, ◌++◌, Option, Result, codes}
 use Rattle.std.specs.List.{list_any}
 use Prim.Native.String.{String}
+use Rattle.dccp_packets.specs.Outgoing.{bytes_sent}
 use Rattle.ccid_two.specs.Kinds.{Both, at_first, kinds_control}
 use Rattle.congestion_trait.specs.Control.{may_send}
 use Rattle.dccp_states.specs.declared.calls.AbortFault.{AbortFault}
@@ -69,7 +70,7 @@ saying s told = record s { said = s.said ++ told ∷ [] }
 
 -- a step of it, with what that makes of the congestion control
 abbrev stepped : {Answer : Type 0} → Story → (Answer → Option (List ℕ) → Told) → EndStep Both Answer → Story
-stepped s tells step = saying (record s { end = step.after }) (tells step.answer step.frame)
+stepped s tells step = saying (record s { end = step.after }) (tells step.answer (bytes_sent step.frame))
 
 abbrev steps : {Answer : Type 0} → Story → (Answer → Option (List ℕ) → Told) → Step Answer → Story
 steps s tells step = stepped s tells (with_control kinds_control s.end.congestion step)

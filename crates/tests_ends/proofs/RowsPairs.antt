@@ -2,6 +2,7 @@
 -- the step that its clause names; a frame that a step makes goes onto the wire, and nothing else does.
 use Rattle.std.specs.Prelude.{ℕ, ◌+◌, ◌-◌, zero, suc, Bool, true, false, List, [], ◌∷◌, ◌++◌, length, slice_range, Option, Some, None, is_some, Result}
 use Rattle.std.specs.List.{list_any}
+use Rattle.dccp_packets.specs.Outgoing.{Outgoing}
 use Rattle.ccid_two.specs.Kinds.{Both, at_first, kinds_control}
 use Rattle.congestion_trait.specs.Control.{Control, may_send}
 use Rattle.dccp_endpoint.specs.Calling.{closes, opens}
@@ -34,11 +35,11 @@ pub record Pair (C : Type 0) : Type 0 where
   pub got : List ℕ
 
 -- a frame goes onto a wire
-abbrev pub onto : List (List ℕ) → Option (List ℕ) → List (List ℕ)
+abbrev pub onto : List (List ℕ) → Option Outgoing → List (List ℕ)
 onto wire None = wire
-onto wire (Some frame) = wire ++ frame ∷ []
+onto wire (Some sent) = wire ++ sent.bytes ∷ []
 
-abbrev pub onto_all : List (List ℕ) → List (Option (List ℕ)) → List (List ℕ)
+abbrev pub onto_all : List (List ℕ) → List (Option Outgoing) → List (List ℕ)
 onto_all wire [] = wire
 onto_all wire (frame ∷ rest) = onto_all (onto wire frame) rest
 

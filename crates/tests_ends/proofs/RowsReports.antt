@@ -1,6 +1,7 @@
 -- Worked reports, computed from the definitions: which packets report to the congestion control, what they tell it, and when it is started.
 use Rattle.std.proofs.Common.{◌≡◌, refl, ℕ, List, [], ◌∷◌, Some, None}
 use Prim.Native.String.{String}
+use Rattle.dccp_packets.specs.Outgoing.{bytes_sent}
 use Rattle.dccp_packets.specs.declared.header.PacketType.TheVariants as types
 use Rattle.dccp_states.specs.declared.phase.Phase.TheVariants as phase
 use Rattle.feature_lists.specs.declared.features.Feature.TheVariants as f
@@ -84,10 +85,10 @@ abbrev preferring_4 : Called PreferFault
 preferring_4 = prefers open_client (f.AckRatio, Here) (4 ∷ [])
 
 report-and-start :
-    (preferring_248.frame ≡ sent "9c4013890800fd3907000000000003ea00000000000007d1200501f802000000")
+    (bytes_sent preferring_248.frame ≡ sent "9c4013890800fd3907000000000003ea00000000000007d1200501f802000000")
     × (calls_at (1002 ∷ 1001 ∷ []) (arrives preferring_248.after "13899c400900f91107000000000007d200000000000003ea260300230601f8f802000000")
     ≡ Reported (Some 0 ∷ None ∷ []) 2 ∷ Started 248 ∷ [])
-    × (preferring_4.frame ≡ sent "9c4013890800f83107000000000003ea00000000000007d12005050004000000")
+    × (bytes_sent preferring_4.frame ≡ sent "9c4013890800f83107000000000003ea00000000000007d12005050004000000")
     × (calls_at (1002 ∷ 1001 ∷ []) (arrives preferring_4.after "13899c400800f60607000000000007d200000000000003ea2603002305050004")
     ≡ Reported (Some 0 ∷ None ∷ []) 4 ∷ [])
 unfolding receives opens prefers framed

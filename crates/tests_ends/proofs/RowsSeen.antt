@@ -2,6 +2,7 @@
 -- their way through a handshake.
 use Rattle.std.specs.Prelude.{ℕ, ◌+◌, ◌-◌, ◌*◌, nat_le, if◌then◌else◌, Bool, true, List, [], ◌∷◌, map, slice_set, Option, Some, codes}
 use Prim.Native.String.{String}
+use Rattle.dccp_packets.specs.Outgoing.{bytes_sent}
 use Rattle.congestion_trait.specs.Calls.{Call}
 use Rattle.congestion_trait.specs.Calls as call
 use Rattle.dccp_states.specs.declared.phase.Phase.{Phase}
@@ -40,7 +41,7 @@ arrives e digits = receives e (bytes (codes digits))
 
 -- what is seen of a step: its answer, its frame and the phase after it
 abbrev pub seen : {Answer : Type 0} → Step Answer → Answer × Option (List ℕ) × Phase
-seen step = (step.answer, step.frame, step.after.phase)
+seen step = (step.answer, bytes_sent step.frame, step.after.phase)
 
 -- what is seen of a call of the congestion control: of a report, the states that it gives these numbers
 pub data SeenCall : Type 0 where

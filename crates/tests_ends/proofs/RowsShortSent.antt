@@ -2,6 +2,7 @@
 use Rattle.std.proofs.Common.{◌≡◌, refl, Bool, true, false, [], ◌∷◌, None, Ok}
 use Rattle.std.specs.Prelude.{slice_set}
 use Prim.Native.String.{String}
+use Rattle.dccp_packets.specs.Outgoing.{bytes_sent}
 use Rattle.dccp_states.specs.declared.phase.Phase.TheVariants as phase
 use Rattle.dccp_states.specs.declared.phase.Role.TheVariants.{Client, Server}
 use Rattle.feature_lists.specs.declared.features.Feature.TheVariants.{MinCsCov, SendAckVector, SequenceWindow, ShortSeqnos}
@@ -56,14 +57,14 @@ unfolding receives opens fires framed
 short-numbers = (refl, refl, refl, refl, refl, refl, refl, refl, refl)
 
 -- the server of the plain handshake, which may send short numbers
-abbrev sending : EndState
+abbrev pub sending : EndState
 sending = holding ShortSeqnos Here 1 open_server
 
 abbrev standing : Stand → EndState → EndState
 standing stand e = record e { rows = slice_set e.rows (index_of ShortSeqnos Here) (record (row_at e.rows ShortSeqnos Here) { stand = stand }) }
 
 -- the Ack of the timer
-abbrev acknowledges : EndState → Step Bool
+abbrev pub acknowledges : EndState → Step Bool
 acknowledges e = fires e timers.Ack false
 
 abbrev short_one : String
@@ -74,14 +75,14 @@ long_one = "13899c400600233f07000000000007d200000000000003e9"
 
 -- It is short by the value here and not by that at the peer, where that is settled, in OPEN, and with windows of at most 2^22.
 which-acks-are-short :
-    ((acknowledges sending).frame ≡ sent short_one)
-    × ((acknowledges (holding ShortSeqnos There 1 open_server)).frame ≡ sent long_one)
-    × ((acknowledges (standing Changing sending)).frame ≡ sent long_one)
-    × ((acknowledges (standing Unstable sending)).frame ≡ sent long_one)
-    × ((acknowledges (in_phase sending phase.PartOpen)).frame ≡ sent long_one)
-    × ((acknowledges (holding SequenceWindow Here 4194304 (holding SequenceWindow There 4194304 sending))).frame ≡ sent short_one)
-    × ((acknowledges (holding SequenceWindow Here 4194305 sending)).frame ≡ sent long_one)
-    × ((acknowledges (holding SequenceWindow There 4194305 sending)).frame ≡ sent long_one)
+    (bytes_sent (acknowledges sending).frame ≡ sent short_one)
+    × (bytes_sent (acknowledges (holding ShortSeqnos There 1 open_server)).frame ≡ sent long_one)
+    × (bytes_sent (acknowledges (standing Changing sending)).frame ≡ sent long_one)
+    × (bytes_sent (acknowledges (standing Unstable sending)).frame ≡ sent long_one)
+    × (bytes_sent (acknowledges (in_phase sending phase.PartOpen)).frame ≡ sent long_one)
+    × (bytes_sent (acknowledges (holding SequenceWindow Here 4194304 (holding SequenceWindow There 4194304 sending))).frame ≡ sent short_one)
+    × (bytes_sent (acknowledges (holding SequenceWindow Here 4194305 sending)).frame ≡ sent long_one)
+    × (bytes_sent (acknowledges (holding SequenceWindow There 4194305 sending)).frame ≡ sent long_one)
 unfolding receives fires framed
 which-acks-are-short = (refl, refl, refl, refl, refl, refl, refl, refl)
 
@@ -95,11 +96,11 @@ what-is-long :
     ≡ (Took None, sent "13899c4004002646060007d2000003ea", phase.Open))
     × (seen (arrives sending "9c4013890700003f07000000000003ea00000000000007d1200401f8")
     ≡ (Took None, sent "13899c400800f93f07000000000007d200000000000003ea230601f802f80000", phase.Open))
-    × (wishing_coverage.frame ≡ sent "13899c400700fa3507000000000007d200000000000003e920040801")
-    × ((acknowledges wishing_coverage.after).frame ≡ sent "13899c4004002646060007d3000003e9")
-    × ((fires (acknowledges wishing_coverage.after).after timers.Negotiate false).frame
+    × (bytes_sent wishing_coverage.frame ≡ sent "13899c400700fa3507000000000007d200000000000003e920040801")
+    × (bytes_sent (acknowledges wishing_coverage.after).frame ≡ sent "13899c4004002646060007d3000003e9")
+    × (bytes_sent (fires (acknowledges wishing_coverage.after).after timers.Negotiate false).frame
     ≡ sent "13899c400700fa3307000000000007d400000000000003e920040801")
-    × ((closes sending).frame ≡ sent "13899c4006001f3f0b000000000007d200000000000003e9")
+    × (bytes_sent (closes sending).frame ≡ sent "13899c4006001f3f0b000000000007d200000000000003e9")
     × (seen (arrives sending "9c4013890600214b07000000000005de00000000000007d1")
     ≡ (Synced 1502, sent "13899c400600174a11000000000007d200000000000005de", phase.Open))
 unfolding receives prefers fires closes framed
@@ -113,18 +114,18 @@ abbrev first_sent : Called SendFault
 first_sent = sends data_sending "aa"
 
 short-packets-with-vectors-and-data :
-    ((acknowledges (holding SendAckVector Here 1 sending)).frame ≡ sent "13899c400500fe3f060007d2000003e926030100")
-    × (first_sent.frame ≡ sent "13899c4003008332040007d2aa")
-    × ((sends (record data_sending { owed = true }) "aa").frame ≡ sent "13899c4004007a45080007d2000003e9aa")
-    × ((sends (record (holding SendAckVector Here 1 data_sending) { owed = true }) "aa").frame
+    (bytes_sent (acknowledges (holding SendAckVector Here 1 sending)).frame ≡ sent "13899c400500fe3f060007d2000003e926030100")
+    × (bytes_sent first_sent.frame ≡ sent "13899c4003008332040007d2aa")
+    × (bytes_sent (sends (record data_sending { owed = true }) "aa").frame ≡ sent "13899c4004007a45080007d2000003e9aa")
+    × (bytes_sent (sends (record (holding SendAckVector Here 1 data_sending) { owed = true }) "aa").frame
     ≡ sent "13899c400500523e080007d2000003e926030100aa")
 unfolding receives fires sends_payload framed
 short-packets-with-vectors-and-data = (refl, refl, refl, refl)
 
 -- the low 24 bits of 2^24, of 0 behind 2^48 - 1, and of an acknowledged 2^24
 cut-to-24-bits :
-    ((acknowledges (record sending { marks = record sending.marks { gss = 16777215 } })).frame ≡ sent "13899c4004002e1906000000000003e9")
-    × ((acknowledges (record sending { marks = record sending.marks { gss = 281474976710655 } })).frame ≡ sent "13899c4004002e1906000000000003e9")
-    × ((acknowledges (record sending { marks = record sending.marks { gsr = 16777216 } })).frame ≡ sent "13899c4004002a30060007d200000000")
+    (bytes_sent (acknowledges (record sending { marks = record sending.marks { gss = 16777215 } })).frame ≡ sent "13899c4004002e1906000000000003e9")
+    × (bytes_sent (acknowledges (record sending { marks = record sending.marks { gss = 281474976710655 } })).frame ≡ sent "13899c4004002e1906000000000003e9")
+    × (bytes_sent (acknowledges (record sending { marks = record sending.marks { gsr = 16777216 } })).frame ≡ sent "13899c4004002a30060007d200000000")
 unfolding receives fires framed
 cut-to-24-bits = (refl, refl, refl)

@@ -8,6 +8,8 @@
 #![tactic(auto)]
 
 #[cfg(test)]
+mod buffered;
+#[cfg(test)]
 mod every_call;
 #[cfg(test)]
 mod features;

@@ -40,8 +40,8 @@ half-grows : (half : Half) (number : Option ℕ) (given : Input) (n : ℕ) → l
     → length (half_steps half number given).half.frames ≤ n + 1
 half-grows half number given n few =
     let step = end_stepped half.end given in
-    let sent = as_sent step.after.marks (length (half_steps half number given).half.processed) (floor_of step.after) step.frame in
-    let one : length sent ≤ 1 = sent-few step.after.marks _ _ step.frame in
+    let sent = as_sent (length (half_steps half number given).half.processed) (floor_of step.after) step.frame in
+    let one : length sent ≤ 1 = sent-few _ _ step.frame in
     let all : length (half.frames ++ sent) ≡ length half.frames + length sent = length-append half.frames sent in
     omega arith
 

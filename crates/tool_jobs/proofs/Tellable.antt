@@ -3,10 +3,12 @@ use Rattle.std.proofs.Common.{◌≡◌, sym, ap, ◌∙◌, subst, ℕ, List, [
 use Rattle.std.specs.Prelude.{IfOk, OnOk}
 use Rattle.ccid_two.specs.Kinds.{Both, kinds_control}
 use Rattle.congestion_trait.specs.Control.{may_send}
+use Rattle.dccp_packets.specs.Outgoing.{Outgoing}
+use Rattle.dccp_endpoint.specs.Strangers.{stays_in}
 use Rattle.dccp_endpoint.specs.Calling.{aborts, closes, sends_payload}
 use Rattle.dccp_endpoint.specs.Controlled.{EndStep}
 use Rattle.dccp_endpoint.specs.Inputs.{Answer}
-use Rattle.dccp_listener.specs.Chain.{Deed, Arrives, Calls, Sends, Fires, Closes, Aborts, flow_step, fresh_end, is_flow}
+use Rattle.dccp_listener.specs.Chain.{Deed, Arrives, Calls, Sends, Fires, Closes, Aborts, flow_step, fresh_end}
 use Rattle.dccp_listener.specs.Listens.{Listened, fresh_met, is_table_full, listening_after, listens, listens_by}
 use Rattle.dccp_listener.specs.Peers.{FlowEnd, Flows, Listening, end_of_peer}
 use Rattle.dccp_listener.specs.Runs.{CallTold, CallTurn, IsTurn, IsTurnSo, Stepped, WasBusy, HadNoMemory, arrival, told_of}
@@ -45,11 +47,11 @@ listens-told : (l : Listening) (peer : Peer) (found : Option FlowEnd) (deed : De
 listens-told l peer (Some e) deed = step-told e deed
 listens-told l peer None (Arrives iss bytes) =
     let step : EndStep Both Answer = flow_step (fresh_end l.config peer iss bytes) (Arrives iss bytes) in
-    met-told l peer iss bytes step (is_flow step.after.state.phase) (is_table_full l) (step-told (fresh_end l.config peer iss bytes) (Arrives iss bytes))
+    met-told l peer iss bytes step (stays_in step.after.state.phase) (is_table_full l) (step-told (fresh_end l.config peer iss bytes) (Arrives iss bytes))
 listens-told l peer None (Calls call) = tt
 
 -- what is told as it is computed can be told
-pub told_as : (l : Listening) (peer : Peer) (deed : Deed) (flows : Flows) (frame : Option (List ℕ)) (told : CallTold)
+pub told_as : (l : Listening) (peer : Peer) (deed : Deed) (flows : Flows) (frame : Option Outgoing) (told : CallTold)
     → record { flows = flows; frame = frame; told = told } ≡ listens l peer deed → CanBeTold (arriving_bytes deed) told
 told_as l peer deed flows frame told is =
     subst (CanBeTold (arriving_bytes deed)) (sym (ap (λ (x : Listened). x.told) is)) (listens-told l peer (end_of_peer l.flows peer) deed)
@@ -63,7 +65,7 @@ same-config before after turn HadNoMemory is = ap (λ (l : Listening). l.config)
 abbrev listening : ListenConfig → Flows → Listening
 listening config flows = record { config = config; flows = flows }
 
-pub left_as : (before after : Listening) (turn : CallTurn) (frame : Option (List ℕ)) (told : CallTold) → IsTurn before after turn
+pub left_as : (before after : Listening) (turn : CallTurn) (frame : Option Outgoing) (told : CallTold) → IsTurn before after turn
     → record { flows = after.flows; frame = frame; told = told } ≡ listens before turn.peer turn.deed → after ≡ listening_after before turn.peer turn.deed
 left_as before after turn frame told turned is =
     ap (λ (config : ListenConfig). listening config after.flows) (same-config before after turn turn.told turned)
@@ -71,28 +73,28 @@ left_as before after turn frame told turned is =
 
 -- the four of them, of a datagram that was heard
 
-abbrev AsComputed : Listening → Listening → Peer → ℕ → List ℕ → Option (List ℕ) → Result Heard NoMemory → Type 0
+abbrev AsComputed : Listening → Listening → Peer → ℕ → List ℕ → Option Outgoing → Result Heard NoMemory → Type 0
 AsComputed before after peer iss bytes frame result =
     IfOk result (λ heard. record { flows = after.flows; frame = frame; told = told_of (Ok heard) } ≡ listens before peer (Arrives iss bytes))
 
-pub heard-after : (before after : Listening) (peer : Peer) (iss : ℕ) (bytes : List ℕ) (frame : Option (List ℕ)) (result : Result Heard NoMemory)
+pub heard-after : (before after : Listening) (peer : Peer) (iss : ℕ) (bytes : List ℕ) (frame : Option Outgoing) (result : Result Heard NoMemory)
     → IsTurn before after (arrival peer iss bytes frame result) → AsComputed before after peer iss bytes frame result
     → OnOk result (after ≡ listening_after before peer (Arrives iss bytes))
 heard-after before after peer iss bytes frame (Ok heard) turned is =
     left_as before after (arrival peer iss bytes frame (Ok heard)) frame (told_of (Ok heard)) turned is
 heard-after before after peer iss bytes frame (Err fault) turned is = tt
 
-pub heard-sent : (before after : Listening) (peer : Peer) (iss : ℕ) (bytes : List ℕ) (frame : Option (List ℕ)) (result : Result Heard NoMemory)
+pub heard-sent : (before after : Listening) (peer : Peer) (iss : ℕ) (bytes : List ℕ) (frame : Option Outgoing) (result : Result Heard NoMemory)
     → AsComputed before after peer iss bytes frame result → OnOk result (frame ≡ (listens before peer (Arrives iss bytes)).frame)
 heard-sent before after peer iss bytes frame (Ok heard) is = ap (λ (x : Listened). x.frame) is
 heard-sent before after peer iss bytes frame (Err fault) is = tt
 
-pub heard-told : (before after : Listening) (peer : Peer) (iss : ℕ) (bytes : List ℕ) (frame : Option (List ℕ)) (result : Result Heard NoMemory)
+pub heard-told : (before after : Listening) (peer : Peer) (iss : ℕ) (bytes : List ℕ) (frame : Option Outgoing) (result : Result Heard NoMemory)
     → AsComputed before after peer iss bytes frame result → IfOk result (λ heard. told_of (Ok heard) ≡ (listens before peer (Arrives iss bytes)).told)
 heard-told before after peer iss bytes frame (Ok heard) is = ap (λ (x : Listened). x.told) is
 heard-told before after peer iss bytes frame (Err fault) is = tt
 
-pub heard-tellable : (before after : Listening) (peer : Peer) (iss : ℕ) (bytes : List ℕ) (frame : Option (List ℕ)) (result : Result Heard NoMemory)
+pub heard-tellable : (before after : Listening) (peer : Peer) (iss : ℕ) (bytes : List ℕ) (frame : Option Outgoing) (result : Result Heard NoMemory)
     → AsComputed before after peer iss bytes frame result → IfOk result (λ heard. CanBeTold bytes (told_of (Ok heard)))
 heard-tellable before after peer iss bytes frame (Ok heard) is = told_as before peer (Arrives iss bytes) after.flows frame (told_of (Ok heard)) is
 heard-tellable before after peer iss bytes frame (Err fault) is = tt

@@ -3,6 +3,7 @@ use Rattle.std.proofs.Common.{◌≡◌, sym, ap, subst, ℕ, List, Bool, true, 
 use Rattle.ccid_two.specs.Kinds.{Both, kinds_control}
 use Rattle.dccp_packets.specs.Grammar.{Parts, decoded}
 use Rattle.dccp_packets.specs.declared.reading.Malformed.{Malformed}
+use Rattle.dccp_packets.specs.Outgoing.{Outgoing}
 use Rattle.dccp_states.specs.Entrance.{gate}
 use Rattle.dccp_states.specs.Phases.{after}
 use Rattle.dccp_states.specs.declared.phase.Phase.{Phase}
@@ -96,7 +97,7 @@ unfolding receives
 data-in-frame e bytes = received-in e bytes (arrives e bytes) (packet-place e bytes (decoded bytes))
 
 -- Whatever an end answers, the bytes that arrived have the data that it delivers.
-pub answer_is_told : (e : EndState) (congestion : Both) (bytes : List ℕ) (next : End Both) (frame : Option (List ℕ)) (answer : Outcome)
+pub answer_is_told : (e : EndState) (congestion : Both) (bytes : List ℕ) (next : End Both) (frame : Option Outgoing) (answer : Outcome)
     → record { after = next; frame = frame; answer = answer } ≡ with_control kinds_control congestion (receives e bytes) → HasItsData bytes answer
 answer_is_told e congestion bytes next frame answer is =
     subst (HasItsData bytes) (sym (ap (λ (step : EndStep Both Outcome). step.answer) is)) (data-in-frame e bytes)

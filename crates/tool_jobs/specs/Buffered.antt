@@ -3,12 +3,12 @@
 use Rattle.std.specs.Prelude.{ℕ, ◌++◌, Bool, ◌||◌, if◌then◌else◌, is_some, List, [], ◌∷◌, codes, decimal, Option, Some, None, Result}
 use Rattle.std.specs.Str.{bytes_eq}
 use Rattle.ccid_two.specs.Kinds.{Both, at_first, kinds_control}
-use Rattle.data_dropped.specs.Buffering.{Buffered, BufferedStep, begins_buffered, buffers}
-use Rattle.data_dropped.specs.Inbox.{InboxState, KeptData, stopping, taking}
+use Rattle.data_dropped.specs.Buffering.{Buffered, BufferedCall, BufferedStep, begins_buffered, beside, buffers}
+use Rattle.data_dropped.specs.Inbox.{KeptData, stopping, taking}
 use Rattle.data_dropped.specs.declared.answers.Arrival.{Arrival}
 use Rattle.data_dropped.specs.declared.answers.Arrival.TheVariants.{Kept, Dropped}
 use Rattle.dccp_endpoint.specs.Calling.{opens}
-use Rattle.dccp_endpoint.specs.Controlled.{EndStep, with_control}
+use Rattle.dccp_endpoint.specs.Controlled.{with_control}
 use Rattle.dccp_states.specs.declared.calls.OpenFault.{OpenFault}
 use Rattle.dccp_states.specs.declared.outcome.Outcome.{Outcome}
 use Rattle.world_events.specs.declared.event.Seen.TheVariants as seen
@@ -18,8 +18,8 @@ use Rattle.tool_text.specs.Text.{hex_or_dash}
 use Rattle.tool_jobs.specs.Replay.{Act, Acts, Heeded, opened_line, replay_config, replay_of_input, text_of_replay}
 
 -- the line of the call `open`, and what the call made of the end; its inbox is as it was
-abbrev pub buffered_opened : InboxState → EndStep Both (Result (Unit {0}) OpenFault) → Act (Buffered Both)
-buffered_opened inbox step = record { text = opened_line step.answer; after = record { end = step.after; inbox = inbox }; frame = step.frame }
+abbrev pub buffered_opened : BufferedCall Both (Result (Unit {0}) OpenFault) → Act (Buffered Both)
+buffered_opened step = record { text = opened_line step.answer; after = step.after; frame = step.frame }
 
 -- the line of data that were dropped, by their code
 abbrev pub dropped_text : ℕ → ℕ → List ℕ
@@ -55,7 +55,7 @@ reading_stopped b number = record { text = decimal number ++ codes ": ok\n"; aft
 -- Its own lines are `read` and `stop`, each where it is that word alone.
 abbrev pub buffered_acts : Acts (Buffered Both)
 buffered_acts = record {
-  opening = λ b. buffered_opened b.inbox (with_control kinds_control b.end.congestion (opens b.end.state));
+  opening = λ b. buffered_opened (beside b.inbox (with_control kinds_control b.end.congestion (opens b.end.state)));
   hearing = λ b number bytes. buffered_heard number bytes (buffers kinds_control b bytes);
   is_own = λ line. bytes_eq line (codes "read") || bytes_eq line (codes "stop");
   heeding = λ b number line. if bytes_eq line (codes "read") then item_read b number else reading_stopped b number;

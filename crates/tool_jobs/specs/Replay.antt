@@ -2,6 +2,7 @@
 -- the first refusal (own). An end alone and one with a receive buffer differ in what they do, and in nothing else.
 use Rattle.std.specs.Prelude.{◌≡◌, ℕ, ◌+◌, ◌++◌, Bool, if◌then◌else◌, List, [], codes, Option, Some, None, Result, Ok, Err}
 use Rattle.ccid_two.specs.Kinds.{Both}
+use Rattle.dccp_packets.specs.Outgoing.{Outgoing}
 use Rattle.dccp_endpoint.specs.Controlled.{End}
 use Rattle.dccp_endpoint.specs.Usual.{usual}
 use Rattle.dccp_states.specs.declared.calls.OpenFault.{OpenFault}
@@ -25,7 +26,7 @@ pub record ReplayState (E : Type 0) : Type 0 where
 pub record Act (E : Type 0) : Type 0 where
   pub text : List ℕ
   pub after : E
-  pub frame : Option (List ℕ)
+  pub frame : Option Outgoing
 
 -- the same of a line that makes it send nothing
 pub record Heeded (E : Type 0) : Type 0 where
@@ -51,14 +52,14 @@ opened_line (Ok _) = codes "open: ok\n"
 opened_line (Err _) = codes "open: refused NotFresh\n"
 
 -- how many frames a step sent, one at most
-abbrev pub count : Option (List ℕ) → ℕ
+abbrev pub count : Option Outgoing → ℕ
 count None = 0
-count (Some bytes) = 1
+count (Some sent) = 1
 
 -- The line of the frame that a step sent, under its name; nothing where it sent none.
-abbrev pub reply_line : Side → ℕ → Option (List ℕ) → List ℕ
+abbrev pub reply_line : Side → ℕ → Option Outgoing → List ℕ
 reply_line side index None = []
-reply_line side index (Some bytes) = bytes_line side index bytes
+reply_line side index (Some sent) = bytes_line side index sent.bytes
 
 -- Before all: the end is new, and it has sent nothing.
 abbrev pub first_replay : {E : Type 0} → Side → E → ReplayState E
@@ -119,7 +120,7 @@ abbrev pub text_of_replay : {E : Type 0} → Acts E → Side → E → List ℕ 
 text_of_replay acts side end input = (begun_replay acts side end).text ++ text_of_job (replay_job acts) (replay_of_input acts side end input)
 
 -- An act was done so: its line stands at the text's end.
-abbrev pub Performs : {E : Type 0} → Act E → E → Option (List ℕ) → List ℕ → List ℕ → Type 0
+abbrev pub Performs : {E : Type 0} → Act E → E → Option Outgoing → List ℕ → List ℕ → Type 0
 Performs act after frame old new = (after ≡ act.after) × (frame ≡ act.frame) × (new ≡ old ++ act.text)
 
 -- the same where nothing is sent

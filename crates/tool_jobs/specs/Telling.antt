@@ -1,6 +1,7 @@
 -- What is written of what happens to a peer, and of the flows at the end (own).
 use Rattle.std.specs.Prelude.{ℕ, ◌++◌, List, [], length, flat_map, codes, decimal, Option, Some, None}
 use Rattle.hex.specs.Hex.{encode_lower}
+use Rattle.dccp_packets.specs.Outgoing.{Outgoing}
 use Rattle.dccp_listener.specs.Chain.{Deed, Arrives, Calls}
 use Rattle.dccp_listener.specs.Listens.{listens}
 use Rattle.dccp_listener.specs.Peers.{FlowEnd, Flows, Listening}
@@ -27,9 +28,9 @@ CanBeTold bytes WasBusy = Unit {0}
 CanBeTold bytes HadNoMemory = Unit {0}
 
 -- the line of the frame that goes to a peer, where one does
-abbrev pub frame_to_peer : Peer → Option (List ℕ) → List ℕ
+abbrev pub frame_to_peer : Peer → Option Outgoing → List ℕ
 frame_to_peer peer None = []
-frame_to_peer peer (Some bytes) = codes "sent " ++ peer_text peer ++ codes " " ++ encode_lower bytes ++ codes "\n"
+frame_to_peer peer (Some sent) = codes "sent " ++ peer_text peer ++ codes " " ++ encode_lower sent.bytes ++ codes "\n"
 
 -- the bytes that arrive, and none with a call
 abbrev pub arriving_bytes : Deed → List ℕ

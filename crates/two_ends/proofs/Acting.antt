@@ -46,7 +46,7 @@ processed_by half arrived f = half.processed ++ newly_processed half.end arrived
 -- what a step keeps of its frame, and what it adds to the log
 abbrev pub sent_by : Half → Option ℕ → Effect → List SentFrame
 sent_by half arrived f =
-    as_sent (end_after half.end f).marks (length (processed_by half arrived f)) (floor_of (end_after half.end f)) (frame_by half.end f f.sending)
+    as_sent (length (processed_by half arrived f)) (floor_of (end_after half.end f)) (frame_by half.end f f.sending)
 
 abbrev pub drafted_by : Half → Option ℕ → Effect → List Logged
 drafted_by half arrived f = logged_by (length (processed_by half arrived f)) (floor_of (end_after half.end f)) f.sending

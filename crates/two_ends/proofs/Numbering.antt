@@ -1,35 +1,33 @@
 -- A side's numbered frames carry ISS, ISS + 1, and so on up to GSS; its end is proper, and its GSR and GSS are numbers.
-use Rattle.std.proofs.Common.{◌≡◌, ◌≢◌, refl, ap, sym, ◌∙◌, subst, ℕ, ◌+◌, ◌-◌, ◌%◌, ◌^◌, ◌<◌, ◌≤◌, ◌&&◌, not, Bool, if◌then◌else◌, List, Option, Some, None, true, false, [], ◌∷◌, length, length-append, arith}
-use Rattle.std.specs.List.{list_any}
-use Rattle.std.proofs.lemmas.Bool.{and_parts}
-use Rattle.seq_circle.proofs.NotFar.{self-near}
-use Rattle.seq_circle.specs.Circle.{is_ack_far, is_before, is_far, later_of, residue}
+use Rattle.std.proofs.Common.{◌≡◌, ◌≢◌, refl, ap, sym, ◌∙◌, subst, ℕ, ◌+◌, ◌-◌, ◌%◌, ◌^◌, ◌<◌, ◌≤◌, Bool, if◌then◌else◌, List, Option, Some, None, true, false, [], ◌∷◌, length, length-append, arith}
+use Rattle.seq_circle.specs.Circle.{is_ack_far, is_before, later_of, residue}
 use Rattle.dccp_packets.specs.Forms.{may_be_short}
-use Rattle.dccp_packets.specs.Grammar.{has_forms, packet_type}
+use Rattle.dccp_packets.specs.Grammar.{packet_type}
 use Rattle.dccp_packets.specs.Kinds.{ack_of}
+use Rattle.dccp_packets.specs.Outgoing.{Outgoing}
 use Rattle.dccp_packets.specs.Widths.{kind_in_widths}
 use Rattle.dccp_packets.specs.declared.header.Kind.{Kind}
 use Rattle.dccp_packets.specs.declared.header.Kind.TheVariants as kind
 use Rattle.dccp_packets.specs.declared.header.PacketType.TheVariants as types
 use Rattle.dccp_states.specs.declared.phase.Role.{Role}
-use Rattle.validity_windows.specs.declared.marks.Marks.{Marks}
 use Rattle.dccp_endpoint.specs.Causes.{Came, HasFrame, IsHearing, IsSending, Keeps as KeepsHeard, Starts, Raises, Rests, Acks, Others, Refuses, is_without_connection}
 use Rattle.dccp_endpoint.specs.Reporting.{is_acking}
-use Rattle.dccp_endpoint.specs.Drafts.{Draft, Fits, IsSendable, alone, frame_of}
+use Rattle.dccp_endpoint.specs.Drafts.{Draft, Fits, IsSendable, alone}
 use Rattle.dccp_endpoint.specs.Effects.{Effect, Hearing, Sending, Silent, Next, WithoutConnection, end_after, frame_by, greatest_by, gss_by}
 use Rattle.dccp_endpoint.specs.End.{EndState, IsProper, floor_of}
 use Rattle.dccp_endpoint.specs.Incoming.{Incoming}
-use Rattle.dccp_endpoint.specs.ShortForm.{allows_short, goes_short, is_negotiating}
+use Rattle.dccp_endpoint.specs.ShortForm.{goes_short}
 use Rattle.dccp_states.specs.declared.phase.Phase.{Phase}
 use Rattle.dccp_endpoint.specs.Inputs.{Input}
 use Rattle.dccp_endpoint.specs.Steps.{next_number}
+use Rattle.dccp_endpoint.proofs.Spelled.{goes-may, next-kept, without-kept}
 use Rattle.dccp_endpoint.proofs.Staying.{first-proper, proper-after}
 use Rattle.two_ends.specs.Numbered.{IsNumberOf}
 use Rattle.two_ends.specs.declared.frames.SentFrame.{SentFrame}
 use Rattle.two_ends.specs.World.{as_sent}
 use Rattle.two_ends.proofs.Acting.{Act, Keeps, NoFact, Party, acted, config_of, drafted_by, end_of, logged_by, processed_by, sent_by}
 use Rattle.two_ends.proofs.Logged.{AreLogged, Logged, NoFrames, Numbered, Unnumbered, logged-append, logged-few}
-use Rattle.two_ends.proofs.ReadBack.{AreNumbers, IsFromLog, ack-kept, arrived-so, from-log, kept-frame}
+use Rattle.two_ends.proofs.ReadBack.{AreNumbers, IsFromLog, arrived-so, from-log, kept-frame}
 
 pub record IsOrdered (x : Party) : Type 0 where
   pub proper : IsProper (end_of x)
@@ -63,11 +61,6 @@ acking-connected : (r : Role) (k : Kind) → is_acking (packet_type k) ≡ true 
 acking-connected r (kind.Reset ack code detail) is = cc is
 acking-connected r _ is = refl
 
--- What goes short is of a type that may.
-goes-may : (e : EndState) (draft : Draft) → goes_short e draft ≡ true → may_be_short (packet_type draft.kind) ≡ true
-goes-may e draft short =
-    (and_parts (may_be_short (packet_type draft.kind)) (allows_short e && not (list_any is_negotiating draft.options)) short).0
-
 -- of these types the one that is no Ack and no DataAck acknowledges nothing
 others-none : (k : Kind) → is_acking (packet_type k) ≡ false → may_be_short (packet_type k) ≡ true → ack_of (kind_in_widths k) ≡ None
 others-none kind.Data other may = refl
@@ -81,60 +74,33 @@ others-none (kind.Reset ack code detail) other may = cc may
 others-none (kind.Sync ack) other may = cc may
 others-none (kind.SyncAck ack) other may = cc may
 
--- what a short packet acknowledges is GSR, or nothing
-acking-near : (k : Kind) (gsr : ℕ) → gsr < 2 ^ 48 → has_forms true k ≡ true → ack_of k ≡ Some gsr → is_ack_far (ack_of (kind_in_widths k)) gsr ≡ false
-acking-near k gsr fits long is = ap (λ (ack : Option ℕ). is_ack_far ack gsr) (ack-kept k gsr long is fits) ∙ self-near gsr fits
-
 -- a packet that may be short, and is neither Ack nor DataAck, is not far by what it acknowledges
 pub others-near : (k : Kind) (gsr : ℕ) → is_acking (packet_type k) ≡ false → may_be_short (packet_type k) ≡ true
     → is_ack_far (ack_of (kind_in_widths k)) gsr ≡ false
 others-near k gsr other may = ap (λ (ack : Option ℕ). is_ack_far ack gsr) (others-none k other may)
 
--- the number that a packet goes out under is GSS after it
-next-near : (e : EndState) (gss : ℕ) → gss ≡ next_number e → is_far (next_number e % 2 ^ 48) gss ≡ false
-next-near e gss is =
-    let same : next_number e % 2 ^ 48 ≡ next_number e = omega arith in
-    ap (λ (n : ℕ). is_far n gss) same ∙ ap (is_far (next_number e)) is ∙ self-near (next_number e) (omega arith)
-
-module _ (e : EndState) (f : Effect) (numbers : AreNumbers (end_after e f)) (processed floor first : ℕ) where
-  -- the end as the step leaves it
-  abbrev left : EndState
-  left = end_after e f
-
+module _ (e : EndState) (f : Effect) (processed floor first : ℕ) where
   -- a packet under the next number is logged
-  next-logged : (draft : Draft) → f.sending ≡ Next draft → next_number e ≡ residue first → is_without_connection e.config.role draft.kind ≡ false
-      → IsSendable draft → (goes_short left draft ≡ true → is_ack_far (ack_of (kind_in_widths draft.kind)) left.marks.gsr ≡ false)
-      → AreLogged e.config first (as_sent left.marks processed floor (Some (frame_of e.config (goes_short left draft) (next_number e) draft)))
-      (record { draft = draft; processed = processed; floor = floor } ∷ [])
-  next-logged draft is same connected sendable acks =
-      let short : Bool = goes_short left draft in
-      let may : (short ≡ true → may_be_short (packet_type draft.kind) ≡ true) = goes-may left draft in
-      let kept =
-      kept-frame e.config short (next_number e) draft left.marks processed floor sendable may
-      (λ goes.
-      record {
-        gss_fits = numbers.gss;
-        gsr_fits = numbers.gsr;
-        number_is_near = next-near e left.marks.gss (ap (gss_by e) is);
-        ack_is_near = acks goes;
-      }) in
+  next-logged : (draft : Draft) → next_number e ≡ residue first → is_without_connection e.config.role draft.kind ≡ false → IsSendable draft
+      → AreLogged e.config first (as_sent processed floor (frame_by e f (Next draft))) (record { draft = draft; processed = processed; floor = floor } ∷ [])
+  next-logged draft same connected sendable =
+      let short : Bool = goes_short (end_after e f) draft in
       let log : List Logged = record { draft = draft; processed = processed; floor = floor } ∷ [] in
-      subst (λ (frames : List SentFrame). AreLogged e.config first frames log) (sym kept)
-      (Numbered (next_number e) same (record { sendable = sendable; of_connection = connected; short = short; form = may; same = refl }) NoFrames)
+      subst (λ (frames : List SentFrame). AreLogged e.config first frames log)
+      (sym (kept-frame e.config short (next_number e) draft processed floor (next-kept e)))
+      (Numbered (next_number e) same
+      (record { sendable = sendable; of_connection = connected; short = short; form = goes-may (end_after e f) draft; same = refl }) NoFrames)
 
   -- what goes out is logged under the next number, or not at all
-  sent-logged : (given : Input) (s : Sending) → f.sending ≡ s → next_number e ≡ residue first → IsSending e given f s → HasFrame s
-      → AreLogged e.config first (as_sent left.marks processed floor (frame_by e f s)) (logged_by processed floor s)
-  sent-logged given Silent is same Rests framed = NoFrames
-  sent-logged given (Next draft) is same (Acks _ acking ack connected owed unacked) framed =
-      let sendable : IsSendable draft = framed in
-      next-logged draft is same (acking-connected e.config.role draft.kind acking) sendable
-      (λ goes. acking-near draft.kind left.marks.gsr numbers.gsr sendable.is_long ack)
-  sent-logged given (Next draft) is same (Others _ acking ack connected) framed =
-      next-logged draft is same connected framed (λ goes. others-near draft.kind left.marks.gsr acking (goes-may left draft goes))
-  sent-logged given (WithoutConnection number k) is same (Refuses a code came without unheard turns unmoved) framed =
-      let kept = kept-frame e.config false number (alone k) left.marks processed floor framed (λ short. cc short) (λ short. cc short) in
-      subst (λ (frames : List SentFrame). AreLogged e.config first frames []) (sym kept)
+  sent-logged : (given : Input) (s : Sending) → next_number e ≡ residue first → IsSending e given f s → HasFrame s
+      → AreLogged e.config first (as_sent processed floor (frame_by e f s)) (logged_by processed floor s)
+  sent-logged given Silent same Rests framed = NoFrames
+  sent-logged given (Next draft) same (Acks _ acking ack connected owed unacked) framed =
+      next-logged draft same (acking-connected e.config.role draft.kind acking) framed
+  sent-logged given (Next draft) same (Others _ acking ack connected) framed = next-logged draft same connected framed
+  sent-logged given (WithoutConnection number k) same (Refuses a code came without unheard turns unmoved) framed =
+      subst (λ (frames : List SentFrame). AreLogged e.config first frames [])
+      (sym (kept-frame e.config false number (alone k) processed floor (without-kept a.ack)))
       (Unnumbered (record { number = number; kind = k; sendable = framed; without_connection = without; same = refl; numbered = refl; acks = refl }) NoFrames)
 
 sent-greatest : (e : EndState) (s : Sending) (processed floor count : ℕ) → e.marks.gss ≡ residue (e.config.iss + count + (2 ^ 48 - 1))
@@ -144,9 +110,9 @@ sent-greatest e (Next draft) processed floor count is = omega (arith, is)
 sent-greatest e (WithoutConnection number k) processed floor count is = omega (arith, is)
 
 -- a step sends one frame at most
-pub sent-few : (marks : Marks) (processed floor : ℕ) (frame : Option (List ℕ)) → length (as_sent marks processed floor frame) ≤ 1
-sent-few marks processed floor None = omega arith
-sent-few marks processed floor (Some bytes) = omega arith
+pub sent-few : (processed floor : ℕ) (frame : Option Outgoing) → length (as_sent processed floor frame) ≤ 1
+sent-few processed floor None = omega arith
+sent-few processed floor (Some sent) = omega arith
 
 later-fits : (gsr number : ℕ) → gsr < 2 ^ 48 → number < 2 ^ 48 → later_of gsr number < 2 ^ 48
 later-fits gsr number old new = by (is_before gsr number) where
@@ -183,12 +149,12 @@ acting act o peer =
       first = o.first;
       logged =
           logged-append e.config _ (sent_by act.side.half act.arrived act.effect) (drafted_by act.side.half act.arrived act.effect) refl o.logged
-          (sent-logged e act.effect numbers processed floor _ act.given act.effect.sending refl next act.because.sends act.because.framed);
+          (sent-logged e act.effect processed floor _ act.given act.effect.sending next act.because.sends act.because.framed);
       greatest = greatest;
       few = omega (
         arith,
         act.room,
-        sent-few after.marks processed floor (frame_by e act.effect act.effect.sending),
+        sent-few processed floor (frame_by e act.effect act.effect.sending),
         length-append act.side.half.frames (sent_by act.side.half act.arrived act.effect),
       );
       numbers = numbers;

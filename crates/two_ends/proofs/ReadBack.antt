@@ -3,30 +3,29 @@ use Rattle.std.proofs.Common.{◌≡◌, ◌≢◌, inl, inr, refl, ap, sym, ◌
 use Rattle.std.proofs.lemmas.Option.{same_Some}
 use Rattle.std.specs.Result.{result_ok}
 use Rattle.seq_circle.specs.Circle.{is_ack_far, is_far, residue}
-use Rattle.seq_circle.proofs.NotFar.{finds-cut}
 use Rattle.dccp_options.specs.Written.{entries_at, written}
-use Rattle.dccp_packets.specs.Forms.{in_form, may_be_short, near, number_in_form}
+use Rattle.dccp_packets.specs.Forms.{in_form, may_be_short, number_in_form}
 use Rattle.dccp_packets.specs.Grammar.{Parts, has_forms, is_long, packet_type, padded}
-use Rattle.dccp_packets.specs.Kinds.{ack_of, value_of}
+use Rattle.dccp_packets.specs.Kinds.{ack_of}
 use Rattle.dccp_packets.specs.Widths.{in_widths, kind_in_widths, number_in_width}
 use Rattle.dccp_packets.specs.declared.header.Kind.{Kind}
 use Rattle.dccp_packets.specs.declared.header.Kind.TheVariants as kind
 use Rattle.dccp_packets.specs.declared.header.Number.TheVariants.{Long, Short}
 use Rattle.dccp_packets.specs.declared.header.PacketType.TheVariants as types
-use Rattle.validity_windows.specs.declared.marks.Marks.{Marks}
 use Rattle.dccp_states.specs.declared.phase.Role.{Role}
 use Rattle.dccp_endpoint.specs.Causes.{Came, is_without_connection}
-use Rattle.dccp_endpoint.specs.Drafts.{Draft, IsSendable, alone, frame_of, own_header}
+use Rattle.dccp_endpoint.specs.Drafts.{Draft, IsSendable, alone, frame_of, own_header, sent_of}
 use Rattle.dccp_endpoint.specs.End.{EndState}
 use Rattle.dccp_endpoint.specs.Incoming.{Incoming}
 use Rattle.dccp_endpoint.specs.Inputs.{Input, Arrives}
 use Rattle.dccp_endpoint.specs.InFull.{HasNearNumbers}
 use Rattle.dccp_endpoint.specs.Receiving.{takes_short}
 use Rattle.dccp_endpoint.specs.declared.config.Config.{Config}
-use Rattle.dccp_endpoint.proofs.InFull.{ack-full, read-in-full}
+use Rattle.dccp_endpoint.proofs.InFull.{read-in-full}
 use Rattle.dccp_endpoint.proofs.OwnFrames.{own_frames_read_in_widths}
+use Rattle.dccp_endpoint.proofs.Spelled.{draft-spelled}
 use Rattle.two_ends.specs.declared.frames.SentFrame.{SentFrame}
-use Rattle.two_ends.specs.Frames.{SpellsItsNumbers, ack_in_full, ack_in_width, in_width, is_short_packet, number_in_full, options_in, packet_of, packet_options}
+use Rattle.two_ends.specs.Frames.{is_short_packet, options_in, packet_of, packet_options}
 use Rattle.two_ends.specs.Numbered.{AreNumbered, IsNumberedFrame, IsResetWithoutConnection}
 use Rattle.two_ends.specs.World.{as_sent, is_far_frame}
 use Rattle.two_ends.proofs.Logged.{Logged, IsLogged, IsUnlogged, AreLogged, NoFrames, Numbered, Unnumbered, Found, AtPlace, Nowhere, found}
@@ -108,79 +107,15 @@ ack-kept (kind.Reset ack code detail) n long is fits = (let same : ack ≡ n = c
 ack-kept (kind.Sync ack) n long is fits = (let same : ack ≡ n = cc is in ap Some (omega (arith, same, fits)))
 ack-kept (kind.SyncAck ack) n long is fits = (let same : ack ≡ n = cc is in ap Some (omega (arith, same, fits)))
 
--- The numbers of a frame are near its sender's GSS and GSR, which are numbers.
-pub record AreNear (gss gsr number : ℕ) (ack : Option ℕ) : Type 0 where
-  pub gss_fits : gss < 2 ^ 48
-  pub gsr_fits : gsr < 2 ^ 48
-  pub number_is_near : is_far number gss ≡ false
-  pub ack_is_near : is_ack_far ack gsr ≡ false
-
-number-found : (short : Bool) (number reference : ℕ) → (short ≡ true → reference < 2 ^ 48) → (short ≡ true → is_far (number % 2 ^ 48) reference ≡ false)
-    → near reference (number_in_width (number_in_form short number)) ≡ number % 2 ^ 48
-number-found true number reference within close = finds-cut number reference (within refl) (close refl)
-number-found false number reference within close = refl
-
 abbrev pub one_frame : List ℕ → ℕ → Option ℕ → ℕ → ℕ → List SentFrame
 one_frame bytes number ack processed floor = record { bytes = bytes; number = number; ack = ack; processed = processed; floor = floor } ∷ []
 
--- what is kept of a frame that goes out, where its sender's marks are near its numbers, if these are short
-pub kept-frame : (config : Config) (short : Bool) (number : ℕ) (draft : Draft) (marks : Marks) (processed floor : ℕ) → IsSendable draft → MayBe short draft
-    → (short ≡ true → AreNear marks.gss marks.gsr (number % 2 ^ 48) (ack_of (kind_in_widths draft.kind)))
-    → as_sent marks processed floor (Some (frame_of config short number draft))
+-- what is kept of a frame that goes out, where its number is one
+pub kept-frame : (config : Config) (short : Bool) (number : ℕ) (draft : Draft) (processed floor : ℕ) → number ≡ number % 2 ^ 48
+    → as_sent processed floor (Some (sent_of config short number draft))
     ≡ one_frame (frame_of config short number draft) (number % 2 ^ 48) (ack_of (kind_in_widths draft.kind)) processed floor
-kept-frame config short number draft marks processed floor sendable may close =
-    let read = is-drafted config short number draft sendable may in
-    let number_is : number_in_full marks (packet_of (frame_of config short number draft)) ≡ number % 2 ^ 48 =
-    ap (number_in_full marks) read.is_packet ∙ number-found short number marks.gss (λ is. (close is).gss_fits) (λ is. (close is).number_is_near) in
-    let ack_is : ack_in_full marks (packet_of (frame_of config short number draft)) ≡ ack_of (kind_in_widths draft.kind) =
-    ap (ack_in_full marks) read.is_packet
-    ∙ ack-full short draft.kind marks.gsr sendable.is_long (λ is. (close is).gsr_fits) (λ is. (close is).ack_is_near) in
-    ap (λ (n : ℕ). one_frame (frame_of config short number draft) n
-    (ack_in_full marks (packet_of (frame_of config short number draft))) processed floor) number_is
-    ∙ ap (λ (a : Option ℕ). one_frame (frame_of config short number draft) (number % 2 ^ 48) a processed floor) ack_is
-
-cut-again : (n : ℕ) → n % 2 ^ 24 % 2 ^ 24 ≡ n % 2 ^ 48 % 2 ^ 24
-cut-again n = omega arith
-
-number-spells : (short : Bool) (number : ℕ) → value_of (number_in_width (number_in_form short number))
-    ≡ in_width (is_long (number_in_width (number_in_form short number))) (number % 2 ^ 48)
-number-spells true number = cut-again number
-number-spells false number = refl
-
-width-kept : (ack : Option ℕ) → ack ≡ ack_in_width true ack
-width-kept None = refl
-width-kept (Some ack) = refl
-
--- the acknowledgement number that a packet in the form spells
-ack-spells : (short : Bool) (number : ℕ) (k : Kind) → has_forms true k ≡ true → (short ≡ true → may_be_short (packet_type k) ≡ true)
-    → ack_of (kind_in_widths (in_form short k)) ≡ ack_in_width (is_long (number_in_width (number_in_form short number))) (ack_of (kind_in_widths k))
-ack-spells false number k long may = width-kept (ack_of (kind_in_widths k))
-ack-spells true number (kind.Request service) long may = cc (may refl)
-ack-spells true number (kind.Response ack service) long may = cc (may refl)
-ack-spells true number kind.Data long may = refl
-ack-spells true number (kind.Ack (Long ack)) long may = ap Some (cut-again ack)
-ack-spells true number (kind.Ack (Short ack)) long may = cc long
-ack-spells true number (kind.DataAck (Long ack)) long may = ap Some (cut-again ack)
-ack-spells true number (kind.DataAck (Short ack)) long may = cc long
-ack-spells true number (kind.CloseReq ack) long may = cc (may refl)
-ack-spells true number (kind.Close ack) long may = cc (may refl)
-ack-spells true number (kind.Reset ack code detail) long may = cc (may refl)
-ack-spells true number (kind.Sync ack) long may = cc (may refl)
-ack-spells true number (kind.SyncAck ack) long may = cc (may refl)
-
--- the frame of a draft spells the numbers that are kept of it
-abbrev spells-kept : (config : Config) (short : Bool) (number : ℕ) (draft : Draft) (frame : SentFrame) → IsSendable draft → MayBe short draft
-    → frame.bytes ≡ frame_of config short number draft → frame.number ≡ number % 2 ^ 48 → frame.ack ≡ ack_of (kind_in_widths draft.kind)
-    → SpellsItsNumbers frame
-spells-kept config short number draft frame sendable may same numbered acks =
-    let read = is-drafted config short number draft sendable may in
-    let long : Bool = is_long (number_in_width (number_in_form short number)) in
-    record {
-      packet = parts_of config short number draft read.sum;
-      is_packet = ap packet_of same ∙ read.is_packet;
-      number = number-spells short number ∙ ap (in_width long) (sym numbered);
-      ack = ack-spells short number draft.kind sendable.is_long may ∙ ap (ack_in_width long) (sym acks);
-    }
+kept-frame config short number draft processed floor small =
+    ap (λ (n : ℕ). one_frame (frame_of config short number draft) n (ack_of (kind_in_widths draft.kind)) processed floor) small
 
 again : (n number : ℕ) → number ≡ residue n → number % 2 ^ 48 ≡ residue n
 again n number same = omega (arith, same)
@@ -192,7 +127,7 @@ module _ (config : Config) where
   numbered-frame n number frame l same is =
       record {
         spells =
-            spells-kept config is.short number l.draft frame is.sendable is.form (ap (λ (f : SentFrame). f.bytes) is.same)
+            draft-spelled config is.short number l.draft _ is.sendable is.form (ap (λ (f : SentFrame). f.bytes) is.same)
             (ap (λ (f : SentFrame). f.number) is.same) (ap (λ (f : SentFrame). f.ack) is.same);
         of_connection =
             connection-kept config.role (in_form is.short l.draft.kind) ∙ connection-formed config.role is.short l.draft.kind ∙ is.of_connection;
@@ -203,7 +138,7 @@ module _ (config : Config) where
   reset-frame frame is =
       let read = is-drafted config false is.number (alone is.kind) is.sendable (λ short. cc short) in
       record {
-        spells = spells-kept config false is.number (alone is.kind) frame is.sendable (λ short. cc short) is.same is.numbered is.acks;
+        spells = draft-spelled config false is.number (alone is.kind) _ is.sendable (λ short. cc short) is.same is.numbered is.acks;
         has_code = connection-kept config.role is.kind ∙ is.without_connection;
         no_options = ap options_in is.same ∙ read.are_options;
       }

@@ -3,6 +3,7 @@ use Rattle.std.proofs.Common.{◌≡◌, ◌↔◌, refl, ap, sym, ◌∙◌, su
 use Rattle.std.proofs.lemmas.List.{length-map}
 use Rattle.std.proofs.lemmas.Option.{same_Some, slice_get_within}
 use Rattle.std.specs.List.{Contains}
+use Rattle.std.specs.Result.{result_ok}
 use Rattle.ack_vectors.specs.Vector.{is_whole_under}
 use Rattle.dccp_endpoint.specs.End.{floor_of, is_live}
 use Rattle.dccp_endpoint.specs.Reporting.{is_acking}
@@ -171,7 +172,7 @@ module _ (w : WorldState) (logs : Side → List Logged) (side : Side) where
         → Contains (half_of w side).processed (half_of w side).end.marks.gsr
     newest-found frame packet (Nowhere is) live read acking same =
         let its = reset-frame (config_of (party_of w logs (other side))) frame is in
-        let packet_is : packet ≡ its.spells.packet = same_Some packet its.spells.packet (sym read ∙ its.spells.is_packet) in
+        let packet_is : packet ≡ its.spells.packet = same_Some packet its.spells.packet (sym read ∙ ap result_ok its.spells.is_packet) in
         let type = without-reset (config_of (party_of w logs (other side))).role its.spells.packet.header.kind its.has_code in
         let plain : is_acking (packet_type packet.header.kind) ≡ false = ap (λ (p : Parts). is_acking (packet_type p.header.kind)) packet_is
         ∙ ap is_acking type in

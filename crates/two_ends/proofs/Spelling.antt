@@ -1,12 +1,14 @@
 -- The bytes of a frame spell the numbers that are kept of it.
-use Rattle.std.proofs.Common.{◌≡◌, inl, inr, sym, ◌∙◌, subst, ℕ, ◌+◌, zero, suc, List, [], ◌∷◌, Some, slice_get}
+use Rattle.std.proofs.Common.{◌≡◌, inl, inr, ap, sym, ◌∙◌, subst, ℕ, ◌+◌, zero, suc, List, [], ◌∷◌, Some, slice_get}
 use Rattle.std.proofs.lemmas.Option.{same_Some}
 use Rattle.dccp_packets.specs.Grammar.{Parts, is_long}
 use Rattle.dccp_packets.specs.Kinds.{ack_of, value_of}
 use Rattle.dccp_states.specs.declared.phase.Role.{Role}
 use Rattle.world_events.specs.declared.event.Side.{Side}
 use Rattle.two_ends.specs.declared.frames.SentFrame.{SentFrame}
-use Rattle.two_ends.specs.Frames.{SpellsItsNumbers, ack_in_width, in_width, packet_of}
+use Rattle.std.specs.Result.{result_ok}
+use Rattle.dccp_endpoint.specs.Spelled.{ack_in_width, in_width}
+use Rattle.two_ends.specs.Frames.{SpellsItsNumbers, packet_of}
 use Rattle.two_ends.specs.Numbered.{AreNumbered, Facts}
 use Rattle.two_ends.specs.World.{WorldState, half_of}
 
@@ -25,7 +27,7 @@ frame-spelled w facts side index frame there = spelled _ _ 0 _ (half_of w side).
 
 module _ (frame : SentFrame) (spells : SpellsItsNumbers frame) (packet : Parts) (read : packet_of frame.bytes ≡ Some packet) where
   same : spells.packet ≡ packet
-  same = same_Some spells.packet packet (sym spells.is_packet ∙ read)
+  same = same_Some spells.packet packet (sym (ap result_ok spells.is_packet) ∙ read)
 
   pub number-spelled : value_of packet.header.number ≡ in_width (is_long packet.header.number) frame.number
   number-spelled = subst (λ (p : Parts). value_of p.header.number ≡ in_width (is_long p.header.number) frame.number) same spells.number

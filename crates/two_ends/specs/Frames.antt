@@ -1,39 +1,18 @@
--- What a frame is, read from its bytes (RFC 4340, sections 5 and 5.8), and its numbers in full (section 7.6).
-use Rattle.std.specs.Prelude.{◌≡◌, ℕ, ◌%◌, ◌^◌, Bool, true, false, not, List, [], Option, Some, None, Result, if◌then◌else◌}
+-- What a frame is, read from its bytes (RFC 4340, sections 5 and 5.8), and the numbers that it spells (section 7.6).
+use Rattle.std.specs.Prelude.{ℕ, Bool, true, false, not, List, [], Option, Some, None, Result}
 use Rattle.std.specs.Result.{result_ok}
-use Rattle.dccp_packets.specs.Forms.{ack_near, near}
 use Rattle.dccp_packets.specs.Grammar.{Parts, decoded, is_long, packet_type}
 use Rattle.dccp_packets.specs.declared.header.Kind.{Kind}
 use Rattle.dccp_packets.specs.declared.header.Kind.TheVariants as kind
 use Rattle.dccp_options.specs.Grammar.{Entry, options_of}
 use Rattle.dccp_options.specs.declared.option.OptFault.{OptFault}
-use Rattle.dccp_packets.specs.Kinds.{ack_of, is_data, value_of}
-use Rattle.validity_windows.specs.declared.marks.Marks.{Marks}
+use Rattle.dccp_packets.specs.Kinds.{is_data}
+use Rattle.dccp_endpoint.specs.Spelled.{IsSpelled}
 use Rattle.two_ends.specs.declared.frames.SentFrame.{SentFrame}
 
 -- the packet that these bytes are, if they can be read as one
 abbrev pub packet_of : List ℕ → Option Parts
 packet_of bytes = result_ok (decoded bytes)
-
--- The sequence number in full of a packet that an end has just sent, by its marks then: a short form stands for the
--- number near GSS (RFC 4340, section 7.6).
-abbrev pub number_in_full : Marks → Option Parts → ℕ
-number_in_full marks None = marks.gss
-number_in_full marks (Some p) = near marks.gss p.header.number
-
--- its acknowledgement number in full, if it has one: a short form stands for the number near GSR
-abbrev pub ack_in_full : Marks → Option Parts → Option ℕ
-ack_in_full marks None = None
-ack_in_full marks (Some p) = ack_near marks.gsr p.header.kind
-
--- a number as its bits stand in a packet: all of them, or the low 24 (RFC 4340, section 5.1)
-abbrev pub in_width : Bool → ℕ → ℕ
-in_width long n = if long then n else n % 2 ^ 24
-
--- the same for the acknowledgement number of a packet that may have none
-abbrev pub ack_in_width : Bool → Option ℕ → Option ℕ
-ack_in_width long None = None
-ack_in_width long (Some ack) = Some (in_width long ack)
 
 -- the packet has short numbers
 abbrev pub is_short_packet : Option Parts → Bool
@@ -41,11 +20,8 @@ is_short_packet None = false
 is_short_packet (Some p) = not (is_long p.header.number)
 
 -- A frame's bytes are a packet that spells the frame's numbers, in the width of its form.
-pub record SpellsItsNumbers (frame : SentFrame) : Type 0 where
-  pub packet : Parts
-  pub is_packet : packet_of frame.bytes ≡ Some packet
-  pub number : value_of packet.header.number ≡ in_width (is_long packet.header.number) frame.number
-  pub ack : ack_of packet.header.kind ≡ ack_in_width (is_long packet.header.number) frame.ack
+abbrev pub SpellsItsNumbers : SentFrame → Type 0
+SpellsItsNumbers frame = IsSpelled (record { bytes = frame.bytes; number = frame.number; ack = frame.ack })
 
 -- of the ten packet types Reset alone
 abbrev pub is_reset : Kind → Bool

@@ -11,8 +11,8 @@ use Rattle.dccp_endpoint.specs.declared.config.Config.{Config}
 use Rattle.world_events.specs.Actors.{actor, other}
 use Rattle.world_events.specs.Refusals.{refusal_of, send_refusal_of}
 use Rattle.seq_circle.specs.Circle.{is_ack_far, is_far}
-use Rattle.two_ends.specs.Frames.{ack_in_full, is_short_packet, number_in_full, packet_of}
-use Rattle.validity_windows.specs.declared.marks.Marks.{Marks}
+use Rattle.dccp_packets.specs.Outgoing.{Outgoing}
+use Rattle.two_ends.specs.Frames.{is_short_packet, packet_of}
 use Rattle.two_ends.specs.declared.frames.SentFrame.{SentFrame}
 use Rattle.two_ends.specs.declared.half.Asked.{Asked}
 use Rattle.two_ends.specs.declared.half.Asked.TheVariants as asked
@@ -50,18 +50,12 @@ pub record WorldStep : Type 0 where
   pub calls : List Call
   pub seen : Seen
 
--- A frame as it is kept: its numbers in full, by its sender's marks after the step, how many numbers its sender had
--- processed, that step's included, and its floor.
-abbrev pub as_sent : Marks → ℕ → ℕ → Option (List ℕ) → List SentFrame
-as_sent marks processed floor None = []
-as_sent marks processed floor (Some bytes) =
-    record {
-      bytes = bytes;
-      number = number_in_full marks (packet_of bytes);
-      ack = ack_in_full marks (packet_of bytes);
-      processed = processed;
-      floor = floor;
-    } ∷ []
+-- A frame as it is kept: with the numbers that its sender tells of it, how many numbers its sender had processed, that
+-- step's included, and its floor.
+abbrev pub as_sent : ℕ → ℕ → Option Outgoing → List SentFrame
+as_sent processed floor None = []
+as_sent processed floor (Some sent) =
+    record { bytes = sent.bytes; number = sent.number; ack = sent.ack; processed = processed; floor = floor } ∷ []
 
 -- A step processes the number of the frame that arrives, if one does, where the end's count of numbers that were taken
 -- rises. An end hands out no list of them. A side is full long before that count could stop at 2^64 - 1.
@@ -75,9 +69,9 @@ abbrev pub newly_processed : EndState → Option ℕ → EndState → List ℕ
 newly_processed before arrived after = number_if (nat_lt (marked_of before) (marked_of after)) arrived
 
 -- a side after a step of its end, with its frame at the list's end
-abbrev pub half_with : List SentFrame → EndState → List ℕ → Option (List ℕ) → Half
+abbrev pub half_with : List SentFrame → EndState → List ℕ → Option Outgoing → Half
 half_with frames after processed frame =
-    record { end = after; frames = frames ++ as_sent after.marks (length processed) (floor_of after) frame; processed = processed }
+    record { end = after; frames = frames ++ as_sent (length processed) (floor_of after) frame; processed = processed }
 
 -- a side with what a step of its end has added: at most one frame, and at most one number processed
 abbrev pub moved : {Answer : Type 0} → Half → Option ℕ → Step Answer → Half

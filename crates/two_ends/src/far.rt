@@ -1,17 +1,14 @@
 //! Which frames with short numbers are too far from what their receiver sent and received for it to tell these numbers
 //! (RFC 4340, section 7.6).
 ghost use Rattle.std.specs.Prelude.{◌≡◌, ◌||◌};
-ghost use Rattle.dccp_endpoint.specs.End.{is_live};
-ghost use Rattle.dccp_endpoint.specs.Receiving.{takes_short};
 ghost use Rattle.seq_circle.specs.Circle.{is_ack_far, is_far};
 ghost use Rattle.two_ends.specs.Frames.{is_short_packet, packet_of};
 ghost use Rattle.two_ends.specs.World.{is_far_frame};
 
 use crate::SentFrame;
 use congestion_trait::Congestion;
-use dccp_endpoint::{Endpoint, Phase};
+use dccp_endpoint::Endpoint;
 use dccp_packets::{Number, decode};
-use feature_lists::{Feature, Place};
 use seq_circle::Seq48;
 use validity_windows::Marks;
 
@@ -19,27 +16,10 @@ use validity_windows::Marks;
 pub(crate) fn is_far_frame<C: Congestion>(end: &Endpoint<C>, frame: &SentFrame) -> bool
     ensures { result ≡ is_far_frame end.now.state frame.now }
 {
-    if !takes_short(end) {
+    if !end.takes_short() {
         return false;
     }
     is_short_packet(frame.bytes.as_slice()) && has_far_numbers(frame, &end.marks())
-}
-
-// Packets with short numbers are taken.
-fn takes_short<C: Congestion>(end: &Endpoint<C>) -> bool
-    ensures { result ≡ takes_short end.now.state }
-{
-    is_live(end.phase()) && end.held(Feature::ShortSeqnos, Place::There).value == 1
-}
-
-// The phases in which a first number was received.
-fn is_live(phase: Phase) -> bool
-    ensures { result ≡ is_live phase }
-{
-    matches!(
-        phase,
-        Phase::Respond | Phase::PartOpen | Phase::Open | Phase::CloseReq | Phase::Closing
-    )
 }
 
 // The bytes are a packet with short numbers.

@@ -1,14 +1,12 @@
 //! Frames that were sent.
 ghost use Rattle.std.specs.Prelude.{◌≡◌, ◌≤◌, ◌++◌, [], length, OnOk, vec_capacity};
-ghost use Rattle.two_ends.specs.Frames.{ack_in_full, number_in_full, packet_of};
 ghost use Rattle.two_ends.specs.World.{HasPlace, HasRoomForFrame, as_sent};
 
-use dccp_packets::{Outbox, decode};
+use dccp_packets::Outbox;
 use seq_circle::{NoMemory, Seq48};
 use std::alloc::Global;
 use std::marker::Model;
 use std::mem;
-use validity_windows::Marks;
 
 // No frame is longer.
 const MOST_BYTES: usize = 2044;
@@ -76,52 +74,33 @@ pub(crate) fn take_memory(frames: &mut Vec<SentFrame>, spare: &mut Vec<u8>) -> R
 }
 
 /// Keeps the frame that a step sent, if any, in memory that was taken before the step: a place in the list, and a block
-/// that is given only where none of the frame's length is to be had. `marks` are those of its sender after the step.
+/// that is given only where none of the frame's length is to be had.
 pub(crate) fn keep_frame(
     alloc: Global,
     frames: &mut Vec<SentFrame>,
     spare: &mut Vec<u8>,
     out: &Outbox,
-    marks: &Marks,
     processed: u64,
     floor: Seq48,
 )
     requires place { HasPlace frames.old }
     requires room { HasRoomForFrame spare.old }
     requires empty { spare.old.items ≡ [] }
-    ensures sent { frames.new.items ≡ frames.old.items ++ as_sent marks.now processed floor out.now }
+    ensures sent { frames.new.items ≡ frames.old.items ++ as_sent processed floor out.now }
     ensures still_empty { spare.new.items ≡ [] }
 {
-    let Some(frame) = out.frame() else { return };
-    let (number, ack) = numbers_in_full(frame.bytes(), marks);
-    let bytes = copied(alloc, frame.bytes(), spare);
-    let sent = SentFrame {
+    let Some(sent) = out.sent() else { return };
+    let bytes = copied(alloc, sent.bytes, spare);
+    let frame = SentFrame {
         bytes,
-        number,
-        ack,
+        number: sent.number,
+        ack: sent.ack,
         processed,
         floor,
     };
-    match frames.push(sent) {
+    match frames.push(frame) {
         Ok(()) => {}
         Err(_) => unreachable!(),
-    }
-}
-
-// The sequence number and the acknowledgement number of a frame that was just sent, by its sender's marks.
-fn numbers_in_full(bytes: &[u8], marks: &Marks) -> (Seq48, Option<Seq48>)
-    ensures number { result.0 ≡ number_in_full marks.now (packet_of bytes.now) }
-    ensures ack { result.1 ≡ ack_in_full marks.now (packet_of bytes.now) }
-{
-    match decode(bytes) {
-        Ok(packet) => {
-            let header = packet.header;
-            (
-                header.number.near(marks.gss),
-                header.kind.ack_near(marks.gsr),
-            )
-        }
-        Err(_) => (marks.gss, None),
     }
 }
 

@@ -117,14 +117,12 @@ impl<C: Congestion> HalfWorld<C> {
         take_memory(&mut self.frames, &mut self.spare)?;
         let seen = answer(&mut self.end, asked, &mut self.out);
         let processed = self.processed.len() as u64;
-        let marks = self.end.marks();
         let floor = self.end.floor();
         keep_frame(
             self.alloc,
             &mut self.frames,
             &mut self.spare,
             &self.out,
-            &marks,
             processed,
             floor,
         );
@@ -144,14 +142,12 @@ impl<C: Congestion> HalfWorld<C> {
         let taken = before < self.end.marked();
         keep_number(&mut self.processed, taken, number);
         let processed = self.processed.len() as u64;
-        let marks = self.end.marks();
         let floor = self.end.floor();
         keep_frame(
             self.alloc,
             &mut self.frames,
             &mut self.spare,
             &self.out,
-            &marks,
             processed,
             floor,
         );

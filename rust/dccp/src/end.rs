@@ -42,6 +42,7 @@ impl End {
         };
         let frame = Box::new(sys::Frame {
             length: 0,
+            number: 0,
             bytes: [0; sys::MOST_FRAME_BYTES],
         });
         End { handle, frame }

@@ -47,6 +47,7 @@ impl Flows {
         };
         let frame = Box::new(sys::Frame {
             length: 0,
+            number: 0,
             bytes: [0; sys::MOST_FRAME_BYTES],
         });
         Flows { handle, frame }

@@ -49,6 +49,7 @@ pub struct Wish {
 #[repr(C)]
 pub struct Frame {
     pub length: usize,
+    pub number: u64,
     pub bytes: [u8; MOST_FRAME_BYTES],
 }
 

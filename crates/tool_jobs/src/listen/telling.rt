@@ -57,12 +57,12 @@ pub(crate) fn put_answer(text: &mut Vec<u8>, answer: Result<Seen, NoFlow>) -> Re
 pub(crate) fn put_frame(text: &mut Vec<u8>, peer: Peer, out: &Outbox) -> Result<(), NoMemory>
     ensures { OnOk result (text.new.items ≡ text.old.items ++ frame_to_peer peer out.now) }
 {
-    let Some(frame) = out.frame() else {
+    let Some(sent) = out.sent() else {
         return Ok(());
     };
     put(text, b"sent ")?;
     put_peer(text, peer)?;
     put(text, b" ")?;
-    put_hex(text, frame.bytes())?;
+    put_hex(text, sent.bytes)?;
     put(text, b"\n")
 }

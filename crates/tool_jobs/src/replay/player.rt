@@ -204,10 +204,10 @@ fn put_sent(text: &mut Vec<u8>, side: Side, sent: &mut u64, out: &Outbox) -> Res
     ensures few { OnOk result (sent.new ≤ sent.old + 1) }
     ensures text { OnOk result (text.new.items ≡ text.old.items ++ reply_line side sent.old out.now) }
 {
-    let Some(frame) = out.frame() else {
+    let Some(frame) = out.sent() else {
         return Ok(());
     };
-    put_frame_line(text, side, *sent, frame.bytes())?;
+    put_frame_line(text, side, *sent, frame.bytes)?;
     *sent += 1;
     Ok(())
 }

@@ -1,0 +1,54 @@
+-- The numbers that are told of frames beside the bytes that spell them, and the number that was taken last, worked out by hand.
+use Rattle.std.proofs.Common.{◌≡◌, refl, ℕ, Option, None, Some}
+use Rattle.dccp_packets.specs.Outgoing.{Outgoing}
+use Rattle.dccp_endpoint.specs.Calling.{fires, opens, sends_payload}
+use Rattle.dccp_endpoint.specs.Drafts.{framed}
+use Rattle.dccp_endpoint.specs.End.{EndState, last_taken, new_end}
+use Rattle.dccp_endpoint.specs.Receiving.{receives}
+use Rattle.dccp_endpoint.specs.Steps.{Step}
+use Rattle.dccp_states.specs.declared.calls.Timer.TheVariants as timers
+use Rattle.dccp_states.specs.declared.phase.Role.TheVariants.{Client, Server}
+use Rattle.feature_lists.specs.declared.features.Feature.TheVariants.{SendAckVector, ShortSeqnos}
+use Rattle.feature_lists.specs.declared.features.Place.TheVariants.{There}
+use Rattle.tests_ends.proofs.RowsSeen.{arrives, client_ack, close, listening, open_server, plain, request, requesting, response, sends}
+use Rattle.tests_ends.proofs.RowsShort.{holding, short_ack}
+use Rattle.tests_ends.proofs.RowsShortSent.{acknowledges, sending}
+
+-- the numbers that are told of what goes out
+abbrev told : Option Outgoing → Option (ℕ × Option ℕ)
+told None = None
+told (Some sent) = Some (sent.number, sent.ack)
+
+-- Whole numbers, whether the frame is short or long: of the server's second packet, 2^24 and what is behind it, and an acknowledged 2^24. A
+-- Data and a Request acknowledge nothing. A Reset of no connection has the number after the acknowledged one, and a Sync acknowledges the
+-- packet that is not valid. Nothing is told where nothing goes out.
+told_numbers :
+    (told (acknowledges sending).frame ≡ Some (2002, Some 1001))
+    × (told (acknowledges open_server).frame ≡ Some (2002, Some 1001))
+    × (told (acknowledges (record sending { marks = record sending.marks { gss = 16777215 } })).frame ≡ Some (16777216, Some 1001))
+    × (told (acknowledges (record sending { marks = record sending.marks { gsr = 16777216 } })).frame ≡ Some (2002, Some 16777216))
+    × (told (sends (holding SendAckVector There 1 sending) "aa").frame ≡ Some (2002, None))
+    × (told (opens (new_end (plain Client))).frame ≡ Some (1000, None))
+    × (told (arrives listening request).frame ≡ Some (2000, Some 1000))
+    × (told (arrives listening client_ack).frame ≡ Some (2001, Some 1001))
+    × (told (arrives sending "9c4013890600214b07000000000005de00000000000007d1").frame ≡ Some (2002, Some 1502))
+    × (told (arrives sending close).frame ≡ Some (2002, Some 1002))
+    × (told (fires sending timers.Request false).frame ≡ None)
+unfolding receives fires opens sends_payload framed
+told_numbers = (refl, refl, refl, refl, refl, refl, refl, refl, refl, refl, refl)
+
+-- The number of a packet that was taken, also where its form is short, and where it is older than another; not that of one that is not valid, that
+-- is unexpected in its phase, though it raises GSR, or that meets no connection.
+taken_last :
+    (last_taken (new_end (plain Server)) ≡ 0)
+    × (last_taken open_server ≡ 1001)
+    × (last_taken (arrives requesting response).after ≡ 2000)
+    × (last_taken (arrives (holding ShortSeqnos There 1 open_server) short_ack).after ≡ 1002)
+    × (last_taken (arrives (arrives (holding ShortSeqnos There 1 open_server) short_ack).after client_ack).after ≡ 1001)
+    × (last_taken (arrives sending "9c4013890600214b07000000000005de00000000000007d1").after ≡ 1001)
+    × ((arrives open_server "9c401389050031ea01000000000003ea0000002a").after.marks.gsr ≡ 1002)
+    × (last_taken (arrives open_server "9c401389050031ea01000000000003ea0000002a").after ≡ 1001)
+    × (last_taken (arrives listening client_ack).after ≡ 0)
+    × (last_taken (arrives open_server close).after ≡ 1002)
+unfolding receives opens framed
+taken_last = (refl, refl, refl, refl, refl, refl, refl, refl, refl, refl)
