@@ -25,11 +25,11 @@ type Said = ArrayVec<u8, 256>;
 type Area = ArrayVec<u8, 1264>;
 
 // The acknowledgement number that is told of a frame, of an Ack or a DataAck.
-fn acknowledged_by(kind: &Kind, told: Option<Seq48>) -> Option<Seq48>
-    ensures { result ≡ acknowledged_by told kind.now }
+fn acknowledged_by(kind: &Kind, told: &Option<Seq48>) -> Option<Seq48>
+    ensures { result ≡ acknowledged_by told.now kind.now }
 {
     match kind {
-        Kind::Ack { .. } | Kind::DataAck { .. } => told,
+        Kind::Ack { .. } | Kind::DataAck { .. } => *told,
         Kind::Request { .. }
         | Kind::Response { .. }
         | Kind::Data
@@ -94,13 +94,13 @@ fn lengthen(packet: &Packet<'_>, more: &[u8], pseudo: &Pseudo, longer: &mut Fram
 // Writes a frame with what is to be said behind its options, where anything is and it has room; tells whether it did.
 fn write_buffered(
     frame: &[u8],
-    told: Option<Seq48>,
+    told: &Option<Seq48>,
     inbox: &Inbox,
     pseudo: &Pseudo,
     longer: &mut Frame,
 ) -> bool
-    ensures longer { OnTrue result (longer.new ≡ buffered pseudo.now told inbox.now frame.now) }
-    ensures same { OnFalse result (buffered pseudo.now told inbox.now frame.now ≡ frame.now) }
+    ensures longer { OnTrue result (longer.new ≡ buffered pseudo.now told.now inbox.now frame.now) }
+    ensures same { OnFalse result (buffered pseudo.now told.now inbox.now frame.now ≡ frame.now) }
 {
     let packet = match decode(frame) {
         Ok(packet) => packet,
@@ -123,10 +123,13 @@ fn lengthen_sent(out: &mut Outbox, inbox: &Inbox, pseudo: &Pseudo)
     let Some(sent) = out.sent() else {
         return;
     };
-    let (number, ack) = (sent.number, sent.ack);
+    let numbers = Numbers {
+        number: sent.number,
+        ack: sent.ack,
+    };
     let mut longer = Frame::new();
-    if write_buffered(sent.bytes, ack, inbox, pseudo, &mut longer) {
-        out.put(longer, Numbers { number, ack });
+    if write_buffered(sent.bytes, &numbers.ack, inbox, pseudo, &mut longer) {
+        out.put(longer, numbers);
     }
 }
 

@@ -1,11 +1,13 @@
 //! What a listener is made from, and what a peer's end is made from then.
-ghost use Rattle.std.specs.Prelude.{◌≡◌, length};
-ghost use Rattle.dccp_listener.specs.Chain.{config_asked, requested, service_for};
+ghost use Rattle.std.specs.Prelude.{◌≡◌, Ok, length};
+ghost use Rattle.dccp_endpoint.specs.Incoming.{parts_of_packet};
+ghost use Rattle.dccp_packets.specs.Grammar.{decoded};
+ghost use Rattle.dccp_listener.specs.Chain.{config_asked, config_for, requested, service_for};
 
 use crate::Peer;
 use arrayvec::ArrayVec;
 use dccp_endpoint::{Config, Lists, Pseudo, Role, Seq48, Vectors};
-use dccp_packets::Kind;
+use dccp_packets::{Kind, Packet};
 
 /// What a listener is made from (own).
 #[derive(Clone, Debug, Drop)]
@@ -60,9 +62,25 @@ fn service_for(services: &[u32], asked: Option<u32>) -> u32
     }
 }
 
-/// What a fresh end for the peer is made from, where a packet with this type is the first.
-pub(crate) fn config_for(config: &ListenConfig, peer: Peer, iss: Seq48, kind: &Kind) -> Config
-    ensures { result ≡ config_asked config.now peer iss (requested kind.now) }
+/// What a fresh end for the peer is made from, where this packet is the first. Its bytes are looked at by the clauses
+/// alone.
+pub(crate) fn config_for(
+    config: &ListenConfig,
+    peer: Peer,
+    iss: Seq48,
+    packet: &Packet<'_>,
+    bytes: &[u8],
+) -> Config
+    requires { decoded bytes.now ≡ Ok (parts_of_packet packet.now) }
+    ensures { result ≡ config_for config.now peer iss bytes.now }
+{
+    let _ = bytes;
+    config_asked(config, peer, iss, requested(&packet.header.kind))
+}
+
+// The same, where a packet asks for this service, or for none.
+fn config_asked(config: &ListenConfig, peer: Peer, iss: Seq48, asked: Option<u32>) -> Config
+    ensures { result ≡ config_asked config.now peer iss asked }
 {
     let own_address = config.own_address;
     let address = peer.address;
@@ -78,7 +96,7 @@ pub(crate) fn config_for(config: &ListenConfig, peer: Peer, iss: Seq48, kind: &K
         },
         own_port: config.own_port,
         peer_port: peer.port,
-        service: service_for(config.services.as_slice(), requested(kind)),
+        service: service_for(config.services.as_slice(), asked),
         iss,
         lists: config.lists,
         vectors: Vectors::One,

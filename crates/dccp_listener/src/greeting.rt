@@ -1,21 +1,16 @@
 //! What a peer without a flow meets.
-ghost use Rattle.std.specs.Prelude.{◌≡◌, ◌≤◌, IfOk, OnErr, Some, None, Ok, Err, length};
+ghost use Rattle.std.specs.Prelude.{◌≡◌, ◌≤◌, IfOk, OnErr, None, Ok, length};
 ghost use Rattle.ccid_two.specs.Kinds.{at_first, kinds_control};
 ghost use Rattle.dccp_endpoint.specs.Controlled.{begins};
-ghost use Rattle.dccp_endpoint.specs.End.{new_end};
 ghost use Rattle.dccp_endpoint.specs.Feeding.{receiving};
 ghost use Rattle.dccp_endpoint.specs.Incoming.{parts_of_packet};
-ghost use Rattle.dccp_endpoint.specs.Receiving.{receives};
-ghost use Rattle.dccp_endpoint.specs.Strangers.{IsStrangerAnswered};
 ghost use Rattle.dccp_packets.specs.Grammar.{decoded};
-ghost use Rattle.dccp_listener.specs.Calls.{busy_reply};
-ghost use Rattle.dccp_listener.specs.Chain.{config_for};
+ghost use Rattle.dccp_listener.specs.Calls.{busy_frame, busy_reply};
 
 use crate::answers::receive_packet;
-use crate::{ListenConfig, Peer};
 use ccid_two::Kinds;
 use dccp_endpoint::{
-    Config, Endpoint, Fault, Malformed, NoMemory, Outbox, Outcome, ResetCode, Seq48, Why, put_reset,
+    Config, Endpoint, Fault, NoMemory, Outbox, Outcome, ResetCode, Seq48, put_reset,
 };
 use dccp_packets::{Number, Packet};
 use std::alloc::Global;
@@ -40,25 +35,19 @@ pub(crate) fn greet(
     Ok((end, outcome))
 }
 
-/// Bytes that are no packet: a fresh end would drop them.
-#[tactic(auto, unfolding(dccp_endpoint::specs::Receiving::receives))]
-pub(crate) fn drop_malformed(
-    config: &ListenConfig,
-    peer: Peer,
-    iss: Seq48,
-    bytes: &[u8],
-    fault: Malformed,
-) -> Outcome
-    requires { decoded bytes.now ≡ Err fault }
-    ensures { IsStrangerAnswered (receives (new_end (config_for config.now peer iss bytes.now)) bytes.now) None (Some result) }
+/// Leaves the Reset in the Outbox that tells the sender of this Request that the listener is busy: under the number 0,
+/// without a connection. Its bytes are looked at by the clauses alone.
+pub(crate) fn refuse(config: &Config, packet: &Packet<'_>, bytes: &[u8], out: &mut Outbox)
+    requires empty { out.old ≡ None }
+    requires read { decoded bytes.now ≡ Ok (parts_of_packet packet.now) }
+    ensures { out.new ≡ busy_frame config.now (decoded bytes.now) }
 {
-    let _ = (config, peer, iss, bytes);
-    Outcome::Dropped(Why::Malformed(fault))
+    let _ = bytes;
+    refuse_number(config, &packet.header.number, out);
 }
 
-/// Leaves the Reset in the Outbox that tells the sender of a Request with this number that the listener is busy: under
-/// the number 0, without a connection. A Request has a long number.
-pub(crate) fn refuse(config: &Config, number: &Number, out: &mut Outbox)
+// The same by its number, which is a long one.
+fn refuse_number(config: &Config, number: &Number, out: &mut Outbox)
     requires { out.old ≡ None }
     ensures { out.new ≡ busy_reply config.now number.now }
 {

@@ -15,9 +15,9 @@ ghost use Rattle.dccp_listener.specs.Runs.{Stepped, told_of};
 use crate::answers::without_memory;
 use crate::config::config_for;
 use crate::flows::{Held, act_at, hear_at, put_flow};
-use crate::greeting::{drop_malformed, greet, refuse};
+use crate::greeting::{greet, refuse};
 use crate::{Act, Heard, ListenConfig, NoFlow, Peer};
-use dccp_endpoint::{Config, NoMemory, Outbox, Outcome, Seq48, answer_stranger};
+use dccp_endpoint::{Config, NoMemory, Outbox, Outcome, Seq48, Why, answer_stranger};
 use dccp_packets::{Packet, decode};
 use std::alloc::Global;
 use std::collections::BTreeMap;
@@ -58,6 +58,7 @@ fn is_full(config: &ListenConfig, flows: &BTreeMap<Peer, Held>) -> bool
 }
 
 /// A datagram of a peer.
+#[tactic(auto, unfolding(dccp_endpoint::specs::Receiving::receives))]
 pub(crate) fn arrive(
     alloc: Global,
     config: &ListenConfig,
@@ -78,14 +79,14 @@ pub(crate) fn arrive(
     }
     let packet = match decode(bytes) {
         Ok(packet) => packet,
-        Err(fault) => return Ok(Heard::Flow(drop_malformed(config, peer, iss, bytes, fault))),
+        Err(fault) => return Ok(Heard::Flow(Outcome::Dropped(Why::Malformed(fault)))),
     };
-    let own = config_for(config, peer, iss, &packet.header.kind);
+    let own = config_for(config, peer, iss, &packet, bytes);
     if let Some(outcome) = answer_stranger(&own, &packet, bytes, out) {
         return Ok(Heard::Flow(outcome));
     }
     if is_full(config, flows) {
-        refuse(&own, &packet.header.number, out);
+        refuse(&own, &packet, bytes, out);
         return Ok(Heard::Busy);
     }
     let outcome = admit(alloc, &own, flows, peer, &packet, bytes, out)?;
