@@ -57,6 +57,38 @@ fn is_full(config: &ListenConfig, flows: &BTreeMap<Peer, Held>) -> bool
     config.most as usize <= flows.len()
 }
 
+// A packet of a peer that has no flow: it is answered, refused, or heard by a fresh end.
+fn meet(
+    alloc: Global,
+    config: &ListenConfig,
+    flows: &mut BTreeMap<Peer, Held>,
+    peer: Peer,
+    iss: Seq48,
+    packet: &Packet<'_>,
+    bytes: &[u8],
+    out: &mut Outbox,
+) -> Result<Heard, NoMemory>
+    requires none { end_of_peer flows.old.entries peer ≡ None }
+    requires empty { out.old ≡ None }
+    requires short { length bytes.now ≤ 2044 }
+    requires read { decoded bytes.now ≡ Ok (parts_of_packet packet.now) }
+    requires options { length packet.now.options.now ≤ 1008 }
+    ensures arrived { Arrived (record { config = config.now; flows = flows.old.entries }) (record { config = config.now; flows = flows.new.entries }) peer iss bytes.now out.new result }
+    ensures listens { IfOk result (λ heard. record { flows = flows.new.entries; frame = out.new; told = told_of (Ok heard) } ≡ listens (record { config = config.now; flows = flows.old.entries }) peer (Arrives iss bytes.now)) }
+    ensures room { length flows.old.entries ≤ config.now.most → length flows.new.entries ≤ config.now.most }
+{
+    let own = config_for(config, peer, iss, packet, bytes);
+    if let Some(outcome) = answer_stranger(&own, packet, bytes, out) {
+        return Ok(Heard::Flow(outcome));
+    }
+    if is_full(config, flows) {
+        refuse(&own, packet, bytes, out);
+        return Ok(Heard::Busy);
+    }
+    let outcome = admit(alloc, &own, flows, peer, packet, bytes, out)?;
+    Ok(Heard::Flow(outcome))
+}
+
 /// A datagram of a peer.
 #[tactic(auto, unfolding(dccp_endpoint::specs::Receiving::receives))]
 pub(crate) fn arrive(
@@ -77,20 +109,10 @@ pub(crate) fn arrive(
     if let Some(outcome) = hear_at(flows, peer, bytes, out) {
         return Ok(Heard::Flow(outcome));
     }
-    let packet = match decode(bytes) {
-        Ok(packet) => packet,
-        Err(fault) => return Ok(Heard::Flow(Outcome::Dropped(Why::Malformed(fault)))),
-    };
-    let own = config_for(config, peer, iss, &packet, bytes);
-    if let Some(outcome) = answer_stranger(&own, &packet, bytes, out) {
-        return Ok(Heard::Flow(outcome));
+    match decode(bytes) {
+        Ok(packet) => meet(alloc, config, flows, peer, iss, &packet, bytes, out),
+        Err(fault) => Ok(Heard::Flow(Outcome::Dropped(Why::Malformed(fault)))),
     }
-    if is_full(config, flows) {
-        refuse(&own, &packet, bytes, out);
-        return Ok(Heard::Busy);
-    }
-    let outcome = admit(alloc, &own, flows, peer, &packet, bytes, out)?;
-    Ok(Heard::Flow(outcome))
 }
 
 /// A call of a peer's end. The configuration is looked at by the clauses alone.
