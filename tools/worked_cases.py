@@ -9,12 +9,12 @@ EXAMPLES = TOP / "examples"
 WIDTH = 200
 
 # Played over streams of 1, 7 and 4,096 bytes a call, and of 4,096 alone.
-IN_PIECES = """usual_connection_with_data mandatory_before_nothing options_passed_over option_faults""".split()
+IN_PIECES = """usual_connection_with_data mandatory_before_nothing options_passed_over option_faults coverage_too_large""".split()
 WHOLE = """empty comments_alone no_such_frame handshake open_both_ways number_wrap server_number_wrap older_request_last
-    data_in_request server_order_wins mandatory_unshared crossing_changes late_changes late_confirm nothing_shared invalid_value
-    vector_of_received full_run_of_64 floor_rises_by_record coverage_too_large window_of_ccid_two refused_calls_and_closing
-    repeated_request vector_cut_at_253 three_openings twelve_events eight_seeds last_seeds two_flows full_listener nonces_checked
-    marked_first one_place_buffer""".split()
+    data_in_request server_order_wins mandatory_unshared crossing_changes crossing_changes_halfway late_changes late_confirm nothing_shared invalid_value
+    vector_of_received full_run_of_64 floor_rises_by_record window_of_ccid_two refused_calls_and_closing
+    repeated_request vector_cut_at_253 short_numbers short_numbers_not_allowed usual_connection_of_version_two three_openings
+    twelve_events eight_seeds last_seeds two_flows full_listener nonces_checked marked_first one_place_buffer""".split()
 
 HEAD = '''//! The worked cases that have words and an input, one after another over the tool's one call. `tools/worked_cases.py`
 //! writes these texts from examples/, where the cases are told.

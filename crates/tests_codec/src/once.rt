@@ -5,11 +5,11 @@ ghost use Rattle.std.specs.Prelude.{◌≤◌, length};
 use dccp_options::kinds::{ACK_VECTOR_0, CHANGE_L};
 use dccp_options::{AckReport, OptFull, OptWriter, options};
 use dccp_packets::{
-    Frame, Header, Kind, MOST_FRAME_BYTES, Number, Numbers, OptionsTooLong, Outbox, PacketType,
-    ResetCode, decode, encode,
+    Frame, Header, Kind, MOST_FRAME_BYTES, Malformed, Number, Numbers, OptionsTooLong, Outbox,
+    PacketType, ResetCode, decode, encode,
 };
 use dccp_states::{Entrance, Phase, Reply, Role, after, gate, unexpected};
-use dccp_sum::{Pseudo, check, checksum, covered, seal};
+use dccp_sum::{Pseudo, SumFault, check, checksum, covered, seal};
 use seq_circle::{Seq24, Seq48, extend};
 use std::test::Fail;
 use validity_windows::{Marks, Verdict};
@@ -37,6 +37,25 @@ fn around_the_end() -> Option<bool> {
 #[test]
 fn numbers_around_the_end(rt: HostRuntime) {
     assert!(rt; around_the_end() == Some(true));
+}
+
+// Short numbers, references, and the numbers that they stand for there.
+const EXTENDED: [(u32, u64, u64); 4] = [
+    (0x00_0005, 0x0000_01ff_fff0, 0x0000_0200_0005),
+    (0xff_fff0, 0x0000_0200_0005, 0x0000_01ff_fff0),
+    (7, 0, 7),
+    (0xff_ffff, 0, 0xffff_ffff_ffff),
+];
+
+fn extended(short: u32, reference: u64) -> Option<u64> {
+    Some(extend(Seq24::new(short)?, Seq48::new(reference)?).get())
+}
+
+#[test]
+fn numbers_that_are_extended(rt: HostRuntime) {
+    for (short, reference, number) in &EXTENDED {
+        assert!(rt; extended(*short, *reference) == Some(*number), "{short}");
+    }
 }
 
 #[test]
@@ -71,6 +90,41 @@ fn header_of(bytes: &[u8]) -> Option<Header> {
         Ok(packet) => Some(packet.header),
         Err(_) => None,
     }
+}
+
+// One byte of the Request that is another, and the fault that it makes.
+const REFUSED: [(usize, u8, Malformed); 4] = [
+    (8, 0x15, Malformed::ReservedType),
+    (4, 0x04, Malformed::OffsetSmall),
+    (4, 0x06, Malformed::OffsetLarge),
+    (8, 0x00, Malformed::ShortNumbers),
+];
+
+// Whether the Request with another byte at this place is refused so.
+fn is_refused(place: usize, byte: u8, fault: Malformed) -> bool {
+    let mut packet = REQUEST;
+    if packet.len() <= place {
+        return false;
+    }
+    packet[place] = byte;
+    decode(&packet) == Err(fault)
+}
+
+#[test]
+fn requests_that_are_refused(rt: HostRuntime) {
+    assert!(rt; decode(&REQUEST[..11]) == Err(Malformed::Short));
+    for (place, byte, fault) in &REFUSED {
+        assert!(rt; is_refused(*place, *byte, *fault), "{fault:?}");
+    }
+}
+
+// With reserved bits set it is read as before, and its sum alone is another.
+#[test]
+fn a_request_with_reserved_bits(rt: HostRuntime) {
+    let mut packet = REQUEST;
+    packet[9] = 0xff;
+    assert!(rt; header_of(&packet).is_some() && header_of(&packet) == header_of(&REQUEST));
+    assert!(rt; check(&TO_SERVER, &packet) == Err(SumFault::Wrong));
 }
 
 // Whether more options are refused than fit, and what was written before then stands.
@@ -216,13 +270,40 @@ fn codes_of_resets(rt: HostRuntime) {
     assert!(rt; ResetCode::AggressionPenalty.number() == 11);
 }
 
-// The states of the numbers 100 and 99 by an Ack Vector behind another option, and the length of its first run.
-fn states_told() -> Option<(u8, u8, u8)> {
+// The numbers of an Ack Vector at 100, down to the first below it, and the state of each.
+const STATES: [(u64, Option<u8>); 14] = [
+    (100, Some(0)),
+    (99, Some(3)),
+    (98, Some(0)),
+    (97, Some(0)),
+    (96, Some(0)),
+    (95, Some(0)),
+    (94, Some(1)),
+    (93, Some(0)),
+    (92, Some(0)),
+    (91, Some(0)),
+    (90, Some(0)),
+    (89, Some(0)),
+    (88, Some(0)),
+    (87, None),
+];
+
+fn has_states(report: &AckReport<'_>) -> Option<bool> {
+    for (number, state) in &STATES {
+        if report.state(Seq48::new(*number)?) != *state {
+            return None;
+        }
+    }
+    Some(true)
+}
+
+// Whether the vector, behind another option, tells these states, and begins with a run of one.
+fn states_told() -> Option<bool> {
     let ack = Seq48::new(100)?;
-    let list = options(&[2, ACK_VECTOR_0, 4, 0xc0, 0x03], false);
+    let list = options(&[2, ACK_VECTOR_0, 7, 0x00, 0xc0, 0x03, 0x40, 0x05], false);
     let report = AckReport::of(ack, list.again())?;
     let run = report.runs().next()?;
-    Some((report.state(ack)?, report.state(ack.sub(1))?, run.count))
+    Some(has_states(&report)? && run.count == 1)
 }
 
 // Whether the first option is understood.
@@ -237,7 +318,7 @@ fn is_first_understood(area: &[u8]) -> bool
 
 #[test]
 fn options_that_are_read(rt: HostRuntime) {
-    assert!(rt; states_told() == Some((3, 0, 1)));
+    assert!(rt; states_told() == Some(true));
     assert!(rt; is_first_understood(&[CHANGE_L, 4, 6, 1]));
 }
 

@@ -1,4 +1,5 @@
 //! Streams, and what is read of them and written.
 mod captures;
+mod records;
 mod schedules;
 mod sources;

@@ -14,6 +14,10 @@ mod every_call;
 #[cfg(test)]
 mod features;
 #[cfg(test)]
+mod inboxes;
+#[cfg(test)]
+mod listeners;
+#[cfg(test)]
 mod repeated;
 #[cfg(test)]
 mod rooms;

@@ -1,14 +1,17 @@
 //! A step that is refused memory changes nothing, and made again it gives what it would have given at first.
 //!
-//! Each event of the plain handshake is tried again after NoMemory, and both ends are OPEN then, with as many frames as
-//! it has. Where memory is ample no step is refused; `tools/refusals` refuses each allocation in turn.
+//! Each event of the plain handshake is tried again after NoMemory. Its frames and both ends are those of the handshake
+//! then, as `handshake` of examples/ has them. Where memory is ample no step is refused; `tools/refusals` refuses each
+//! allocation in turn.
 ghost use Rattle.std.specs.Prelude.{◌≡◌};
 
 use ccid_two::Kinds;
-use dccp_endpoint::{Config, NoMemory, Outcome, Phase, Role};
+use dccp_endpoint::{
+    Config, Endpoint, Feature, Held, NoMemory, Outcome, Phase, Place, Role, Stand,
+};
 use std::alloc::Global;
 use std::test::Fail;
-use two_ends::{Event, Seen, Side, World, WorldFault};
+use two_ends::{Event, Seen, SentFrame, Side, World, WorldFault};
 
 // How often something is tried that may be refused memory. One allocation is refused in a run.
 const TRIES: usize = 3;
@@ -64,20 +67,80 @@ fn connects(world: &mut World<Kinds>) -> bool {
         && arrives(world, Side::Server, 1)
 }
 
-// In OPEN after two frames of its own and two that it processed.
-fn is_open(world: &World<Kinds>, side: Side) -> bool {
-    world.end(side).phase() == Phase::Open
-        && world.frames(side).len() == 2
-        && world.processed(side).len() == 2
+// The frames of the client and of the server.
+const OF_THE_CLIENT: [&[u8]; 2] = [
+    &[
+        0x9c, 0x40, 0x13, 0x89, 5, 0, 0x31, 0xec, 1, 0, 0, 0, 0, 0, 0x03, 0xe8, 0, 0, 0, 42,
+    ],
+    &[
+        0x9c, 0x40, 0x13, 0x89, 6, 0, 0x23, 0x41, 7, 0, 0, 0, 0, 0, 0x03, 0xe9, 0, 0, 0, 0, 0, 0,
+        0x07, 0xd0,
+    ],
+];
+
+const OF_THE_SERVER: [&[u8]; 2] = [
+    &[
+        0x13, 0x89, 0x9c, 0x40, 7, 0, 0x26, 0x14, 3, 0, 0, 0, 0, 0, 0x07, 0xd0, 0, 0, 0, 0, 0, 0,
+        0x03, 0xe8, 0, 0, 0, 42,
+    ],
+    &[
+        0x13, 0x89, 0x9c, 0x40, 6, 0, 0x23, 0x40, 7, 0, 0, 0, 0, 0, 0x07, 0xd1, 0, 0, 0, 0, 0, 0,
+        0x03, 0xe9,
+    ],
+];
+
+fn are_frames(sent: &[SentFrame], frames: &[&[u8]; 2]) -> bool {
+    match sent {
+        [first, second] => {
+            first.bytes.as_slice() == frames[0] && second.bytes.as_slice() == frames[1]
+        }
+        _ => false,
+    }
+}
+
+// The value of each feature from 1 on, the same here and there.
+const VALUES: [(Feature, u64); 9] = [
+    (Feature::Ccid, 2),
+    (Feature::ShortSeqnos, 0),
+    (Feature::SequenceWindow, 100),
+    (Feature::EcnIncapable, 0),
+    (Feature::AckRatio, 2),
+    (Feature::SendAckVector, 0),
+    (Feature::SendNdpCount, 0),
+    (Feature::MinCsCov, 0),
+    (Feature::CheckDataChecksum, 0),
+];
+
+// Whether an end holds each value, settled.
+fn holds_values(end: &Endpoint<Kinds>) -> bool {
+    for (feature, value) in &VALUES {
+        let held = Held {
+            value: *value,
+            stand: Stand::Stable,
+        };
+        if end.held(*feature, Place::Here) != held || end.held(*feature, Place::There) != held {
+            return false;
+        }
+    }
+    true
+}
+
+fn is_open(end: &Endpoint<Kinds>) -> bool {
+    end.phase() == Phase::Open && end.window() == 4 && end.in_flight() == 0 && holds_values(end)
+}
+
+// Both ends are OPEN, and sent these frames.
+fn is_connected(world: &World<Kinds>) -> bool {
+    is_open(world.end(Side::Client))
+        && is_open(world.end(Side::Server))
+        && are_frames(world.frames(Side::Client), &OF_THE_CLIENT)
+        && are_frames(world.frames(Side::Server), &OF_THE_SERVER)
 }
 
 fn connects_from_the_start(alloc: Global) -> Option<bool> {
     for _ in 0..TRIES {
         if let Ok(mut world) = new_world(alloc) {
-            let connected = connects(&mut world);
-            return Some(
-                connected && is_open(&world, Side::Client) && is_open(&world, Side::Server),
-            );
+            return Some(connects(&mut world) && is_connected(&world));
         }
     }
     None

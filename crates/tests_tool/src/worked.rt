@@ -203,7 +203,9 @@ end client CLOSED window 4 flight 0 1=2/2 2=0/0 3=100/100 4=0/0 5=2/2 6=0/0 7=0/
 # replay --side client --plain\n# Mandatory is ignored on Data, and so is what it marks.\n\n# Response 2000 of 1000\n13899c400700261403000000000007d000000000000003e80000002a\n\
 # Data 2001, Mandatory option 128 of 0 bytes, Mandatory Change L 1 of 9, Mandatory at the end\n13899c4007007a2905000000000007d1018002012004010900000001686921\n=> Done\nopen: ok\n\
 sent c0 9c401389050031ec01000000000003e80000002a\n174: took\nsent c1 9c4013890600234107000000000003e900000000000007d0\n176: took data 686921\n\
-end client OPEN window 4 flight 0 1=2/2 2=0/0 3=100/100 4=0/0 5=2/2 6=0/0 7=0/0 8=0/0 9=0/0\n";
+end client OPEN window 4 flight 0 1=2/2 2=0/0 3=100/100 4=0/0 5=2/2 6=0/0 7=0/0 8=0/0 9=0/0\n~ replay,--side,server,--plain\n# replay --side server --plain\n\
+# The checksum of the frame covers 8 bytes of data, and there are 7.\n9c4013890503000001000000000003e80000002a01020304050607\n=> Done\n3: dropped CoverageTooLarge\n\
+end server LISTEN window 4 flight 0 1=2/2 2=0/0 3=100/100 4=0/0 5=2/2 6=0/0 7=0/0 8=0/0 9=0/0\n";
 
 // All others.
 const WHOLE: &str = "\
@@ -251,6 +253,14 @@ sent c3 9c4013890800f72f07000000000003eb00000000000007d12005080102000000\n14 del
 16 timer server negotiate: fired\nsent s5 13899c400800f62a07000000000007d500000000000003eb2205080201000000\n17 deliver s5: took\n\
 sent c4 9c4013890800f72607000000000003ec00000000000007d52106080201020000\n18 deliver c4: took\nend client OPEN window 4 flight 0 1=2/2 2=0/0 3=100/100 4=0/0 5=2/2 6=0/0 7=0/0 8=2/0 9=0/0\n\
 end server OPEN window 4 flight 0 1=2/2 2=0/0 3=100/100 4=0/0 5=2/2 6=0/0 7=0/0 8=0/2 9=0/0\n~ run\n\
+# Both ends ask for feature 8 at once, and the schedule ends where the client has just taken the server's late Confirm: it holds 1 in\n# STABLE, while the server holds 2 in CHANGING.\nplain\n\
+set server there 8 1,2\nopen\ndeliver c0\ndeliver s0\ndeliver c1\ndeliver s1\nprefer client here 8 1,2\ndeliver c2\nprefer server there 8 2,1\ntimer client negotiate\ndeliver c3\ndeliver s2\n=> Done\n\
+5 open: ok\nsent c0 9c401389050031ec01000000000003e80000002a\n6 deliver c0: took\nsent s0 13899c400700261403000000000007d000000000000003e80000002a\n7 deliver s0: took\n\
+sent c1 9c4013890600234107000000000003e900000000000007d0\n8 deliver c1: took\nsent s1 13899c400600234007000000000007d100000000000003e9\n9 deliver s1: took\n10 prefer client here 8 1,2: ok\n\
+sent c2 9c4013890800f73007000000000003ea00000000000007d12005080102000000\n11 deliver c2: took\nsent s2 13899c400800f52c07000000000007d200000000000003ea2306080101020000\n\
+12 prefer server there 8 2,1: ok\nsent s3 13899c400800f62d07000000000007d300000000000003ea2205080201000000\n13 timer client negotiate: fired\n\
+sent c3 9c4013890800f72f07000000000003eb00000000000007d12005080102000000\n14 deliver c3: took\nsent s4 13899c400800f42907000000000007d400000000000003eb2306080202010000\n15 deliver s2: took\n\
+end client OPEN window 4 flight 0 1=2/2 2=0/0 3=100/100 4=0/0 5=2/2 6=0/0 7=0/0 8=1/0 9=0/0\nend server OPEN window 4 flight 0 1=2/2 2=0/0 3=100/100 4=0/0 5=2/2 6=0/0 7=0/0 8=0/2* 9=0/0\n~ run\n\
 # The client changes its mind twice while its Change is under way. Its last Change arrives first, and the older ones count no more.\nplain\nset server there 8 1,2\nopen\ndeliver c0\ndeliver s0\n\
 deliver c1\ndeliver s1\nprefer client here 8 1,2\nprefer client here 8 2,1\ntimer client negotiate\nprefer client here 8 2\ntimer client negotiate\ndeliver c4\ndeliver c2\ndeliver c3\ndeliver s2\n\
 => Done\n4 open: ok\nsent c0 9c401389050031ec01000000000003e80000002a\n5 deliver c0: took\nsent s0 13899c400700261403000000000007d000000000000003e80000002a\n6 deliver s0: took\n\
@@ -349,9 +359,7 @@ seal 9c40138904000000050000000000000d0d\n# The Data 13 once more is not delivere
 # The Data 12 stands below the floor: it is taken, and its data is not delivered.\nseal 9c40138904000000050000000000000c0c\n# The Data 15: its Ack has the vector 00 c0.\n\
 seal 9c40138904000000050000000000000f0f\n=> Done\n4: took\nsent s0 13899c400a00d5d903000000000007d0000000000000000a0000002a210606010100230505000100\n5: took\n\
 sent s1 13899c400700ff1607000000000007d1000000000000000b26030100\n7: took data 0d\nsent s2 13899c400800fd4d07000000000007d2000000000000000d260500c001000000\n9: took\n11: took\n13: took\n15: took\n\
-17: took data 0f\nsent s3 13899c400700ff4f07000000000007d3000000000000000f260400c0\nend server OPEN window 4 flight 0 1=2/2 2=0/0 3=100/100 4=0/0 5=2/1 6=1/0 7=0/0 8=0/0 9=0/0\n\
-~ replay,--side,server,--plain\n# replay --side server --plain\n# The checksum of the frame covers 8 bytes of data, and there are 7.\n9c4013890503000001000000000003e80000002a01020304050607\n=> Done\n\
-3: dropped CoverageTooLarge\nend server LISTEN window 4 flight 0 1=2/2 2=0/0 3=100/100 4=0/0 5=2/2 6=0/0 7=0/0 8=0/0 9=0/0\n~ run\n\
+17: took data 0f\nsent s3 13899c400700ff4f07000000000007d3000000000000000f260400c0\nend server OPEN window 4 flight 0 1=2/2 2=0/0 3=100/100 4=0/0 5=2/1 6=1/0 7=0/0 8=0/0 9=0/0\n~ run\n\
 # CCID 2 step by step. A send that is refused with WindowFull shows that as many packets are in flight as the window has.\n# The first four packets fill the window of 4.\nopen\ndeliver c0\n\
 deliver s0\ndeliver c1\ndeliver s1\nsend client 01\nsend client 02\nsend client 03\nsend client 04\nsend client ff\n# One report of all four: the window is 5, and nothing is in flight.\ndeliver c2\n\
 deliver c3\ndeliver c4\ndeliver c5\ndeliver s3\nsend client 05\nsend client 06\nsend client 07\nsend client 08\nsend client 09\nsend client ff\n\
@@ -437,14 +445,40 @@ sent s3 13899c404700559407000000000007d300000000000004e726ff00c000c000c000c000c0
 137: took\n\
 sent s4 13899c404700559107000000000007d400000000000004e926ff00c000c000c000c000c000c000c000c000c000c000c000c000c000c000c000c000c000c000c000c000c000c000c000c000c000c000c000c000c000c000c000c000c000c000c000c000c000c000c000c000c000c000c000c000c000c000c000c000c000c000c000c000c000c000c000c000c000c000c000c000c000c000c000c000c000c000c000c000c000c000c000c000c000c000c000c000c000c000c000c000c000c000c000c000c000c000c000c000c000c000c000c000c000c000c000c000c000c000c000c000c000c000c000c000c000c000c000c000c000c000c000c000c000c000c000c000c000c000c000c000c000c000c000c000c000c0002305050000\n\
 139: took\nsent s5 13899c400a00cddc07000000000007d500000000000004eb260800c000c000c02305050000000000\n141: took\n\
-sent s6 13899c400a00cd1707000000000007d600000000000004ed260a00c000c000c000c0230505000000\nend server OPEN window 4 flight 0 1=2/2 2=0/0 3=100/100 4=0/0 5=2/0 6=1/0 7=0/0 8=0/0 9=0/0\n\
-~ campaign,--first,1,--seeds,3,--events,1,--workers,2\n# campaign --first 1 --seeds 3 --events 1 --workers 2\n=> Done\nseeds 3\nevents 3\nclient_frames 3\nserver_frames 0\ntook 0\ndelivered 0\n\
-dropped 0\nsynced 0\nwas_reset 0\nsent_reset 0\nrefused 0\nsettled 48\n~ campaign,--first,1,--seeds,1,--events,12,--workers,1\n# campaign --first 1 --seeds 1 --events 12 --workers 1\n=> Done\n\
-seeds 1\nevents 12\nclient_frames 8\nserver_frames 1\ntook 7\ndelivered 0\ndropped 0\nsynced 0\nwas_reset 0\nsent_reset 0\nrefused 2\nsettled 16\n\
-~ campaign,--first,1,--seeds,8,--events,250,--workers,3\n# campaign --first 1 --seeds 8 --events 250 --workers 3\n=> Done\nseeds 8\nevents 2000\nclient_frames 252\nserver_frames 320\ntook 1293\n\
-delivered 76\ndropped 103\nsynced 20\nwas_reset 2\nsent_reset 78\nrefused 61\nsettled 118\n~ campaign,--workers=3,--events=500,--seeds=4,--first=18446744073709551612\n\
-# campaign --workers=3 --events=500 --seeds=4 --first=18446744073709551612\n=> Done\nseeds 4\nevents 2000\nclient_frames 275\nserver_frames 253\ntook 1492\ndelivered 95\ndropped 0\nsynced 10\n\
-was_reset 0\nsent_reset 0\nrefused 23\nsettled 58\n~ listen,--most,2\n# listen --most 2\n\
+sent s6 13899c400a00cd1707000000000007d600000000000004ed260a00c000c000c000c0230505000000\nend server OPEN window 4 flight 0 1=2/2 2=0/0 3=100/100 4=0/0 5=2/0 6=1/0 7=0/0 8=0/0 9=0/0\n~ run\n\
+# The client may send short numbers, and the server takes them: the handshake settles that. The client's Ack in PARTOPEN is\n# long, and its next one is short.\nplain\nset client here 2 1\n\
+set server there 2 1\noffer client here 2\nopen\ndeliver c0\ndeliver s0\ndeliver c1\ndeliver s1\ntimer client ack\ndeliver c2\n=> Done\n7 open: ok\n\
+sent c0 9c40138906000ee301000000000003e80000002a20040201\n8 deliver c0: took\nsent s0 13899c400900fe0503000000000007d000000000000003e80000002a2305020101000000\n9 deliver s0: took\n\
+sent c1 9c4013890600234107000000000003e900000000000007d0\n10 deliver c1: took\nsent s1 13899c400600234007000000000007d100000000000003e9\n11 deliver s1: took\n12 timer client ack: fired\n\
+sent c2 9c40138904002647060003ea000007d1\n13 deliver c2: took\nend client OPEN window 4 flight 0 1=2/2 2=1/0 3=100/100 4=0/0 5=2/2 6=0/0 7=0/0 8=0/0 9=0/0\n\
+end server OPEN window 4 flight 0 1=2/2 2=0/1 3=100/100 4=0/0 5=2/2 6=0/0 7=0/0 8=0/0 9=0/0\n~ replay,--side,server,--plain\n# replay --side server --plain\n\
+# A peer asks for short numbers, at either place. Nothing is shared, so that none are taken: the value stays 0.\n\n# Request 1000: Change L and Change R of Allow Short Seqnos, with the list 1\n\
+9c4013890700e9d901000000000003e80000002a2004020122040201\n# Ack 1001 of 2000\n9c4013890600234107000000000003e900000000000007d0\n# Ack 1002 of 2001: with short numbers\n\
+9c40138904002647060003ea000007d1\n# Data 1002: with short numbers\n9c4013890300a7af040003ea686921\n# Ack 1002 of 2001: Change L with the list 1, 0: 0 is shared\n\
+9c4013890800ff3007000000000003ea00000000000007d12005020100000000\n# DataAck 1003 of 2002: with short numbers\n9c40138904009ad8080003eb000007d2686921\n# DataAck 1003 of 2002: the same with long ones\n\
+9c401389060097d009000000000003eb00000000000007d2686921\n\n=> Done\n5: took\nsent s0 13899c400a00f8df03000000000007d000000000000003e80000002a230502000021050200000000\n7: took\n\
+sent s1 13899c400600234007000000000007d100000000000003e9\n9: dropped ShortOff\n11: dropped ShortOff\n13: took\nsent s2 13899c400800fc3007000000000007d200000000000003ea2305020000000000\n\
+15: dropped ShortOff\n17: took data 686921\nend server OPEN window 4 flight 0 1=2/2 2=0/0 3=100/100 4=0/0 5=2/2 6=0/0 7=0/0 8=0/0 9=0/0\n~ replay,--side,client,--plain\n\
+\n\n\n\n\n\n\n\n\n\n\n\n\n\n\n\n\n\n# replay --side client --plain\n# At a client.\n\n# Response 2000 of 1000: Change L with the list 1\n\
+13899c400800030b03000000000007d000000000000003e80000002a20040201\n# Ack 2001 of 1001: with short numbers\n13899c4004002648060007d1000003e9\n# Ack 2001 of 1001: the same with long ones\n\
+13899c400600234007000000000007d100000000000003e9\n# Data 2002: with short numbers\n13899c400300a3c7040007d2686921\n=> Done\nopen: ok\nsent c0 9c401389050031ec01000000000003e80000002a\n23: took\n\
+sent c1 9c4013890800fc3307000000000003e900000000000007d02305020000000000\n25: dropped ShortOff\n27: took\n29: dropped ShortOff\n\
+end client OPEN window 4 flight 0 1=2/2 2=0/0 3=100/100 4=0/0 5=2/2 6=0/0 7=0/0 8=0/0 9=0/0\n~ run\n# The usual connection with data, under version 2: the frames are the same.\nversion 2\nopen\n\
+deliver c0\ndeliver s0\ndeliver c1\ndeliver s1\nsend client aa\nsend client bb\nsend client cc\ndeliver c2\ndeliver c4\ndeliver s2\nsend client dd\ndeliver c5\ndeliver c3\ntimer server ack\n=> Done\n\
+3 open: ok\nsent c0 9c401389080000b601000000000003e80000002a012004040101220406010000\n4 deliver c0: took\n\
+sent s0 13899c400d00a1c303000000000007d000000000000003e80000002a230604010100210606010100012004040101220406010000\n5 deliver s0: took\n\
+sent c1 9c4013890a00eadd07000000000003e900000000000007d026030023060401010021060601010000\n6 deliver c1: took\nsent s1 13899c400700fb3807000000000007d100000000000003e926030100\n7 deliver s1: took\n\
+8 send client aa: ok\nsent c2 9c4013890700503609000000000003ea00000000000007d126030000aa\n9 send client bb: ok\nsent c3 9c4013890400741505000000000003ebbb\n10 send client cc: ok\n\
+sent c4 9c4013890400631405000000000003eccc\n11 deliver c2: took data aa\n12 deliver c4: took data cc\nsent s2 13899c400800fa6e07000000000007d200000000000003ec260500c000000000\n13 deliver s2: took\n\
+14 send client dd: ok\nsent c5 9c40138907001c3209000000000003ed00000000000007d226030100dd\n15 deliver c5: took data dd\n16 deliver c3: took\n17 timer server ack: fired\n\
+sent s3 13899c400700fc3207000000000007d300000000000003ed26030000\nend client OPEN window 5 flight 2 1=2/2 2=0/0 3=100/100 4=1/1 5=2/2 6=1/1 7=0/0 8=0/0 9=0/0\n\
+end server OPEN window 4 flight 0 1=2/2 2=0/0 3=100/100 4=1/1 5=2/2 6=1/1 7=0/0 8=0/0 9=0/0\n~ campaign,--first,1,--seeds,3,--events,1,--workers,2\n\
+# campaign --first 1 --seeds 3 --events 1 --workers 2\n=> Done\nseeds 3\nevents 3\nclient_frames 3\nserver_frames 0\ntook 0\ndelivered 0\ndropped 0\nsynced 0\nwas_reset 0\nsent_reset 0\nrefused 0\n\
+settled 48\n~ campaign,--first,1,--seeds,1,--events,12,--workers,1\n# campaign --first 1 --seeds 1 --events 12 --workers 1\n=> Done\nseeds 1\nevents 12\nclient_frames 8\nserver_frames 1\ntook 7\n\
+delivered 0\ndropped 0\nsynced 0\nwas_reset 0\nsent_reset 0\nrefused 2\nsettled 16\n~ campaign,--first,1,--seeds,8,--events,250,--workers,3\n# campaign --first 1 --seeds 8 --events 250 --workers 3\n\
+=> Done\nseeds 8\nevents 2000\nclient_frames 252\nserver_frames 320\ntook 1293\ndelivered 76\ndropped 103\nsynced 20\nwas_reset 2\nsent_reset 78\nrefused 61\nsettled 118\n\
+~ campaign,--workers=3,--events=500,--seeds=4,--first=18446744073709551612\n# campaign --workers=3 --events=500 --seeds=4 --first=18446744073709551612\n=> Done\nseeds 4\nevents 2000\n\
+client_frames 275\nserver_frames 253\ntook 1492\ndelivered 95\ndropped 0\nsynced 10\nwas_reset 0\nsent_reset 0\nrefused 23\nsettled 58\n~ listen,--most,2\n# listen --most 2\n\
 # A peer asks for a service that is not there, asks again for one that is, and opens; another peer asks meanwhile.\n10.0.0.1:40000 seal 9c4013890500000001000000000003e80000002c\n\
 10.0.0.1:40000 seal 9c4013890500000001000000000003e80000002a\n10.0.0.3:40000 seal 9c4013890500000001000000000003e80000002b\n10.0.0.1:40000 seal 9c4013890600000007000000000003e900000000000007d0\n\
 => Done\n3 10.0.0.1:40000: sent reset 8 0 0 0\nsent 10.0.0.1:40000 13899c4007001a0e0f0000000000000000000000000003e808000000\n4 10.0.0.1:40000: took\n\

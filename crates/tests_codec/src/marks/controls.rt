@@ -1,46 +1,200 @@
-//! The calls of congestion controls, run with memory. What they answer is told by worked rows.
+//! Congestion control by calls: how the window of CCID 2 opens and is halved, a fixed window, a change of the kind, and a
+//! flight list by itself. The values are worked out by hand from RFC 4341, section 5.
+use crate::marks::calls::{Called, all_come};
 use ccid_two::{Ccid2, Kinds};
-use congestion_trait::Congestion;
+use congestion_trait::{Congestion, FixedWindow, Flight, FlightNews};
 use dccp_options::{AckReport, options};
 use seq_circle::Seq48;
 use std::test::Fail;
 
-// The Ack Vector by which one number was received.
-const RECEIVED: [u8; 3] = [38, 3, 0];
+// A call of a control, and what has to come of it.
+enum Call {
+    Start(u8),
+    // Sends each number from the first up to the second.
+    Send(u64, u64),
+    // Hands over an Ack Vector of a byte at this number, at Ack Ratio 2.
+    Tell(u64, u8),
+    Timeout,
+    MaySend(bool),
+    Window(u32),
+    InFlight(u32),
+    // The threshold, of Ccid2 alone.
+    Threshold(u32),
+}
 
-// Whether a number that is sent is reported, and not in flight behind a timeout. None where a call may not be made.
-fn runs<C: Congestion>(control: &mut C, ccid: u8, number: Seq48) -> Option<bool> {
-    let report = AckReport::of(number, options(&RECEIVED, false))?;
+fn start<C: Congestion>(control: &mut C, ccid: u8) -> Option<bool> {
     if !control.knows(ccid) {
         return None;
     }
     control.start(ccid);
+    Some(true)
+}
+
+fn send<C: Congestion>(control: &mut C, number: Seq48) -> Option<bool> {
     if !control.may_send() {
         return None;
     }
     control.on_sent(number);
-    control.on_report(&report, 2);
-    let reported = control.is_reported(number);
-    control.on_timeout();
-    Some(reported && control.in_flight() == 0)
+    Some(true)
 }
 
-// Fails unless it runs so, and has this window in the end.
-fn comes_to<C: Congestion>(control: &mut C, ccid: u8, window: u32) -> Result<(), Fail> {
-    let number = Seq48::new(1).ok_or("no number")?;
-    if runs(control, ccid, number) == Some(true) && control.window() == window {
-        return Ok(());
+fn send_each<C: Congestion>(control: &mut C, first: u64, past: u64) -> Option<bool> {
+    for number in first..past {
+        send(control, Seq48::new(number)?)?;
     }
-    Err(Fail::new(format_args!("CCID {ccid}")))
+    Some(true)
+}
+
+fn tell<C: Congestion>(control: &mut C, ack: u64, byte: u8) -> Option<bool> {
+    let area = [38, 3, byte];
+    let number = Seq48::new(ack)?;
+    let report = AckReport::of(number, options(&area, false))?;
+    control.on_report(&report, 2);
+    Some(control.is_reported(number))
+}
+
+fn time_out<C: Congestion>(control: &mut C) -> Option<bool> {
+    control.on_timeout();
+    Some(true)
+}
+
+// Whether a call comes to what it has to. None where that is not known of every control, or the call may not be made.
+fn holds<C: Congestion>(control: &mut C, call: &Call) -> Option<bool> {
+    match *call {
+        Call::Start(ccid) => start(control, ccid),
+        Call::Send(first, past) => send_each(control, first, past),
+        Call::Tell(ack, byte) => tell(control, ack, byte),
+        Call::Timeout => time_out(control),
+        Call::MaySend(more) => Some(control.may_send() == more),
+        Call::Window(window) => Some(control.window() == window),
+        Call::InFlight(count) => Some(control.in_flight() == count),
+        Call::Threshold(_) => None,
+    }
+}
+
+impl Called<Call> for Ccid2 {
+    fn holds(&mut self, call: &Call) -> Option<bool> {
+        match *call {
+            Call::Threshold(threshold) => Some(self.threshold() == threshold),
+            _ => holds(self, call),
+        }
+    }
+}
+
+impl Called<Call> for Kinds {
+    fn holds(&mut self, call: &Call) -> Option<bool> {
+        holds(self, call)
+    }
+}
+
+impl Called<Call> for FixedWindow {
+    fn holds(&mut self, call: &Call) -> Option<bool> {
+        holds(self, call)
+    }
+}
+
+// At 8 the lost 5 halves the window, and at 12 the lost 9 does not halve it again.
+const OF_CCID_TWO: [Call; 34] = [
+    Call::Window(4),
+    Call::Threshold(1024),
+    Call::Send(1, 5),
+    Call::MaySend(false),
+    Call::Tell(4, 0x03),
+    Call::Window(5),
+    Call::InFlight(0),
+    Call::Send(5, 10),
+    Call::MaySend(false),
+    Call::Tell(8, 0x02),
+    Call::Window(2),
+    Call::Threshold(2),
+    Call::InFlight(1),
+    Call::Send(10, 11),
+    Call::MaySend(false),
+    Call::Tell(10, 0x00),
+    Call::Window(2),
+    Call::InFlight(1),
+    Call::Send(11, 12),
+    Call::MaySend(false),
+    Call::Tell(11, 0x00),
+    Call::Window(3),
+    Call::InFlight(1),
+    Call::Send(12, 13),
+    Call::MaySend(true),
+    Call::Tell(12, 0x00),
+    Call::Window(3),
+    Call::Threshold(2),
+    Call::InFlight(0),
+    Call::Timeout,
+    Call::Window(1),
+    Call::Threshold(2),
+    Call::InFlight(0),
+    Call::MaySend(true),
+];
+
+#[test]
+fn window_of_ccid_two_by_calls(rt: HostRuntime) -> Result<(), Fail> {
+    let mut control = Ccid2::new(rt.alloc())?;
+    all_come(&mut control, "CCID 2", &OF_CCID_TWO)
+}
+
+// The same numbers are sent and reported, and a timeout empties the flight.
+const OF_EIGHT: [Call; 14] = [
+    Call::Window(8),
+    Call::Send(1, 9),
+    Call::MaySend(false),
+    Call::Tell(4, 0x03),
+    Call::Window(8),
+    Call::InFlight(4),
+    Call::Send(9, 11),
+    Call::Tell(8, 0x02),
+    Call::Window(8),
+    Call::InFlight(2),
+    Call::Timeout,
+    Call::Window(8),
+    Call::InFlight(0),
+    Call::MaySend(true),
+];
+
+#[test]
+fn fixed_window_by_calls(rt: HostRuntime) -> Result<(), Fail> {
+    all_come(&mut FixedWindow::new(rt.alloc())?, "eight", &OF_EIGHT)
+}
+
+const OF_KINDS: [Call; 8] = [
+    Call::Window(4),
+    Call::Start(248),
+    Call::Window(8),
+    Call::Send(1, 2),
+    Call::Tell(1, 0x00),
+    Call::InFlight(0),
+    Call::Start(2),
+    Call::Window(4),
+];
+
+#[test]
+fn kinds_by_calls(rt: HostRuntime) -> Result<(), Fail> {
+    all_come(&mut Kinds::new(rt.alloc())?, "both", &OF_KINDS)
+}
+
+// Whether of four numbers that are sent the last three are acknowledged, by which the first is lost.
+fn loses_the_first(flight: &mut Flight, first: Seq48) -> Option<bool> {
+    for ahead in 0..4 {
+        flight.sent(first.add(ahead));
+    }
+    let all_out = flight.out() == 4;
+    let report = AckReport::of(first.add(3), options(&[38, 3, 0x02], false))?;
+    let news = flight.report(&report, None);
+    let wanted = FlightNews {
+        acked: 3,
+        congested: true,
+    };
+    Some(all_out && news == wanted && flight.out() == 0 && !flight.is_reported(first))
 }
 
 #[test]
-fn controls_run(rt: HostRuntime) -> Result<(), Fail> {
-    comes_to(&mut Kinds::new(rt.alloc())?, 248, 8)?;
-    let mut control = Ccid2::new(rt.alloc())?;
-    comes_to(&mut control, 2, 1)?;
-    if control.threshold() == 2 {
-        return Ok(());
-    }
-    Err(Fail::new(format_args!("the threshold")))
+fn a_flight_by_calls(rt: HostRuntime) -> Result<(), Fail> {
+    let first = Seq48::new(281_474_976_710_654).ok_or("a number")?;
+    let mut flight = Flight::new(rt.alloc())?;
+    assert_eq!(rt; loses_the_first(&mut flight, first), Some(true));
+    Ok(())
 }

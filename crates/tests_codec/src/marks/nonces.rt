@@ -1,6 +1,8 @@
-//! The calls of a receiver and of a ledger of nonces, run with memory. What they answer is told by worked rows.
+//! The calls of a receiver, of a ledger of nonces, and of both in a world. What they answer on other values is told by
+//! worked rows.
 use ack_vectors::VectorBytes;
-use dccp_ecn::{Arrived, Check, EcnReceived, NonceLedger};
+use dccp_ecn::{Arrived, Check, EcnEvent, EcnFault, EcnReceived, EcnSeen, EcnWorld, NonceLedger};
+use run_list::Marked;
 use seq_circle::Seq48;
 use std::test::Fail;
 
@@ -23,4 +25,40 @@ fn nonces_run(rt: HostRuntime) -> Result<(), Fail> {
         return Ok(());
     }
     Err(Fail::new(format_args!("the vector does not fit")))
+}
+
+// What may happen, and what is seen of it: packets of nonces 1, 0 and 1, of which the second comes marked and the third
+// not at all. A report before anything came tells nothing.
+const STORY: [(EcnEvent, Result<EcnSeen, EcnFault>); 14] = [
+    (EcnEvent::Report, Ok(EcnSeen::Reported(None))),
+    (EcnEvent::Deliver(0), Err(EcnFault::NoSuchFrame)),
+    (EcnEvent::Send(true), Ok(EcnSeen::Sent)),
+    (EcnEvent::Send(false), Ok(EcnSeen::Sent)),
+    (EcnEvent::Send(true), Ok(EcnSeen::Sent)),
+    (EcnEvent::Deliver(0), Ok(EcnSeen::Took(Marked::New))),
+    (EcnEvent::Mark(1), Ok(EcnSeen::Took(Marked::New))),
+    (EcnEvent::Deliver(1), Ok(EcnSeen::Took(Marked::Again))),
+    (EcnEvent::Mark(3), Err(EcnFault::NoSuchFrame)),
+    (EcnEvent::Report, Ok(EcnSeen::Reported(Some(0)))),
+    (EcnEvent::Check(0), Ok(EcnSeen::Checked(Check::Fits))),
+    (EcnEvent::Forge(0), Ok(EcnSeen::Checked(Check::Unfit))),
+    (EcnEvent::Check(1), Err(EcnFault::NoSuchFrame)),
+    (EcnEvent::Forge(1), Err(EcnFault::NoSuchFrame)),
+];
+
+fn plays(world: &mut EcnWorld) -> Result<(), Fail> {
+    for (place, (event, seen)) in STORY.iter().enumerate() {
+        if world.step(*event) != *seen {
+            return Err(Fail::new(format_args!("event {place}")));
+        }
+    }
+    Ok(())
+}
+
+#[test]
+fn a_world_of_nonces(rt: HostRuntime) -> Result<(), Fail> {
+    let mut world = EcnWorld::new(rt.alloc()).ok().ok_or("no memory")?;
+    plays(&mut world)?;
+    assert_eq!(rt; (world.packet_count(), world.report_count()), (3, 1));
+    Ok(())
 }

@@ -1,0 +1,50 @@
+//! A record that is shown by `Flows::show` itself, behind a text that is there before.
+use capture_reader::Record;
+use packet_show::{Flows, Shown};
+use std::alloc::Global;
+
+// The shortest Data in IPv4, from port 1 to port 1.
+const DATA: [u8; 32] = [
+    0x45, 0, 0, 32, 0, 1, 0, 0, 64, 33, 0, 0, 10, 0, 0, 1, 10, 0, 0, 2, 0, 1, 0, 1, 3, 0, 0xe4,
+    0xcd, 4, 0, 0, 0,
+];
+
+const TEXT: &[u8] =
+    b"before 18446744073709551615 4294967295.999999 flow 1 10.0.0.1 1 > 10.0.0.2 1 Data seq 0 data 0 sum ok\n";
+
+fn show(flows: &mut Flows, link: u32, text: &mut Vec<u8>) -> Option<Shown> {
+    let record = Record {
+        number: u64::MAX,
+        seconds: u32::MAX,
+        fraction: 999_999,
+        nanos: false,
+        link,
+        original: 1500,
+        bytes: &DATA,
+    };
+    flows.show(&record, text).ok()
+}
+
+// The text of a record in raw IP, and of one on a link that is neither, and how many flows there are.
+fn shown(flows: &mut Flows, text: &mut Vec<u8>) -> Option<u64> {
+    let lines = show(flows, 101, text) == Some(Shown::Line);
+    let skips = show(flows, 113, text) == Some(Shown::Skipped);
+    if lines && skips {
+        Some(flows.count())
+    } else {
+        None
+    }
+}
+
+fn is_told(alloc: Global) -> bool {
+    let mut flows = Flows::new(alloc);
+    let Ok(mut text) = b"before ".to_vec(alloc) else {
+        return false;
+    };
+    shown(&mut flows, &mut text) == Some(1) && text.as_slice() == TEXT
+}
+
+#[test]
+fn a_record_behind_a_text(rt: HostRuntime) {
+    assert!(rt; is_told(rt.alloc()), "one line, and one skipped");
+}
