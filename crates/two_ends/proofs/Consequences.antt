@@ -1,12 +1,12 @@
 -- What each part of what is safe comes to.
-use Rattle.std.proofs.Common.{◌≡◌, refl, ap, sym, ◌∙◌, subst, ℕ, ◌+◌, ◌^◌, ◌<◌, ◌≤◌, min, Bool, true, false, List, ◌∷◌, Some, None, slice_get, length, length-take, length-drop, arith}
+use Rattle.std.proofs.Common.{◌≡◌, ◌≢◌, refl, ap, sym, ◌∙◌, subst, ℕ, ◌+◌, ◌^◌, ◌<◌, ◌≤◌, min, Bool, true, false, List, ◌∷◌, Some, None, slice_get, length, length-take, length-drop, arith}
 use Rattle.std.proofs.lemmas.List.{get_or-drop, get_or-take}
 use Rattle.std.proofs.lemmas.Option.{same_Some}
 use Rattle.std.specs.List.{Contains}
 use Rattle.std.specs.Prelude.{IsSome, IsTrue, drop, slice_index, take}
 use Rattle.ack_vectors.proofs.ReadBack.{plain-set}
-use Rattle.ack_vectors.proofs.Telling.{heard-member, whole-tells}
-use Rattle.ack_vectors.specs.Vector.{is_whole_under, room_of, set_states, state_told}
+use Rattle.ack_vectors.proofs.Telling.{heard-member, told-there, whole-tells}
+use Rattle.ack_vectors.specs.Vector.{is_whole_under, room_of, set_states, state_told, vector_under}
 use Rattle.ack_vectors.specs.declared.room.Vectors.{Vectors}
 use Rattle.congestion_trait.proofs.Numbers.{numbers_reported-exact}
 use Rattle.congestion_trait.specs.Control.{Control}
@@ -17,9 +17,9 @@ use Rattle.dccp_packets.specs.Grammar.{packet_type}
 use Rattle.dccp_packets.specs.declared.header.Kind.{Kind}
 use Rattle.dccp_packets.specs.declared.header.Kind.TheVariants as kind
 use Rattle.dccp_packets.specs.declared.header.PacketType.TheVariants as types
-use Rattle.feature_lists.proofs.FirstShared.{none_is_shared}
+use Rattle.feature_lists.proofs.FirstShared.{found_is_first, none_is_shared}
 use Rattle.feature_lists.specs.Features.{initial_of}
-use Rattle.feature_lists.specs.Lists.{SharesNothing, has_entry, reconciled}
+use Rattle.feature_lists.specs.Lists.{IsFirstShared, SharesNothing, has_entry, reconciled}
 use Rattle.run_list.specs.MarkedSet.{floor_under, has}
 use Rattle.seq_circle.specs.Circle.{IsBefore, IsFrom, IsWithin, distance}
 use Rattle.seq_circle.specs.Counts.{number_of}
@@ -27,6 +27,8 @@ use Rattle.world_events.specs.Actors.{other}
 use Rattle.world_events.specs.declared.event.Side.{Side}
 use Rattle.world_events.specs.declared.event.Side.TheVariants.{Client, Server}
 use Rattle.two_ends.specs.declared.frames.SentFrame.{SentFrame}
+use Rattle.dccp_endpoint.specs.End.{floor_of}
+use Rattle.two_ends.specs.CameOf.{CameOfLists, CameOfLocation}
 use Rattle.two_ends.specs.Controlled.{Controlled, congestion_of}
 use Rattle.two_ends.specs.Counted.{AreAmongFirst, AreResets}
 use Rattle.two_ends.specs.Frames.{is_reset}
@@ -44,6 +46,11 @@ first-found value later clients is = rw is refl
 far-not : (iss count later n q : ℕ) → iss < 2 ^ 48 → 1 ≤ count → count + 2047 ≤ 2 ^ 47 → 1 ≤ later → later ≤ count + 2047 → n ≡ number_of iss count
     → q ≡ number_of iss later → IsBefore n (floor_under q) → ⊥
 far-not iss count later n q fits some early one upto n_is q_is before = omega (arith, fits, some, early, one, upto, n_is, q_is, before)
+
+between-counts : (iss first count floor isr low : ℕ) → iss < 2 ^ 48 → 1 ≤ first → first ≤ count → count < floor → floor ≤ 2 ^ 47 + 1
+    → isr ≡ number_of iss first → low ≡ number_of iss floor → distance isr (number_of iss count) < distance isr low
+between-counts iss first count floor isr low fits some from before early isr_is low_is =
+    omega (arith, fits, some, from, before, early, isr_is, low_is)
 
 number-small : (iss count n : ℕ) → n ≡ number_of iss count → n < 2 ^ 48
 number-small iss count n is = omega (arith, is)
@@ -81,6 +88,12 @@ module _ (w : WorldState) where
     first-entry side value later clients priority servers_last clients_last shared =
         alike side Server
         ∙ (agree pair settled).is_reconciled priority (value ∷ later) clients value servers_last clients_last (first-found value later clients shared)
+
+    pub first-shared : (side : Side) (value : ℕ) (servers clients : List ℕ) → IsServerPriority pair → last_list_sent w pair Server ≡ Some servers
+        → last_list_sent w pair Client ≡ Some clients → IsFirstShared servers clients value → (held_at w pair side).value ≡ value
+    first-shared side value servers clients priority servers_last clients_last shared =
+        alike side Server
+        ∙ (agree pair settled).is_reconciled priority servers clients value servers_last clients_last ((found_is_first servers clients value).1 shared)
 
     pub told-last : (side : Side) (value : ℕ) → IsNotNegotiable pair → IsTrue (pair_was_negotiated w pair) → last_value w pair ≡ Some value
         → (held_at w pair side).value ≡ value
@@ -122,6 +135,29 @@ module _ (w : WorldState) where
         let said = told.is_said in
         cc (silent, said)
 
+    pub of-lists : IsServerPriority pair → value ≢ initial_of pair.feature → Origin w pair value → CameOfLists w pair value
+    of-lists priority other (Initial is) = absurd (other is)
+    of-lists priority other (Reconciled servers clients same one another is) = record {
+      servers_place = one.index;
+      clients_place = another.index;
+      servers_frame = one.frame;
+      clients_frame = another.frame;
+      servers = servers;
+      clients = clients;
+      server_sent = one.is_there;
+      client_sent = another.is_there;
+      server_said = one.is_said;
+      client_said = another.is_said;
+      is_shared = (found_is_first servers clients value).0 is;
+    }
+    of-lists priority other (ToldValue located told) = cc (priority, located)
+
+    pub of-location : IsNotNegotiable pair → value ≢ initial_of pair.feature → Origin w pair value → CameOfLocation w pair value
+    of-location located other (Initial is) = absurd (other is)
+    of-location located other (Reconciled servers clients priority one another is) = cc (priority, located)
+    of-location located other (ToldValue same told) =
+        record { place = told.index; frame = told.frame; is_sent = told.is_there; is_said = told.is_said }
+
   module _ (truthful : Truthful w) (side : Side) (index : ℕ) (frame : SentFrame) (ack n : ℕ) (bytes : List ℕ)
       (there : slice_get (half_of w side).frames index ≡ Some frame) (carries : CarriesVector frame ack bytes) where
     abbrev early : List ℕ
@@ -135,6 +171,17 @@ module _ (w : WorldState) where
         has-contains early n
         (heard-member (room_of setting) (has early) frame.floor ack n fits small
         (sym (ap (λ (vector : List ℕ). is_received (state_at ack vector n)) (truthful side index frame ack bytes there carries).is_vector) ∙ received))
+
+    pub missing-none : (state : ℕ) → frame.floor < 2 ^ 48 → ack < 2 ^ 48 → n < 2 ^ 48 → state_at ack bytes n ≡ Some state
+        → is_received (Some state) ≡ false → Contains early n → ⊥
+    missing-none state floor_fits fits small told not_received has_it =
+        let vector_told : state_at ack (vector_under (has early) frame.floor ack setting) n ≡ Some state =
+        sym (ap (λ (vector : List ℕ). state_at ack vector n) (truthful side index frame ack bytes there carries).is_vector) ∙ told in
+        let same : state ≡ set_states (has early) n =
+        (told-there (room_of setting) (set_states (has early)) frame.floor ack n state (plain-set (has early)) floor_fits fits small vector_told).2 in
+        let received : is_received (Some state) ≡ true =
+        ap (λ (s : ℕ). is_received (Some s)) same ∙ ap (λ (b : Bool). is_received (Some (state_told b))) (contains-has early n has_it) in
+        cc (received, not_received)
 
     pub all-told : is_whole_under (has early) frame.floor ack setting ≡ true → frame.floor < 2 ^ 48 → ack < 2 ^ 48 → n < 2 ^ 48 → IsFrom frame.floor ack
         → IsWithin n frame.floor ack → Contains early n → is_received (state_at ack bytes n) ≡ true
@@ -156,6 +203,15 @@ module _ (w : WorldState) where
         let q_is = among q has_it in
         far-not iss count q_is.count n q fits some early q_is.some q_is.early is q_is.same before
     by (WasTold was) = none was
+
+  pub counts-below : Told w → (side : Side) (iss first count floor : ℕ) → iss < 2 ^ 48 → 1 ≤ first → first ≤ count → count < floor
+      → floor ≤ 2 ^ 47 + 1 → count + 2047 ≤ 2 ^ 47 → (half_of w side).end.marks.isr ≡ number_of iss first
+      → floor_of (half_of w side).end ≡ number_of iss floor → (ToldIn w side (number_of iss count) → ⊥)
+      → AreAmongFirst iss (count + 2047) (half_of w side).processed → ⊥
+  counts-below told side iss first count floor fits some from before early near isr_is floor_is none among =
+      far-behind told side iss count (number_of iss count) fits (omega (arith, some, from)) near refl
+      (between-counts iss first count floor (half_of w side).end.marks.isr (floor_of (half_of w side).end) fits some from before early isr_is floor_is) none
+      among
 
   module _ (once : Once w) (side : Side) where
     pub apart-so : (early n : ℕ) → Contains (take early (half_of w side).processed) n → Contains (drop early (half_of w side).processed) n → ⊥

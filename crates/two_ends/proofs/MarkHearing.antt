@@ -44,7 +44,7 @@ pub record IsTaking (act : Act) (view peer : MarkSide) (received : KeptNumbers) 
   pub first : 1 ≤ after.first → first_by (end_of act.side).marks.isr act.effect.hearing ≡ number_of (config_of act.peer).iss after.first
   pub unset : after.first ≡ 0 → (first_by (end_of act.side).marks.isr act.effect.hearing ≡ 0) × (received.set.floor ≡ 0)
   pub set : 1 ≤ after.first → IsMarked (config_of act.peer).iss received.set after
-  pub closed : after.closed ≡ true → (1 ≤ after.greatest) × ((is_live act.effect.phase ≡ false) × (is_waiting act.effect.phase ≡ false))
+  pub closed : after.closed ≡ true → (1 ≤ after.greatest) × (act.effect.phase ≡ phases.Closed)
   pub numbers : List ℕ
   pub processed : act.side.half.processed ++ numbers ≡ map (number_of (config_of act.peer).iss) after.processed
   pub newly : newly_processed (end_of act.side) act.arrived (end_after (end_of act.side) act.effect) ≡ numbers
@@ -80,8 +80,9 @@ known-count : (floor n : ℕ) (is_marked : Bool) → ((floor ≤ n) × (is_marke
 known-count floor n true none = inr refl
 known-count floor n false none = grind arith
 
-not-live : (ph : Phase) → ph ≡ phases.Closed → (is_live ph ≡ false) × (is_waiting ph ≡ false)
-not-live ph closed = (ap is_live closed, ap is_waiting closed)
+not-entered : (ph : Phase) → ph ≡ phases.Closed → (is_live ph ≡ true) ⊎ (is_waiting ph ≡ true) → ⊥
+not-entered ph closed (inl live) = (let dead = ap is_live closed in cc (dead, live))
+not-entered ph closed (inr waits) = (let none = ap is_waiting closed in cc (none, waits))
 
 module _ (act : Act) (peer_ordered : IsOrdered act.peer) (view peer : MarkSide) (kept : Kept view peer) (here : IsShown act.side act.peer view)
     (there : IsShown act.peer act.side peer) where
@@ -135,10 +136,7 @@ module _ (act : Act) (peer_ordered : IsOrdered act.peer) (view peer : MarkSide) 
       }
 
   open-so : (is_live e.phase ≡ true) ⊎ (is_waiting e.phase ≡ true) → view.closed ≡ false
-  open-so entered = closed-not view.closed (λ is. by (here.closed is).1 entered) where
-    by : (is_live e.phase ≡ false) × (is_waiting e.phase ≡ false) → (is_live e.phase ≡ true) ⊎ (is_waiting e.phase ≡ true) → ⊥
-    by shut (inl live) = (let dead = shut.0 in cc (dead, live))
-    by shut (inr waits) = (let none = shut.1 in cc (none, waits))
+  open-so entered = closed-not view.closed (λ is. not-entered e.phase (here.closed is).1 entered)
 
   newly-none : count_by e.marked e.received f.hearing ≡ e.marked → newly_processed e act.arrived (end_after e f) ≡ []
   newly-none same =
@@ -166,19 +164,14 @@ module _ (act : Act) (peer_ordered : IsOrdered act.peer) (view peer : MarkSide) 
   Taking = IsTaking act view peer (heard_by e.received f.hearing)
 
   -- nothing is heard
-  still-closed : f.hearing ≡ Unheard → (is_live f.phase ≡ true → is_live e.phase ≡ true) → view.closed ≡ true
-      → (1 ≤ view.greatest) × ((is_live f.phase ≡ false) × (is_waiting f.phase ≡ false))
-  still-closed is live was =
+  still-closed : view.closed ≡ true → (1 ≤ view.greatest) × (f.phase ≡ phases.Closed)
+  still-closed was =
       let before = here.closed was in (
         before.0,
-        (
-          closed-not (is_live f.phase) (λ now. let dead = before.1.0 in let lives = live now in cc (dead, lives)),
-          closed-not (is_waiting f.phase)
-              (λ now. elim (act.because.moves.waits now) [
-                | inl then ↦ (let none = before.1.1 in let waits = then.0 in cc (none, waits))
-                | inr opens ↦ absurd (omega (arith, before.0, (opened-none act peer_ordered view.greatest here.heard opens).1))
-              ]),
-        ),
+        elim (act.because.moves.shut before.1) [
+          | inl closed ↦ closed
+          | inr opens ↦ absurd (omega (arith, before.0, (opened-none act peer_ordered view.greatest here.heard opens).1))
+        ],
       )
 
   taking-unheard : Unheard ≡ f.hearing → (is_live f.phase ≡ true → is_live e.phase ≡ true) → Taking
@@ -193,7 +186,7 @@ module _ (act : Act) (peer_ordered : IsOrdered act.peer) (view peer : MarkSide) 
         unset = λ none.
             (ap (first_by e.marks.isr) (sym is) ∙ (here.unset none).0, ap (λ (h : Hearing). (heard_by e.received h).set.floor) (sym is) ∙ (here.unset none).1);
         set = λ some. subst (λ (h : Hearing). IsMarked iss (heard_by e.received h).set view) is (here.set some);
-        closed = still-closed (sym is) live;
+        closed = still-closed;
         numbers = [];
         processed = no-more;
         newly = newly-none same;
@@ -277,7 +270,7 @@ module _ (act : Act) (peer_ordered : IsOrdered act.peer) (view peer : MarkSide) 
               λ some. subst (λ (h : Hearing). IsMarked iss (heard_by e.received h).set (begun_shut view count)) is
               (subst (λ (n : ℕ). IsMarked iss (empty_from n) (begun_shut view count)) (sym c.number)
               (begun_shut_are iss view count fits (omega arith) (omega (arith, c.below, few))));
-          closed = λ was. (omega arith, not-live f.phase ends);
+          closed = λ was. (omega arith, ends);
           numbers = [];
           processed = no-more;
           newly = newly-none same;
@@ -397,7 +390,7 @@ module _ (act : Act) (peer_ordered : IsOrdered act.peer) (view peer : MarkSide) 
           first = λ some. ap (first_by e.marks.isr) (sym is) ∙ here.first some;
           unset = λ none. absurd (omega (arith, none, has-first));
           set = λ some. set-at Shut e.received.set (shut view at) is refl (here.set has-first);
-          closed = λ was. (omega arith, not-live f.phase ends);
+          closed = λ was. (omega arith, ends);
           numbers = [];
           processed = no-more;
           newly = newly-none same;

@@ -290,7 +290,7 @@ module _ (act : Act) (own : IsOrdered act.side) (peer_ordered : IsOrdered act.pe
         not-closed : t.after.closed ≡ false
         not-closed = by t.after.closed refl where
           by : (b : Bool) → t.after.closed ≡ b → b ≡ false
-          by true is = (let dead = (t.closed is).1.0 in let lives = live in cc (dead, lives))
+          by true is = (let dead = ap is_live (t.closed is).1 in let lives = live in cc (dead, lives))
           by false is = refl
 
         abbrev whole : Bool

@@ -1,13 +1,14 @@
 -- What a side marked is what it processed, and its records say what its frames do.
-use Rattle.std.proofs.Common.{◌≡◌, ◌↔◌, refl, ap, sym, ◌∙◌, subst, ℕ, zero, suc, ◌+◌, ◌%◌, ◌^◌, ◌<◌, ◌≤◌, Bool, true, false, List, Some, length, arith}
+use Rattle.std.proofs.Common.{◌≡◌, ◌≢◌, ◌↔◌, inl, inr, refl, ap, sym, ◌∙◌, subst, ℕ, zero, suc, ◌+◌, ◌%◌, ◌^◌, ◌<◌, ◌≤◌, Bool, true, false, List, Some, length, arith}
 use Rattle.std.proofs.lemmas.List.{length-map}
 use Rattle.std.proofs.lemmas.Option.{same_Some, slice_get_within}
 use Rattle.std.specs.List.{Contains}
 use Rattle.std.specs.Result.{result_ok}
 use Rattle.ack_vectors.specs.Vector.{is_whole_under}
-use Rattle.dccp_endpoint.specs.End.{floor_of, is_live}
+use Rattle.dccp_endpoint.specs.End.{floor_of}
 use Rattle.dccp_endpoint.specs.Reporting.{is_acking}
 use Rattle.dccp_packets.specs.Grammar.{Parts, packet_type}
+use Rattle.dccp_states.specs.declared.phase.Phase.TheVariants as phases
 use Rattle.two_ends.specs.MarkView.{MarkSide, frame_at}
 use Rattle.run_list.specs.MarkedSet.{has}
 use Rattle.seq_circle.specs.Circle.{IsBefore, IsFrom, IsWithin, distance, residue}
@@ -16,7 +17,7 @@ use Rattle.world_events.specs.Actors.{other}
 use Rattle.world_events.specs.declared.event.Side.{Side}
 use Rattle.two_ends.specs.declared.frames.SentFrame.{SentFrame}
 use Rattle.two_ends.specs.Frames.{packet_of}
-use Rattle.two_ends.specs.Remembered.{AreRecordsHonest, MarksWhatItProcessed, NewestIsProcessed}
+use Rattle.two_ends.specs.Remembered.{AreRecordsHonest, HasHeardFirst, MarksWhatItProcessed, NewestIsProcessed}
 use Rattle.two_ends.specs.Reported.{processed_by}
 use Rattle.two_ends.specs.World.{WorldState, half_of}
 use Rattle.two_ends.proofs.Acting.{Party, config_of, end_of, party_of}
@@ -157,34 +158,42 @@ module _ (x y : Party) (others : IsOrdered y) (m : IsMarking x y) where
 
 module _ (w : WorldState) (logs : Side → List Logged) (side : Side) where
   module _ (others : IsOrdered (party_of w logs (other side))) (m : IsMarking (party_of w logs side) (party_of w logs (other side))) where
-    live-open : is_live (half_of w side).end.phase ≡ true → m.view.closed ≡ false
-    live-open live = by m.view.closed refl where
+    not-shut : (half_of w side).end.phase ≢ phases.Closed → m.view.closed ≡ false
+    not-shut stands = by m.view.closed refl where
       by : (closed : Bool) → m.view.closed ≡ closed → m.view.closed ≡ false
       by false is = is
-      by true is =
-          let dead = (m.here.closed is).1.0 in
-          cc (live, dead)
+      by true is = absurd (stands (m.here.closed is).1)
+
+    first-some : 1 ≤ m.view.greatest → 1 ≤ m.view.first
+    first-some some = by m.view.first refl where
+      by : (first : ℕ) → m.view.first ≡ first → 1 ≤ m.view.first
+      by zero none = absurd (omega (arith, some, m.kept.here.sound.unheard_greatest none))
+      by (suc first) is = omega (arith, is)
+
+    heard-first : HasHeardFirst (half_of w side) → 1 ≤ m.view.first
+    heard-first (inl live) = first-some (m.here.heard.lives live)
+    heard-first (inr some) = processed-some (party_of w logs side) (party_of w logs (other side)) others m some
 
     newest-found : (frame : SentFrame) (packet : Parts)
         → Found (config_of (party_of w logs (other side))) (config_of (party_of w logs (other side))).iss (logs (other side)) frame
-        → is_live (half_of w side).end.phase ≡ true → packet_of frame.bytes ≡ Some packet → is_acking (packet_type packet.header.kind) ≡ true
-        → frame.number ≡ (half_of w side).end.marks.gsr
+        → (half_of w side).end.phase ≢ phases.Closed → HasHeardFirst (half_of w side) → packet_of frame.bytes ≡ Some packet
+        → is_acking (packet_type packet.header.kind) ≡ true → frame.number ≡ (half_of w side).end.marks.gsr
         → Contains (half_of w side).processed (half_of w side).end.marks.gsr
-    newest-found frame packet (Nowhere is) live read acking same =
+    newest-found frame packet (Nowhere is) stands heard read acking same =
         let its = reset-frame (config_of (party_of w logs (other side))) frame is in
         let packet_is : packet ≡ its.spells.packet = same_Some packet its.spells.packet (sym read ∙ ap result_ok its.spells.is_packet) in
         let type = without-reset (config_of (party_of w logs (other side))).role its.spells.packet.header.kind its.has_code in
         let plain : is_acking (packet_type packet.header.kind) ≡ false = ap (λ (p : Parts). is_acking (packet_type p.header.kind)) packet_is
         ∙ ap is_acking type in
         cc (acking, plain)
-    newest-found frame packet (AtPlace place number l there numbered is) live read acking same =
+    newest-found frame packet (AtPlace place number l there numbered is) stands heard read acking same =
         let y : Party = party_of w logs (other side) in
         let its = read-in (config_of y) number frame l is in
         let packet_is : packet ≡ its.packet = same_Some packet its.packet (sym read ∙ its.is_packet) in
         let ours : IsFrame _ _ l (frame_at m.peer.frames (suc place)) = frame-of place l m.there.frames there in
         let type : packet_type packet.header.kind ≡ packet_type l.draft.kind =
         ap (λ (p : Parts). packet_type p.header.kind) packet_is ∙ its.type_is in
-        let some : 1 ≤ m.view.greatest = m.here.heard.lives live in
+        let some : 1 ≤ m.view.greatest = omega (arith, heard-first heard, m.kept.here.sound.first_taken) in
         let number_is : number % 2 ^ 48 ≡ (half_of w side).end.marks.gsr =
         sym its.number_is ∙ same in
         let inside : place < length (logs (other side)) = slice_get_within (logs (other side)) place l there in
@@ -194,18 +203,12 @@ module _ (w : WorldState) (logs : Side → List Logged) (side : Side) where
         (omega (arith, inside, few-logged y others)) numbered number_is (m.here.heard.tied some) in
         let acks : (frame_at m.peer.frames m.view.greatest).is_ack ≡ true =
         ap (λ (n : ℕ). (frame_at m.peer.frames n).is_ack) (sym at) ∙ ours.acks ∙ sym (ap is_acking type) ∙ acking in
-        let placed = m.kept.here.heeded.newest_processed (first-some some) (live-open live) acks in
+        let placed = m.kept.here.heeded.newest_processed (heard-first heard) (not-shut stands) acks in
         subst (Contains (half_of w side).processed) (sym (m.here.heard.tied some)) (was-processed (party_of w logs side) y others m m.view.greatest placed)
-      where
-        first-some : 1 ≤ m.view.greatest → 0 < m.view.first
-        first-some some = by m.view.first refl where
-          by : (first : ℕ) → m.view.first ≡ first → 0 < m.view.first
-          by zero none = absurd (omega (arith, some, m.kept.here.sound.unheard_greatest none))
-          by (suc first) is = omega (arith, is)
 
     pub newest-processed : NewestIsProcessed w side
-    newest-processed index frame packet live there read acking same =
-        newest-found frame packet (found (config_of (party_of w logs (other side))) index frame others.logged there) live read acking same
+    newest-processed index frame packet stands heard there read acking same =
+        newest-found frame packet (found (config_of (party_of w logs (other side))) index frame others.logged there) stands heard read acking same
 
   module _ (own : IsOrdered (party_of w logs side)) (others : IsOrdered (party_of w logs (other side)))
       (m : IsMarking (party_of w logs side) (party_of w logs (other side))) where

@@ -5,10 +5,10 @@ use Rattle.std.proofs.lemmas.Map.Steps.{length-le_from_distinct_below}
 use Rattle.std.specs.List.{All, Contains, list_any}
 use Rattle.std.specs.Prelude.{slice_index_or}
 use Rattle.ack_vectors.specs.declared.received.Record.{Record}
-use Rattle.dccp_endpoint.specs.Causes.{is_waiting}
-use Rattle.dccp_endpoint.specs.End.{floor_of, is_live}
+use Rattle.dccp_endpoint.specs.End.{floor_of}
 use Rattle.dccp_packets.specs.Grammar.{packet_type}
 use Rattle.dccp_packets.specs.declared.header.PacketType.TheVariants as types
+use Rattle.dccp_states.specs.declared.phase.Phase.TheVariants as phases
 use Rattle.two_ends.proofs.MarkFacts.{IsListed}
 use Rattle.two_ends.proofs.MarkSteps.{Kept, move_keeps}
 use Rattle.two_ends.specs.MarkFacts.{AreSoundNumbers}
@@ -37,7 +37,7 @@ pub record IsShown (x y : Party) (view : MarkSide) : Type 0 where
   pub first : 1 ≤ view.first → (end_of x).marks.isr ≡ number_of (config_of y).iss view.first
   pub unset : view.first ≡ 0 → ((end_of x).marks.isr ≡ 0) × (floor_of (end_of x) ≡ 0)
   pub set : 1 ≤ view.first → IsMarked (config_of y).iss (end_of x).received.set view
-  pub closed : view.closed ≡ true → (1 ≤ view.greatest) × ((is_live (end_of x).phase ≡ false) × (is_waiting (end_of x).phase ≡ false))
+  pub closed : view.closed ≡ true → (1 ≤ view.greatest) × ((end_of x).phase ≡ phases.Closed)
   pub processed : x.half.processed ≡ map (number_of (config_of y).iss) view.processed
   pub marked : (end_of x).marked ≡ length x.half.processed
   pub packets : All (IsPacketOf (config_of y).iss y.log) x.half.processed

@@ -8,6 +8,7 @@ pub mod Reported
 pub mod Safe
 pub mod Delivered
 pub mod Asked
+pub mod CameOf
 pub mod Counted
 pub mod Reached
 pub mod Remembered

@@ -1,11 +1,12 @@
 -- What an end has taken of its peer's packets, and what it remembers of its own Ack Vectors (RFC 4340, sections 7.1 and
 -- 11.4).
-use Rattle.std.specs.Prelude.{◌≡◌, ◌↔◌, ℕ, ◌+◌, ◌^◌, ◌<◌, ◌≤◌, true, length, slice_get, Some, Contains}
+use Rattle.std.specs.Prelude.{◌≡◌, ◌≢◌, ◌⊎◌, ◌↔◌, ℕ, ◌+◌, ◌^◌, ◌<◌, ◌≤◌, true, length, slice_get, Some, Contains}
 use Rattle.ack_vectors.specs.Vector.{is_whole_under}
 use Rattle.ack_vectors.specs.declared.received.Record.{Record}
 use Rattle.dccp_endpoint.specs.End.{floor_of, is_live, marked_of}
 use Rattle.dccp_endpoint.specs.Reporting.{is_acking}
 use Rattle.dccp_packets.specs.Grammar.{Parts, packet_type}
+use Rattle.dccp_states.specs.declared.phase.Phase.TheVariants as phases
 use Rattle.run_list.specs.MarkedSet.{has}
 use Rattle.seq_circle.specs.Circle.{IsBefore, IsFrom, IsWithin, residue}
 use Rattle.world_events.specs.Actors.{other}
@@ -27,13 +28,17 @@ pub record MarksWhatItProcessed (half : Half) : Type 0 where
   -- the floor lies from ISR up to the number after GSR, also before a first number was heard, when the floor, ISR and GSR are 0
   pub floor : IsWithin (floor_of half.end) half.end.marks.isr (residue (half.end.marks.gsr + 1))
 
--- In a phase in which a first number was received, GSR is a number that the side processed, if its frame is an Ack or a
--- DataAck. A packet of another type may have raised it and be out of place in the phase, and then it is never
--- processed; no list of such numbers is kept. Of an end that is CLOSED this is not claimed, since a Reset 5, 6 or 8
--- answers a packet that was not processed.
+-- A side has received a first number: its phase says so, or it has processed a packet.
+abbrev pub HasHeardFirst : Half → Type 0
+HasHeardFirst half = (is_live half.end.phase ≡ true) ⊎ (1 ≤ length half.processed)
+
+-- Once a first number was received, GSR is a number that the side processed, if its frame is an Ack or a DataAck. A
+-- packet of another type may have raised it and be out of place in the phase, and then it is never processed; no list
+-- of such numbers is kept. Of an end that is CLOSED this is not claimed, since a Reset 5, 6 or 8 answers a packet that
+-- was not processed; of one in TIMEWAIT it is.
 abbrev pub NewestIsProcessed : WorldState → Side → Type 0
-NewestIsProcessed w side = (index : ℕ) (frame : SentFrame) (packet : Parts) → is_live (half_of w side).end.phase ≡ true
-    → slice_get (half_of w (other side)).frames index ≡ Some frame → packet_of frame.bytes ≡ Some packet
+NewestIsProcessed w side = (index : ℕ) (frame : SentFrame) (packet : Parts) → (half_of w side).end.phase ≢ phases.Closed
+    → HasHeardFirst (half_of w side) → slice_get (half_of w (other side)).frames index ≡ Some frame → packet_of frame.bytes ≡ Some packet
     → is_acking (packet_type packet.header.kind) ≡ true → frame.number ≡ (half_of w side).end.marks.gsr
     → Contains (half_of w side).processed (half_of w side).end.marks.gsr
 

@@ -2,18 +2,18 @@
 //!
 //! Each part of `Safe` has a function whose clauses follow from it and from no weaker one. They are what a reader may
 //! hold against the definitions, by plain counts where numbers are in them.
-ghost use Rattle.std.specs.Prelude.{◌≡◌, ℕ, ◌+◌, ◌^◌, ◌<◌, ◌≤◌, List, [], ◌∷◌, ◌++◌, Some, None, IsTrue, IsSome, Contains, take, drop, slice_get};
+ghost use Rattle.std.specs.Prelude.{◌≡◌, ◌≢◌, ℕ, ◌+◌, ◌^◌, ◌<◌, ◌≤◌, false, List, [], ◌∷◌, ◌++◌, Some, None, IsTrue, IsSome, Contains, take, drop, slice_get};
 ghost use Rattle.congestion_trait.specs.Flight.{Has};
 ghost use Rattle.congestion_trait.specs.declared.flight.Standing.TheVariants as standing;
 ghost use Rattle.dccp_endpoint.specs.Drafts.{Fits};
-ghost use Rattle.dccp_endpoint.specs.End.{held_of};
+ghost use Rattle.dccp_endpoint.specs.End.{floor_of, held_of};
 ghost use Rattle.dccp_endpoint.specs.declared.config.Config.{Config};
 ghost use Rattle.dccp_options.specs.Vectors.{is_received, state_at};
 ghost use Rattle.dccp_packets.specs.Grammar.{Parts, is_long};
 ghost use Rattle.dccp_packets.specs.Kinds.{ack_of, value_of};
 ghost use Rattle.dccp_states.specs.declared.phase.Role.TheVariants as role;
 ghost use Rattle.feature_lists.specs.Features.{initial_of};
-ghost use Rattle.feature_lists.specs.Lists.{SharesNothing, has_entry};
+ghost use Rattle.feature_lists.specs.Lists.{IsFirstShared, SharesNothing, has_entry};
 ghost use Rattle.feature_lists.specs.declared.features.Feature.{Feature};
 ghost use Rattle.feature_lists.specs.declared.features.Place.{Place};
 ghost use Rattle.feature_lists.specs.declared.features.Place.TheVariants as place;
@@ -26,6 +26,7 @@ ghost use Rattle.world_events.specs.declared.event.Side.{Side};
 ghost use Rattle.world_events.specs.declared.event.Side.TheVariants.{Client, Server};
 ghost use Rattle.two_ends.specs.declared.frames.SentFrame.{SentFrame};
 ghost use Rattle.two_ends.specs.Asked.{AllIsAsked, KeepsInitialValues};
+ghost use Rattle.two_ends.specs.CameOf.{CameOfLists, CameOfLocation};
 ghost use Rattle.two_ends.specs.Controlled.{Controlled, IsNeverFar, congestion_of, plays, plays_from_start};
 ghost use Rattle.two_ends.specs.Counted.{AreAmongFirst, AreResets};
 ghost use Rattle.dccp_endpoint.specs.Spelled.{ack_in_width, in_width};
@@ -45,8 +46,8 @@ use dccp_endpoint::every_step_has_one_effect;
 
 /// What *agree* comes to. A feature that both ends call settled has one value: what the client holds of its own is what
 /// the server holds of the client's, and the other way round. Where it was negotiated by lists both have sent one, and
-/// the server's first entry is the value if the client's last list has it (RFC 4340, section 6.3.1). The value of a
-/// feature that is not negotiable is, at the other end too, the last one that its location told.
+/// the value is the server's first entry, in its last list, that stands in the client's last (RFC 4340, section
+/// 6.3.1). The value of a feature that is not negotiable is, at the other end too, the last one that its location told.
 pub fn settled_features_are_alike<C: Congestion>()
     ensures clients { (w : Controlled C) → Safe C.control w → (feature : Feature)
         → (held_of w.world.client.end feature place.Here).stand ≡ Stable → (held_of w.world.server.end feature place.There).stand ≡ Stable
@@ -61,6 +62,10 @@ pub fn settled_features_are_alike<C: Congestion>()
         → (pair : FeatureAt) (side : Side) (value : ℕ) (later clients : List ℕ)
         → IsSettled w.world pair → IsServerPriority pair → last_list_sent w.world pair Server ≡ Some (value ∷ later)
         → last_list_sent w.world pair Client ≡ Some clients → IsTrue (has_entry clients value) → (held_at w.world pair side).value ≡ value }
+    ensures shared { (w : Controlled C) → Safe C.control w
+        → (pair : FeatureAt) (side : Side) (value : ℕ) (servers clients : List ℕ)
+        → IsSettled w.world pair → IsServerPriority pair → last_list_sent w.world pair Server ≡ Some servers
+        → last_list_sent w.world pair Client ≡ Some clients → IsFirstShared servers clients value → (held_at w.world pair side).value ≡ value }
     ensures told { (w : Controlled C) → Safe C.control w → (pair : FeatureAt) (side : Side) (value : ℕ)
         → IsSettled w.world pair → IsNotNegotiable pair
         → IsTrue (pair_was_negotiated w.world pair) → last_value w.world pair ≡ Some value → (held_at w.world pair side).value ≡ value }
@@ -68,7 +73,8 @@ pub fn settled_features_are_alike<C: Congestion>()
 
 /// What *given* comes to, whatever the stands. An end holds the initial value of a feature as long as one of the two
 /// sides has sent no list for it; or no list of the server's shares an entry with one of the client's; or, if it is not
-/// negotiable, its location has told no value.
+/// negotiable, its location has told no value. Another value is the first entry in a list of the server's that stands
+/// in one of the client's too, or else one that the location told.
 pub fn values_come_from_both_sides<C: Congestion>()
     ensures silent { (w : Controlled C) → Safe C.control w → (pair : FeatureAt) (quiet side : Side)
         → IsServerPriority pair
@@ -80,15 +86,22 @@ pub fn values_come_from_both_sides<C: Congestion>()
     ensures untold { (w : Controlled C) → Safe C.control w → (pair : FeatureAt) (side : Side) → IsNotNegotiable pair
         → ((index : ℕ) (frame : SentFrame) → slice_get (half_of w.world pair.location).frames index ≡ Some frame
         → value_said (said_by pair pair.location frame.bytes) ≡ None) → (held_at w.world pair side).value ≡ initial_of pair.feature }
+    ensures listed { (w : Controlled C) → Safe C.control w → (pair : FeatureAt) (side : Side) → IsServerPriority pair
+        → (held_at w.world pair side).value ≢ initial_of pair.feature → CameOfLists w.world pair (held_at w.world pair side).value }
+    ensures said { (w : Controlled C) → Safe C.control w → (pair : FeatureAt) (side : Side) → IsNotNegotiable pair
+        → (held_at w.world pair side).value ≢ initial_of pair.feature → CameOfLocation w.world pair (held_at w.world pair side).value }
 {}
 
 /// What *truthful* comes to. A number that a vector tells received is one that its sender had processed when it sent
-/// it; a whole vector tells received each of those from the frame's floor up to the number that it acknowledges; and
-/// none of them is after that.
+/// it; a number that it tells not received, whole or cut, is none of those; a whole vector tells received each of those
+/// from the frame's floor up to the number that it acknowledges; and none of them is after that.
 pub fn vectors_tell_what_was_processed<C: Congestion>()
     ensures received { (w : Controlled C) → Safe C.control w → (side : Side) (frame : SentFrame) (ack n : ℕ) (bytes : List ℕ)
         → HasSentVector (half_of w.world side) frame ack bytes → ack < 2 ^ 48 → n < 2 ^ 48
         → IsTrue (is_received (state_at ack bytes n)) → Contains (processed_by (half_of w.world side) frame) n }
+    ensures missing { (w : Controlled C) → Safe C.control w → (side : Side) (frame : SentFrame) (ack n state : ℕ) (bytes : List ℕ)
+        → HasSentVector (half_of w.world side) frame ack bytes → frame.floor < 2 ^ 48 → ack < 2 ^ 48 → n < 2 ^ 48
+        → state_at ack bytes n ≡ Some state → is_received (Some state) ≡ false → Contains (processed_by (half_of w.world side) frame) n → ⊥ }
     ensures all { (w : Controlled C) → Safe C.control w → (side : Side) (frame : SentFrame) (ack n : ℕ) (bytes : List ℕ)
         → HasSentVector (half_of w.world side) frame ack bytes → IsUncut (half_of w.world side) frame ack → IsSpokenOf frame ack n
         → Contains (processed_by (half_of w.world side) frame) n → IsTrue (is_received (state_at ack bytes n)) }
@@ -99,9 +112,15 @@ pub fn vectors_tell_what_was_processed<C: Congestion>()
 
 /// What *told* comes to, by plain counts. If no whole vector that the other side processed has told of a number below
 /// an end's floor, then not all numbers that the end processed are among those of the first packets, up to 2,047 after
-/// that number's: it has processed one that is 2,048 after it or more.
+/// that number's: it has processed one that is 2,048 after it or more. Below the floor lies a packet of a count from
+/// that of ISR on, and less than that of the floor.
 pub fn what_none_told_is_far_behind<C: Congestion>()
-    ensures { (w : Controlled C) → Safe C.control w → (side : Side) (iss count n : ℕ) → iss < 2 ^ 48 → 1 ≤ count
+    ensures by_counts { (w : Controlled C) → Safe C.control w → (side : Side) (iss first count floor : ℕ) → iss < 2 ^ 48
+        → 1 ≤ first → first ≤ count → count < floor → floor ≤ 2 ^ 47 + 1 → count + 2047 ≤ 2 ^ 47
+        → (half_of w.world side).end.marks.isr ≡ number_of iss first → floor_of (half_of w.world side).end ≡ number_of iss floor
+        → IsUntold w.world side (number_of iss count)
+        → AreAmongFirst iss (count + 2047) (half_of w.world side).processed → ⊥ }
+    ensures below { (w : Controlled C) → Safe C.control w → (side : Side) (iss count n : ℕ) → iss < 2 ^ 48 → 1 ≤ count
         → count + 2047 ≤ 2 ^ 47
         → n ≡ number_of iss count → LiesBelowFloor (half_of w.world side) n → IsUntold w.world side n
         → AreAmongFirst iss (count + 2047) (half_of w.world side).processed → ⊥ }
