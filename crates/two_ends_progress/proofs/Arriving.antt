@@ -1,0 +1,79 @@
+-- The frame of a packet that is a type alone comes at the end for which it is meant, as it was meant.
+use Rattle.std.proofs.Common.{◌≡◌, refl, ap, ◌∙◌, ◌==◌, ◌&&◌, ℕ, ◌^◌, ◌<◌, List, [], true, false, Option, arith}
+use Rattle.std.proofs.Math.Bool.{and-false}
+use Rattle.std.specs.Result.{result_ok}
+use Rattle.dccp_packets.specs.Forms.{ack_near, may_be_short}
+use Rattle.dccp_packets.specs.Grammar.{KindFits, Parts, has_forms, packet_type, padded}
+use Rattle.dccp_packets.specs.Kinds.{ack_of}
+use Rattle.dccp_packets.specs.Widths.{HasDetail}
+use Rattle.dccp_packets.specs.declared.header.Kind.{Kind}
+use Rattle.dccp_options.specs.Written.{written}
+use Rattle.dccp_sum.specs.Checksum.{checked}
+use Rattle.dccp_sum.specs.declared.pseudo_header.Pseudo.{Pseudo}
+use Rattle.dccp_endpoint.specs.Causes.{Came}
+use Rattle.dccp_endpoint.specs.Drafts.{Fits, alone, frame_of, own_header}
+use Rattle.dccp_endpoint.specs.End.{EndState}
+use Rattle.dccp_endpoint.specs.Incoming.{Incoming, incoming}
+use Rattle.dccp_endpoint.specs.Inputs.{Arrives}
+use Rattle.dccp_endpoint.specs.Receiving.{takes_short}
+use Rattle.dccp_endpoint.specs.declared.config.Config.{Config}
+use Rattle.dccp_endpoint.proofs.OwnFrames.{alone-sendable, own_frames_read}
+use Rattle.two_ends.specs.Frames.{is_short_packet, packet_of}
+use Rattle.two_ends.specs.World.{is_far_frame}
+use Rattle.two_ends.specs.declared.frames.SentFrame.{SentFrame}
+use Rattle.two_ends_progress.specs.Paired.{IsSentTo}
+
+-- A type whose packets have long numbers alone, with fields that fit.
+pub record IsBare (k : Kind) : Type 0 where
+  pub is_long : has_forms true k ≡ true
+  pub detail : HasDetail k
+  pub fits : KindFits k
+  pub never_short : may_be_short (packet_type k) ≡ false
+  pub acks : (reference : ℕ) → ack_near reference k ≡ ack_of k
+
+-- A packet came that is this type alone, under this number.
+pub record IsHere (e : EndState) (bytes : List ℕ) (number : ℕ) (k : Kind) : Type 0 where
+  pub packet : Incoming
+  pub came : Came e (Arrives bytes) packet
+  pub type_is : packet.kind ≡ packet_type k
+  pub numbered : packet.number ≡ number
+  pub acks : packet.ack ≡ ack_of k
+  pub bare : packet.options ≡ []
+  pub is_long : is_short_packet (packet_of bytes) ≡ false
+
+same-test : (a b : ℕ) → a ≡ b → (a == b) ≡ true
+same-test a b same = grind (arith, same)
+
+both-same : (a b c d : ℕ) → a ≡ b → c ≡ d → ((a == b) && (c == d)) ≡ true
+both-same a b c d left right = rw (same-test a b left, same-test c d right) refl
+
+pub alone-here : (from : Config) (e : EndState) (number : ℕ) (k : Kind) → IsSentTo from e.config → Fits from → number < 2 ^ 48 → IsBare k
+    → IsHere e (frame_of from false number (alone k)) number k
+alone-here from e number k meant fits small bare =
+    let bytes : List ℕ = frame_of from false number (alone k) in
+    let read = own_frames_read from false number (alone k) fits small bare.fits (alone-sendable k bare.is_long bare.detail) (λ short. cc short) in
+    let p : Parts = record { header = record (own_header from false number k) { checksum = read.sum }; options = padded (written []); payload = [] } in
+    record {
+      packet = incoming e bytes p number;
+      came =
+          record {
+            bytes = bytes;
+            packet = p;
+            number = number;
+            is_given = refl;
+            is_packet = read.is_packet;
+            sum_fits = ap (λ (pseudo : Pseudo). checked pseudo bytes) meant.addresses ∙ read.is_accepted;
+            is_ours = both-same from.own_port e.config.peer_port from.peer_port e.config.own_port meant.source meant.target;
+            reads = refl;
+            same = refl;
+          };
+      type_is = refl;
+      numbered = refl;
+      acks = bare.acks e.marks.gss;
+      bare = read.are_listed;
+      is_long = ap (λ (r : Option Parts). is_short_packet r) (ap result_ok read.is_packet);
+    }
+
+-- no frame with long numbers is far
+pub long-near : (e : EndState) (frame : SentFrame) → is_short_packet (packet_of frame.bytes) ≡ false → is_far_frame e frame ≡ false
+long-near e frame long = rw long (and-false (takes_short e))

@@ -1,0 +1,103 @@
+-- What is valid whatever was lost: a Sync or SyncAck under the last number of its sender, and what comes next.
+use Rattle.std.proofs.Common.{◌≡◌, ◌⊎◌, inl, inr, refl, sym, ◌∙◌, subst, ◌&&◌, ℕ, ◌+◌, ◌*◌, ◌/◌, ◌^◌, ◌<◌, ◌≤◌, Bool, true, false, if◌then◌else◌, Option, Some, arith}
+use Rattle.std.proofs.lemmas.Bool.{cases_lt, le-leb}
+use Rattle.seq_circle.specs.Circle.{distance, is_within, later_of, open_end, residue}
+use Rattle.validity_windows.proofs.Counts.{later_of-before, later_of-same, no_end-count}
+use Rattle.validity_windows.specs.Verdict.{by_greatest, by_low_end, is_ack_within, is_after_greatest, is_not_old}
+use Rattle.validity_windows.specs.Windows.{InRange, ack_high, ack_low, sequence_high, sequence_low}
+use Rattle.validity_windows.specs.declared.marks.Marks.{Marks}
+use Rattle.validity_windows.specs.declared.verdict.Verdict.{Verdict}
+use Rattle.validity_windows.specs.declared.verdict.Verdict.TheVariants as verdicts
+
+-- Two numbers of one sender, of which the first does not come after the second.
+pub record AreInOrder (low high : ℕ) : Type 0 where
+  pub first : ℕ
+  pub early : ℕ
+  pub late : ℕ
+  pub low_is : low ≡ residue (first + early)
+  pub high_is : high ≡ residue (first + late)
+  pub in_order : early ≤ late
+  pub few : late < 2 ^ 47
+
+-- the later of them is the second
+pub later-so : (low high : ℕ) → AreInOrder low high → later_of low high ≡ high
+later-so low high o =
+    elim (cases_lt o.early o.late) [
+      | inl below ↦
+          later_of-before low high (omega (arith, o.low_is, o.high_is, below, o.few)) (omega (arith, o.low_is, o.high_is, below, o.few))
+      | inr above ↦
+          later_of-same low high (omega (arith, o.low_is, o.high_is, above, o.in_order))
+          ∙ omega (arith, o.low_is, o.high_is, above, o.in_order)
+    ]
+
+-- ISR, GSR and the last number that the other side sent, with the widths of the windows.
+pub record AreHeard (m : Marks) (last : ℕ) : Type 0 where
+  pub first : ℕ
+  pub begin : ℕ
+  pub greatest : ℕ
+  pub end : ℕ
+  pub isr_is : m.isr ≡ residue (first + begin)
+  pub gsr_is : m.gsr ≡ residue (first + greatest)
+  pub last_is : last ≡ residue (first + end)
+  pub begins : begin ≤ greatest
+  pub ends : greatest ≤ end
+  pub few : end < 2 ^ 47
+  pub widths : InRange m
+
+both : (x y : Bool) (other : Verdict) → x ≡ true → y ≡ true → (if x && y then verdicts.Valid else other) ≡ verdicts.Valid
+both x y other left right = rw (left, right) refl
+
+-- a number is within each interval that ends with it, and that begins with it
+within-high : (low n : ℕ) → is_within n low n ≡ true
+within-high low n = le-leb (distance low n) (distance low n) (omega arith)
+
+within-low : (n high : ℕ) → is_within n n high ≡ true
+within-low n high = le-leb (distance n n) (distance n high) (omega arith)
+
+not-old : (m : Marks) (last : ℕ) → AreHeard m last → is_not_old m last ≡ true
+not-old m last h =
+    let counts =
+    no_end-count m (h.first + h.begin) (h.first + h.greatest) (h.first + h.end) h.widths h.isr_is h.gsr_is (omega (arith, h.begins))
+    (omega (arith, h.begins, h.ends, h.few)) (omega (arith, h.begins, h.ends)) (omega (arith, h.few)) in
+    let inside =
+    counts.1 (omega (arith, h.begins, h.ends, h.widths.peer_least), omega (arith, h.begins, h.ends, h.few)) in
+    le-leb (distance (sequence_low m) last) (distance (sequence_low m) (open_end (sequence_low m)))
+    (subst (λ (n : ℕ). distance (sequence_low m) n ≤ distance (sequence_low m) (open_end (sequence_low m))) (sym h.last_is) inside)
+
+-- A Sync or SyncAck under the peer's last number that acknowledges the own last one is valid.
+pub low-end-valid : (m : Marks) (last : ℕ) → AreHeard m last → by_low_end m last (Some m.gss) ≡ verdicts.Valid
+low-end-valid m last h = both (is_not_old m last) _ verdicts.Drop (not-old m last h) (within-high (ack_low m) m.gss)
+
+-- The number after GSR is valid with what acknowledges GSS or GAR, and so is the one after that with GSS.
+pub next-valid : (m : Marks) (n answer : ℕ) → n ≡ residue (m.gsr + 1) → by_greatest m n (Some m.gss) answer ≡ verdicts.Valid
+next-valid m n answer same =
+    both (is_after_greatest m n) _ (verdicts.SyncFor answer)
+    (subst (λ (k : ℕ). is_within k (residue (m.gsr + 1)) (sequence_high m) ≡ true) (sym same) (within-low (residue (m.gsr + 1)) (sequence_high m)))
+    (within-high m.gar m.gss)
+
+pub gar-valid : (m : Marks) (n answer : ℕ) → n ≡ residue (m.gsr + 1) → by_greatest m n (Some m.gar) answer ≡ verdicts.Valid
+gar-valid m n answer same =
+    both (is_after_greatest m n) _ (verdicts.SyncFor answer)
+    (subst (λ (k : ℕ). is_within k (residue (m.gsr + 1)) (sequence_high m) ≡ true) (sym same) (within-low (residue (m.gsr + 1)) (sequence_high m)))
+    (within-low m.gar m.gss)
+
+second-within : (gsr width n : ℕ) → 32 ≤ width → width < 2 ^ 46 → n ≡ residue (residue (gsr + 1) + 1)
+    → distance (residue (gsr + 1)) n ≤ distance (residue (gsr + 1)) (residue (gsr + (3 * width + 3) / 4))
+second-within gsr width n least most same = omega (arith, least, most, same)
+
+pub second-valid : (m : Marks) (n answer : ℕ) → InRange m → n ≡ residue (residue (m.gsr + 1) + 1)
+    → by_greatest m n (Some m.gss) answer ≡ verdicts.Valid
+second-valid m n answer range same =
+    both (is_after_greatest m n) _ (verdicts.SyncFor answer)
+    (le-leb (distance (residue (m.gsr + 1)) n) (distance (residue (m.gsr + 1)) (sequence_high m))
+    (second-within m.gsr m.peer_w n range.peer_least range.peer_most same))
+    (within-high m.gar m.gss)
+
+-- A Close, CloseReq or Reset is valid, or a Sync answers it.
+pub greatest-or : (m : Marks) (n : ℕ) (ack : Option ℕ) (answer : ℕ)
+    → (by_greatest m n ack answer ≡ verdicts.Valid) ⊎ (by_greatest m n ack answer ≡ verdicts.SyncFor answer)
+greatest-or m n ack answer = by (is_after_greatest m n && is_ack_within m.gar (ack_high m) ack) where
+  by : (b : Bool) → ((if b then verdicts.Valid else verdicts.SyncFor answer) ≡ verdicts.Valid)
+      ⊎ ((if b then verdicts.Valid else verdicts.SyncFor answer) ≡ verdicts.SyncFor answer)
+  by true = inl refl
+  by false = inr refl

@@ -1,0 +1,44 @@
+//! The laws, each over every list of events and every kind of congestion control.
+ghost use Rattle.std.specs.Prelude.{◌≡◌, ◌⊎◌, ◌≤◌, ℕ, List, [], ◌∷◌, Some, length, slice_get};
+ghost use Rattle.dccp_endpoint.specs.Drafts.{Fits};
+ghost use Rattle.dccp_endpoint.specs.declared.config.Config.{Config};
+ghost use Rattle.dccp_states.specs.declared.calls.Timer.{Timer};
+ghost use Rattle.dccp_states.specs.declared.phase.Phase.TheVariants as phases;
+ghost use Rattle.dccp_states.specs.declared.phase.Role.TheVariants as role;
+ghost use Rattle.two_ends.specs.Controlled.{Controlled, plays, plays_from_start};
+ghost use Rattle.two_ends.specs.World.{half_of};
+ghost use Rattle.two_ends_progress.specs.Leading.{AreOpen, AreOver, HaveRoomFor, HasWay};
+ghost use Rattle.two_ends_progress.specs.Paired.{AreForEachOther};
+ghost use Rattle.world_events.specs.declared.event.Event.{Event};
+ghost use Rattle.world_events.specs.declared.event.Event.TheVariants as event;
+ghost use Rattle.world_events.specs.declared.event.Side.{Side};
+
+use congestion_trait::Congestion;
+use dccp_endpoint::every_step_has_one_effect;
+
+/// A connection can be closed. Where both ends are OPEN, whatever led there, once either side is asked to close, at
+/// most seven timers and deliveries lead both to CLOSED or TIMEWAIT (RFC 4340, section 8.3). The configurations are each
+/// other's, as they are where a frame of the one passes the checksum and the ports of the other; and neither side is
+/// near the 2^47 - 1 frames after which it takes no event.
+pub fn closing_ends_both<C: Congestion>()
+    ensures { (client server : Config) (for_client for_server : C) (events : List Event) (side : Side) → client.role ≡ role.Client
+        → server.role ≡ role.Server → Fits client → Fits server → AreForEachOther client server
+        → AreOpen (plays_from_start C.control client server for_client for_server events).world
+        → HaveRoomFor 8 (plays_from_start C.control client server for_client for_server events).world
+        → HasWay C.control 7 (plays C.control (plays_from_start C.control client server for_client for_server events) (event.Close side ∷ []))
+        (λ (w : Controlled C). AreOver w.world) }
+{
+    every_step_has_one_effect();
+}
+
+/// What such a way of closing is, in plain words: a list of at most seven events (`few`), each of them a timer of a side
+/// or the delivery of a frame (`passive`), after which either end is in CLOSED or in TIMEWAIT (`over`).
+pub fn closing_takes_seven_events<C: Congestion>()
+    ensures few { (w : Controlled C) (way : HasWay C.control 7 w (λ (v : Controlled C). AreOver v.world)) → length way.events ≤ 7 }
+    ensures passive { (w : Controlled C) (way : HasWay C.control 7 w (λ (v : Controlled C). AreOver v.world)) (place : ℕ) (e : Event)
+        → slice_get way.events place ≡ Some e
+        → ((side : Side) × ((timer : Timer) × (e ≡ event.Timer side timer))) ⊎ ((from : Side) × ((index : ℕ) × (e ≡ event.Deliver from index))) }
+    ensures over { (w : Controlled C) (way : HasWay C.control 7 w (λ (v : Controlled C). AreOver v.world)) (side : Side)
+        → ((half_of (plays C.control w way.events).world side).end.phase ≡ phases.Closed)
+        ⊎ ((half_of (plays C.control w way.events).world side).end.phase ≡ phases.TimeWait) }
+{}

@@ -1,0 +1,9 @@
+//! What leads on from every world of two ends: no world is a dead end, as far as these laws go (own).
+//!
+//! A law says that from a world, whatever led to it, a short list of timers and deliveries leads to a goal. It says
+//! nothing of whether these events come: that the frames of that list arrive, and that timers fire, is its premise.
+#![tactic(auto)]
+
+mod laws;
+
+pub use crate::laws::{closing_ends_both, closing_takes_seven_events};
