@@ -1,5 +1,5 @@
 -- The frame of a packet that is a type alone comes at the end for which it is meant, as it was meant.
-use Rattle.std.proofs.Common.{◌≡◌, refl, ap, ◌∙◌, ◌==◌, ◌&&◌, ℕ, ◌^◌, ◌<◌, List, [], true, false, Option, arith}
+use Rattle.std.proofs.Common.{map, Ok, ◌≡◌, refl, ap, ◌∙◌, ◌==◌, ◌&&◌, ℕ, ◌^◌, ◌<◌, List, true, false, Option, arith}
 use Rattle.std.proofs.Math.Bool.{and-false}
 use Rattle.std.specs.Result.{result_ok}
 use Rattle.dccp_packets.specs.Forms.{ack_near, may_be_short}
@@ -7,11 +7,11 @@ use Rattle.dccp_packets.specs.Grammar.{KindFits, Parts, has_forms, packet_type, 
 use Rattle.dccp_packets.specs.Kinds.{ack_of}
 use Rattle.dccp_packets.specs.Widths.{HasDetail}
 use Rattle.dccp_packets.specs.declared.header.Kind.{Kind}
-use Rattle.dccp_options.specs.Written.{written}
+use Rattle.dccp_options.specs.Written.{entries_at, written}
 use Rattle.dccp_sum.specs.Checksum.{checked}
 use Rattle.dccp_sum.specs.declared.pseudo_header.Pseudo.{Pseudo}
 use Rattle.dccp_endpoint.specs.Causes.{Came}
-use Rattle.dccp_endpoint.specs.Drafts.{Fits, alone, frame_of, own_header}
+use Rattle.dccp_endpoint.specs.Drafts.{Draft, Fits, IsSendable, alone, frame_of, own_header}
 use Rattle.dccp_endpoint.specs.End.{EndState}
 use Rattle.dccp_endpoint.specs.Incoming.{Incoming, incoming}
 use Rattle.dccp_endpoint.specs.Inputs.{Arrives}
@@ -31,15 +31,28 @@ pub record IsBare (k : Kind) : Type 0 where
   pub never_short : may_be_short (packet_type k) ≡ false
   pub acks : (reference : ℕ) → ack_near reference k ≡ ack_of k
 
--- A packet came that is this type alone, under this number.
-pub record IsHere (e : EndState) (bytes : List ℕ) (number : ℕ) (k : Kind) : Type 0 where
+-- A draft that any end reads as it was meant, with long numbers.
+pub record IsPlain (d : Draft) : Type 0 where
+  pub sendable : IsSendable d
+  pub fits : KindFits d.kind
+  pub acks : (reference : ℕ) → ack_near reference d.kind ≡ ack_of d.kind
+
+pub bare-plain : (k : Kind) → IsBare k → IsPlain (alone k)
+bare-plain k bare = record { sendable = alone-sendable k bare.is_long bare.detail; fits = bare.fits; acks = bare.acks }
+
+-- A packet came that is this draft's, under this number.
+pub record IsRead (e : EndState) (bytes : List ℕ) (number : ℕ) (d : Draft) : Type 0 where
   pub packet : Incoming
   pub came : Came e (Arrives bytes) packet
-  pub type_is : packet.kind ≡ packet_type k
+  pub type_is : packet.kind ≡ packet_type d.kind
   pub numbered : packet.number ≡ number
-  pub acks : packet.ack ≡ ack_of k
-  pub bare : packet.options ≡ []
+  pub acks : packet.ack ≡ ack_of d.kind
+  pub listed : packet.options ≡ map Ok (entries_at 0 d.options)
   pub is_long : is_short_packet (packet_of bytes) ≡ false
+
+-- a type alone
+abbrev pub IsHere : EndState → List ℕ → ℕ → Kind → Type 0
+IsHere e bytes number k = IsRead e bytes number (alone k)
 
 same-test : (a b : ℕ) → a ≡ b → (a == b) ≡ true
 same-test a b same = grind (arith, same)
@@ -47,12 +60,13 @@ same-test a b same = grind (arith, same)
 both-same : (a b c d : ℕ) → a ≡ b → c ≡ d → ((a == b) && (c == d)) ≡ true
 both-same a b c d left right = rw (same-test a b left, same-test c d right) refl
 
-pub alone-here : (from : Config) (e : EndState) (number : ℕ) (k : Kind) → IsSentTo from e.config → Fits from → number < 2 ^ 48 → IsBare k
-    → IsHere e (frame_of from false number (alone k)) number k
-alone-here from e number k meant fits small bare =
-    let bytes : List ℕ = frame_of from false number (alone k) in
-    let read = own_frames_read from false number (alone k) fits small bare.fits (alone-sendable k bare.is_long bare.detail) (λ short. cc short) in
-    let p : Parts = record { header = record (own_header from false number k) { checksum = read.sum }; options = padded (written []); payload = [] } in
+pub draft-read : (from : Config) (e : EndState) (number : ℕ) (d : Draft) → IsSentTo from e.config → Fits from → number < 2 ^ 48 → IsPlain d
+    → IsRead e (frame_of from false number d) number d
+draft-read from e number d meant fits small plain =
+    let bytes : List ℕ = frame_of from false number d in
+    let read = own_frames_read from false number d fits small plain.fits plain.sendable (λ short. cc short) in
+    let p : Parts =
+    record { header = record (own_header from false number d.kind) { checksum = read.sum }; options = padded (written d.options); payload = d.payload } in
     record {
       packet = incoming e bytes p number;
       came =
@@ -69,8 +83,8 @@ alone-here from e number k meant fits small bare =
           };
       type_is = refl;
       numbered = refl;
-      acks = bare.acks e.marks.gss;
-      bare = read.are_listed;
+      acks = plain.acks e.marks.gss;
+      listed = read.are_listed;
       is_long = ap (λ (r : Option Parts). is_short_packet r) (ap result_ok read.is_packet);
     }
 

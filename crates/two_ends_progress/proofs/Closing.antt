@@ -102,10 +102,10 @@ close-bare ack small = record { is_long = refl; detail = tt; fits = small; never
 request-bare : (ack : ℕ) → ack < 2 ^ 48 → IsBare (kind.CloseReq ack)
 request-bare ack small = record { is_long = refl; detail = tt; fits = small; never_short = refl; acks = λ reference. refl }
 
-sync-bare : (ack : ℕ) → ack < 2 ^ 48 → IsBare (kind.Sync ack)
+pub sync-bare : (ack : ℕ) → ack < 2 ^ 48 → IsBare (kind.Sync ack)
 sync-bare ack small = record { is_long = refl; detail = tt; fits = small; never_short = refl; acks = λ reference. refl }
 
-sync-ack-bare : (ack : ℕ) → ack < 2 ^ 48 → IsBare (kind.SyncAck ack)
+pub sync-ack-bare : (ack : ℕ) → ack < 2 ^ 48 → IsBare (kind.SyncAck ack)
 sync-ack-bare ack small = record { is_long = refl; detail = tt; fits = small; never_short = refl; acks = λ reference. refl }
 
 both-over : (w : WorldState) → IsOver w Client → IsOver w Server → AreOver w
@@ -113,7 +113,7 @@ both-over w client server Client = client
 both-over w client server Server = server
 
 -- GSR and the number that comes are in order.
-heard-in-order : (m : Marks) (last : ℕ) → AreHeard m last → AreInOrder m.gsr last
+pub heard-in-order : (m : Marks) (last : ℕ) → AreHeard m last → AreInOrder m.gsr last
 heard-in-order m last h =
     record { first = h.first; early = h.greatest; late = h.end; low_is = h.gsr_is; high_is = h.last_is; in_order = h.ends; few = h.few }
 
@@ -233,7 +233,7 @@ module _ {C : Type 0} (control : Control C) (effects : EveryStepHasOneEffect) wh
       ap (later_of e.marks.gsr) c.here.numbered ∙ later-so e.marks.gsr n (heard-in-order e.marks n heard) in
       let says =
       close-reset e c.frame.bytes a c.here.came role.Server p phases.Closed types.Close reply.ResetClosed (server-closed p waits) u.roles.is_server phase
-      c.here.type_is c.here.bare (verdict-so e c.frame.bytes n k c.here verdicts.Valid valid) refl in
+      c.here.type_is c.here.listed (verdict-so e c.frame.bytes n k c.here verdicts.Valid valid) refl in
       let said = after-says control effects more w (event.Deliver Client c.index) ServerFirst _ _ _ _ _ _ c.acts says u in
       record {
         index = c.index;
@@ -315,7 +315,7 @@ module _ {C : Type 0} (control : Control C) (effects : EveryStepHasOneEffect) wh
       let heard = heard-so (more + 1 + 1) w.world u two (ap is_live phase ∙ live) in
       let says =
       sync-acked e c.frame.bytes c.here.packet c.here.came who p p types.Sync reply.SyncAck here_row is_role phase c.here.type_is
-      c.here.bare (verdict-so e c.frame.bytes n k c.here verdicts.Valid (low-end-valid e.marks n heard)) refl in
+      c.here.listed (verdict-so e c.frame.bytes n k c.here verdicts.Valid (low-end-valid e.marks n heard)) refl in
       let now = event.Deliver y c.index in
       let v : Controlled C = next control w now in
       let said = after-says control effects (more + 1) w now two _ _ _ _ _ _ c.acts says u in
@@ -338,10 +338,10 @@ module _ {C : Type 0} (control : Control C) (effects : EveryStepHasOneEffect) wh
       let others = heard-so (more + 1) v.world u1 (turned two) (ap is_live peer_at ∙ peer_live) in
       let valid = verdict-so there d.frame.bytes at ack d.here verdicts.Valid (low-end-valid there.marks at others) in
       let moves =
-      nothing-answered there d.frame.bytes a d.here.came whose q q types.SyncAck reply.Nothing there_row role_at peer_at d.here.type_is d.here.bare valid
+      nothing-answered there d.frame.bytes a d.here.came whose q q types.SyncAck reply.Nothing there_row role_at peer_at d.here.type_is d.here.listed valid
       refl in
       let which =
-      nothing-sent there d.frame.bytes a d.here.came whose q q types.SyncAck reply.Nothing there_row role_at peer_at d.here.type_is d.here.bare valid refl in
+      nothing-sent there d.frame.bytes a d.here.came whose q q types.SyncAck reply.Nothing there_row role_at peer_at d.here.type_is d.here.listed valid refl in
       let later = event.Deliver x d.index in
       let left = after-moves control effects more v later (turned two) _ _ _ _ _ d.acts moves u1 in
       let z : Controlled C = next control v later in
@@ -469,7 +469,7 @@ module _ {C : Type 0} (control : Control C) (effects : EveryStepHasOneEffect) wh
       ap (later_of e.marks.gsr) c.here.numbered ∙ later-so e.marks.gsr n (heard-in-order e.marks n heard) in
       let says =
       close-answered e c.frame.bytes a c.here.came role.Client phases.Open phases.Closing types.CloseReq reply.Close client-asked u.roles.is_client opened
-      c.here.type_is c.here.bare (verdict-so e c.frame.bytes n k c.here verdicts.Valid valid) refl in
+      c.here.type_is c.here.listed (verdict-so e c.frame.bytes n k c.here verdicts.Valid valid) refl in
       let now = event.Deliver Server c.index in
       let v : Controlled C = next control w now in
       let said = after-says control effects more w now ClientFirst _ _ _ _ _ _ c.acts says u in

@@ -5,3 +5,5 @@ pub mod Numbers
 pub mod Leading
 pub mod Stepping
 pub mod Closing
+pub mod Entering
+pub mod Opening

@@ -2,8 +2,8 @@
 use Rattle.std.proofs.Common.{◌≡◌, ◌⊎◌, inl, inr, refl, sym, ◌∙◌, subst, ◌&&◌, ℕ, ◌+◌, ◌*◌, ◌/◌, ◌^◌, ◌<◌, ◌≤◌, Bool, true, false, if◌then◌else◌, Option, Some, arith}
 use Rattle.std.proofs.lemmas.Bool.{cases_lt, le-leb}
 use Rattle.seq_circle.specs.Circle.{distance, is_within, later_of, open_end, residue}
-use Rattle.validity_windows.proofs.Counts.{later_of-before, later_of-same, no_end-count}
-use Rattle.validity_windows.specs.Verdict.{by_greatest, by_low_end, is_ack_within, is_after_greatest, is_not_old}
+use Rattle.validity_windows.proofs.Counts.{later_of-before, later_of-same, no_end-count, sequence-count}
+use Rattle.validity_windows.specs.Verdict.{by_greatest, by_low_end, by_window, is_ack_within, is_after_greatest, is_in_window, is_not_old}
 use Rattle.validity_windows.specs.Windows.{InRange, ack_high, ack_low, sequence_high, sequence_low}
 use Rattle.validity_windows.specs.declared.marks.Marks.{Marks}
 use Rattle.validity_windows.specs.declared.verdict.Verdict.{Verdict}
@@ -101,3 +101,29 @@ greatest-or m n ack answer = by (is_after_greatest m n && is_ack_within m.gar (a
       ⊎ ((if b then verdicts.Valid else verdicts.SyncFor answer) ≡ verdicts.SyncFor answer)
   by true = inl refl
   by false = inr refl
+
+-- The number after GSR that acknowledges GSS lies in both windows.
+pub window-valid : (m : Marks) (last n : ℕ) → AreHeard m last → n ≡ residue (m.gsr + 1) → by_window m n (Some m.gss) ≡ verdicts.Valid
+window-valid m last n h same =
+    let counts =
+    sequence-count m (h.first + h.begin) (h.first + h.greatest) (h.first + h.greatest + 1) h.widths h.isr_is h.gsr_is (omega (arith, h.begins))
+    (omega (arith, h.begins, h.ends, h.few)) (omega (arith, h.begins)) (omega (arith, h.ends, h.few)) in
+    let inside =
+    counts.1 (omega (arith, h.begins, h.widths.peer_least), omega (arith, h.widths.peer_least)) in
+    let is : n ≡ residue (h.first + h.greatest + 1) = same ∙ omega (arith, h.gsr_is) in
+    both (is_in_window m n) _ (verdicts.SyncFor n)
+    (le-leb (distance (sequence_low m) n) (distance (sequence_low m) (sequence_high m))
+    (subst (λ (k : ℕ). distance (sequence_low m) k ≤ distance (sequence_low m) (sequence_high m)) (sym is) inside))
+    (within-high (ack_low m) m.gss)
+
+-- An Ack is valid, or a Sync answers it.
+pub window-or : (m : Marks) (n : ℕ) (ack : Option ℕ) → (by_window m n ack ≡ verdicts.Valid) ⊎ (by_window m n ack ≡ verdicts.SyncFor n)
+window-or m n ack = by (is_in_window m n && is_ack_within (ack_low m) (ack_high m) ack) where
+  by : (b : Bool) → ((if b then verdicts.Valid else verdicts.SyncFor n) ≡ verdicts.Valid)
+      ⊎ ((if b then verdicts.Valid else verdicts.SyncFor n) ≡ verdicts.SyncFor n)
+  by true = inl refl
+  by false = inr refl
+
+-- What acknowledges GSS is in the window of what was sent.
+pub newest-within : (m : Marks) → is_ack_within (ack_low m) (ack_high m) (Some m.gss) ≡ true
+newest-within m = within-high (ack_low m) m.gss

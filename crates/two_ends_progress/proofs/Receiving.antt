@@ -33,7 +33,7 @@ use Rattle.dccp_endpoint.specs.Heeding.{heeds, unheeded}
 use Rattle.dccp_options.specs.Grammar.{Entry}
 use Rattle.dccp_options.specs.declared.option.OptFault.{OptFault}
 use Rattle.run_list.specs.declared.answers.Marked.{Marked}
-use Rattle.dccp_endpoint.specs.Receiving.{accounted, acknowledges, heeded, moves, is_other_service, is_unexpected, moved_to, needs_ack, number_without_connection, receives, replies, with_raised_marks}
+use Rattle.dccp_endpoint.specs.Receiving.{reads_options, accounted, acknowledges, heeded, moves, is_other_service, is_unexpected, moved_to, needs_ack, number_without_connection, receives, replies, with_raised_marks}
 use Rattle.dccp_endpoint.specs.Reporting.{counts_data, delivered_if, delivers}
 use Rattle.dccp_endpoint.specs.ShortForm.{allows_short}
 use Rattle.dccp_endpoint.specs.Steps.{Step, detail_of, idle, in_phase, next_number, sends, with_calls, without_detail}
@@ -123,6 +123,27 @@ module _ (e : EndState) (bytes : List ℕ) (a : Incoming) (came : Came e (Arrive
   pub stray-stays : entrance_of e a ≡ entrance.NoConnection → (receives e bytes).after ≡ e
   stray-stays is = ap (λ (t : Step Outcome). t.after) (stray-goes e bytes a came is)
 
+  -- A valid packet of a row is let in, and its options are read.
+  module _ (who : Role) (phase to : Phase) (type : PacketType) (answer : Reply) (row : IsRow who phase type to answer) (is_role : e.config.role ≡ who)
+      (is_phase : e.phase ≡ phase) (is_type : a.kind ≡ type) (fits : verdict_of e a ≡ verdicts.Valid) where
+    expected-so : is_unexpected (with_raised_marks e a) a ≡ false
+    expected-so = rw (is_role, is_phase, is_type) (row.expected (not (is_before a.number e.marks.osr)))
+
+    for-us : is_other_service (with_raised_marks e a) e.phase a.kind a.service ≡ false
+    for-us = rw (is_phase, is_type) (row.for_us (with_raised_marks e a) a.service)
+
+    checked-so : entrance_of e a ≡ entrance.Check
+    checked-so = rw (is_phase, is_type) row.checked
+
+    no-reset-so : a.kind ≢ types.Reset
+    no-reset-so is = row.no_reset (sym is_type ∙ is)
+
+    pub next-so : after e.phase a.kind ≡ (to, answer)
+    next-so = rw (is_phase, is_type) row.next
+
+    pub row-heeds : receives e bytes ≡ heeded (with_raised_marks e a) a (reads_options (with_raised_marks e a) a)
+    row-heeds = expected-goes e bytes a came checked-so no-reset-so fits expected-so for-us
+
   module _ (who : Role) (phase to : Phase) (type : PacketType) (answer : Reply) (row : IsRow who phase type to answer) (is_role : e.config.role ≡ who)
       (is_phase : e.phase ≡ phase) (is_type : a.kind ≡ type) (bare : a.options ≡ []) (fits : verdict_of e a ≡ verdicts.Valid) where
     -- the end as it is when the reply is due
@@ -136,29 +157,14 @@ module _ (e : EndState) (bytes : List ℕ) (a : Incoming) (came : Came e (Arrive
     abbrev took : Outcome
     took = Took (delivered_if (delivers a.kind to (answer_to (with_raised_marks e a).received.set a.number)) a.data_place)
 
-    expected-so : is_unexpected (with_raised_marks e a) a ≡ false
-    expected-so = rw (is_role, is_phase, is_type) (row.expected (not (is_before a.number e.marks.osr)))
-
-    for-us : is_other_service (with_raised_marks e a) e.phase a.kind a.service ≡ false
-    for-us = rw (is_phase, is_type) (row.for_us (with_raised_marks e a) a.service)
-
-    checked-so : entrance_of e a ≡ entrance.Check
-    checked-so = rw (is_phase, is_type) row.checked
-
-    no-reset-so : a.kind ≢ types.Reset
-    no-reset-so is = row.no_reset (sym is_type ∙ is)
-
-    next-so : after e.phase a.kind ≡ (to, answer)
-    next-so = rw (is_phase, is_type) row.next
-
     row-goes : receives e bytes ≡ with_calls calls (replies x a [] took answer)
     row-goes =
         let y : EndState = with_raised_marks e a in
         let z : EndState = accounted (with_rows y e.rows) a in
         let mark : Marked = answer_to y.received.set a.number in
-        expected-goes e bytes a came checked-so no-reset-so fits expected-so for-us
+        row-heeds who phase to type answer row is_role is_phase is_type fits
         ∙ ap (λ (all : List (Result Entry OptFault)). heeded y a (heeds (a.newest && counts y.phase a.kind) a.ack (unheeded y.rows) all)) bare
-        ∙ ap (λ (row_of : Phase × Reply). with_calls calls (moves z a [] mark row_of)) next-so
+        ∙ ap (λ (row_of : Phase × Reply). with_calls calls (moves z a [] mark row_of)) (next-so who phase to type answer row is_role is_phase is_type fits)
 
     left : IsLeft e x to (later_of e.marks.gsr a.number) (gar_after e.marks.gar a.kind a.ack)
     left = record { config = refl; phase = refl; gss = refl; gsr_is = refl; gar_is = refl }

@@ -7,11 +7,11 @@ use Rattle.dccp_packets.specs.Outgoing.{Outgoing}
 use Rattle.dccp_packets.specs.declared.header.Kind.{Kind}
 use Rattle.dccp_states.specs.declared.calls.Timer.{Timer}
 use Rattle.dccp_states.specs.declared.phase.Phase.{Phase}
-use Rattle.dccp_endpoint.specs.Calling.{closes, fires}
+use Rattle.dccp_endpoint.specs.Calling.{closes, fires, opens}
 use Rattle.dccp_endpoint.specs.Causes.{EveryStepHasOneEffect, verdict_of}
 use Rattle.dccp_endpoint.specs.Controlled.{has_in_flight}
-use Rattle.dccp_endpoint.specs.Drafts.{Fits, alone, frame_of, sent_of}
-use Rattle.dccp_endpoint.specs.End.{EndState, floor_of, is_begun, is_live}
+use Rattle.dccp_endpoint.specs.Drafts.{Draft, Fits, alone, frame_of, sent_of}
+use Rattle.dccp_endpoint.specs.End.{EndState, IsProper, floor_of, is_begun, is_live}
 use Rattle.dccp_endpoint.specs.Inputs as input
 use Rattle.dccp_endpoint.specs.Inputs.{Input}
 use Rattle.dccp_endpoint.specs.Receiving.{receives}
@@ -34,7 +34,7 @@ use Rattle.world_events.specs.declared.event.Side.{Side}
 use Rattle.world_events.specs.declared.event.Side.TheVariants.{Client, Server}
 use Rattle.two_ends_progress.specs.Leading.{HaveRoomFor}
 use Rattle.two_ends_progress.specs.Paired.{IsSentTo}
-use Rattle.two_ends_progress.proofs.Arriving.{IsBare, IsHere, alone-here, long-near}
+use Rattle.two_ends_progress.proofs.Arriving.{IsBare, IsHere, IsPlain, IsRead, bare-plain, draft-read, long-near}
 use Rattle.two_ends_progress.proofs.Leading.{next}
 use Rattle.two_ends_progress.proofs.Numbers.{AreHeard, AreInOrder}
 use Rattle.two_ends_progress.proofs.Receiving.{Moves, Says}
@@ -74,20 +74,24 @@ meant-of : (more : ℕ) (w : WorldState) {x y : Side} → AreTwo x y → IsUnder
 meant-of more w ClientFirst u = u.back
 meant-of more w ServerFirst u = u.there
 
--- A side has sent this type alone under this number, with long numbers.
-pub record IsSent (half : Half) (number : ℕ) (k : Kind) : Type 0 where
+-- A side has sent this draft under this number, with long numbers.
+pub record IsOut (half : Half) (number : ℕ) (d : Draft) : Type 0 where
   pub index : ℕ
   pub frame : SentFrame
   pub is_there : slice_get half.frames index ≡ Some frame
-  pub same : frame.bytes ≡ frame_of half.end.config false number (alone k)
+  pub same : frame.bytes ≡ frame_of half.end.config false number d
+
+-- a type alone
+abbrev pub IsSent : Half → ℕ → Kind → Type 0
+IsSent half number k = IsOut half number (alone k)
 
 at-end : {X : Type 0} (xs : List X) (x : X) → slice_get (xs ++ x ∷ []) (length xs) ≡ Some x
 at-end [] x = refl
 at-end (y ∷ ys) x = at-end ys x
 
-pub sent-so : {A : Type 0} (half : Half) (arrived : Option ℕ) (s : Step A) (number : ℕ) (k : Kind)
-    → s.frame ≡ Some (sent_of s.after.config false number (alone k)) → IsSent (moved half arrived s) number k
-sent-so half arrived s number k is =
+pub out-so : {A : Type 0} (half : Half) (arrived : Option ℕ) (s : Step A) (number : ℕ) (d : Draft)
+    → s.frame ≡ Some (sent_of s.after.config false number d) → IsOut (moved half arrived s) number d
+out-so half arrived s number d is =
     record {
       index = length half.frames;
       frame = _;
@@ -97,6 +101,10 @@ sent-so half arrived s number k is =
           ∙ at-end half.frames _;
       same = refl;
     }
+
+pub sent-so : {A : Type 0} (half : Half) (arrived : Option ℕ) (s : Step A) (number : ℕ) (k : Kind)
+    → s.frame ≡ Some (sent_of s.after.config false number (alone k)) → IsSent (moved half arrived s) number k
+sent-so half arrived s number k is = out-so half arrived s number (alone k) is
 
 -- A side has room for a frame.
 room-so : (half : Half) (more : ℕ) → length half.frames + more < 2 ^ 47 - 1 → is_full half ≡ false
@@ -175,6 +183,9 @@ module _ (more : ℕ) (w : WorldState) (u : IsUnderWay more w) {x y : Side} (two
   pub fits-of : Fits (half_of w x).end.config
   fits-of = mine.ordered.fits
 
+  pub proper-of : IsProper (half_of w x).end
+  proper-of = mine.ordered.proper
+
   pub gsr-small : (half_of w x).end.marks.gsr < 2 ^ 48
   gsr-small = mine.ordered.numbers.gsr
 
@@ -243,6 +254,10 @@ module _ {C : Type 0} (control : Control C) (effects : EveryStepHasOneEffect) wh
   arrives w ServerFirst index frame there room near =
       acts-with w.world _ _ ServerFirst (after-so w (event.Deliver Client index) ∙ delivered-so w.world Client index frame (said w (event.Deliver Client index)) there room near)
 
+  pub open-acts : (w : Controlled C) → is_full w.world.client ≡ false
+      → Acts w.world (next control w event.Open).world Client Server (moved w.world.client None (opens w.world.client.end))
+  open-acts w room = acts-with w.world _ _ ClientFirst (after-so w event.Open ∙ called-so w.world Client input.Opens room)
+
   pub close-acts : (w : Controlled C) {x y : Side} (two : AreTwo x y) (more : ℕ) → IsUnderWay more w.world
       → Acts w.world (next control w (event.Close x)).world x y (moved (half_of w.world x) None (closes (half_of w.world x).end))
   close-acts w {x} two more s =
@@ -305,29 +320,37 @@ module _ {C : Type 0} (control : Control C) (effects : EveryStepHasOneEffect) wh
         sent = subst (λ (h : Half). IsSent h h.end.marks.gss k) (sym acts.acting) sent;
       }
 
-  -- The frame of a type alone can arrive, and this is what comes.
-  pub record IsArriving (w : Controlled C) (x y : Side) (number : ℕ) (k : Kind) : Type 0 where
+  -- The frame of a draft can arrive, and this is what comes.
+  pub record IsComing (w : Controlled C) (x y : Side) (number : ℕ) (d : Draft) : Type 0 where
     pub index : ℕ
     pub frame : SentFrame
-    pub here : IsHere (half_of w.world x).end frame.bytes number k
+    pub here : IsRead (half_of w.world x).end frame.bytes number d
     pub acts : Acts w.world (next control w (event.Deliver y index)).world x y
         (moved (half_of w.world x) (Some frame.number) (receives (half_of w.world x).end frame.bytes))
 
-  pub arriving : (more : ℕ) (w : Controlled C) {x y : Side} (two : AreTwo x y) (number : ℕ) (k : Kind) → IsUnderWay more w.world
-      → IsSent (half_of w.world y) number k → number < 2 ^ 48 → IsBare k → IsArriving w x y number k
-  arriving more w {x} {y} two number k u sent small bare =
+  pub coming : (more : ℕ) (w : Controlled C) {x y : Side} (two : AreTwo x y) (number : ℕ) (d : Draft) → IsUnderWay more w.world
+      → IsOut (half_of w.world y) number d → number < 2 ^ 48 → IsPlain d → IsComing w x y number d
+  coming more w {x} {y} two number d u out small plain =
       let e : EndState = (half_of w.world x).end in
-      let here : IsHere e sent.frame.bytes number k =
-      subst (λ (bytes : List ℕ). IsHere e bytes number k) (sym sent.same)
-      (alone-here (half_of w.world y).end.config e number k (meant-of more w.world two u) (fits-of more w.world u (turned two)) small bare) in
+      let here : IsRead e out.frame.bytes number d =
+      subst (λ (bytes : List ℕ). IsRead e bytes number d) (sym out.same)
+      (draft-read (half_of w.world y).end.config e number d (meant-of more w.world two u) (fits-of more w.world u (turned two)) small plain) in
       record {
-        index = sent.index;
-        frame = sent.frame;
+        index = out.index;
+        frame = out.frame;
         here = here;
-        acts = arrives w two sent.index sent.frame sent.is_there (room-so (half_of w.world x) more (u.room x)) (long-near e sent.frame here.is_long);
+        acts = arrives w two out.index out.frame out.is_there (room-so (half_of w.world x) more (u.room x)) (long-near e out.frame here.is_long);
       }
 
+  pub arriving : (more : ℕ) (w : Controlled C) {x y : Side} (two : AreTwo x y) (number : ℕ) (k : Kind) → IsUnderWay more w.world
+      → IsSent (half_of w.world y) number k → number < 2 ^ 48 → IsBare k → IsComing w x y number (alone k)
+  arriving more w two number k u sent small bare = coming more w two number (alone k) u sent small (bare-plain k bare)
+
 -- The verdict of what came, by its type and its numbers.
+pub verdict-read : (e : EndState) (bytes : List ℕ) (number : ℕ) (d : Draft) (here : IsRead e bytes number d) (is : Verdict)
+    → verdict e.marks (packet_type d.kind) number (ack_of d.kind) ≡ is → verdict_of e here.packet ≡ is
+verdict-read e bytes number d here is same = rw (here.type_is, here.numbered, here.acks) same
+
 pub verdict-so : (e : EndState) (bytes : List ℕ) (number : ℕ) (k : Kind) (here : IsHere e bytes number k) (is : Verdict)
     → verdict e.marks (packet_type k) number (ack_of k) ≡ is → verdict_of e here.packet ≡ is
-verdict-so e bytes number k here is same = rw (here.type_is, here.numbered, here.acks) same
+verdict-so e bytes number k here is same = verdict-read e bytes number (alone k) here is same

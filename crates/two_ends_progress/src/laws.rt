@@ -8,6 +8,7 @@ ghost use Rattle.dccp_states.specs.declared.phase.Role.TheVariants as role;
 ghost use Rattle.two_ends.specs.Controlled.{Controlled, plays, plays_from_start};
 ghost use Rattle.two_ends.specs.World.{half_of};
 ghost use Rattle.two_ends_progress.specs.Leading.{AreOpen, AreOver, HaveRoomFor, HasWay};
+ghost use Rattle.two_ends_progress.specs.Opening.{AreConnected, HasEnded, IsInHandshake};
 ghost use Rattle.two_ends_progress.specs.Paired.{AreForEachOther};
 ghost use Rattle.world_events.specs.declared.event.Event.{Event};
 ghost use Rattle.world_events.specs.declared.event.Event.TheVariants as event;
@@ -42,3 +43,21 @@ pub fn closing_takes_seven_events<C: Congestion>()
         → ((half_of (plays C.control w way.events).world side).end.phase ≡ phases.Closed)
         ⊎ ((half_of (plays C.control w way.events).world side).end.phase ≡ phases.TimeWait) }
 {}
+
+/// An opening gets through. Where the client is in REQUEST and the server in LISTEN, or in RESPOND with the client's next
+/// number in its window, or the client is in PARTOPEN and the server in RESPOND, at most four timers and deliveries lead
+/// both to PARTOPEN or OPEN, or an end to CLOSED or TIMEWAIT (`asked`; RFC 4340, section 8.1). Such is the world after
+/// `open` at the start (`started`). The configurations are each other's. A server in RESPOND whose window the client's
+/// next number has left is in no such world: it answers no further Request.
+pub fn openings_get_through<C: Congestion>()
+    ensures asked { (client server : Config) (for_client for_server : C) (events : List Event) → client.role ≡ role.Client
+        → server.role ≡ role.Server → Fits client → Fits server → AreForEachOther client server
+        → IsInHandshake (plays_from_start C.control client server for_client for_server events).world
+        → HaveRoomFor 4 (plays_from_start C.control client server for_client for_server events).world
+        → HasWay C.control 4 (plays_from_start C.control client server for_client for_server events)
+        (λ (w : Controlled C). HasEnded w.world ⊎ AreConnected w.world) }
+    ensures started { (client server : Config) (for_client for_server : C) → client.role ≡ role.Client → server.role ≡ role.Server
+        → IsInHandshake (plays_from_start C.control client server for_client for_server (event.Open ∷ [])).world }
+{
+    every_step_has_one_effect();
+}

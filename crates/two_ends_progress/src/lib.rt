@@ -6,4 +6,4 @@
 
 mod laws;
 
-pub use crate::laws::{closing_ends_both, closing_takes_seven_events};
+pub use crate::laws::{closing_ends_both, closing_takes_seven_events, openings_get_through};
