@@ -1,0 +1,250 @@
+//! Our end in a case: it sends packets with numbers in them, counts those that come, and ends the connection.
+
+use crate::wire::Wire;
+use dccp::{Accepted, Config, Connection, Event, Feature, Phase, Place};
+use std::collections::HashSet;
+use std::io;
+use std::time::{Duration, Instant};
+
+/// The port of the server, whichever end that is.
+pub const PORT: u16 = 5001;
+#[derive(Clone, Copy, Debug, PartialEq, Eq)]
+pub enum Role {
+    Client,
+    Server,
+}
+
+#[derive(Clone, Copy, Debug, PartialEq, Eq)]
+pub enum End {
+    /// Closes once all has gone both ways.
+    Closes,
+    /// Aborts once all has gone both ways.
+    Aborts,
+    /// Waits for the kernel's end.
+    Waits,
+    /// Falls silent without a word once all has gone both ways.
+    Vanishes,
+}
+
+/// What our end does.
+#[derive(Clone, Debug)]
+pub struct Plan {
+    pub role: Role,
+    pub service: u32,
+    /// The port of our client.
+    pub port: u16,
+    /// The first sequence number.
+    pub first: u64,
+    pub send: u32,
+    pub size: usize,
+    /// How many packets with data the kernel's end will send.
+    pub expect: u32,
+    /// Sends nothing before something came.
+    pub peer_first: bool,
+    pub end: End,
+    /// Offers in the handshake.
+    pub offers: Vec<(Feature, Place, Vec<u64>)>,
+    /// What it asks for after the first packets.
+    pub prefers: Vec<(Feature, Place, Vec<u64>)>,
+    pub limit: Duration,
+}
+
+/// What our end has counted.
+#[derive(Clone, Debug, Default)]
+pub struct Counts {
+    pub sent: u32,
+    pub received: u32,
+    pub repeated: u32,
+    pub strange: u32,
+    pub was_open: bool,
+    pub ended: Option<u8>,
+    /// The features that were asked for, at the end: value, and whether it is settled.
+    pub features: Vec<(u64, bool)>,
+}
+
+pub struct Own<'a> {
+    plan: &'a Plan,
+    wire: &'a mut Wire,
+    connection: Option<Connection>,
+    config: Config,
+    counts: Counts,
+    seen: HashSet<u32>,
+    has_preferred: bool,
+    /// When something last came or went.
+    moved: Instant,
+}
+
+/// The bytes of a packet with this number in its first four.
+fn payload(index: u32, size: usize) -> Vec<u8> {
+    let numbered = (4..size).map(|at| (index as usize + at) as u8);
+    index.to_be_bytes().into_iter().chain(numbered).collect()
+}
+
+impl<'a> Own<'a> {
+    pub fn new(plan: &'a Plan, wire: &'a mut Wire) -> Result<Own<'a>, Box<dyn std::error::Error>> {
+        let (here, there) = (wire.addresses().own(), wire.addresses().kernel());
+        let config = match plan.role {
+            Role::Client => Config::client((here, plan.port).into(), (there, PORT).into(), plan.service, plan.first),
+            Role::Server => Config::server((here, PORT).into(), (there, 0).into(), plan.service, plan.first),
+        };
+        let config = plan.offers.iter().fold(config, |config, (feature, place, values)| config.offer(*feature, *place, values));
+        let mut own = Own {
+            plan,
+            wire,
+            connection: None,
+            config,
+            counts: Counts::default(),
+            seen: HashSet::new(),
+            has_preferred: false,
+            moved: Instant::now(),
+        };
+        if plan.role == Role::Client {
+            let mut connection = Connection::new(&own.config)?;
+            connection.open(Instant::now())?;
+            own.connection = Some(connection);
+        }
+        Ok(own)
+    }
+
+    /// Plays until the connection has ended, or the limit has gone by. `is_over` tells whether the kernel's side is done.
+    pub fn play(mut self, mut is_over: impl FnMut() -> bool) -> Result<Counts, Box<dyn std::error::Error>> {
+        let limit = Instant::now() + self.plan.limit;
+        let mut over_since = None;
+        while Instant::now() < limit {
+            self.flush()?;
+            self.speak();
+            self.flush()?;
+            if self.has_ended() {
+                break;
+            }
+            if is_over() {
+                let since = *over_since.get_or_insert_with(Instant::now);
+                if since.elapsed() > Duration::from_secs(3) {
+                    break;
+                }
+            }
+            let due = self.connection.as_ref().and_then(Connection::poll_timeout);
+            let wait = due.map_or(Duration::from_millis(5), |it| it.saturating_duration_since(Instant::now()));
+            let mut next = self.wire.receive(wait.min(Duration::from_millis(5)))?;
+            // All that has come is heard before a timer is told.
+            while let Some(packet) = next {
+                self.hear(&packet)?;
+                next = self.wire.receive(Duration::ZERO)?;
+            }
+            if let Some(connection) = &mut self.connection {
+                connection.handle_timeout(Instant::now());
+            }
+        }
+        self.flush()?;
+        self.finish()
+    }
+
+    fn finish(mut self) -> Result<Counts, Box<dyn std::error::Error>> {
+        let asked: Vec<_> = self.plan.prefers.iter().chain(&self.plan.offers).map(|it| (it.0, it.1)).collect();
+        if let Some(connection) = &mut self.connection {
+            self.counts.features = asked
+                .iter()
+                .map(|(feature, place)| connection.feature(*feature, *place))
+                .map(|held| (held.value, held.is_stable))
+                .collect();
+        }
+        Ok(self.counts)
+    }
+
+    fn flush(&mut self) -> io::Result<()> {
+        let Some(connection) = &mut self.connection else {
+            return Ok(());
+        };
+        while let Some(frame) = connection.poll_transmit() {
+            self.wire.send(&frame.bytes)?;
+        }
+        Ok(())
+    }
+
+    fn hear(&mut self, packet: &[u8]) -> Result<(), Box<dyn std::error::Error>> {
+        let now = Instant::now();
+        let Some(connection) = &mut self.connection else {
+            return self.greet(packet, now);
+        };
+        connection.handle_datagram(packet, now);
+        while let Some(event) = connection.poll_event() {
+            match event {
+                Event::Data(data) => {
+                    self.moved = now;
+                    self.counts.received += 1;
+                    let index = data.first_chunk().map(|it| u32::from_be_bytes(*it));
+                    match index {
+                        Some(index) if payload(index, data.len()) == data => {
+                            self.counts.repeated += u32::from(!self.seen.insert(index));
+                        }
+                        _ => self.counts.strange += 1,
+                    }
+                }
+                Event::Ended { code } => self.counts.ended = Some(code),
+            }
+        }
+        self.counts.was_open |= connection.phase() == Phase::Open;
+        Ok(())
+    }
+
+    /// A server's first packet of a peer.
+    fn greet(&mut self, packet: &[u8], now: Instant) -> Result<(), Box<dyn std::error::Error>> {
+        let Some(port) = packet.first_chunk().map(|it| u16::from_be_bytes(*it)) else {
+            return Ok(());
+        };
+        let (here, there) = (self.wire.addresses().own(), self.wire.addresses().kernel());
+        let config = Config::server((here, PORT).into(), (there, port).into(), self.plan.service, self.plan.first);
+        self.config = self.plan.offers.iter().fold(config, |config, (feature, place, values)| config.offer(*feature, *place, values));
+        match Connection::accept(&self.config, packet, now)? {
+            Accepted::Connection(connection) => {
+                if connection.phase() != Phase::Closed {
+                    self.connection = Some(*connection);
+                }
+            }
+            Accepted::Answer(answer) => self.wire.send(&answer.bytes)?,
+            Accepted::Nothing => {}
+        }
+        Ok(())
+    }
+
+    fn speak(&mut self) {
+        let now = Instant::now();
+        let all_came = self.wire.came.data >= self.plan.expect;
+        let Some(connection) = &mut self.connection else {
+            return;
+        };
+        if !self.has_preferred && connection.phase() == Phase::Open && self.counts.received.max(self.counts.sent) >= 10.min(self.plan.send) {
+            self.has_preferred = true;
+            for (feature, place, values) in &self.plan.prefers {
+                // A refusal shows by the feature that is read at the end.
+                let _ = connection.prefer(*feature, *place, values, now);
+            }
+        }
+        if !self.plan.peer_first || self.counts.received > 0 {
+            while self.counts.sent < self.plan.send
+                && connection.send(&payload(self.counts.sent, self.plan.size), now).is_ok()
+            {
+                self.counts.sent += 1;
+                self.moved = now;
+            }
+        }
+        let is_quiet = self.moved.elapsed() > Duration::from_secs(if connection.in_flight() == 0 { 1 } else { 4 });
+        let is_done = self.counts.sent == self.plan.send && all_came && is_quiet;
+        if !is_done || connection.phase() != Phase::Open {
+            return;
+        }
+        match self.plan.end {
+            End::Closes => drop(connection.close(now)),
+            End::Aborts => drop(connection.abort(now)),
+            End::Vanishes => self.connection = None,
+            End::Waits => {}
+        }
+    }
+
+    fn has_ended(&self) -> bool {
+        match &self.connection {
+            Some(connection) => matches!(connection.phase(), Phase::Closed | Phase::TimeWait),
+            None => self.plan.end == End::Vanishes && self.counts.was_open,
+        }
+    }
+}
