@@ -140,11 +140,11 @@ static void *every_call(void *none) {
     uint64_t width = 500;
     connect_both();
     for (int it = 0; it < 100; it++) of_1024_bytes();
-    check(dccp_prefer(&client, DCCP_SEQUENCE_WINDOW, false, &width, 1, 0, &frame));
+    check(dccp_prefer(&client, DCCP_FEATURE_SEQUENCE_WINDOW, false, &width, 1, 0, &frame));
     dccp_frame given = frame;
     check(dccp_receive(&server, given.bytes, given.length, 0, &frame, &told));
     check(dccp_look(&client, &view));
-    check(dccp_feature(&client, DCCP_CCID, false, &state));
+    check(dccp_feature(&client, DCCP_FEATURE_CCID, false, &state));
     check(dccp_timer(&server, DCCP_TIMER_ACK, 0, &frame));
     check(dccp_close(&client, 0, &frame));
     check(dccp_abort(&server, 0, &frame));

@@ -62,7 +62,7 @@ static void hand_over(const struct server *server, const dccp_peer *peer, const 
 
 /* Whether another Sync or Reset may answer in this second (RFC 4340, sections 7.5.4 and 8.3.1). */
 static bool may_answer(struct server *server, uint32_t status, const dccp_told *told) {
-    if (status != DCCP_BUSY && told->kind != DCCP_SYNCED && told->kind != DCCP_SENT_RESET) return true;
+    if (status != DCCP_BUSY && told->kind != DCCP_TOLD_SYNCED && told->kind != DCCP_TOLD_SENT_RESET) return true;
     if (server->second != now() / 1000) {
         server->second = now() / 1000;
         server->answers = 0;
@@ -91,7 +91,7 @@ static bool hear(struct server *server) {
     struct sockaddr_in from;
     socklen_t size = sizeof from;
     dccp_frame frame;
-    dccp_told told = {.kind = DCCP_TOOK};
+    dccp_told told = {.kind = DCCP_TOLD_TOOK};
     ssize_t length = recvfrom(server->socket, bytes, sizeof bytes, MSG_DONTWAIT, (struct sockaddr *)&from, &size);
     if (length < 0) return false;
     dccp_peer peer = {.port = ntohs(from.sin_port)};
@@ -99,7 +99,7 @@ static bool hear(struct server *server) {
     uint32_t status = dccp_listener_arrive(&server->listener, &peer, first_number(), bytes, (size_t)length, now(), &frame, &told);
     if (may_answer(server, status, &told)) hand_over(server, &peer, &frame);
     note(server, &peer);
-    if (told.kind != DCCP_DATA) return true;
+    if (told.kind != DCCP_TOLD_DATA) return true;
     if (dccp_listener_send(&server->listener, &peer, bytes + told.first, told.past - told.first, now(), &frame) == DCCP_OK)
         hand_over(server, &peer, &frame);
     return true;

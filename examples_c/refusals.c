@@ -86,13 +86,13 @@ static void without_an_end(void) {
     same("send without an end", DCCP_NOT_MADE, dccp_send(&none, &byte, 1, 0, &frame));
     same("close without an end", DCCP_NOT_MADE, dccp_close(&none, 0, &frame));
     same("abort without an end", DCCP_NOT_MADE, dccp_abort(&none, 0, &frame));
-    same("prefer without an end", DCCP_NOT_MADE, dccp_prefer(&none, DCCP_CCID, false, &value, 1, 0, &frame));
+    same("prefer without an end", DCCP_NOT_MADE, dccp_prefer(&none, DCCP_FEATURE_CCID, false, &value, 1, 0, &frame));
     same("a timer without an end", DCCP_NOT_MADE, dccp_timer(&none, DCCP_TIMER_ACK, 0, &frame));
     same("a tick without an end", DCCP_NOT_MADE, dccp_tick(&none, 0, &frame));
     same("the time until then", DCCP_NEVER, dccp_until_first(&none, 0));
     same("a datagram without an end", DCCP_NOT_MADE, dccp_receive(&none, &byte, 1, 0, &frame, &told));
     same("a look without an end", DCCP_NOT_MADE, dccp_look(&none, &view));
-    same("a feature without an end", DCCP_NOT_MADE, dccp_feature(&none, DCCP_CCID, false, &state));
+    same("a feature without an end", DCCP_NOT_MADE, dccp_feature(&none, DCCP_FEATURE_CCID, false, &state));
     same("its frame", 0, frame.length);
     dccp_free(&none);
     dccp_free(&none);
@@ -101,16 +101,16 @@ static void without_an_end(void) {
 static void wishes(void) {
     dccp_end end = DCCP_NONE;
     dccp_settings settings = client;
-    dccp_wish wish = {.values = {500}, .count = 1, .feature = DCCP_SEQUENCE_WINDOW, .is_offered = true};
+    dccp_wish wish = {.values = {500}, .count = 1, .feature = DCCP_FEATURE_SEQUENCE_WINDOW, .is_offered = true};
     same("a wish", DCCP_OK, dccp_make(&end, &settings, &wish, 1));
     wish.feature = 10;
-    same("feature 10", DCCP_UNKNOWN, dccp_make(&end, &settings, &wish, 1));
+    same("feature 10", DCCP_NO_FEATURE, dccp_make(&end, &settings, &wish, 1));
     same("an end behind a refused make", false, end.made);
     wish.feature = 0;
-    same("feature 0", DCCP_UNKNOWN, dccp_make(&end, &settings, &wish, 1));
-    wish.feature = 256 + DCCP_SEQUENCE_WINDOW;
-    same("feature 259", DCCP_UNKNOWN, dccp_make(&end, &settings, &wish, 1));
-    wish.feature = DCCP_SEQUENCE_WINDOW;
+    same("feature 0", DCCP_NO_FEATURE, dccp_make(&end, &settings, &wish, 1));
+    wish.feature = 256 + DCCP_FEATURE_SEQUENCE_WINDOW;
+    same("feature 259", DCCP_NO_FEATURE, dccp_make(&end, &settings, &wish, 1));
+    wish.feature = DCCP_FEATURE_SEQUENCE_WINDOW;
     wish.values[0] = 31;
     same("a window of 31", DCCP_BAD_LIST, dccp_make(&end, &settings, &wish, 1));
     wish.values[0] = 500;
@@ -121,10 +121,10 @@ static void wishes(void) {
     wish.count = 1;
     wish.at_peer = true;
     same("the peer's window", DCCP_NOT_OURS, dccp_make(&end, &settings, &wish, 1));
-    wish = (dccp_wish){.values = {0, 1, 2, 3, 4, 5, 6, 7}, .count = 8, .feature = DCCP_MIN_CS_COV};
+    wish = (dccp_wish){.values = {0, 1, 2, 3, 4, 5, 6, 7}, .count = 8, .feature = DCCP_FEATURE_MIN_CS_COV};
     same("eight values", DCCP_OK, dccp_make(&end, &settings, &wish, 1));
     settings.first_number = (uint64_t)1 << 48;
-    same("2^48", DCCP_UNKNOWN, dccp_make(&end, &settings, &wish, 0));
+    same("2^48", DCCP_NO_NUMBER, dccp_make(&end, &settings, &wish, 0));
     settings.first_number--;
     same("2^48 - 1", DCCP_OK, dccp_make(&end, &settings, &wish, 0));
     same("its first number", settings.first_number, look(&end).iss);
@@ -178,19 +178,19 @@ static uint32_t accepts(dccp_end *end, const dccp_frame *datagram, dccp_frame *f
 static void a_server(void) {
     dccp_end end = DCCP_NONE;
     dccp_settings own = server();
-    dccp_wish none = {.count = 0}, ninth = {.values = {1}, .count = 9, .feature = DCCP_CCID};
+    dccp_wish none = {.count = 0}, ninth = {.values = {1}, .count = 9, .feature = DCCP_FEATURE_CCID};
     dccp_frame frame;
     dccp_told told;
     static uint8_t bytes[DCCP_MOST_FRAME_BYTES + 1];
     dccp_frame wanted = request(own.service), other = request(own.service + 1);
     same("a Request for another service", DCCP_NO_CONNECTION, accepts(&end, &other, &frame, &told));
-    same("what became of it", DCCP_SENT_RESET, told.kind);
+    same("what became of it", DCCP_TOLD_SENT_RESET, told.kind);
     same("the code: Bad Service Code", 8, told.code);
     same("its Reset", 7, (frame.bytes[8] >> 1) & 15);
     same("its end", false, end.made);
     same("a Request", DCCP_OK, accepts(&end, &wanted, &frame, &told));
     same("its Response", 1, (frame.bytes[8] >> 1) & 15);
-    same("its phase", DCCP_RESPOND, look(&end).phase);
+    same("its phase", DCCP_PHASE_RESPOND, look(&end).phase);
     same("no packet", DCCP_NO_CONNECTION, dccp_accept(&end, &own, &none, 0, bytes, 11, 0, &frame, &told));
     same("why", DCCP_CAUSE_SHORT, told.cause);
     same("its frame", 0, frame.length);
@@ -262,13 +262,13 @@ static void calls_in_open(dccp_end *one, dccp_end *other) {
     exchange(one, other, &frame);
     same("the timer Close", DCCP_NOTHING_DUE, dccp_timer(one, DCCP_TIMER_CLOSE, 0, &frame));
     same("its frame", 0, frame.length);
-    same("timer 6", DCCP_UNKNOWN, dccp_timer(one, 6, 0, &frame));
+    same("timer 6", DCCP_NO_TIMER, dccp_timer(one, 6, 0, &frame));
     same("1,025 bytes", DCCP_TOO_LONG, dccp_send(one, bytes, DCCP_MOST_DATA_BYTES + 1, 0, &frame));
     same("2,044 bytes", DCCP_OK, dccp_receive(one, bytes, DCCP_MOST_FRAME_BYTES, 0, &frame, &told));
-    same("what became of them", DCCP_DROPPED, told.kind);
+    same("what became of them", DCCP_TOLD_DROPPED, told.kind);
     same("2,045 bytes", DCCP_TOO_LONG, dccp_receive(one, bytes, DCCP_MOST_FRAME_BYTES + 1, 0, &frame, &told));
-    same("2 twice", DCCP_BAD_LIST, dccp_prefer(one, DCCP_CCID, false, twice, 2, 0, &frame));
-    same("the peer's ratio", DCCP_NOT_OURS, dccp_prefer(one, DCCP_ACK_RATIO, true, twice, 1, 0, &frame));
+    same("2 twice", DCCP_BAD_LIST, dccp_prefer(one, DCCP_FEATURE_CCID, false, twice, 2, 0, &frame));
+    same("the peer's ratio", DCCP_NOT_OURS, dccp_prefer(one, DCCP_FEATURE_ACK_RATIO, true, twice, 1, 0, &frame));
 }
 
 /* Packets of 0 to 3 bytes, which fill the window. The last arrives. */
@@ -279,7 +279,7 @@ static void data_in_open(dccp_end *one, dccp_end *other) {
     same("the window", 4, look(one).window);
     for (unsigned length = 0; length < 4; length++) same("a packet", DCCP_OK, dccp_send(one, bytes, length, 0, &frame));
     same("its arrival", DCCP_OK, dccp_receive(other, frame.bytes, frame.length, 0, &answer, &told));
-    same("its data", DCCP_DATA, told.kind);
+    same("its data", DCCP_TOLD_DATA, told.kind);
     same("how many they are", 3, told.past - told.first);
     same("the data themselves", 0, memcmp(frame.bytes + told.first, bytes, 3) != 0);
     same("a full window", DCCP_WINDOW_FULL, dccp_send(one, bytes, 1, 0, &frame));
@@ -295,7 +295,7 @@ static void a_connection(void) {
     uint8_t byte = 0;
     same("a client", DCCP_OK, dccp_make(&one, &client, &none, 0));
     same("a server", DCCP_OK, dccp_make(&other, &settings, &none, 0));
-    same("its phase", DCCP_LISTEN, look(&other).phase);
+    same("its phase", DCCP_PHASE_LISTEN, look(&other).phase);
     same("a server's open", DCCP_NOT_FRESH, dccp_open(&other, 0, &frame));
     same("abort in CLOSED", DCCP_NOT_LIVE, dccp_abort(&one, 0, &frame));
     same("close in CLOSED", DCCP_NOT_OPEN, dccp_close(&one, 0, &frame));
@@ -304,15 +304,15 @@ static void a_connection(void) {
     same("its Request", 0, (frame.bytes[8] >> 1) & 15);
     exchange(&other, &one, &frame);
     same("open twice", DCCP_NOT_FRESH, dccp_open(&one, 0, &frame));
-    same("the client's phase", DCCP_OPEN, look(&one).phase);
-    same("the server's phase", DCCP_OPEN, look(&other).phase);
+    same("the client's phase", DCCP_PHASE_OPEN, look(&one).phase);
+    same("the server's phase", DCCP_PHASE_OPEN, look(&other).phase);
     calls_in_open(&one, &other);
     data_in_open(&one, &other);
     same("abort", DCCP_OK, dccp_abort(&one, 0, &frame));
     same("its Reset arrives", DCCP_OK, dccp_receive(&other, frame.bytes, frame.length, 0, &frame, &told));
-    same("the news of it", DCCP_WAS_RESET, told.kind);
+    same("the news of it", DCCP_TOLD_WAS_RESET, told.kind);
     same("its code", 2, told.code);
-    same("the server's phase", DCCP_TIMEWAIT, look(&other).phase);
+    same("the server's phase", DCCP_PHASE_TIMEWAIT, look(&other).phase);
     dccp_free(&one);
     dccp_free(&other);
     same("blocks behind free", 0, held);
@@ -342,14 +342,14 @@ static void without_a_listener(void) {
 static void limits_of_a_listener(void) {
     dccp_listener listener = DCCP_NO_LISTENER;
     dccp_settings settings = server();
-    dccp_wish wish = {.values = {31}, .count = 1, .feature = DCCP_SEQUENCE_WINDOW};
+    dccp_wish wish = {.values = {31}, .count = 1, .feature = DCCP_FEATURE_SEQUENCE_WINDOW};
     same("1,024 flows", DCCP_OK, dccp_listener_make(&listener, &settings, &wish, 0, 1024));
-    same("no flows", DCCP_UNKNOWN, dccp_listener_make(&listener, &settings, &wish, 0, 0));
+    same("no flows", DCCP_NO_SUCH_LISTENER, dccp_listener_make(&listener, &settings, &wish, 0, 0));
     same("a listener behind a refused make", false, listener.made);
-    same("1,025 flows", DCCP_UNKNOWN, dccp_listener_make(&listener, &settings, &wish, 0, 1025));
+    same("1,025 flows", DCCP_NO_SUCH_LISTENER, dccp_listener_make(&listener, &settings, &wish, 0, 1025));
     same("a window of 31", DCCP_BAD_LIST, dccp_listener_make(&listener, &settings, &wish, 1, 1));
     settings.is_v6 = true;
-    same("IPv6", DCCP_UNKNOWN, dccp_listener_make(&listener, &settings, &wish, 0, 1));
+    same("IPv6", DCCP_NO_SUCH_LISTENER, dccp_listener_make(&listener, &settings, &wish, 0, 1));
     same("blocks that are kept", 0, held);
 }
 
@@ -389,7 +389,7 @@ static void a_listener(void) {
     dccp_told told;
     dccp_view view;
     static uint8_t bytes[DCCP_MOST_FRAME_BYTES + 1];
-    same("2^48", DCCP_UNKNOWN, dccp_listener_arrive(&listener, &guest, (uint64_t)1 << 48, bytes, 0, 0, &frame, &told));
+    same("2^48", DCCP_NO_NUMBER, dccp_listener_arrive(&listener, &guest, (uint64_t)1 << 48, bytes, 0, 0, &frame, &told));
     same("2,045 bytes", DCCP_TOO_LONG, dccp_listener_arrive(&listener, &guest, 0, bytes, sizeof bytes, 0, &frame, &told));
     refused = 1;
     same("data for a stranger", DCCP_NO_FLOW, dccp_listener_send(&listener, &guest, bytes, 1, 0, &frame));
@@ -398,7 +398,7 @@ static void a_listener(void) {
     same("allocations left to be refused", 1, refused);
     refused = 0;
     same("a Request for another service", DCCP_OK, arrives(&listener, 1, &elsewhere, &frame, &told));
-    same("what became of it", DCCP_SENT_RESET, told.kind);
+    same("what became of it", DCCP_TOLD_SENT_RESET, told.kind);
     same("the code: Bad Service Code", 8, told.code);
     same("its flow", DCCP_NO_FLOW, dccp_listener_look(&listener, &guest, &view));
     same("the first place", DCCP_NO_FLOW, dccp_listener_peer(&listener, 0, &peer));
@@ -407,17 +407,17 @@ static void a_listener(void) {
     same("a Request", DCCP_OK, arrives(&listener, 1, &first, &frame, &told));
     same("its Response", 1, (frame.bytes[8] >> 1) & 15);
     same("its flow", DCCP_OK, dccp_listener_look(&listener, &guest, &view));
-    same("its phase", DCCP_RESPOND, view.phase);
+    same("its phase", DCCP_PHASE_RESPOND, view.phase);
     same("its first number", 2000, view.iss);
     same("its place", DCCP_OK, dccp_listener_peer(&listener, 0, &peer));
     same("its port", guest.port, peer.port);
     same("data in RESPOND", DCCP_NOT_OPEN, dccp_listener_send(&listener, &guest, bytes, 1, 0, &frame));
     same("close in RESPOND", DCCP_NOT_OPEN, dccp_listener_close(&listener, &guest, 0, &frame));
-    told.kind = DCCP_TOOK;
+    told.kind = DCCP_TOLD_TOOK;
     same("one too many", DCCP_BUSY, arrives(&listener, 3, &second, &frame, &told));
     same("its Reset", 7, (frame.bytes[8] >> 1) & 15);
     same("the code: Too Busy", 9, frame.bytes[24]);
-    same("what is told", DCCP_TOOK, told.kind);
+    same("what is told", DCCP_TOLD_TOOK, told.kind);
     same("the second place", DCCP_NO_FLOW, dccp_listener_peer(&listener, 1, &peer));
     same("abort", DCCP_OK, dccp_listener_abort(&listener, &guest, 0, &frame));
     same("its Reset", 7, (frame.bytes[8] >> 1) & 15);
@@ -434,7 +434,7 @@ static void a_flow(void) {
     static const uint8_t many[DCCP_MOST_DATA_BYTES + 1];
     dccp_listener listener = begun();
     dccp_end end = DCCP_NONE;
-    dccp_wish vectors = {.values = {1}, .count = 1, .feature = DCCP_SEND_ACK_VECTOR, .is_offered = true};
+    dccp_wish vectors = {.values = {1}, .count = 1, .feature = DCCP_FEATURE_SEND_ACK_VECTOR, .is_offered = true};
     dccp_frame frame, answer;
     dccp_peer peer;
     dccp_told told;
@@ -445,14 +445,14 @@ static void a_flow(void) {
         if (answer.length == 0) break;
         same("its answer", DCCP_OK, dccp_receive(&end, answer.bytes, answer.length, 0, &frame, &told));
     }
-    same("the client's phase", DCCP_OPEN, look(&end).phase);
+    same("the client's phase", DCCP_PHASE_OPEN, look(&end).phase);
     same("data", DCCP_OK, dccp_send(&end, (const uint8_t *)"abc", 3, 0, &frame));
     same("their arrival", DCCP_OK, arrives(&listener, 1, &frame, &answer, &told));
-    same("what became of them", DCCP_DATA, told.kind);
+    same("what became of them", DCCP_TOLD_DATA, told.kind);
     same("the data themselves", 0, memcmp(frame.bytes + told.first, "abc", 3) != 0);
     same("data back", DCCP_OK, dccp_listener_send(&listener, &guest, frame.bytes + told.first, 3, 0, &answer));
     same("their arrival", DCCP_OK, dccp_receive(&end, answer.bytes, answer.length, 0, &frame, &told));
-    same("what became of them", DCCP_DATA, told.kind);
+    same("what became of them", DCCP_TOLD_DATA, told.kind);
     same("1,025 bytes", DCCP_TOO_LONG, dccp_listener_send(&listener, &guest, many, sizeof many, 0, &answer));
     for (unsigned more = 0; more < 3; more++)
         same("data in the window of four", DCCP_OK, dccp_listener_send(&listener, &guest, many, 1, 0, &answer));
@@ -476,7 +476,7 @@ static void refusals_of_a_flow(void) {
     dccp_wish none = {.count = 0};
     dccp_frame frame, answer;
     dccp_told told;
-    dccp_view view = {.phase = DCCP_CLOSED};
+    dccp_view view = {.phase = DCCP_PHASE_CLOSED};
     uint8_t byte = 0;
     same("a client", DCCP_OK, dccp_make(&end, &client, &none, 0));
     same("its open", DCCP_OK, dccp_open(&end, 0, &frame));
@@ -488,9 +488,9 @@ static void refusals_of_a_flow(void) {
     same("data without Ack Vectors", DCCP_NOT_NEGOTIATED, dccp_listener_send(&listener, &guest, &byte, 1, 0, &answer));
     same("the client's abort", DCCP_OK, dccp_abort(&end, 0, &frame));
     same("its arrival", DCCP_OK, arrives(&listener, 1, &frame, &answer, &told));
-    same("what became of it", DCCP_WAS_RESET, told.kind);
+    same("what became of it", DCCP_TOLD_WAS_RESET, told.kind);
     same("its flow", DCCP_OK, dccp_listener_look(&listener, &guest, &view));
-    same("its phase", DCCP_TIMEWAIT, view.phase);
+    same("its phase", DCCP_PHASE_TIMEWAIT, view.phase);
     same("abort in TIMEWAIT", DCCP_NOT_LIVE, dccp_listener_abort(&listener, &guest, 0, &answer));
     dccp_free(&end);
     dccp_listener_free(&listener);

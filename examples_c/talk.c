@@ -85,13 +85,13 @@ static bool may_answer(struct talk *talk) {
 
 /* Takes what is told of a datagram, and hands over the frame that answers it. */
 static void take(struct talk *talk, const dccp_told *told, const dccp_frame *frame) {
-    bool is_answer = told->kind == DCCP_SYNCED || told->kind == DCCP_SENT_RESET;
+    bool is_answer = told->kind == DCCP_TOLD_SYNCED || told->kind == DCCP_TOLD_SENT_RESET;
     if (!is_answer || may_answer(talk)) hand_over(talk, frame);
-    if (told->kind == DCCP_DATA) {
+    if (told->kind == DCCP_TOLD_DATA) {
         talk->got++;
         talk->heard = now();
     }
-    bool is_over = told->kind == DCCP_WAS_RESET || (told->kind == DCCP_SENT_RESET && look(talk).phase == DCCP_CLOSED);
+    bool is_over = told->kind == DCCP_TOLD_WAS_RESET || (told->kind == DCCP_TOLD_SENT_RESET && look(talk).phase == DCCP_PHASE_CLOSED);
     if (is_over && !talk->has_ended) {
         talk->has_ended = true;
         talk->code = told->code;
@@ -116,7 +116,7 @@ static void hear(struct talk *talk) {
 static void widen(struct talk *talk) {
     dccp_frame frame;
     uint64_t wider = WIDER;
-    if (dccp_prefer(&talk->end, DCCP_SEQUENCE_WINDOW, false, &wider, 1, now(), &frame) != DCCP_OK) fail("prefer");
+    if (dccp_prefer(&talk->end, DCCP_FEATURE_SEQUENCE_WINDOW, false, &wider, 1, now(), &frame) != DCCP_OK) fail("prefer");
     hand_over(talk, &frame);
 }
 
@@ -135,8 +135,8 @@ static void say(struct talk *talk) {
 }
 
 /* What both offer, and what a client alone does: to send Ack Vectors, for which the listener of echo.c does not ask, and which it needs. */
-static const dccp_wish wishes[] = {{.values = {WIDTH}, .count = 1, .feature = DCCP_SEQUENCE_WINDOW, .is_offered = true},
-                                   {.values = {1}, .count = 1, .feature = DCCP_SEND_ACK_VECTOR, .is_offered = true}};
+static const dccp_wish wishes[] = {{.values = {WIDTH}, .count = 1, .feature = DCCP_FEATURE_SEQUENCE_WINDOW, .is_offered = true},
+                                   {.values = {1}, .count = 1, .feature = DCCP_FEATURE_SEND_ACK_VECTOR, .is_offered = true}};
 
 static dccp_settings settings_of(unsigned own_port, unsigned peer_port) {
     return (dccp_settings){
@@ -196,7 +196,7 @@ static void ask(struct talk *talk, unsigned port) {
 
 static dccp_feature_state width(struct talk *talk, bool at_peer) {
     dccp_feature_state state;
-    if (dccp_feature(&talk->end, DCCP_SEQUENCE_WINDOW, at_peer, &state) != DCCP_OK) fail("feature");
+    if (dccp_feature(&talk->end, DCCP_FEATURE_SEQUENCE_WINDOW, at_peer, &state) != DCCP_OK) fail("feature");
     return state;
 }
 
@@ -204,8 +204,8 @@ static dccp_feature_state width(struct talk *talk, bool at_peer) {
 static void close_if_done(struct talk *talk) {
     dccp_frame frame;
     dccp_view view = look(talk);
-    if (talk->sent < PACKETS || view.in_flight != 0 || now() - talk->heard < 1000 || view.phase != DCCP_OPEN) return;
-    if (width(talk, false).stand != DCCP_STABLE) return;
+    if (talk->sent < PACKETS || view.in_flight != 0 || now() - talk->heard < 1000 || view.phase != DCCP_PHASE_OPEN) return;
+    if (width(talk, false).stand != DCCP_STAND_STABLE) return;
     if (dccp_close(&talk->end, now(), &frame) == DCCP_OK) hand_over(talk, &frame);
 }
 

@@ -98,12 +98,12 @@ static dccp_settings settings_of(unsigned own_port, unsigned peer_port) {
 static bool step(dccp_end *end, int at, unsigned *got) {
     uint8_t room[DCCP_MOST_FRAME_BYTES + 1];
     dccp_frame frame;
-    dccp_told told = {.kind = DCCP_TOOK};
+    dccp_told told = {.kind = DCCP_TOLD_TOOK};
     ssize_t length = receive(at, room, sizeof room, dccp_until_first(end, now()));
     if (0 <= length && dccp_receive(end, room, (size_t)length, now(), &frame, &told) == DCCP_OK) hand_over(at, &frame);
-    *got += told.kind == DCCP_DATA && told.past - told.first == BYTES;
+    *got += told.kind == DCCP_TOLD_DATA && told.past - told.first == BYTES;
     while (dccp_tick(end, now(), &frame) == DCCP_OK) hand_over(at, &frame);
-    return told.kind != DCCP_WAS_RESET && told.kind != DCCP_SENT_RESET;
+    return told.kind != DCCP_TOLD_WAS_RESET && told.kind != DCCP_TOLD_SENT_RESET;
 }
 
 static unsigned accept_all(struct pair pair) {
@@ -129,7 +129,7 @@ static double send_all(struct pair pair) {
     dccp_frame frame;
     dccp_view view = {.in_flight = 0};
     dccp_settings settings = settings_of(pair.sender_port, pair.receiver_port);
-    dccp_wish wide = {.values = {WIDTH}, .count = 1, .feature = DCCP_SEQUENCE_WINDOW, .is_offered = true};
+    dccp_wish wide = {.values = {WIDTH}, .count = 1, .feature = DCCP_FEATURE_SEQUENCE_WINDOW, .is_offered = true};
     if (dccp_make(&end, &settings, &wide, 1) != DCCP_OK || dccp_open(&end, now(), &frame) != DCCP_OK) fail("open");
     hand_over(pair.sender, &frame);
     double begun = 0;

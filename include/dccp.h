@@ -37,6 +37,9 @@
 extern "C" {
 #endif
 
+#define DCCP_VERSION 100 /* 10,000 times the major number, 100 times the minor one, and the patch: 0.1.0; see dccp_version */
+#define DCCP_ABI 1       /* rises with every change of a function, a struct or a number here; see dccp_abi */
+
 #define DCCP_MOST_FRAME_BYTES 2044 /* the longest frame, and the longest datagram that is taken */
 #define DCCP_MOST_DATA_BYTES 1024  /* the most data of one packet */
 #define DCCP_MOST_VALUES 8         /* the most values of one wish */
@@ -55,24 +58,27 @@ typedef enum dccp_status {
     DCCP_BAD_LIST = 8,       /* the values are none, over eight, twice the same, not permitted, or not just one where one is due */
     DCCP_NOT_OURS = 9,       /* Sequence Window or Ack Ratio of the peer, which it alone sets */
     DCCP_NOT_LIVE = 10,      /* dccp_abort: there is no connection */
-    DCCP_UNKNOWN = 11,       /* no feature or timer has this number, the first number is not below 2^48, or no listener is made so */
+    DCCP_NO_FEATURE = 11,    /* no feature has this number */
     DCCP_NOTHING_DUE = 12,   /* dccp_tick: no timer has run out; dccp_timer: this one has nothing to do */
     DCCP_NO_CONNECTION = 13, /* dccp_accept: the datagram opens no connection */
     DCCP_BUSY = 14,          /* dccp_listener_arrive: as many flows stand as may, and the datagram would open one more */
-    DCCP_NO_FLOW = 15        /* a call of a listener: the peer has no flow, or none stands at the place */
+    DCCP_NO_FLOW = 15,       /* a call of a listener: the peer has no flow, or none stands at the place */
+    DCCP_NO_TIMER = 16,      /* no timer has this number */
+    DCCP_NO_NUMBER = 17,     /* the number of a first packet is not below 2^48 */
+    DCCP_NO_SUCH_LISTENER = 18 /* dccp_listener_make: no listener is of IPv6, or for none or over 1,024 flows */
 } dccp_status;
 
 /* Where a connection stands (RFC 4340, section 8.4). */
 typedef enum dccp_phase {
-    DCCP_CLOSED = 0,
-    DCCP_LISTEN = 1,
-    DCCP_REQUEST = 2,
-    DCCP_RESPOND = 3,
-    DCCP_PARTOPEN = 4,
-    DCCP_OPEN = 5,
-    DCCP_CLOSEREQ = 6,
-    DCCP_CLOSING = 7,
-    DCCP_TIMEWAIT = 8
+    DCCP_PHASE_CLOSED = 0,
+    DCCP_PHASE_LISTEN = 1,
+    DCCP_PHASE_REQUEST = 2,
+    DCCP_PHASE_RESPOND = 3,
+    DCCP_PHASE_PARTOPEN = 4,
+    DCCP_PHASE_OPEN = 5,
+    DCCP_PHASE_CLOSEREQ = 6,
+    DCCP_PHASE_CLOSING = 7,
+    DCCP_PHASE_TIMEWAIT = 8
 } dccp_phase;
 
 typedef enum dccp_timer_kind {
@@ -86,32 +92,32 @@ typedef enum dccp_timer_kind {
 
 /* The features that may be wished for (RFC 4340, section 6.4). */
 typedef enum dccp_feature_kind {
-    DCCP_CCID = 1,                /* 2 and 248 */
-    DCCP_SHORT_SEQNOS = 2,        /* 0 and 1 */
-    DCCP_SEQUENCE_WINDOW = 3,     /* one value, 32 to 2^46 - 1, in packets */
-    DCCP_ECN_INCAPABLE = 4,       /* 1 here; 0 and 1 at the peer */
-    DCCP_ACK_RATIO = 5,           /* one value, 0 to 65,535, in data packets for one Ack */
-    DCCP_SEND_ACK_VECTOR = 6,     /* 0 and 1 */
-    DCCP_SEND_NDP_COUNT = 7,      /* 0 */
-    DCCP_MIN_CS_COV = 8,          /* 0 to 15 */
-    DCCP_CHECK_DATA_CHECKSUM = 9  /* 0 */
+    DCCP_FEATURE_CCID = 1,                /* 2 and 248 */
+    DCCP_FEATURE_SHORT_SEQNOS = 2,        /* 0 and 1 */
+    DCCP_FEATURE_SEQUENCE_WINDOW = 3,     /* one value, 32 to 2^46 - 1, in packets */
+    DCCP_FEATURE_ECN_INCAPABLE = 4,       /* 1 here; 0 and 1 at the peer */
+    DCCP_FEATURE_ACK_RATIO = 5,           /* one value, 0 to 65,535, in data packets for one Ack */
+    DCCP_FEATURE_SEND_ACK_VECTOR = 6,     /* 0 and 1 */
+    DCCP_FEATURE_SEND_NDP_COUNT = 7,      /* 0 */
+    DCCP_FEATURE_MIN_CS_COV = 8,          /* 0 to 15 */
+    DCCP_FEATURE_CHECK_DATA_CHECKSUM = 9  /* 0 */
 } dccp_feature_kind;
 
 /* Where the negotiation of a feature stands; its value is settled where it is stable. */
 typedef enum dccp_stand {
-    DCCP_STABLE = 0,
-    DCCP_CHANGING = 1,
-    DCCP_UNSTABLE = 2
+    DCCP_STAND_STABLE = 0,
+    DCCP_STAND_CHANGING = 1,
+    DCCP_STAND_UNSTABLE = 2
 } dccp_stand;
 
 /* What became of a datagram. */
 typedef enum dccp_told_kind {
-    DCCP_TOOK = 0,      /* it was taken, and brought no data */
-    DCCP_DATA = 1,      /* it brought data: the bytes from `first` up to `past` of the datagram, maybe none */
-    DCCP_DROPPED = 2,   /* it was dropped, for `cause` */
-    DCCP_SYNCED = 3,    /* a Sync answers it, which acknowledges `number`: limit how many go out in a second */
-    DCCP_WAS_RESET = 4, /* the connection has ended by the peer's Reset with `code`; the timer TIMEWAIT runs */
-    DCCP_SENT_RESET = 5 /* a Reset with `code` and `detail` answers it; where the phase is DCCP_CLOSED now, the end may go */
+    DCCP_TOLD_TOOK = 0,      /* it was taken, and brought no data */
+    DCCP_TOLD_DATA = 1,      /* it brought data: the bytes from `first` up to `past` of the datagram, maybe none */
+    DCCP_TOLD_DROPPED = 2,   /* it was dropped, for `cause` */
+    DCCP_TOLD_SYNCED = 3,    /* a Sync answers it, which acknowledges `number`: limit how many go out in a second */
+    DCCP_TOLD_WAS_RESET = 4, /* the connection has ended by the peer's Reset with `code`; the timer TIMEWAIT runs */
+    DCCP_TOLD_SENT_RESET = 5 /* a Reset with `code` and `detail` answers it; where the phase is DCCP_PHASE_CLOSED now, the end may go */
 } dccp_told_kind;
 
 /* Why a datagram was dropped. */
@@ -136,11 +142,13 @@ typedef struct dccp_end {
     bool made;
 } dccp_end;
 
-/* A handle without an end; each begins so. */
+/* A handle without an end; each begins so. DCCP_NONE_INIT initialises a static one; zeroed memory is one too. */
 #ifdef __cplusplus
-#define DCCP_NONE (dccp_end{nullptr, false})
+#define DCCP_NONE_INIT {nullptr, false}
+#define DCCP_NONE (dccp_end DCCP_NONE_INIT)
 #else
-#define DCCP_NONE ((dccp_end){NULL, false})
+#define DCCP_NONE_INIT {NULL, false}
+#define DCCP_NONE ((dccp_end)DCCP_NONE_INIT)
 #endif
 
 /* A handle: a listener, or none. */
@@ -149,11 +157,11 @@ typedef struct dccp_listener {
     bool made;
 } dccp_listener;
 
-/* A handle without a listener; each begins so. */
+/* A handle without a listener; each begins so, and a static one with DCCP_NONE_INIT. */
 #ifdef __cplusplus
-#define DCCP_NO_LISTENER (dccp_listener{nullptr, false})
+#define DCCP_NO_LISTENER (dccp_listener DCCP_NONE_INIT)
 #else
-#define DCCP_NO_LISTENER ((dccp_listener){NULL, false})
+#define DCCP_NO_LISTENER ((dccp_listener)DCCP_NONE_INIT)
 #endif
 
 /* A peer of a listener: whom a datagram came from, or a frame goes to. */
@@ -225,68 +233,68 @@ typedef struct dccp_feature_state {
 } dccp_feature_state;
 
 /* Makes an end in the handle. An end that the handle held is freed first, also where making fails; then the handle holds none.
- * The wishes are taken in their order. DCCP_OK; DCCP_UNKNOWN, DCCP_BAD_LIST or DCCP_NOT_OURS of the first wish that is refused, or
- * DCCP_UNKNOWN for the first number; DCCP_NO_MEMORY. Nothing that is passed is kept. */
-uint32_t dccp_make(dccp_end *end, const dccp_settings *settings, const dccp_wish *wishes, size_t count);
+ * The wishes are taken in their order. DCCP_OK; DCCP_NO_NUMBER for the first number; DCCP_NO_FEATURE, DCCP_BAD_LIST or
+ * DCCP_NOT_OURS of the first wish that is refused; DCCP_NO_MEMORY. Nothing that is passed is kept. */
+dccp_status dccp_make(dccp_end *end, const dccp_settings *settings, const dccp_wish *wishes, size_t count);
 
 /* Frees what the handle holds. Afterwards it holds none, and may be freed again or made again. */
 void dccp_free(dccp_end *end);
 
 /* Makes a server's end of the first datagram of a peer, as dccp_make does it and with `is_server` taken for true. DCCP_OK: a Request has
- * opened a connection, which is the peer's from now on; where one of its options was a fault, the phase is DCCP_CLOSED already. Else the
+ * opened a connection, which is the peer's from now on; where one of its options was a fault, the phase is DCCP_PHASE_CLOSED already. Else the
  * handle holds none: DCCP_NO_CONNECTION, and the frame answers the datagram, if there is an answer; a status of dccp_make, or
  * DCCP_TOO_LONG over 2,044 bytes, and `told` is as it was. It takes memory for any datagram: whoever minds leaves out those that are no
  * Request, of which `(datagram[8] >> 1) & 15` is 0. */
-uint32_t dccp_accept(dccp_end *end, const dccp_settings *settings, const dccp_wish *wishes, size_t count, const uint8_t *datagram,
+dccp_status dccp_accept(dccp_end *end, const dccp_settings *settings, const dccp_wish *wishes, size_t count, const uint8_t *datagram,
                      size_t length, uint64_t now, dccp_frame *frame, dccp_told *told);
 
 /* A client asks for its service, once: its Request is left. DCCP_OK, DCCP_NOT_MADE, DCCP_NOT_FRESH. */
-uint32_t dccp_open(dccp_end *end, uint64_t now, dccp_frame *frame);
+dccp_status dccp_open(dccp_end *end, uint64_t now, dccp_frame *frame);
 
-/* Sends data, 0 to 1,024 bytes; in DCCP_PARTOPEN a client speaks first. DCCP_OK, DCCP_NOT_MADE, and the first that holds of
- * DCCP_NOT_OPEN (in all phases but DCCP_PARTOPEN and DCCP_OPEN), DCCP_TOO_LONG, DCCP_NOT_NEGOTIATED, DCCP_WINDOW_FULL. */
-uint32_t dccp_send(dccp_end *end, const uint8_t *data, size_t length, uint64_t now, dccp_frame *frame);
+/* Sends data, 0 to 1,024 bytes; in DCCP_PHASE_PARTOPEN a client speaks first. DCCP_OK, DCCP_NOT_MADE, and the first that holds of
+ * DCCP_NOT_OPEN (in all phases but DCCP_PHASE_PARTOPEN and DCCP_PHASE_OPEN), DCCP_TOO_LONG, DCCP_NOT_NEGOTIATED, DCCP_WINDOW_FULL. */
+dccp_status dccp_send(dccp_end *end, const uint8_t *data, size_t length, uint64_t now, dccp_frame *frame);
 
 /* Closes the connection in order. No data are delivered to this end any more. DCCP_OK, DCCP_NOT_MADE; DCCP_NOT_OPEN in all phases but
- * DCCP_PARTOPEN and DCCP_OPEN. */
-uint32_t dccp_close(dccp_end *end, uint64_t now, dccp_frame *frame);
+ * DCCP_PHASE_PARTOPEN and DCCP_PHASE_OPEN. */
+dccp_status dccp_close(dccp_end *end, uint64_t now, dccp_frame *frame);
 
-/* Ends the connection at once. DCCP_OK, DCCP_NOT_MADE; DCCP_NOT_LIVE in DCCP_CLOSED, DCCP_LISTEN and DCCP_TIMEWAIT. */
-uint32_t dccp_abort(dccp_end *end, uint64_t now, dccp_frame *frame);
+/* Ends the connection at once. DCCP_OK, DCCP_NOT_MADE; DCCP_NOT_LIVE in DCCP_PHASE_CLOSED, DCCP_PHASE_LISTEN and DCCP_PHASE_TIMEWAIT. */
+dccp_status dccp_abort(dccp_end *end, uint64_t now, dccp_frame *frame);
 
-/* Asks for these values of a feature, best first, at the peer or at this end. DCCP_OK, DCCP_NOT_MADE, DCCP_UNKNOWN; DCCP_NOT_OPEN in all
- * phases but DCCP_PARTOPEN and DCCP_OPEN; then DCCP_BAD_LIST, DCCP_NOT_OURS. What comes of it is seen by dccp_feature. */
-uint32_t dccp_prefer(dccp_end *end, uint32_t feature, bool at_peer, const uint64_t *values, size_t count, uint64_t now,
+/* Asks for these values of a feature, best first, at the peer or at this end. DCCP_OK, DCCP_NOT_MADE, DCCP_NO_FEATURE; DCCP_NOT_OPEN in all
+ * phases but DCCP_PHASE_PARTOPEN and DCCP_PHASE_OPEN; then DCCP_BAD_LIST, DCCP_NOT_OURS. What comes of it is seen by dccp_feature. */
+dccp_status dccp_prefer(dccp_end *end, uint32_t feature, bool at_peer, const uint64_t *values, size_t count, uint64_t now,
                      dccp_frame *frame);
 
 /* Tells the end the first of its timers that has run out. DCCP_OK, also where that leaves no frame: call it again, at most six times at one
  * time, until it answers DCCP_NOTHING_DUE, where none has run out; DCCP_NOT_MADE. */
-uint32_t dccp_tick(dccp_end *end, uint64_t now, dccp_frame *frame);
+dccp_status dccp_tick(dccp_end *end, uint64_t now, dccp_frame *frame);
 
 /* How many milliseconds it is until dccp_tick has something to do; DCCP_NEVER where no timer runs, or there is no end. Ask again after every
  * other call. */
 uint64_t dccp_until_first(dccp_end *end, uint64_t now);
 
 /* A timer has run out: for whoever keeps the timers instead of the library, and does not call dccp_tick. DCCP_OK; DCCP_NOTHING_DUE where it
- * has nothing to do in this phase, which is no fault; DCCP_NOT_MADE, DCCP_UNKNOWN. */
-uint32_t dccp_timer(dccp_end *end, uint32_t timer, uint64_t now, dccp_frame *frame);
+ * has nothing to do in this phase, which is no fault; DCCP_NOT_MADE, DCCP_NO_TIMER. */
+dccp_status dccp_timer(dccp_end *end, uint32_t timer, uint64_t now, dccp_frame *frame);
 
 /* A datagram of the peer has arrived: the bytes of one DCCP packet, from the generic header on. DCCP_OK, and what became of it in `told`;
  * DCCP_NOT_MADE, or DCCP_TOO_LONG over 2,044 bytes, and `told` is as it was. */
-uint32_t dccp_receive(dccp_end *end, const uint8_t *datagram, size_t length, uint64_t now, dccp_frame *frame, dccp_told *told);
+dccp_status dccp_receive(dccp_end *end, const uint8_t *datagram, size_t length, uint64_t now, dccp_frame *frame, dccp_told *told);
 
 /* Reads an end. DCCP_OK, or DCCP_NOT_MADE and `view` is as it was. */
-uint32_t dccp_look(dccp_end *end, dccp_view *view);
+dccp_status dccp_look(dccp_end *end, dccp_view *view);
 
-/* Reads what an end holds for a feature. DCCP_OK; DCCP_NOT_MADE or DCCP_UNKNOWN, and `state` is as it was. */
-uint32_t dccp_feature(dccp_end *end, uint32_t feature, bool at_peer, dccp_feature_state *state);
+/* Reads what an end holds for a feature. DCCP_OK; DCCP_NOT_MADE or DCCP_NO_FEATURE, and `state` is as it was. */
+dccp_status dccp_feature(dccp_end *end, uint32_t feature, bool at_peer, dccp_feature_state *state);
 
 /* Makes a listener in the handle, for at most `most` flows at a time, 1 to 1,024. One that the handle held is freed first, also where making
  * fails; then the handle holds none. Of the settings count the own address and port and the service; `is_v6` has to be false and
  * `first_number` below 2^48, and the others make no difference. The wishes are those of each peer's end, which makes no offer by itself: so
- * one for its own Sequence Window or Ack Ratio changes nothing. The statuses of dccp_make, and DCCP_UNKNOWN for IPv6 and for another `most`.
+ * one for its own Sequence Window or Ack Ratio changes nothing. The statuses of dccp_make, and DCCP_NO_SUCH_LISTENER for IPv6 and for another `most`.
  * A flow takes about 87 KB, which it gives back where it ends. */
-uint32_t dccp_listener_make(dccp_listener *listener, const dccp_settings *settings, const dccp_wish *wishes, size_t count, uint16_t most);
+dccp_status dccp_listener_make(dccp_listener *listener, const dccp_settings *settings, const dccp_wish *wishes, size_t count, uint16_t most);
 
 /* Frees what the handle holds, with all flows. Afterwards it holds none, and may be freed again or made again. */
 void dccp_listener_free(dccp_listener *listener);
@@ -295,38 +303,68 @@ void dccp_listener_free(dccp_listener *listener);
  * `first_number` as the number of its first packet, below 2^48, which nobody can guess; draw one for each datagram, or for each whose peer has
  * no flow. DCCP_OK, and what became of it in `told`; a flow that has ended by it is there no more. DCCP_BUSY: it would open one flow more than
  * may stand; nothing has changed, and the frame is a Reset with code 9, Too Busy. Then the owner may close or abort a flow to make room, or
- * let the peer ask again. DCCP_NO_MEMORY, DCCP_UNKNOWN for the number, DCCP_TOO_LONG over 2,044 bytes, DCCP_NOT_MADE: nothing has changed and
- * nothing is left. But for DCCP_OK `told` is as it was. Anybody may call forth the frame of DCCP_BUSY, and those of DCCP_SYNCED and
- * DCCP_SENT_RESET: limit how many go out in a second. One that is left out is a lost frame. */
-uint32_t dccp_listener_arrive(dccp_listener *listener, const dccp_peer *peer, uint64_t first_number, const uint8_t *datagram, size_t length,
+ * let the peer ask again. DCCP_NO_MEMORY, DCCP_NO_NUMBER for the number, DCCP_TOO_LONG over 2,044 bytes, DCCP_NOT_MADE: nothing has changed and
+ * nothing is left. But for DCCP_OK `told` is as it was. Anybody may call forth the frame of DCCP_BUSY, and those of DCCP_TOLD_SYNCED and
+ * DCCP_TOLD_SENT_RESET: limit how many go out in a second. One that is left out is a lost frame. */
+dccp_status dccp_listener_arrive(dccp_listener *listener, const dccp_peer *peer, uint64_t first_number, const uint8_t *datagram, size_t length,
                               uint64_t now, dccp_frame *frame, dccp_told *told);
 
-/* Sends data to a peer, as dccp_send does it once the flow is DCCP_OPEN. DCCP_OK; DCCP_NOT_MADE, DCCP_NO_FLOW; DCCP_NOT_OPEN, DCCP_TOO_LONG,
+/* Sends data to a peer, as dccp_send does it once the flow is DCCP_PHASE_OPEN. DCCP_OK; DCCP_NOT_MADE, DCCP_NO_FLOW; DCCP_NOT_OPEN, DCCP_TOO_LONG,
  * DCCP_WINDOW_FULL; DCCP_NOT_NEGOTIATED: the peer sends no Ack Vectors. A flow's end asks for nothing by itself, so its peer has to offer
- * them: by a wish for DCCP_SEND_ACK_VECTOR, not at_peer, of the value 1, that is_offered. */
-uint32_t dccp_listener_send(dccp_listener *listener, const dccp_peer *peer, const uint8_t *data, size_t length, uint64_t now,
+ * them: by a wish for DCCP_FEATURE_SEND_ACK_VECTOR, not at_peer, of the value 1, that is_offered. */
+dccp_status dccp_listener_send(dccp_listener *listener, const dccp_peer *peer, const uint8_t *data, size_t length, uint64_t now,
                             dccp_frame *frame);
 
 /* Closes a peer's connection in order, as dccp_close. DCCP_OK; DCCP_NOT_MADE, DCCP_NO_FLOW, DCCP_NOT_OPEN. */
-uint32_t dccp_listener_close(dccp_listener *listener, const dccp_peer *peer, uint64_t now, dccp_frame *frame);
+dccp_status dccp_listener_close(dccp_listener *listener, const dccp_peer *peer, uint64_t now, dccp_frame *frame);
 
-/* Ends a peer's connection at once, and its flow with it. DCCP_OK; DCCP_NOT_MADE, DCCP_NO_FLOW; DCCP_NOT_LIVE in DCCP_TIMEWAIT. */
-uint32_t dccp_listener_abort(dccp_listener *listener, const dccp_peer *peer, uint64_t now, dccp_frame *frame);
+/* Ends a peer's connection at once, and its flow with it. DCCP_OK; DCCP_NOT_MADE, DCCP_NO_FLOW; DCCP_NOT_LIVE in DCCP_PHASE_TIMEWAIT. */
+dccp_status dccp_listener_abort(dccp_listener *listener, const dccp_peer *peer, uint64_t now, dccp_frame *frame);
 
 /* Tells a flow the first of its timers that has run out, and names its peer. DCCP_OK, also where that leaves no frame: call it again until it
  * answers DCCP_NOTHING_DUE. DCCP_NOT_MADE: nothing was told, and `peer` is as it was. */
-uint32_t dccp_listener_tick(dccp_listener *listener, uint64_t now, dccp_peer *peer, dccp_frame *frame);
+dccp_status dccp_listener_tick(dccp_listener *listener, uint64_t now, dccp_peer *peer, dccp_frame *frame);
 
 /* How many milliseconds it is until dccp_listener_tick has something to do; DCCP_NEVER where no timer runs. Ask again after other calls. Both
  * go through the timers of all flows: so hear all datagrams that have come, and then ask. */
 uint64_t dccp_listener_until_first(dccp_listener *listener, uint64_t now);
 
 /* Reads the end of a peer. DCCP_OK; DCCP_NOT_MADE, DCCP_NO_FLOW, and `view` is as it was. */
-uint32_t dccp_listener_look(dccp_listener *listener, const dccp_peer *peer, dccp_view *view);
+dccp_status dccp_listener_look(dccp_listener *listener, const dccp_peer *peer, dccp_view *view);
 
 /* Names the peer at this place, from 0, among those that have a flow, in the order of their addresses and ports. DCCP_OK; DCCP_NOT_MADE, or
  * DCCP_NO_FLOW past the last, and `peer` is as it was. */
-uint32_t dccp_listener_peer(dccp_listener *listener, uint16_t place, dccp_peer *peer);
+dccp_status dccp_listener_peer(dccp_listener *listener, uint16_t place, dccp_peer *peer);
+
+/* DCCP_ABI and DCCP_VERSION of the library that was linked: a program whose header has another DCCP_ABI does not fit it. */
+uint32_t dccp_abi(void);
+uint32_t dccp_version(void);
+
+/* What a status means, as words in English: for a log. Of a number that is none, "no status of DCCP". */
+static inline const char *dccp_status_text(dccp_status status) {
+    switch (status) {
+        case DCCP_OK: return "done";
+        case DCCP_NOT_MADE: return "the handle holds no end, or no listener";
+        case DCCP_NO_MEMORY: return "no memory was to be had";
+        case DCCP_NOT_FRESH: return "a server's end, or one that was opened before";
+        case DCCP_NOT_OPEN: return "the connection is not open";
+        case DCCP_TOO_LONG: return "more bytes than a packet may have";
+        case DCCP_NOT_NEGOTIATED: return "the peer sends no Ack Vectors yet";
+        case DCCP_WINDOW_FULL: return "as many packets are in flight as may be";
+        case DCCP_BAD_LIST: return "values that a feature may not have";
+        case DCCP_NOT_OURS: return "a feature that the peer alone sets";
+        case DCCP_NOT_LIVE: return "there is no connection";
+        case DCCP_NO_FEATURE: return "no feature has this number";
+        case DCCP_NOTHING_DUE: return "no timer has anything to do";
+        case DCCP_NO_CONNECTION: return "the datagram opens no connection";
+        case DCCP_BUSY: return "as many connections stand as may";
+        case DCCP_NO_FLOW: return "no connection to this peer";
+        case DCCP_NO_TIMER: return "no timer has this number";
+        case DCCP_NO_NUMBER: return "a first number that is not below 2^48";
+        case DCCP_NO_SUCH_LISTENER: return "no listener is of IPv6, or for so many connections";
+    }
+    return "no status of DCCP";
+}
 
 #ifdef __cplusplus
 }

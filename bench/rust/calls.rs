@@ -8,10 +8,10 @@ use crate::pair::{CLIENT_ADDRESS, Pair, SERVER_ADDRESS};
 use crate::sys::{self, Frame, MOST_FRAME_BYTES};
 use std::time::{Duration, Instant};
 
-/// A datagram that was taken and had no data (`DCCP_TOOK` of `include/dccp.h`).
+/// A datagram that was taken and had no data (`DCCP_TOLD_TOOK` of `include/dccp.h`).
 const TOOK: u32 = 0;
 
-/// One that was dropped (`DCCP_DROPPED`).
+/// One that was dropped (`DCCP_TOLD_DROPPED`).
 const DROPPED: u32 = 2;
 
 /// How many calls stand between two looks at the clock. Their frames lie in the nearest cache.

@@ -53,7 +53,7 @@ code_after code doing None = 1
 code_after code doing (Some s) = code (doing s).answer
 
 -- A call that names a feature or a timer: where there is none of that number, nothing happens, no frame goes out, and the
--- code is 11.
+-- code says so.
 abbrev pub end_if_known : {Name Answer : Type 0} → (Name → CDoing Answer) → Option Name → Option CEnd → Option CEnd
 end_if_known doing None held = held
 end_if_known doing (Some name) held = kept_after (doing name) held
@@ -63,7 +63,7 @@ abbrev pub frame_if_known : {Name Answer : Type 0} → (Name → CDoing Answer) 
 frame_if_known doing None held = nothing_handed
 frame_if_known doing (Some name) held = frame_after (doing name) held
 
--- its code
-abbrev pub code_if_known : {Name Answer : Type 0} → (Answer → ℕ) → (Name → CDoing Answer) → Option Name → Option CEnd → ℕ
-code_if_known code doing None held = 11
-code_if_known code doing (Some name) held = code_after code (doing name) held
+-- its code, where this one says that there is none of that number
+abbrev pub code_if_known : {Name Answer : Type 0} → ℕ → (Answer → ℕ) → (Name → CDoing Answer) → Option Name → Option CEnd → ℕ
+code_if_known unknown code doing None held = unknown
+code_if_known unknown code doing (Some name) held = code_after code (doing name) held

@@ -18,10 +18,10 @@ abbrev pub listening_from : Settings → ℕ → Result Config ℕ → Result Li
 listening_from s most (Ok config) = Ok (listening_at s most config)
 listening_from s most (Err code) = Err code
 
--- A listener has IPv4, and 1 to 1,024 flows at most; else it is refused by 11.
+-- A listener has IPv4, and 1 to 1,024 flows at most; else it is refused by 18.
 abbrev pub listening_by : Settings → List Wish → ℕ → Result ListenConfig ℕ
 listening_by s wishes most =
-    if s.is_v6 then Err 11 else if most == 0 then Err 11 else if nat_lt 1024 most then Err 11
+    if s.is_v6 then Err 18 else if most == 0 then Err 18 else if nat_lt 1024 most then Err 18
     else listening_from s most (configured_by (as_server s) wishes)
 
 -- the listener that was made, where the code says so

@@ -67,9 +67,9 @@ abbrev pub listen_told : CallTold → Told → Told
 listen_told (Stepped (Some (seen.Received outcome))) old = told_outcome outcome
 listen_told _ old = old
 
--- The deed that a datagram is; a first number that is none is refused by 11, and a datagram that is too long by 5.
+-- The deed that a datagram is; a first number that is none is refused by 17, and a datagram that is too long by 5.
 abbrev pub deed_of_datagram : ℕ → List ℕ → Result Deed ℕ
-deed_of_datagram first bytes = if nat_lt first (2 ^ 48) then (if is_short bytes then Ok (Arrives first bytes) else Err 5) else Err 11
+deed_of_datagram first bytes = if nat_lt first (2 ^ 48) then (if is_short bytes then Ok (Arrives first bytes) else Err 5) else Err 17
 
 -- Nothing has happened: the listener is as it was, and no frame is left.
 abbrev pub IsUnserved : Option Served → Option Served → Handed → Type 0

@@ -82,9 +82,9 @@ abbrev pub wished_all : Config → List Wish → Result Config ℕ
 wished_all config [] = Ok config
 wished_all config (w ∷ ws) = unless_refused (λ made. wished_all made ws) (wished config w)
 
--- with all wishes, where there is a configuration at all
+-- with all wishes; a first number that is none is refused by 17
 abbrev pub wished_from : Option Config → List Wish → Result Config ℕ
-wished_from None wishes = Err 11
+wished_from None wishes = Err 17
 wished_from (Some config) wishes = wished_all config wishes
 
 -- the configuration of these settings and wishes, or the code by which they are refused

@@ -11,8 +11,9 @@ ghost use Rattle.dccp_c.specs.Stepping.{c_aborts, c_closes, c_fires, c_opens, c_
 ghost use Rattle.dccp_c.specs.Telling.{hear_code, hear_frame, hear_told, hears_if_short};
 
 use crate::codes::{
-    DONE, NO_CONNECTION, NO_MEMORY, NOT_MADE, NOTHING_DUE, TOO_LONG, UNKNOWN, abort_code,
-    close_code, feature_of, open_code, place_of, send_code, timer_code, timer_of, wish_code,
+    DONE, NO_CONNECTION, NO_FEATURE, NO_MEMORY, NO_TIMER, NOT_MADE, NOTHING_DUE, TOO_LONG,
+    abort_code, close_code, feature_of, open_code, place_of, send_code, timer_code, timer_of,
+    wish_code,
 };
 use crate::due::first_due;
 use crate::end::End;
@@ -26,7 +27,7 @@ use dccp_endpoint::{Config, MOST_FRAME_BYTES};
 use std::alloc::Global;
 
 /// Makes an end, in place of what the handle held, which is freed first. Refused as `Config::set` refuses a wish,
-/// with UNKNOWN where a feature or the first number is none, and with NO_MEMORY; then it holds nothing.
+/// with NO_FEATURE where a wish names none, NO_NUMBER where the first number is none, and NO_MEMORY; then it holds nothing.
 #[unsafe(no_mangle)]
 pub extern "C" fn dccp_make(
     end: &mut End,
@@ -194,7 +195,7 @@ pub extern "C" fn dccp_abort(end: &mut End, alloc: Global, now: u64, frame: &mut
     abort_code(&answer)
 }
 
-/// `Session::prefer`, for the feature of this number at the peer or here. UNKNOWN where there is no such feature.
+/// `Session::prefer`, for the feature of this number at the peer or here. NO_FEATURE where there is none of this number.
 #[unsafe(no_mangle)]
 pub extern "C" fn dccp_prefer(
     end: &mut End,
@@ -207,11 +208,11 @@ pub extern "C" fn dccp_prefer(
 ) -> u32
     ensures end { end_in end.new.kept.value ≡ end_if_known (λ f. c_prefers f (place_by at_peer) values.now now) (feature_numbered feature) (end_in end.old.kept.value) }
     ensures frame { handed_in frame.new ≡ frame_if_known (λ f. c_prefers f (place_by at_peer) values.now now) (feature_numbered feature) (end_in end.old.kept.value) }
-    ensures code { result ≡ code_if_known wish_code (λ f. c_prefers f (place_by at_peer) values.now now) (feature_numbered feature) (end_in end.old.kept.value) }
+    ensures code { result ≡ code_if_known 11 wish_code (λ f. c_prefers f (place_by at_peer) values.now now) (feature_numbered feature) (end_in end.old.kept.value) }
 {
     frame.clear();
     let Some(feature) = feature_of(feature) else {
-        return UNKNOWN;
+        return NO_FEATURE;
     };
     let Some(mut held) = end.take(alloc) else {
         return NOT_MADE;
@@ -222,7 +223,7 @@ pub extern "C" fn dccp_prefer(
     wish_code(&answer)
 }
 
-/// A timer of this number has run out, which the caller keeps. UNKNOWN where there is no such timer, and NOTHING_DUE
+/// A timer of this number has run out, which the caller keeps. NO_TIMER where there is none of this number, and NOTHING_DUE
 /// where it has nothing to do.
 #[unsafe(no_mangle)]
 pub extern "C" fn dccp_timer(
@@ -234,11 +235,11 @@ pub extern "C" fn dccp_timer(
 ) -> u32
     ensures end { end_in end.new.kept.value ≡ end_if_known (λ t. c_fires t now) (timer_coded timer) (end_in end.old.kept.value) }
     ensures frame { handed_in frame.new ≡ frame_if_known (λ t. c_fires t now) (timer_coded timer) (end_in end.old.kept.value) }
-    ensures code { result ≡ code_if_known timer_code (λ t. c_fires t now) (timer_coded timer) (end_in end.old.kept.value) }
+    ensures code { result ≡ code_if_known 16 timer_code (λ t. c_fires t now) (timer_coded timer) (end_in end.old.kept.value) }
 {
     frame.clear();
     let Some(timer) = timer_of(timer) else {
-        return UNKNOWN;
+        return NO_TIMER;
     };
     let Some(mut held) = end.take(alloc) else {
         return NOT_MADE;
@@ -329,7 +330,7 @@ pub extern "C" fn dccp_look(end: &mut End, alloc: Global, view: &mut View) -> u3
     DONE
 }
 
-/// What an end holds for the feature of this number at the peer or here. UNKNOWN where there is no such feature.
+/// What an end holds for the feature of this number at the peer or here. NO_FEATURE where there is none of this number.
 #[unsafe(no_mangle)]
 pub extern "C" fn dccp_feature(
     end: &mut End,
@@ -343,7 +344,7 @@ pub extern "C" fn dccp_feature(
     ensures code { result ≡ feature_code (feature_numbered feature) (end_in end.old.kept.value) }
 {
     let Some(feature) = feature_of(feature) else {
-        return UNKNOWN;
+        return NO_FEATURE;
     };
     let Some(held) = end.take(alloc) else {
         return NOT_MADE;

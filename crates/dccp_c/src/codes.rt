@@ -40,8 +40,8 @@ pub const NOT_OURS: u32 = 9;
 /// There is no connection to abort.
 pub const NOT_LIVE: u32 = 10;
 
-/// There is no such feature, timer or sequence number, or no listener is made so.
-pub const UNKNOWN: u32 = 11;
+/// No feature has this number.
+pub const NO_FEATURE: u32 = 11;
 
 /// The timer has nothing to do, or none has run out.
 pub const NOTHING_DUE: u32 = 12;
@@ -54,6 +54,15 @@ pub const BUSY: u32 = 14;
 
 /// The peer has no flow.
 pub const NO_FLOW: u32 = 15;
+
+/// No timer has this number.
+pub const NO_TIMER: u32 = 16;
+
+/// The number of a first packet is not below 2^48.
+pub const NO_NUMBER: u32 = 17;
+
+/// No listener is of IPv6, or of so many flows.
+pub const NO_SUCH_LISTENER: u32 = 18;
 
 pub(crate) fn open_code(answer: &Result<(), OpenFault>) -> u32
     ensures { result ≡ open_code answer.now }

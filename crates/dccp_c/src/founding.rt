@@ -3,7 +3,7 @@ ghost use Rattle.std.specs.Prelude.{◌≡◌, IfOk};
 ghost use Rattle.dccp_c.specs.Founding.{listening_at, listening_by};
 ghost use Rattle.dccp_listener.specs.Standing.{IsListening};
 
-use crate::codes::UNKNOWN;
+use crate::codes::NO_SUCH_LISTENER;
 use crate::making::{as_server, configured_by, first_four};
 use crate::{Settings, Wish};
 use arrayvec::ArrayVec;
@@ -36,13 +36,13 @@ pub(crate) fn listening_by(
     ensures sound { IfOk result IsListening }
 {
     if settings.is_v6 {
-        return Err(UNKNOWN);
+        return Err(NO_SUCH_LISTENER);
     }
     if most == 0 {
-        return Err(UNKNOWN);
+        return Err(NO_SUCH_LISTENER);
     }
     if 1024 < most {
-        return Err(UNKNOWN);
+        return Err(NO_SUCH_LISTENER);
     }
     let config = configured_by(&as_server(settings), wishes)?;
     Ok(listening_at(settings, most, &config))

@@ -33,6 +33,7 @@ mod readers;
 mod serving;
 mod steps;
 mod told;
+mod version;
 
 pub use crate::end::End;
 pub use crate::frame::Frame;

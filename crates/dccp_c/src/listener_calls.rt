@@ -8,8 +8,8 @@ ghost use Rattle.dccp_c.specs.Founding.{FoundsCode, founded_of, listening_by};
 ghost use Rattle.dccp_c.specs.Listening.{Serves, TellsC, Ticks, deed_of_datagram, due_in, flow_code, flow_in, listen_code, listen_told, listener_waits, peer_in, peer_named, refusal_code, seen_code, served_in};
 
 use crate::codes::{
-    BAD_LIST, BUSY, DONE, NO_FLOW, NO_MEMORY, NOT_FRESH, NOT_LIVE, NOT_MADE, NOT_NEGOTIATED,
-    NOT_OPEN, NOT_OURS, NOTHING_DUE, TOO_LONG, UNKNOWN, WINDOW_FULL, timer_code,
+    BAD_LIST, BUSY, DONE, NO_FLOW, NO_MEMORY, NO_NUMBER, NOT_FRESH, NOT_LIVE, NOT_MADE,
+    NOT_NEGOTIATED, NOT_OPEN, NOT_OURS, NOTHING_DUE, TOO_LONG, WINDOW_FULL, timer_code,
 };
 use crate::founding::listening_by;
 use crate::frame::Frame;
@@ -73,7 +73,7 @@ fn tell_heard(heard: &Heard, told: &mut Told) -> u32
 
 /// Makes a listener, in place of what the handle held, which is freed first. It serves the own address and port of the
 /// settings, by IPv4, and the Service Code; at most `most` flows stand at a time, 1 to 1,024. Refused as `dccp_make`
-/// is, and with UNKNOWN for IPv6 and for another `most`; then it holds nothing.
+/// is, and with NO_SUCH_LISTENER for IPv6 and for another `most`; then it holds nothing.
 #[unsafe(no_mangle)]
 pub extern "C" fn dccp_listener_make(
     listener: &mut ListenerHandle,
@@ -107,7 +107,7 @@ pub extern "C" fn dccp_listener_free(listener: &mut ListenerHandle, alloc: Globa
     listener.clear(alloc);
 }
 
-/// `Listener::arrive`, and the timers of the peer's flow go on. BUSY where it answers Busy. UNKNOWN where the first
+/// `Listener::arrive`, and the timers of the peer's flow go on. BUSY where it answers Busy. NO_NUMBER where the first
 /// number is none and TOO_LONG where the datagram is; then nothing changes, nor with NO_MEMORY or NOT_MADE. C is told
 /// of the datagram where the answer is DONE alone.
 #[unsafe(no_mangle)]
@@ -126,7 +126,7 @@ pub extern "C" fn dccp_listener_arrive(
 {
     frame.clear();
     let Some(iss) = Seq48::new(first_number) else {
-        return UNKNOWN;
+        return NO_NUMBER;
     };
     if MOST_FRAME_BYTES < datagram.len() {
         return TOO_LONG;

@@ -4,7 +4,7 @@ ghost use Rattle.feature_lists.specs.Wishes.{wish_of};
 ghost use Rattle.dccp_c.specs.Accepting.{as_server};
 ghost use Rattle.dccp_c.specs.Making.{configured_by, first_four, pseudo_of, config_by, offered_so, wished, wished_all, wished_list, wished_so};
 
-use crate::codes::{BAD_LIST, NOT_OURS, UNKNOWN, feature_of, place_of, wish_code};
+use crate::codes::{BAD_LIST, NO_FEATURE, NO_NUMBER, NOT_OURS, feature_of, place_of, wish_code};
 use dccp_endpoint::{Config, Feature, Place, Ports, Pseudo, Seq48};
 
 /// Whose end it is, and between which addresses and ports.
@@ -134,7 +134,7 @@ fn wished(config: Config, wish: &Wish) -> Result<Config, u32>
 {
     match feature_of(wish.feature) {
         Some(feature) => wished_list(config, wish, feature, place_of(wish.at_peer)),
-        None => Err(UNKNOWN),
+        None => Err(NO_FEATURE),
     }
 }
 
@@ -164,7 +164,7 @@ pub(crate) fn configured_by(settings: &Settings, wishes: &[Wish]) -> Result<Conf
     ensures { result ≡ configured_by settings.now wishes.now }
 {
     let Some(config) = settled(settings) else {
-        return Err(UNKNOWN);
+        return Err(NO_NUMBER);
     };
     wished_all(config, wishes)
 }

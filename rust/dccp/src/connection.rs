@@ -352,12 +352,12 @@ impl Connection {
     fn hear(&mut self, told: &sys::Told, datagram: &[u8], was: Phase) {
         let has_closed = was != Phase::Closed && self.phase() == Phase::Closed;
         match told.kind {
-            sys::DATA => {
+            sys::TOLD_DATA => {
                 let data = datagram[told.first..told.past].to_vec();
                 self.events.push_back(Event::Data(data));
             }
-            sys::WAS_RESET => self.ended(told.code),
-            sys::SENT_RESET if has_closed => self.ended(told.code),
+            sys::TOLD_WAS_RESET => self.ended(told.code),
+            sys::TOLD_SENT_RESET if has_closed => self.ended(told.code),
             _ => {}
         }
     }
@@ -383,7 +383,7 @@ impl Connection {
 
 /// Whether a frame answers a datagram as anybody may call it forth.
 fn is_answer(told: &sys::Told) -> bool {
-    matches!(told.kind, sys::SYNCED | sys::SENT_RESET)
+    matches!(told.kind, sys::TOLD_SYNCED | sys::TOLD_SENT_RESET)
 }
 
 /// Keeps the frame that a call has left, if any, and answers the call's status.

@@ -91,19 +91,19 @@ impl Listener {
     ) -> Result<(), ArriveError> {
         let (was, time) = (self.phase(peer), self.time(now));
         let (status, frame, told) = self.flows.arrive(peer, first_number, datagram, time);
-        let is_answer = status == sys::BUSY || matches!(told.kind, sys::SYNCED | sys::SENT_RESET);
+        let is_answer = status == sys::BUSY || matches!(told.kind, sys::TOLD_SYNCED | sys::TOLD_SENT_RESET);
         queue(&mut self.frames, peer, frame, is_answer);
         let is = self.phase(peer);
         if was.is_none() && is.is_some() {
             self.accepted.push_back(peer);
         }
         let has_ended = match told.kind {
-            sys::WAS_RESET => was != Some(Phase::TimeWait),
-            sys::SENT_RESET => was.is_some() && is.is_none(),
+            sys::TOLD_WAS_RESET => was != Some(Phase::TimeWait),
+            sys::TOLD_SENT_RESET => was.is_some() && is.is_none(),
             _ => false,
         };
         let event = match told.kind {
-            sys::DATA => Some(Event::Data(datagram[told.first..told.past].to_vec())),
+            sys::TOLD_DATA => Some(Event::Data(datagram[told.first..told.past].to_vec())),
             _ if has_ended => Some(Event::Ended { code: told.code }),
             _ => None,
         };

@@ -49,7 +49,7 @@ impl Phase {
 pub enum Feature {
     /// 2 and 248.
     Ccid = 1,
-    /// 0.
+    /// 0 and 1.
     ShortSeqnos = 2,
     /// One value, 32 to 2^46 - 1, in packets.
     SequenceWindow = 3,
@@ -135,7 +135,7 @@ refusals! {
         /// No memory was to be had.
         NoMemory = NO_MEMORY, "no memory for an end";
         /// The first number is not below 2^48.
-        FirstNumber = UNKNOWN, "the first number is not below 2^48";
+        FirstNumber = NO_NUMBER, "the first number is not below 2^48";
         /// The values of a wish are none, over eight, twice the same, not permitted, or not just one where one is due.
         BadList = BAD_LIST, "values that a feature may not have";
         /// A wish for Sequence Window or Ack Ratio of the peer, which it alone sets.
@@ -198,9 +198,11 @@ refusals! {
     ListenError {
         /// No memory was to be had.
         NoMemory = NO_MEMORY, "no memory for a listener";
-        /// The flows at a time are not 1 to 1,024, or the configuration is not a [`Config::listener`](crate::Config::listener):
-        /// it is of IPv6, or its first number is not below 2^48.
-        Limit = UNKNOWN, "not 1 to 1,024 flows, or not the configuration of a listener";
+        /// The flows at a time are not 1 to 1,024, or the configuration is of IPv6, and so not a
+        /// [`Config::listener`](crate::Config::listener).
+        Limit = NO_SUCH_LISTENER, "not 1 to 1,024 flows, or not the configuration of a listener";
+        /// The first number is not below 2^48.
+        FirstNumber = NO_NUMBER, "the first number is not below 2^48";
         /// The values of a wish are none, over eight, twice the same, not permitted, or not just one where one is due.
         BadList = BAD_LIST, "values that a feature may not have";
         /// A wish for Sequence Window or Ack Ratio of the peer, which it alone sets.
@@ -216,7 +218,7 @@ refusals! {
         /// No memory was to be had for a flow.
         NoMemory = NO_MEMORY, "no memory for a connection";
         /// The first number is not below 2^48.
-        FirstNumber = UNKNOWN, "the first number is not below 2^48";
+        FirstNumber = NO_NUMBER, "the first number is not below 2^48";
         /// It has more than 2,044 bytes.
         TooLong = TOO_LONG, "a datagram of more than 2,044 bytes";
     }

@@ -99,15 +99,16 @@ pub const WINDOW_FULL: u32 = 7;
 pub const BAD_LIST: u32 = 8;
 pub const NOT_OURS: u32 = 9;
 pub const NOT_LIVE: u32 = 10;
-pub const UNKNOWN: u32 = 11;
 pub const NO_CONNECTION: u32 = 13;
 pub const BUSY: u32 = 14;
 pub const NO_FLOW: u32 = 15;
+pub const NO_NUMBER: u32 = 17;
+pub const NO_SUCH_LISTENER: u32 = 18;
 
-pub const DATA: u32 = 1;
-pub const SYNCED: u32 = 3;
-pub const WAS_RESET: u32 = 4;
-pub const SENT_RESET: u32 = 5;
+pub const TOLD_DATA: u32 = 1;
+pub const TOLD_SYNCED: u32 = 3;
+pub const TOLD_WAS_RESET: u32 = 4;
+pub const TOLD_SENT_RESET: u32 = 5;
 
 const _: () = assert!(size_of::<End>() == 16 && std::mem::offset_of!(End, is_made) == 8);
 const _: () = assert!(size_of::<ListenerHandle>() == 16);
