@@ -89,6 +89,7 @@ fn take_news(server: &mut Listener, peers: &mut Peers, now: Instant) {
                 }
             }
             Event::Ended { .. } => drop(peers.remove(&address)),
+            _ => {}
         }
     }
 }

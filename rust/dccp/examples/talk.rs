@@ -118,7 +118,7 @@ fn serve(port: u16) -> Result<(Connection, Wire), Box<dyn Error>> {
                 // One that the socket does not take is lost.
                 let _ = wire.socket.send_to(&answer.bytes, peer);
             }
-            Accepted::Answer(_) | Accepted::Nothing => {}
+            _ => {}
         }
     }
 }
@@ -154,6 +154,7 @@ impl Talk {
             match event {
                 Event::Data(_) => (self.got, self.heard) = (self.got + 1, Some(Instant::now())),
                 Event::Ended { code } => self.ended = Some((code, Instant::now())),
+                _ => {}
             }
         }
         while let Some(frame) = connection.poll_transmit() {

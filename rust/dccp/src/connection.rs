@@ -10,6 +10,7 @@ use std::time::{Duration, Instant};
 
 /// A frame for the peer: the bytes of one DCCP packet, from the generic header on.
 #[derive(Clone, Debug, PartialEq, Eq)]
+#[non_exhaustive]
 pub struct Transmit {
     /// At most 2,044 bytes.
     pub bytes: Vec<u8>,
@@ -20,6 +21,7 @@ pub struct Transmit {
 
 /// What the owner of a connection is told.
 #[derive(Clone, Debug, PartialEq, Eq)]
+#[non_exhaustive]
 pub enum Event {
     /// Data came, of one packet, maybe none. No packet's data come twice.
     Data(Vec<u8>),
@@ -33,6 +35,7 @@ pub enum Event {
 
 /// What a server makes of a datagram from a peer that it does not know.
 #[derive(Debug)]
+#[non_exhaustive]
 pub enum Accepted {
     /// It is a Request: this is the connection, and its answer waits in [`Connection::poll_transmit`]. Where one of its options is a
     /// fault, the connection has ended already, and its phase is [`Phase::Closed`].
@@ -340,6 +343,21 @@ impl Connection {
     /// How many data packets are in flight.
     pub fn in_flight(&self) -> u32 {
         self.view.in_flight
+    }
+
+    /// How many packets were taken as new: a sign of the peer's life.
+    pub(crate) fn taken(&self) -> u64 {
+        self.view.marked
+    }
+
+    /// Whether frames wait for the peer.
+    pub(crate) fn has_frames(&self) -> bool {
+        !self.frames.is_empty()
+    }
+
+    /// All frames that wait for the peer.
+    pub(crate) fn take_frames(&mut self) -> impl Iterator<Item = Transmit> + '_ {
+        self.frames.drain(..)
     }
 
     /// The time as the end counts it.

@@ -48,6 +48,7 @@ mod endpoint;
 mod flows;
 mod listener;
 mod names;
+pub mod net;
 mod sys;
 
 pub use crate::config::Config;
@@ -58,6 +59,9 @@ pub use crate::names::{
     AbortError, ArriveError, CloseError, Feature, FlowError, Held, ListenError, MakeError,
     OpenError, Phase, Place, PreferError, SendError,
 };
+
+/// The most data of one packet.
+pub const MOST_DATA_BYTES: usize = sys::MOST_DATA_BYTES;
 
 /// The longest frame, and the longest datagram that is taken.
 pub const MOST_FRAME_BYTES: usize = sys::MOST_FRAME_BYTES;

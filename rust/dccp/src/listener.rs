@@ -91,7 +91,8 @@ impl Listener {
     ) -> Result<(), ArriveError> {
         let (was, time) = (self.phase(peer), self.time(now));
         let (status, frame, told) = self.flows.arrive(peer, first_number, datagram, time);
-        let is_answer = status == sys::BUSY || matches!(told.kind, sys::TOLD_SYNCED | sys::TOLD_SENT_RESET);
+        let is_answer =
+            status == sys::BUSY || matches!(told.kind, sys::TOLD_SYNCED | sys::TOLD_SENT_RESET);
         queue(&mut self.frames, peer, frame, is_answer);
         let is = self.phase(peer);
         if was.is_none() && is.is_some() {

@@ -6,6 +6,7 @@ use std::fmt;
 
 /// Where a connection stands (RFC 4340, section 8.4).
 #[derive(Clone, Copy, Debug, PartialEq, Eq)]
+#[non_exhaustive]
 pub enum Phase {
     /// It has ended, or a client has not asked yet.
     Closed,
@@ -46,6 +47,7 @@ impl Phase {
 
 /// A feature (RFC 4340, section 6.4), with the values that may be wished for.
 #[derive(Clone, Copy, Debug, PartialEq, Eq)]
+#[non_exhaustive]
 pub enum Feature {
     /// 2 and 248.
     Ccid = 1,
@@ -84,6 +86,7 @@ impl Place {
 
 /// What an end holds for a feature.
 #[derive(Clone, Copy, Debug, PartialEq, Eq)]
+#[non_exhaustive]
 pub struct Held {
     /// The value that holds.
     pub value: u64,
@@ -105,6 +108,7 @@ macro_rules! refusals {
     ($(#[$head:meta])* $name:ident { $($(#[$doc:meta])* $variant:ident = $status:ident, $said:literal;)+ }) => {
         $(#[$head])*
         #[derive(Clone, Copy, Debug, PartialEq, Eq)]
+        #[non_exhaustive]
         pub enum $name {
             $($(#[$doc])* $variant,)+
         }

@@ -87,6 +87,7 @@ pub struct FeatureState {
 }
 
 pub const MOST_FRAME_BYTES: usize = 2044;
+pub const MOST_DATA_BYTES: usize = 1024;
 pub const NEVER: u64 = u64::MAX;
 
 pub const DONE: u32 = 0;

@@ -69,6 +69,7 @@ fn events(connection: &mut Connection, data: &mut Vec<Vec<u8>>) -> Option<u8> {
         match event {
             Event::Data(bytes) => data.push(bytes),
             Event::Ended { code } => ended = Some(code),
+            other => panic!("{other:?}"),
         }
     }
     ended

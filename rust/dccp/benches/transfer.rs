@@ -1,6 +1,6 @@
 //! Ten megabytes over UDP on this machine, from one thread to another: by a connection, and by plain datagrams beside it.
 //!
-//!     cargo run --release --example transfer
+//!     cargo bench --bench transfer
 //!
 //! A line each says how many packets of 1,024 bytes came of 10,240, in how many seconds, and how many megabytes a second that is.
 //! What is lost stays lost. The plain datagrams are as many in flight as a connection may have, and each is answered.
@@ -86,6 +86,7 @@ fn serve(socket: UdpSocket, last: Instant) -> Answer<u32> {
             match event {
                 Event::Data(data) => got += u32::from(data.len() == BYTES),
                 Event::Ended { .. } => return Ok(got),
+                _ => {}
             }
         }
         step(&mut connection, &socket, &mut room, last)?;

@@ -1,0 +1,192 @@
+//! Packets of 1,024 bytes over UDP on this machine, from one thread to another: over plain datagrams that are answered as often, over
+//! sockets of `dccp::net` one by one, and in batches.
+//!
+//!     cargo bench --bench sockets
+//!
+//! Each way is taken nine times by turns, and its best time counts. A line each says how many packets a second came, the ratio to plain
+//! datagrams, and on Linux how much of a processor a packet took, both ends together. Then what 10,000 packets a second take of one.
+
+use dccp::MOST_DATA_BYTES;
+use dccp::net::{Listener, Options, Socket};
+use std::error::Error;
+use std::fs;
+use std::io;
+use std::net::UdpSocket;
+use std::thread;
+use std::time::{Duration, Instant};
+
+const PACKETS: u32 = 40_000;
+const BATCH: usize = 64;
+const ROUNDS: u32 = 9;
+/// As many plain datagrams are in flight, and every second one is answered: as an Ack Ratio of 2 has it.
+const IN_FLIGHT: u32 = 128;
+const PATIENCE: Duration = Duration::from_secs(1);
+
+type Answer<T> = Result<T, Box<dyn Error + Send + Sync>>;
+
+/// Packets that came, a second.
+fn rate(came: u32, took: Duration) -> f64 {
+    f64::from(came) / took.as_secs_f64()
+}
+
+fn answer_every_second(socket: &UdpSocket) -> io::Result<u32> {
+    let (mut room, mut came) = ([0; 2_048], 0);
+    while let Ok(length) = socket.recv(&mut room) {
+        came += u32::from(length == MOST_DATA_BYTES);
+        if length != MOST_DATA_BYTES {
+            break;
+        }
+        if came % 2 == 0 {
+            socket.send(&room[..1])?;
+        }
+    }
+    Ok(came)
+}
+
+fn plain() -> Answer<f64> {
+    let (here, there) = (
+        UdpSocket::bind("127.0.0.1:0")?,
+        UdpSocket::bind("127.0.0.1:0")?,
+    );
+    here.connect(there.local_addr()?)?;
+    there.connect(here.local_addr()?)?;
+    here.set_read_timeout(Some(PATIENCE))?;
+    there.set_read_timeout(Some(PATIENCE))?;
+    let begun = Instant::now();
+    let receiver = thread::spawn(move || answer_every_second(&there));
+    let (packet, mut room, mut answered) = ([7; MOST_DATA_BYTES], [0; 16], 0);
+    for sent in 0..PACKETS {
+        while IN_FLIGHT <= sent - answered {
+            here.recv(&mut room)?;
+            answered += 2;
+        }
+        here.send(&packet)?;
+    }
+    here.send(&[0])?;
+    let came = receiver.join().map_err(|_| "the receiver panicked")??;
+    Ok(rate(came, begun.elapsed()))
+}
+
+/// A client and a server's end of a connection.
+fn pair() -> Answer<(Socket, Socket)> {
+    let listener = Listener::bind("127.0.0.1:0", &[42])?;
+    let client = Options::new().connect(listener.local_addr()?, 42)?;
+    client.send(b"first")?;
+    let server = listener.accept()?;
+    server.recv()?;
+    Ok((client, server))
+}
+
+/// Packets a second that come where a client sends so, and a server takes so what comes.
+fn between(
+    send: impl FnOnce(&Socket) -> Answer<()>,
+    mut take: impl FnMut(&Socket) -> Answer<u32> + Send + 'static,
+) -> Answer<f64> {
+    let (client, server) = pair()?;
+    let begun = Instant::now();
+    let receiver = thread::spawn(move || {
+        let (mut came, mut last) = (0, begun);
+        while let Ok(more) = take(&server) {
+            (came, last) = (came + more, Instant::now());
+        }
+        (came, last)
+    });
+    send(&client)?;
+    client.close(Duration::from_secs(10))?;
+    let (came, last) = receiver.join().map_err(|_| "the receiver panicked")?;
+    Ok(rate(came, last - begun))
+}
+
+fn one_by_one() -> Answer<f64> {
+    let packet = [7; MOST_DATA_BYTES];
+    between(
+        move |client| Ok((0..PACKETS).try_for_each(|_| client.send(&packet))?),
+        |server| Ok(server.recv().map(|_| 1)?),
+    )
+}
+
+fn in_batches() -> Answer<f64> {
+    let mut found = Vec::new();
+    between(
+        |client| {
+            let packets = [[7; MOST_DATA_BYTES]; BATCH];
+            let mut left = PACKETS as usize;
+            while left != 0 {
+                left -= client.send_batch(&packets[..left.min(BATCH)])?;
+            }
+            Ok(())
+        },
+        move |server| {
+            found.clear();
+            Ok(server.recv_batch(&mut found)? as u32)
+        },
+    )
+}
+
+/// The seconds of processor that this process has taken, by /proc: at 100 ticks a second, as Linux tells them.
+fn processor() -> Option<f64> {
+    let text = fs::read_to_string("/proc/self/stat").ok()?;
+    let fields: Vec<&str> = text.rsplit_once(')')?.1.split_whitespace().collect();
+    let ticks = fields.get(11..13)?.iter().map(|it| it.parse::<f64>());
+    Some(ticks.sum::<Result<f64, _>>().ok()? / 100.0)
+}
+
+/// Which share of a processor 10,000 packets a second take.
+fn at_ten_thousand() -> Answer<Option<f64>> {
+    let (client, server) = pair()?;
+    let receiver = thread::spawn(move || {
+        let mut found = Vec::new();
+        while server.recv_batch(&mut found).is_ok() {
+            found.clear();
+        }
+    });
+    let (begun, before) = (Instant::now(), processor());
+    let packets = [[7; MOST_DATA_BYTES]; 100];
+    for turn in 1..=300 {
+        let mut sent = 0;
+        while sent < packets.len() {
+            sent += client.send_batch(&packets[sent..])?;
+        }
+        thread::sleep(
+            (begun + Duration::from_millis(10) * turn).saturating_duration_since(Instant::now()),
+        );
+    }
+    let took = begun.elapsed().as_secs_f64();
+    let share = processor()
+        .zip(before)
+        .map(|(after, before)| (after - before) / took);
+    client.close(Duration::from_secs(10))?;
+    receiver.join().map_err(|_| "the receiver panicked")?;
+    Ok(share)
+}
+
+fn main() -> Answer<()> {
+    let ways = [
+        ("plain datagrams", plain as fn() -> Answer<f64>),
+        ("sockets", one_by_one),
+        ("sockets in batches", in_batches),
+    ];
+    let (mut best, mut took) = ([0_f64; 3], [0_f64; 3]);
+    for _ in 0..ROUNDS {
+        for (place, (_, way)) in ways.iter().enumerate() {
+            let before = processor().unwrap_or(0.0);
+            best[place] = best[place].max(way()?);
+            took[place] += processor().unwrap_or(0.0) - before;
+        }
+    }
+    for (place, (name, _)) in ways.iter().enumerate() {
+        let ratio = best[place] / best[0];
+        let microseconds = took[place] * 1e6 / f64::from(ROUNDS * PACKETS);
+        println!(
+            "{name}: {:.0} packets a second, {ratio:.2} of plain; {microseconds:.2} µs of a processor a packet",
+            best[place]
+        );
+    }
+    if let Some(share) = at_ten_thousand()? {
+        println!(
+            "10,000 packets a second: {:.1} % of a processor",
+            100.0 * share
+        );
+    }
+    Ok(())
+}

@@ -1,0 +1,108 @@
+//! A relay that loses and delays datagrams, and gives each client another port, as routers do.
+//!
+//!     cargo run --example relay -- PORT SERVER_PORT DELAY_MS LOSS_PERCENT
+//!
+//! What is lost is drawn from a generator with a seed of its own, so two runs lose alike. It runs until it is stopped.
+
+use std::cmp::Reverse;
+use std::collections::{BinaryHeap, HashMap};
+use std::error::Error;
+use std::net::{Ipv4Addr, SocketAddr, UdpSocket};
+use std::time::{Duration, Instant};
+
+/// A datagram that is under way: when it comes out, its number, over which client's socket, whether to the server, and its bytes.
+type Way = Reverse<(Instant, u64, SocketAddr, bool, Vec<u8>)>;
+
+struct Relay {
+    front: UdpSocket,
+    server: SocketAddr,
+    clients: HashMap<SocketAddr, UdpSocket>,
+    under_way: BinaryHeap<Way>,
+    delay: Duration,
+    loss: u64,
+    drawn: u64,
+    count: u64,
+}
+
+impl Relay {
+    /// Takes a datagram, unless it is lost.
+    fn take(&mut self, client: SocketAddr, to_server: bool, bytes: &[u8]) {
+        // The generator of Knuth, MMIX; its upper bits are taken.
+        self.drawn = self
+            .drawn
+            .wrapping_mul(6_364_136_223_846_793_005)
+            .wrapping_add(1_442_695_040_888_963_407);
+        self.count += 1;
+        if self.loss <= (self.drawn >> 33) % 100 {
+            let way = (
+                Instant::now() + self.delay,
+                self.count,
+                client,
+                to_server,
+                bytes.to_vec(),
+            );
+            self.under_way.push(Reverse(way));
+        }
+    }
+
+    /// Takes all that has come, waiting for a millisecond at most.
+    fn hear(&mut self) -> Result<(), Box<dyn Error>> {
+        let mut room = [0; 2_048];
+        while let Ok((length, client)) = self.front.recv_from(&mut room) {
+            if !self.clients.contains_key(&client) {
+                let own = UdpSocket::bind((Ipv4Addr::LOCALHOST, 0))?;
+                own.connect(self.server)?;
+                own.set_nonblocking(true)?;
+                self.clients.insert(client, own);
+            }
+            self.take(client, true, &room[..length]);
+        }
+        let clients: Vec<SocketAddr> = self.clients.keys().copied().collect();
+        for client in clients {
+            while let Ok(length) = self.clients[&client].recv(&mut room) {
+                self.take(client, false, &room[..length]);
+            }
+        }
+        Ok(())
+    }
+
+    /// Sends what has been under way for long enough. One that the system does not take is lost.
+    fn hand_over(&mut self) {
+        let now = Instant::now();
+        while self.under_way.peek().is_some_and(|it| it.0.0 <= now) {
+            let Some(Reverse((_, _, client, to_server, bytes))) = self.under_way.pop() else {
+                break;
+            };
+            let _ = match to_server {
+                true => self.clients[&client].send(&bytes),
+                false => self.front.send_to(&bytes, client),
+            };
+        }
+    }
+}
+
+fn main() -> Result<(), Box<dyn Error>> {
+    let words: Vec<u64> = std::env::args()
+        .skip(1)
+        .map(|it| it.parse())
+        .collect::<Result<_, _>>()?;
+    let [port, server_port, delay, loss] = words[..] else {
+        return Err("relay PORT SERVER_PORT DELAY_MS LOSS_PERCENT".into());
+    };
+    let front = UdpSocket::bind((Ipv4Addr::LOCALHOST, u16::try_from(port)?))?;
+    front.set_read_timeout(Some(Duration::from_millis(1)))?;
+    let mut relay = Relay {
+        front,
+        server: (Ipv4Addr::LOCALHOST, u16::try_from(server_port)?).into(),
+        clients: HashMap::new(),
+        under_way: BinaryHeap::new(),
+        delay: Duration::from_millis(delay),
+        loss,
+        drawn: 1,
+        count: 0,
+    };
+    loop {
+        relay.hear()?;
+        relay.hand_over();
+    }
+}

@@ -1,0 +1,63 @@
+//! Voice both ways: 160 bytes each 20 ms. What finds no room is dropped, since it would come too late, and what comes is played 60 ms
+//! after it was said, or not at all.
+//!
+//!     cargo run --example voice -- server ADDRESS:PORT SECONDS
+//!     cargo run --example voice -- client ADDRESS:PORT SECONDS
+//!
+//! Last comes a line: what share of the other's packets was played, and the longest silence. Both run CCID 248, a fixed window of eight
+//! packets: over CCID 2 a few losses halve the window, and voice that waits is late. The ends agree on names, so a relay may be between.
+
+use dccp::net::{Error, Options, Socket};
+use dccp::{Feature, Place};
+use std::time::{Duration, Instant};
+
+const FRAME: Duration = Duration::from_millis(20);
+/// How long the first packet waits to be played: packets may come by so much later than it did.
+const JITTER: Duration = Duration::from_millis(60);
+
+/// Speaks and plays for so many packets. It answers how many were played, and the longest silence.
+fn talk(socket: &Socket, packets: u32) -> Result<(u32, Duration), Error> {
+    let (begun, mut first) = (Instant::now(), None);
+    let (mut played, mut last, mut silence) = (0, begun, Duration::ZERO);
+    for number in 0..packets {
+        let mut packet = [0; 160];
+        packet[..4].copy_from_slice(&number.to_be_bytes());
+        match socket.try_send(&packet) {
+            Ok(()) | Err(Error::WouldBlock) => {}
+            Err(fault) => return Err(fault),
+        }
+        let next = begun + FRAME * (number + 1);
+        while let Ok(data) = socket.recv_timeout(next.saturating_duration_since(Instant::now())) {
+            let now = Instant::now();
+            let said = FRAME * u32::from_be_bytes(data[..4].try_into().unwrap_or_default());
+            let start = *first.get_or_insert(now - said);
+            if now <= start + said + JITTER {
+                (played, silence, last) = (played + 1, silence.max(now - last), now);
+            }
+        }
+    }
+    Ok((played, silence))
+}
+
+fn main() -> Result<(), Box<dyn std::error::Error>> {
+    let words: Vec<String> = std::env::args().skip(1).collect();
+    let [side, address, seconds] = &words[..] else {
+        return Err("voice SIDE ADDRESS:PORT SECONDS".into());
+    };
+    let options = Options::new()
+        .names("192.0.2.1:1".parse()?, "192.0.2.2:2".parse()?)
+        .offer(Feature::Ccid, Place::Here, &[248]);
+    let socket = match side.as_str() {
+        "server" => options.bind(address, &[42])?.accept()?,
+        _ => options.connect(address, 42)?,
+    };
+    let packets = 50 * seconds.parse::<u32>()?;
+    let (played, silence) = talk(&socket, packets)?;
+    let share = 100 * played / packets;
+    println!(
+        "{side} played {share} of 100, longest silence {} ms",
+        silence.as_millis()
+    );
+    socket.close(Duration::from_secs(5))?;
+    Ok(())
+}

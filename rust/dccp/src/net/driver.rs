@@ -1,0 +1,219 @@
+//! The thread that hears for connections, and keeps their time.
+
+use super::agenda::Agenda;
+use super::line::{Limit, Line};
+use super::listener::Door;
+use super::options::Options;
+use super::random::Random;
+use super::wire::{Batch, Wire};
+use super::{Error, Socket};
+use crate::{Accepted, Connection, Phase, Transmit};
+use std::collections::HashMap;
+use std::io;
+use std::net::{IpAddr, SocketAddr};
+use std::sync::Arc;
+use std::thread;
+use std::time::Instant;
+
+/// How many Resets answer datagrams of no connection in a second (RFC 4340, section 8.3.1; the number is own).
+const STRANGERS: u32 = 100;
+
+/// What of a listener its driver needs for peers without a connection.
+pub(super) struct Reception {
+    pub(super) door: Arc<Door>,
+    pub(super) options: Options,
+    pub(super) services: Vec<u32>,
+    pub(super) random: Random,
+    pub(super) answers: Limit,
+}
+
+impl Reception {
+    pub(super) fn new(options: &Options, services: &[u32]) -> io::Result<Reception> {
+        Ok(Reception {
+            door: Arc::new(Door::new()),
+            options: options.clone(),
+            services: services.to_vec(),
+            random: Random::new()?,
+            answers: Limit::new(STRANGERS, Instant::now()),
+        })
+    }
+}
+
+/// The connections over one wire.
+pub(super) struct Driver {
+    wire: Arc<Wire>,
+    agenda: Arc<Agenda>,
+    lines: HashMap<SocketAddr, Arc<Line>>,
+    reception: Option<Reception>,
+}
+
+/// An address of IPv4 as itself, also where the system spells it as one of IPv6.
+fn plain(address: SocketAddr) -> SocketAddr {
+    SocketAddr::new(address.ip().to_canonical(), address.port())
+}
+
+/// The Service Code that a Request asks for (RFC 4340, section 5.1): after the generic header with its long number.
+fn asked_service(datagram: &[u8]) -> Option<u32> {
+    let is_request = datagram.get(8).is_some_and(|it| (it >> 1) & 15 == 0);
+    let bytes = datagram.get(16..20)?.try_into().ok()?;
+    is_request.then(|| u32::from_be_bytes(bytes))
+}
+
+impl Driver {
+    /// Over a wire with the one connection of a client, or that of a listener.
+    pub(super) fn new(
+        wire: Arc<Wire>,
+        agenda: Arc<Agenda>,
+        reception: Option<Reception>,
+    ) -> Driver {
+        Driver {
+            wire,
+            agenda,
+            lines: HashMap::new(),
+            reception,
+        }
+    }
+
+    pub(super) fn add(&mut self, line: Arc<Line>) {
+        self.lines.insert(line.peer(), line);
+    }
+
+    /// Begins its thread, which ends once there is no connection and no listener any more.
+    pub(super) fn start(self, name: &str) -> io::Result<()> {
+        thread::Builder::new()
+            .name(name.into())
+            .spawn(|| self.run())
+            .map(drop)
+    }
+
+    fn run(mut self) {
+        let mut batch = Batch::new();
+        while !self.is_over() {
+            let wait = self.agenda.begin_sleep(Instant::now());
+            let heard = self.wire.receive(&mut batch, wait);
+            self.agenda.end_sleep();
+            if let Err(fault) = heard {
+                self.fail(fault);
+                return;
+            }
+            self.hear(&batch);
+            self.fire();
+            if !batch.heard.is_empty() {
+                // Whoever sends or reads comes first: then more is heard at once.
+                thread::yield_now();
+            }
+        }
+    }
+
+    fn is_over(&self) -> bool {
+        let is_open = self.reception.as_ref().is_some_and(|it| it.door.is_open());
+        self.lines.is_empty() && !is_open
+    }
+
+    fn fail(&self, fault: io::Error) {
+        self.lines.values().for_each(|line| line.fail());
+        if let Some(reception) = &self.reception {
+            reception.door.fail(fault);
+        }
+    }
+
+    fn hear(&mut self, batch: &Batch) {
+        let datagrams = batch.datagrams();
+        for some in datagrams.chunk_by(|one, next| one.0 == next.0) {
+            let (peer, first) = some[0];
+            let known = self.lines.get(&peer).map(Arc::clone);
+            // One that has ended stands in no way of a new Request.
+            match known.filter(|it| asked_service(first).is_none() || it.end().is_none()) {
+                Some(line) => {
+                    line.hear(some);
+                    self.announce(&line);
+                }
+                None => some.iter().for_each(|(_, it)| self.meet(peer, it)),
+            }
+        }
+    }
+
+    /// Hears a datagram of a peer without a connection. What it would answer itself is passed over; of a client there is none.
+    fn meet(&mut self, peer: SocketAddr, datagram: &[u8]) {
+        if let Some(line) = self.lines.get(&peer).filter(|it| it.end().is_none()) {
+            return line.hear(&[(peer, datagram)]);
+        }
+        let Some(reception) = &mut self.reception else {
+            return;
+        };
+        let asked = asked_service(datagram);
+        let has_place =
+            reception.door.is_open() && self.lines.len() < reception.options.most_connections;
+        if !has_place || (asked.is_none() && !reception.answers.may(Instant::now())) {
+            return;
+        }
+        // Where the system gives no number, or no address, the peer asks again.
+        let Ok(accepted) = accept(reception, &self.wire, peer, asked, datagram) else {
+            return;
+        };
+        match accepted {
+            Accepted::Connection(connection) if connection.phase() != Phase::Closed => {
+                let line = Line::new(
+                    *connection,
+                    peer,
+                    &self.wire,
+                    &self.agenda,
+                    &reception.options,
+                );
+                line.begin();
+                self.lines.insert(peer, line);
+            }
+            Accepted::Connection(mut connection) => {
+                let frames: Vec<Transmit> = connection.take_frames().collect();
+                self.wire.send(peer, &frames);
+            }
+            Accepted::Answer(frame) => self.wire.send(peer, &[frame]),
+            Accepted::Nothing => {}
+        }
+    }
+
+    /// Gives a connection that is open for the first time to the listener's owner.
+    fn announce(&self, line: &Arc<Line>) {
+        if let Some(reception) = &self.reception
+            && line.opens()
+        {
+            reception.door.enter(Socket::of(Arc::clone(line)));
+        }
+    }
+
+    fn fire(&mut self) {
+        let now = Instant::now();
+        while let Some(peer) = self.agenda.next_due(now) {
+            let Some(line) = self.lines.get(&peer) else {
+                continue;
+            };
+            line.fire();
+            if line.is_over() {
+                self.lines.remove(&peer);
+            }
+        }
+    }
+}
+
+/// What the listener makes of a datagram of this peer, which asks for this service, or for none.
+fn accept(
+    reception: &mut Reception,
+    wire: &Wire,
+    peer: SocketAddr,
+    asked: Option<u32>,
+    datagram: &[u8],
+) -> Result<Accepted, Error> {
+    let served = asked.filter(|it| reception.services.contains(it));
+    // One that is not served is told so by any end.
+    let service = served.or(reception.services.first().copied()).unwrap_or(0);
+    let named = plain(peer);
+    let own = match plain(wire.local_addr()?) {
+        own if own.ip().is_unspecified() => plain(wire.address_towards(peer)?),
+        own => own,
+    };
+    debug_assert!(matches!(named.ip(), IpAddr::V4(_)) == matches!(own.ip(), IpAddr::V4(_)));
+    let config = reception
+        .options
+        .server(own, named, service, reception.random.first_number()?);
+    Ok(Connection::accept(&config, datagram, Instant::now())?)
+}

@@ -1,0 +1,530 @@
+//! One connection of a driver, which its owner and the driver's thread share.
+
+use super::agenda::Agenda;
+use super::options::Options;
+use super::wire::Wire;
+use super::{End, Error};
+use crate::{Connection, Event, Phase, SendError, Transmit};
+use std::collections::VecDeque;
+use std::net::SocketAddr;
+use std::sync::{Arc, Condvar, Mutex, MutexGuard, PoisonError};
+use std::time::{Duration, Instant};
+
+/// How long a connection that has ended is kept for what is still under way, and one that was let go waits for what is in flight.
+const LINGER: Duration = Duration::from_secs(2);
+
+/// How many Syncs and Resets answer the packets of a connection in a second (RFC 4340, sections 7.5.4 and 8.3.1; the number is own).
+const ANSWERS: u32 = 20;
+
+/// What a connection has counted, and where it stands.
+#[derive(Clone, Copy, Debug, Default, PartialEq, Eq)]
+#[non_exhaustive]
+pub struct Statistics {
+    /// Packets of data that were sent.
+    pub packets_sent: u64,
+    /// Their bytes.
+    pub bytes_sent: u64,
+    /// Packets of data that came, those dropped among them.
+    pub packets_received: u64,
+    /// Their bytes.
+    pub bytes_received: u64,
+    /// Packets of data that were dropped, since as many as may be waited to be read.
+    pub packets_dropped: u64,
+    /// Packets of any type that were taken.
+    pub packets_taken: u64,
+    /// Syncs and Resets that were left out, since as many as may be had gone out.
+    pub answers_left_out: u64,
+    /// How many packets of data may be in flight.
+    pub window: u32,
+    /// How many packets of data are in flight.
+    pub in_flight: u32,
+}
+
+/// How many of something may be done in each second.
+pub(super) struct Limit {
+    most: u32,
+    done: u32,
+    second: Instant,
+}
+
+impl Limit {
+    pub(super) fn new(most: u32, now: Instant) -> Limit {
+        Limit {
+            most,
+            done: 0,
+            second: now,
+        }
+    }
+
+    /// Whether one more may be done, which then counts.
+    pub(super) fn may(&mut self, now: Instant) -> bool {
+        if self.second + Duration::from_secs(1) <= now {
+            (self.second, self.done) = (now, 0);
+        }
+        self.done = self.done.saturating_add(1);
+        self.done <= self.most
+    }
+}
+
+/// How long a call waits for what it wants.
+#[derive(Clone, Copy)]
+pub(super) enum Wait {
+    Not,
+    Until(Instant),
+    Ever,
+}
+
+impl Wait {
+    pub(super) fn of(wait: Duration) -> Wait {
+        Instant::now()
+            .checked_add(wait)
+            .map_or(Wait::Ever, Wait::Until)
+    }
+}
+
+struct State {
+    connection: Connection,
+    inbox: VecDeque<Vec<u8>>,
+    most_waiting: usize,
+    end: Option<(End, Instant)>,
+    /// When something was taken of the peer last, or this end began to wait for it.
+    heard: Instant,
+    let_go: Option<Instant>,
+    patience: Duration,
+    idle: Duration,
+    answers: Limit,
+    counts: Statistics,
+    /// For when this stands on the agenda.
+    scheduled: Option<Instant>,
+    is_announced: bool,
+    readers: u32,
+    writers: u32,
+}
+
+impl State {
+    fn is_open(&self) -> bool {
+        matches!(self.connection.phase(), Phase::PartOpen | Phase::Open)
+    }
+
+    /// Whether a writer who sleeps should be woken: for a quarter of the window, so that not each Ack wakes one.
+    fn has_room(&self) -> bool {
+        let window = self.connection.window();
+        window <= 4 * window.saturating_sub(self.connection.in_flight())
+    }
+
+    fn hear(&mut self, datagrams: &[(SocketAddr, &[u8])], now: Instant) {
+        let taken = self.connection.taken();
+        for (_, datagram) in datagrams {
+            self.connection.handle_datagram(datagram, now);
+        }
+        if self.connection.taken() != taken {
+            self.heard = now;
+        }
+    }
+
+    /// Takes what the connection tells.
+    fn gather(&mut self, now: Instant) {
+        while let Some(event) = self.connection.poll_event() {
+            match event {
+                Event::Data(data) => self.keep(data),
+                Event::Ended { code } => self.ended(End::Reset { code }, now),
+            }
+        }
+    }
+
+    fn keep(&mut self, data: Vec<u8>) {
+        self.counts.packets_received += 1;
+        self.counts.bytes_received += data.len() as u64;
+        if self.inbox.len() < self.most_waiting {
+            self.inbox.push_back(data);
+        } else {
+            self.counts.packets_dropped += 1;
+        }
+    }
+
+    fn ended(&mut self, end: End, now: Instant) {
+        self.end.get_or_insert((end, now));
+    }
+
+    /// When a silence is too long, by what is waited for.
+    fn silent_at(&self) -> Instant {
+        let wait = if self.is_open() {
+            self.idle
+        } else {
+            self.patience
+        };
+        self.heard + wait
+    }
+
+    fn give_up(&mut self, end: End, now: Instant) {
+        // Where it is refused, there is nothing to give up.
+        let _ = self.connection.abort(now);
+        self.ended(end, now);
+    }
+
+    fn close(&mut self, now: Instant) {
+        if self.connection.close(now).is_ok() {
+            self.heard = now;
+        }
+    }
+
+    /// Does what the state asks for: takes what is told, gives up what is silent, and closes what was let go.
+    fn settle(&mut self, now: Instant) {
+        self.gather(now);
+        if self.end.is_some() {
+            return;
+        }
+        if self.silent_at() <= now {
+            self.give_up(End::Silent, now);
+        }
+        let Some(since) = self.let_go else { return };
+        match self.connection.phase() {
+            Phase::PartOpen | Phase::Open => {
+                if self.connection.in_flight() == 0 || since + LINGER <= now {
+                    self.close(now);
+                }
+            }
+            Phase::Closed | Phase::Listen | Phase::Request | Phase::Respond => {
+                self.give_up(End::Aborted, now);
+            }
+            Phase::CloseReq | Phase::Closing | Phase::TimeWait => {}
+        }
+    }
+
+    /// When there is something to do; an end that has ended long enough has nothing more.
+    fn alarm(&self) -> Instant {
+        let own = match (self.end, self.let_go) {
+            (Some((_, at)), _) => at + LINGER,
+            (None, Some(since)) if self.is_open() => (since + LINGER).min(self.silent_at()),
+            (None, _) => self.silent_at(),
+        };
+        self.connection.poll_timeout().map_or(own, |it| it.min(own))
+    }
+
+    fn is_over(&self, now: Instant) -> bool {
+        self.end.is_some_and(|(_, at)| at + LINGER <= now)
+    }
+
+    /// Adds the frames that wait, except answers that are too many.
+    fn take_frames(&mut self, now: Instant, frames: &mut Vec<Transmit>) {
+        let (answers, left_out) = (&mut self.answers, &mut self.counts.answers_left_out);
+        frames.extend(self.connection.take_frames().filter(|it| {
+            let goes = !it.is_answer || answers.may(now);
+            *left_out += u64::from(!goes);
+            goes
+        }));
+    }
+
+    fn send(&mut self, data: &[u8], now: Instant) -> Result<(), SendError> {
+        self.connection.send(data, now)?;
+        self.counts.packets_sent += 1;
+        self.counts.bytes_sent += data.len() as u64;
+        Ok(())
+    }
+}
+
+/// A connection, its peer, and the wire to it.
+pub(super) struct Line {
+    peer: SocketAddr,
+    wire: Arc<Wire>,
+    agenda: Arc<Agenda>,
+    state: Mutex<State>,
+    /// Held by whoever hands frames to the system, so that they go out in their order: the place for them.
+    order: Mutex<Vec<Transmit>>,
+    readable: Condvar,
+    writable: Condvar,
+}
+
+impl Line {
+    pub(super) fn new(
+        connection: Connection,
+        peer: SocketAddr,
+        wire: &Arc<Wire>,
+        agenda: &Arc<Agenda>,
+        options: &Options,
+    ) -> Arc<Line> {
+        let now = Instant::now();
+        let state = State {
+            connection,
+            inbox: VecDeque::new(),
+            most_waiting: options.most_waiting,
+            end: None,
+            heard: now,
+            let_go: None,
+            patience: options.patience,
+            idle: options.idle,
+            answers: Limit::new(ANSWERS, now),
+            counts: Statistics::default(),
+            scheduled: None,
+            is_announced: false,
+            readers: 0,
+            writers: 0,
+        };
+        Arc::new(Line {
+            peer,
+            wire: Arc::clone(wire),
+            agenda: Arc::clone(agenda),
+            state: Mutex::new(state),
+            order: Mutex::new(Vec::new()),
+            readable: Condvar::new(),
+            writable: Condvar::new(),
+        })
+    }
+
+    pub(super) fn peer(&self) -> SocketAddr {
+        self.peer
+    }
+
+    pub(super) fn wire(&self) -> &Wire {
+        &self.wire
+    }
+
+    fn state(&self) -> MutexGuard<'_, State> {
+        self.state.lock().unwrap_or_else(PoisonError::into_inner)
+    }
+
+    /// Does something with the state, and what comes of it: who waits is woken, and frames go out.
+    fn with<T>(&self, doing: impl FnOnce(&mut State, Instant) -> T) -> T {
+        let (mut state, now) = (self.state(), Instant::now());
+        let answer = doing(&mut state, now);
+        self.finish(state, now);
+        answer
+    }
+
+    fn finish(&self, mut state: MutexGuard<'_, State>, now: Instant) {
+        state.settle(now);
+        let at = state.alarm();
+        if state.scheduled.is_none_or(|planned| at < planned) {
+            state.scheduled = Some(at);
+            self.agenda.note(at, self.peer);
+        }
+        let is_over = state.end.is_some();
+        let wakes_readers = state.readers != 0 && (is_over || !state.inbox.is_empty());
+        let wakes_writers = state.writers != 0 && (is_over || state.has_room());
+        let has_frames = state.connection.has_frames();
+        drop(state);
+        if wakes_readers {
+            self.readable.notify_all();
+        }
+        if wakes_writers {
+            self.writable.notify_all();
+        }
+        if has_frames {
+            self.flush(now);
+        }
+    }
+
+    fn flush(&self, now: Instant) {
+        let mut frames = self.order.lock().unwrap_or_else(PoisonError::into_inner);
+        self.state().take_frames(now, &mut frames);
+        self.wire.send(self.peer, &frames);
+        frames.clear();
+    }
+
+    /// Sleeps until another call may have changed what is waited for.
+    fn sleep<'a>(
+        &self,
+        on: &Condvar,
+        state: MutexGuard<'a, State>,
+        wait: Wait,
+    ) -> Result<MutexGuard<'a, State>, Error> {
+        match wait {
+            Wait::Not => Err(Error::WouldBlock),
+            Wait::Ever => Ok(on.wait(state).unwrap_or_else(PoisonError::into_inner)),
+            Wait::Until(deadline) => {
+                let left = deadline.saturating_duration_since(Instant::now());
+                if left.is_zero() {
+                    return Err(Error::TimedOut);
+                }
+                let (state, _) = on
+                    .wait_timeout(state, left)
+                    .unwrap_or_else(PoisonError::into_inner);
+                Ok(state)
+            }
+        }
+    }
+
+    /// What `take` finds among what has come, waiting for it. What came before the end is read after it too.
+    pub(super) fn read<T>(
+        &self,
+        wait: Wait,
+        mut take: impl FnMut(&mut VecDeque<Vec<u8>>) -> Option<T>,
+    ) -> Result<T, Error> {
+        let mut state = self.state();
+        loop {
+            if let Some(found) = take(&mut state.inbox) {
+                return Ok(found);
+            }
+            if let Some((end, _)) = state.end {
+                return Err(Error::Ended(end));
+            }
+            state.readers += 1;
+            let slept = self.sleep(&self.readable, state, wait);
+            state = match slept {
+                Ok(state) => state,
+                Err(fault) => {
+                    self.state().readers -= 1;
+                    return Err(fault);
+                }
+            };
+            state.readers -= 1;
+        }
+    }
+
+    /// What `doing` comes to once it is done or refused for good, waiting for room, and for the connection to open.
+    pub(super) fn write<T>(
+        &self,
+        wait: Wait,
+        mut doing: impl FnMut(&mut dyn FnMut(&[u8]) -> Result<(), SendError>) -> Result<T, SendError>,
+    ) -> Result<T, Error> {
+        let mut state = self.state();
+        loop {
+            let now = Instant::now();
+            if let Some((end, _)) = state.end {
+                return Err(Error::Ended(end));
+            }
+            match doing(&mut |data| state.send(data, now)) {
+                Ok(done) => {
+                    self.finish(state, now);
+                    return Ok(done);
+                }
+                Err(SendError::TooLong) => return Err(Error::TooLong),
+                Err(SendError::NotOpen | SendError::NotNegotiated | SendError::WindowFull) => {}
+            }
+            state = self.wait_for_room(state, wait)?;
+        }
+    }
+
+    fn wait_for_room<'a>(
+        &'a self,
+        mut state: MutexGuard<'a, State>,
+        wait: Wait,
+    ) -> Result<MutexGuard<'a, State>, Error> {
+        state.writers += 1;
+        match self.sleep(&self.writable, state, wait) {
+            Ok(mut state) => {
+                state.writers -= 1;
+                Ok(state)
+            }
+            Err(fault) => {
+                self.state().writers -= 1;
+                Err(fault)
+            }
+        }
+    }
+
+    /// Waits until the connection is open.
+    pub(super) fn wait_open(&self, wait: Wait) -> Result<(), Error> {
+        let mut state = self.state();
+        loop {
+            if let Some((end, _)) = state.end {
+                return Err(Error::Ended(end));
+            }
+            if state.is_open() {
+                return Ok(());
+            }
+            state = self.wait_for_room(state, wait)?;
+        }
+    }
+
+    /// Waits until all data that were sent are reported, or lost.
+    fn wait_reported(&self, wait: Wait) {
+        let mut state = self.state();
+        while state.is_open() && state.end.is_none() && state.connection.in_flight() != 0 {
+            let Ok(woken) = self.wait_for_room(state, wait) else {
+                return;
+            };
+            state = woken;
+        }
+    }
+
+    fn wait_ended(&self, wait: Wait) -> Result<End, Error> {
+        let mut state = self.state();
+        loop {
+            if let Some((end, _)) = state.end {
+                return Ok(end);
+            }
+            state = self.wait_for_room(state, wait)?;
+        }
+    }
+
+    /// Closes once all that was sent is reported or half of the time is over, and waits for the end.
+    pub(super) fn close(&self, wait: Duration) -> Result<End, Error> {
+        let whole = Wait::of(wait);
+        self.wait_reported(Wait::of(wait / 2));
+        self.with(State::close);
+        self.wait_ended(whole)
+    }
+
+    pub(super) fn hear(&self, datagrams: &[(SocketAddr, &[u8])]) {
+        self.with(|state, now| state.hear(datagrams, now));
+    }
+
+    /// Does what the time has come for, where this is what the agenda had it for.
+    pub(super) fn fire(&self) {
+        let (mut state, now) = (self.state(), Instant::now());
+        if state.scheduled.is_none_or(|planned| now < planned) {
+            return;
+        }
+        state.scheduled = None;
+        state.connection.handle_timeout(now);
+        self.finish(state, now);
+    }
+
+    /// A client asks.
+    pub(super) fn open(&self) {
+        self.with(|state, now| {
+            // It is fresh.
+            let _ = state.connection.open(now);
+        });
+    }
+
+    /// Sends what waits from the start: a server's answer to the Request.
+    pub(super) fn begin(&self) {
+        self.with(|_, _| ());
+    }
+
+    pub(super) fn abort(&self) {
+        self.with(|state, now| state.give_up(End::Aborted, now));
+    }
+
+    pub(super) fn fail(&self) {
+        self.with(|state, now| state.ended(End::Failed, now));
+    }
+
+    /// Nobody reads or writes any more.
+    pub(super) fn let_go(&self) {
+        self.with(|state, now| state.let_go = Some(now));
+    }
+
+    pub(super) fn end(&self) -> Option<End> {
+        self.state().end.map(|(end, _)| end)
+    }
+
+    pub(super) fn is_over(&self) -> bool {
+        self.state().is_over(Instant::now())
+    }
+
+    /// Whether it is open for the first time that this is asked.
+    pub(super) fn opens(&self) -> bool {
+        let mut state = self.state();
+        let is_new = !state.is_announced && state.is_open();
+        state.is_announced |= is_new;
+        is_new
+    }
+
+    pub(super) fn statistics(&self) -> Statistics {
+        let state = self.state();
+        Statistics {
+            packets_taken: state.connection.taken(),
+            window: state.connection.window(),
+            in_flight: state.connection.in_flight(),
+            ..state.counts
+        }
+    }
+
+    /// Makes calls of the connection, such as `prefer` and `feature`.
+    pub(super) fn call<T>(&self, doing: impl FnOnce(&mut Connection) -> T) -> T {
+        self.with(|state, _| doing(&mut state.connection))
+    }
+}

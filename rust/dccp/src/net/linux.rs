@@ -1,0 +1,544 @@
+//! What Linux has for many datagrams at once: recvmmsg, sendmmsg and poll of the C library, as <sys/socket.h> and <poll.h> declare
+//! them where a pointer has 64 bits, and one call for datagrams of one length (UDP_SEGMENT, UDP_GRO of <linux/udp.h>). Declared here, and
+//! not taken from a crate: with a dependency, even an optional one, cargo asks for a registry, and this crate builds without. All unsafe
+//! code of the sockets is in this file.
+
+use super::wire::{Batch, is_passing};
+use crate::Transmit;
+use std::ffi::{c_int, c_short, c_uint, c_ulong, c_void};
+use std::io::{self, ErrorKind};
+use std::net::{IpAddr, Ipv4Addr, Ipv6Addr, SocketAddr, SocketAddrV6, UdpSocket};
+use std::ops::Range;
+use std::os::fd::AsRawFd;
+use std::os::unix::net::UnixDatagram;
+use std::ptr;
+use std::sync::atomic::{AtomicBool, Ordering};
+use std::time::Duration;
+
+const AF_INET: u16 = 2;
+const AF_INET6: u16 = 10;
+const MSG_DONTWAIT: c_int = 0x40;
+const POLLIN: c_short = 1;
+const SOL_SOCKET: c_int = 1;
+const SO_RCVBUF: c_int = 8;
+const SOL_UDP: c_int = 17;
+const UDP_SEGMENT: c_int = 103;
+const UDP_GRO: c_int = 104;
+
+/// How many messages are heard or sent at once, each of which may be many datagrams of one length.
+const MOST: usize = 16;
+
+/// The bytes of a message: as many as UDP has.
+const ROOM: usize = 1 << 16;
+
+/// The bytes of all messages that are heard at once. What is not used of it takes no memory.
+pub(super) const ROOMS: usize = MOST * ROOM;
+
+/// How many datagrams one message has, and how many bytes, headers of IP left out.
+const MOST_SEGMENTS: usize = 62;
+const MOST_BYTES: usize = 65_000;
+
+/// The bytes that the system is asked to keep of what has not been heard: a whole window of CCID 2, 1,024 packets, each of which counts
+/// for some 2,300 bytes. It gives at most what the machine allows.
+static BUFFER: c_int = 1 << 21;
+static ON: c_int = 1;
+
+/// sockaddr_in or sockaddr_in6: family, port, and what follows.
+#[repr(C, align(4))]
+#[derive(Clone, Copy)]
+struct Name {
+    family: u16,
+    port: [u8; 2],
+    rest: [u8; 24],
+}
+
+#[repr(C)]
+struct Piece {
+    base: *mut c_void,
+    length: usize,
+}
+
+#[repr(C)]
+struct Header {
+    name: *mut Name,
+    name_length: c_uint,
+    pieces: *mut Piece,
+    piece_count: usize,
+    control: *mut c_void,
+    control_length: usize,
+    flags: c_int,
+}
+
+/// A control message with one number: of UDP_SEGMENT 16 bits wide, of UDP_GRO 32.
+#[repr(C)]
+#[derive(Clone, Copy)]
+struct Control {
+    length: usize,
+    level: c_int,
+    kind: c_int,
+    value: [u8; 8],
+}
+
+#[repr(C)]
+struct Message {
+    header: Header,
+    length: c_uint,
+}
+
+#[repr(C)]
+struct Watched {
+    descriptor: c_int,
+    events: c_short,
+    found: c_short,
+}
+
+const _: () = assert!(size_of::<Name>() == 28 && size_of::<Message>() == 64);
+const _: () = assert!(size_of::<Header>() == 56 && size_of::<Watched>() == 8);
+const _: () = assert!(size_of::<Control>() == 24);
+
+unsafe extern "C" {
+    fn recvmmsg(
+        socket: c_int,
+        messages: *mut Message,
+        count: c_uint,
+        flags: c_int,
+        timeout: *mut c_void,
+    ) -> c_int;
+    fn sendmmsg(socket: c_int, messages: *mut Message, count: c_uint, flags: c_int) -> c_int;
+    fn poll(watched: *mut Watched, count: c_ulong, milliseconds: c_int) -> c_int;
+    fn setsockopt(
+        socket: c_int,
+        level: c_int,
+        name: c_int,
+        value: *const c_void,
+        length: c_uint,
+    ) -> c_int;
+}
+
+/// What Linux has for a socket.
+pub(super) struct System {
+    /// The two ends of a bell, which wakes a driver that sleeps.
+    rung: UnixDatagram,
+    bell: UnixDatagram,
+    /// Whether there was no room for more when datagrams were heard last.
+    was_full: AtomicBool,
+    /// Whether datagrams of one length go to the system as one message: until it refuses that.
+    has_segments: AtomicBool,
+}
+
+impl System {
+    /// Asks for a buffer that fits, and for many datagrams as one message.
+    pub(super) fn new(socket: &UdpSocket) -> io::Result<System> {
+        set(socket, SOL_SOCKET, SO_RCVBUF, &BUFFER);
+        set(socket, SOL_UDP, UDP_GRO, &ON);
+        let (rung, bell) = UnixDatagram::pair()?;
+        rung.set_nonblocking(true)?;
+        bell.set_nonblocking(true)?;
+        let (was_full, has_segments) = (AtomicBool::new(false), AtomicBool::new(true));
+        Ok(System {
+            rung,
+            bell,
+            was_full,
+            has_segments,
+        })
+    }
+
+    /// Hears what has come, or what comes in this time; maybe nothing.
+    pub(super) fn receive(
+        &self,
+        socket: &UdpSocket,
+        peer: Option<SocketAddr>,
+        batch: &mut Batch,
+        wait: Duration,
+    ) -> io::Result<()> {
+        // Where there was no room, more has come, most likely.
+        if !self.was_full.load(Ordering::Relaxed) && !wait.is_zero() {
+            self::wait(socket, &self.bell, wait)?;
+        }
+        let count = receive(socket, peer, batch)?;
+        self.was_full.store(count == MOST, Ordering::Relaxed);
+        Ok(())
+    }
+
+    /// Sends frames, to this peer where the socket is not connected. One that the system does not take is lost.
+    pub(super) fn send(&self, socket: &UdpSocket, to: Option<SocketAddr>, frames: &[Transmit]) {
+        match frames {
+            [frame] => send_one(socket, to, frame),
+            frames => send_many(socket, &self.has_segments, to, frames),
+        }
+    }
+
+    /// Wakes a driver that sleeps.
+    pub(super) fn ring(&self) {
+        // Where there is no room, it has been rung.
+        let _ = self.rung.send(&[0]);
+    }
+}
+
+/// Sets a number of a socket. A refusal leaves it as it is.
+fn set(socket: &UdpSocket, level: c_int, name: c_int, value: &'static c_int) {
+    let length = size_of::<c_int>() as c_uint;
+    // SAFETY: the value is a c_int, and its length is told.
+    unsafe {
+        setsockopt(
+            socket.as_raw_fd(),
+            level,
+            name,
+            ptr::from_ref(value).cast(),
+            length,
+        )
+    };
+}
+
+/// Waits until a datagram has come, the bell rings, or the time is over.
+fn wait(socket: &UdpSocket, bell: &UnixDatagram, wait: Duration) -> io::Result<()> {
+    let watched = |descriptor| Watched {
+        descriptor,
+        events: POLLIN,
+        found: 0,
+    };
+    let mut both = [watched(socket.as_raw_fd()), watched(bell.as_raw_fd())];
+    // A millisecond more, so that what was waited for has run out.
+    let milliseconds = c_int::try_from(wait.as_millis() + 1).unwrap_or(c_int::MAX);
+    // SAFETY: the array has two entries, and lives longer than the call.
+    let found = unsafe { poll(both.as_mut_ptr(), 2, milliseconds) };
+    if found < 0 {
+        let fault = io::Error::last_os_error();
+        return if fault.kind() == ErrorKind::Interrupted {
+            Ok(())
+        } else {
+            Err(fault)
+        };
+    }
+    if both[1].found != 0 {
+        while bell.recv(&mut [0; 1]).is_ok() {}
+    }
+    Ok(())
+}
+
+/// Hears what has come, without waiting, and answers how many messages that is.
+fn receive(socket: &UdpSocket, peer: Option<SocketAddr>, batch: &mut Batch) -> io::Result<usize> {
+    batch.heard.clear();
+    let (mut names, mut controls) = ([NOBODY; MOST], [NOTHING; MOST]);
+    let rooms = batch.rooms.as_mut_ptr();
+    let mut pieces: [Piece; MOST] = std::array::from_fn(|place| Piece {
+        // SAFETY: there are MOST rooms.
+        base: unsafe { rooms.add(place * ROOM) }.cast(),
+        length: ROOM,
+    });
+    let (name, piece, control) = (
+        names.as_mut_ptr(),
+        pieces.as_mut_ptr(),
+        controls.as_mut_ptr(),
+    );
+    // SAFETY: all three arrays have MOST entries, and are moved no more before the call is done.
+    let mut messages: [Message; MOST] = std::array::from_fn(|place| unsafe {
+        message(
+            (name.add(place), size_of::<Name>()),
+            (piece.add(place), 1),
+            control.add(place),
+        )
+    });
+    // SAFETY: each message points to a name, a control message, and a piece that points to a room of ROOM bytes; all of it lives longer
+    // than the call, and nothing else uses it before. The call fills at most MOST of them.
+    let count = unsafe {
+        recvmmsg(
+            socket.as_raw_fd(),
+            messages.as_mut_ptr(),
+            MOST as c_uint,
+            MSG_DONTWAIT,
+            ptr::null_mut(),
+        )
+    };
+    let Ok(count) = usize::try_from(count) else {
+        let fault = io::Error::last_os_error();
+        return if is_passing(&fault) {
+            Ok(0)
+        } else {
+            Err(fault)
+        };
+    };
+    for place in 0..count {
+        // Of another family there is none; such a datagram is no packet of a peer.
+        let nobody = SocketAddr::new(IpAddr::V4(Ipv4Addr::UNSPECIFIED), 0);
+        let from = peer.or_else(|| address_of(&names[place])).unwrap_or(nobody);
+        let length = (messages[place].length as usize).min(ROOM);
+        split(
+            batch,
+            from,
+            place * ROOM..place * ROOM + length,
+            segment_of(&controls[place]),
+        );
+    }
+    Ok(count)
+}
+
+/// The length of the datagrams that a message has, where it has several.
+fn segment_of(control: &Control) -> Option<usize> {
+    let is_told = control.length >= 20 && (control.level, control.kind) == (SOL_UDP, UDP_GRO);
+    let bytes = control.value.first_chunk().filter(|_| is_told)?;
+    usize::try_from(c_int::from_ne_bytes(*bytes))
+        .ok()
+        .filter(|it| *it != 0)
+}
+
+/// Notes the datagrams of a message.
+fn split(batch: &mut Batch, from: SocketAddr, place: Range<usize>, segment: Option<usize>) {
+    let length = segment.unwrap_or(place.len()).max(1);
+    let mut first = place.start;
+    loop {
+        let past = (first + length).min(place.end);
+        batch.heard.push((from, first..past));
+        first = past;
+        if place.end <= first {
+            return;
+        }
+    }
+}
+
+/// Sends frames as messages of many, while the system takes such. One that it does not take is lost.
+fn send_many(
+    socket: &UdpSocket,
+    has_segments: &AtomicBool,
+    to: Option<SocketAddr>,
+    frames: &[Transmit],
+) {
+    let mut left = frames;
+    while !left.is_empty() {
+        let is_many = has_segments.load(Ordering::Relaxed);
+        let most = if is_many { MOST_SEGMENTS } else { 1 };
+        let runs: Vec<&[Transmit]> = Runs { left, most }.take(MOST).collect();
+        let sent = hand_over(socket, to, &runs);
+        left = &left[runs[..sent].iter().map(|it| it.len()).sum()..];
+        let Some(run) = runs.get(sent) else { continue };
+        let fault = io::Error::last_os_error();
+        if fault.kind() == ErrorKind::ConnectionRefused {
+            // That of an earlier datagram, which it told of in place of sending.
+            hand_over(socket, to, &[run]);
+        } else if 1 < run.len() && !is_passing(&fault) {
+            // It, or the way to the peer, takes no such message: from now on, each frame is one.
+            has_segments.store(false, Ordering::Relaxed);
+            continue;
+        }
+        left = &left[run.len()..];
+    }
+}
+
+/// Sends a frame. One that the system does not take is lost.
+fn send_one(socket: &UdpSocket, to: Option<SocketAddr>, frame: &Transmit) {
+    let send = || match to {
+        Some(peer) => socket.send_to(&frame.bytes, peer),
+        None => socket.send(&frame.bytes),
+    };
+    if send().is_err_and(|it| it.kind() == ErrorKind::ConnectionRefused) {
+        // That of an earlier datagram, which it told of in place of sending.
+        let _ = send();
+    }
+}
+
+/// Frames as runs of which each has one length, except that the last may be shorter.
+struct Runs<'a> {
+    left: &'a [Transmit],
+    most: usize,
+}
+
+impl<'a> Iterator for Runs<'a> {
+    type Item = &'a [Transmit];
+
+    fn next(&mut self) -> Option<&'a [Transmit]> {
+        let first = self.left.first()?.bytes.len();
+        let most = self.most.min((MOST_BYTES / first.max(1)).max(1));
+        let same = self
+            .left
+            .iter()
+            .take(most)
+            .take_while(|it| it.bytes.len() == first);
+        let mut count = same.count();
+        let shorter = |it: &Transmit| it.bytes.len() < first;
+        if count < most && self.left.get(count).is_some_and(shorter) {
+            count += 1;
+        }
+        let (run, rest) = self.left.split_at(count);
+        self.left = rest;
+        Some(run)
+    }
+}
+
+/// Hands runs to the system, each as a message, and answers how many it took before it refused one.
+fn hand_over(socket: &UdpSocket, to: Option<SocketAddr>, runs: &[&[Transmit]]) -> usize {
+    let (mut name, name_length) = to.map_or((NOBODY, 0), name_of);
+    let name = if to.is_some() {
+        &raw mut name
+    } else {
+        ptr::null_mut()
+    };
+    let frames = runs.iter().copied().flatten();
+    let mut pieces: Vec<Piece> = frames
+        .map(|frame| Piece {
+            // The system only reads what is sent.
+            base: frame.bytes.as_ptr().cast_mut().cast(),
+            length: frame.bytes.len(),
+        })
+        .collect();
+    let mut controls: Vec<Control> = runs.iter().map(|run| control_of(run)).collect();
+    let mut left = &mut pieces[..];
+    let mut messages: Vec<Message> = Vec::with_capacity(runs.len());
+    for (run, control) in runs.iter().zip(&mut controls) {
+        let (own, rest) = left.split_at_mut(run.len());
+        let control = if 1 < run.len() {
+            ptr::from_mut(control)
+        } else {
+            ptr::null_mut()
+        };
+        messages.push(message(
+            (name, name_length),
+            (own.as_mut_ptr(), own.len()),
+            control,
+        ));
+        left = rest;
+    }
+    // SAFETY: there are so many messages. Each has the name of its peer or none, a control message or none, and pieces, each of which
+    // points to the bytes of a frame; all of it lives longer than the call.
+    let sent = unsafe {
+        sendmmsg(
+            socket.as_raw_fd(),
+            messages.as_mut_ptr(),
+            runs.len() as c_uint,
+            0,
+        )
+    };
+    usize::try_from(sent).unwrap_or(0)
+}
+
+/// What tells the system the length of a run's datagrams.
+fn control_of(run: &[Transmit]) -> Control {
+    let mut control = Control {
+        length: 18,
+        level: SOL_UDP,
+        kind: UDP_SEGMENT,
+        value: [0; 8],
+    };
+    let length = run.first().map_or(0, |it| it.bytes.len()) as u16;
+    control.value[..2].copy_from_slice(&length.to_ne_bytes());
+    control
+}
+
+/// No control message.
+const NOTHING: Control = Control {
+    length: 0,
+    level: 0,
+    kind: 0,
+    value: [0; 8],
+};
+
+const NOBODY: Name = Name {
+    family: 0,
+    port: [0; 2],
+    rest: [0; 24],
+};
+
+/// A message of these names, pieces and control messages, which are told by pointers and lengths.
+fn message(
+    name: (*mut Name, usize),
+    pieces: (*mut Piece, usize),
+    control: *mut Control,
+) -> Message {
+    let header = Header {
+        name: name.0,
+        name_length: if name.0.is_null() {
+            0
+        } else {
+            name.1 as c_uint
+        },
+        pieces: pieces.0,
+        piece_count: pieces.1,
+        control: control.cast(),
+        control_length: if control.is_null() {
+            0
+        } else {
+            size_of::<Control>()
+        },
+        flags: 0,
+    };
+    Message { header, length: 0 }
+}
+
+/// The address as the system spells it, and how many bytes of it count.
+fn name_of(address: SocketAddr) -> (Name, usize) {
+    let mut rest = [0; 24];
+    let port = address.port().to_be_bytes();
+    match address {
+        SocketAddr::V4(it) => {
+            rest[..4].copy_from_slice(&it.ip().octets());
+            (
+                Name {
+                    family: AF_INET,
+                    port,
+                    rest,
+                },
+                16,
+            )
+        }
+        SocketAddr::V6(it) => {
+            rest[..4].copy_from_slice(&it.flowinfo().to_ne_bytes());
+            rest[4..20].copy_from_slice(&it.ip().octets());
+            rest[20..].copy_from_slice(&it.scope_id().to_ne_bytes());
+            (
+                Name {
+                    family: AF_INET6,
+                    port,
+                    rest,
+                },
+                28,
+            )
+        }
+    }
+}
+
+/// The address that the system spells so, if it is of IPv4 or IPv6.
+fn address_of(name: &Name) -> Option<SocketAddr> {
+    let port = u16::from_be_bytes(name.port);
+    let number = |at: usize| {
+        name.rest[at..at + 4]
+            .try_into()
+            .map(u32::from_ne_bytes)
+            .ok()
+    };
+    match name.family {
+        AF_INET => {
+            let bytes: [u8; 4] = name.rest[..4].try_into().ok()?;
+            Some(SocketAddr::new(Ipv4Addr::from(bytes).into(), port))
+        }
+        AF_INET6 => {
+            let bytes: [u8; 16] = name.rest[4..20].try_into().ok()?;
+            let address = Ipv6Addr::from(bytes);
+            Some(SocketAddrV6::new(address, port, number(0)?, number(20)?).into())
+        }
+        _ => None,
+    }
+}
+
+#[cfg(test)]
+mod tests {
+    use super::{address_of, name_of};
+    use std::net::SocketAddr;
+
+    /// As <netinet/in.h> has them: family, port in network order, address.
+    #[test]
+    fn addresses_are_spelled_as_the_system_does() {
+        let v4: SocketAddr = "192.0.2.1:5001".parse().unwrap();
+        let (name, length) = name_of(v4);
+        assert_eq!((name.family, name.port, length), (2, [0x13, 0x89], 16));
+        assert_eq!(
+            (&name.rest[..4], address_of(&name)),
+            (&[192, 0, 2, 1][..], Some(v4))
+        );
+        let v6: SocketAddr = "[2001:db8::1]:80".parse().unwrap();
+        let (name, length) = name_of(v6);
+        assert_eq!((name.family, name.port, length), (10, [0, 80], 28));
+        assert_eq!(
+            (name.rest[4], name.rest[19], address_of(&name)),
+            (0x20, 1, Some(v6))
+        );
+    }
+}

@@ -1,0 +1,291 @@
+//! One connection, as its owner has it.
+
+use super::agenda::Agenda;
+use super::driver::Driver;
+use super::line::{Line, Statistics, Wait};
+use super::options::Options;
+use super::random::Random;
+use super::wire::{Wire, any_address};
+use super::{End, Error};
+use crate::{Connection, Feature, Held, Place, PreferError, SendError};
+use std::fmt;
+use std::io;
+use std::net::{SocketAddr, ToSocketAddrs, UdpSocket};
+use std::sync::Arc;
+use std::time::{Duration, Instant};
+
+/// A connection that is closed where its last owner is gone.
+struct Owned {
+    line: Arc<Line>,
+}
+
+impl Drop for Owned {
+    fn drop(&mut self) {
+        self.line.let_go();
+    }
+}
+
+/// A connection. It may be used by several threads at a time; [`Socket::split`] gives two halves.
+///
+/// Where it is dropped, and its halves, it closes in order in the background: once what was sent is reported, or after two seconds. A
+/// program that ends at once had better [`close`](Socket::close).
+pub struct Socket {
+    owned: Arc<Owned>,
+}
+
+/// The half of a connection that sends. It may be cloned.
+#[derive(Clone)]
+pub struct Sender {
+    owned: Arc<Owned>,
+}
+
+/// The half of a connection that receives.
+pub struct Receiver {
+    owned: Arc<Owned>,
+}
+
+/// Sockets say with whom they speak.
+macro_rules! shows {
+    ($($name:ident)+) => {
+        $(impl fmt::Debug for $name {
+            fn fmt(&self, f: &mut fmt::Formatter<'_>) -> fmt::Result {
+                f.debug_struct(stringify!($name))
+                    .field("peer", &self.owned.line.peer())
+                    .finish_non_exhaustive()
+            }
+        })+
+    };
+}
+
+shows! { Socket Sender Receiver }
+
+/// A socket of the system that is connected to one of these addresses.
+fn connected(address: impl ToSocketAddrs) -> io::Result<(UdpSocket, SocketAddr)> {
+    let mut last = io::Error::from(io::ErrorKind::InvalidInput);
+    for peer in address.to_socket_addrs()? {
+        let tried = UdpSocket::bind(any_address(peer)).and_then(|it| it.connect(peer).map(|()| it));
+        match tried {
+            Ok(socket) => return Ok((socket, peer)),
+            Err(fault) => last = fault,
+        }
+    }
+    Err(last)
+}
+
+impl Socket {
+    pub(super) fn of(line: Arc<Line>) -> Socket {
+        Socket {
+            owned: Arc::new(Owned { line }),
+        }
+    }
+
+    /// Connects to a server for a Service Code (RFC 4340, section 8.1.2), and waits for its answer, 30 seconds at most:
+    /// [`Options::patience`] has another time. [`Error::Ended`] says that the server refused, [`Error::TimedOut`] that none answered.
+    pub fn connect(address: impl ToSocketAddrs, service: u32) -> Result<Socket, Error> {
+        Options::new().connect(address, service)
+    }
+
+    pub(super) fn connect_with(
+        options: &Options,
+        address: impl ToSocketAddrs,
+        service: u32,
+    ) -> Result<Socket, Error> {
+        let (socket, peer) = connected(address)?;
+        let own = socket.local_addr()?;
+        let config = options.client(own, peer, service, Random::new()?.first_number()?);
+        let connection = Connection::new(&config)?;
+        let wire = Arc::new(Wire::new(socket, Some(peer))?);
+        let agenda = Arc::new(Agenda::new(Arc::clone(&wire)));
+        let line = Line::new(connection, peer, &wire, &agenda, options);
+        let mut driver = Driver::new(wire, agenda, None);
+        driver.add(Arc::clone(&line));
+        line.open();
+        driver.start("dccp client")?;
+        let socket = Socket::of(line);
+        let waited = socket.line().wait_open(Wait::of(options.patience));
+        if waited.is_err() {
+            socket.line().abort();
+        }
+        waited.map(|()| socket)
+    }
+
+    fn line(&self) -> &Line {
+        &self.owned.line
+    }
+
+    /// Sends data, waiting for room.
+    pub fn send(&self, data: &[u8]) -> Result<(), Error> {
+        send(self.line(), data, Wait::Ever)
+    }
+
+    /// Sends data, waiting for room for so long at most; then [`Error::TimedOut`].
+    pub fn send_timeout(&self, data: &[u8], wait: Duration) -> Result<(), Error> {
+        send(self.line(), data, Wait::of(wait))
+    }
+
+    /// Sends data if there is room now, else [`Error::WouldBlock`].
+    pub fn try_send(&self, data: &[u8]) -> Result<(), Error> {
+        send(self.line(), data, Wait::Not)
+    }
+
+    /// Sends the first of these packets, as many as there is room for, waiting for room for one. It answers how many.
+    pub fn send_batch<T: AsRef<[u8]>>(&self, packets: &[T]) -> Result<usize, Error> {
+        send_batch(self.line(), packets)
+    }
+
+    /// The data of the next packet, waiting for them. [`Error::Ended`] once the connection has ended and all was read.
+    pub fn recv(&self) -> Result<Vec<u8>, Error> {
+        self.line().read(Wait::Ever, |it| it.pop_front())
+    }
+
+    /// The data of the next packet, if one comes in this time; else [`Error::TimedOut`].
+    pub fn recv_timeout(&self, wait: Duration) -> Result<Vec<u8>, Error> {
+        self.line().read(Wait::of(wait), |it| it.pop_front())
+    }
+
+    /// The data of the next packet, if one has come; else [`Error::WouldBlock`].
+    pub fn try_recv(&self) -> Result<Vec<u8>, Error> {
+        self.line().read(Wait::Not, |it| it.pop_front())
+    }
+
+    /// Puts the data of all packets that have come after `packets`, waiting for one. It answers how many.
+    pub fn recv_batch(&self, packets: &mut Vec<Vec<u8>>) -> Result<usize, Error> {
+        recv_batch(self.line(), packets)
+    }
+
+    /// Two halves, for two threads.
+    pub fn split(self) -> (Sender, Receiver) {
+        let sender = Sender {
+            owned: Arc::clone(&self.owned),
+        };
+        (sender, Receiver { owned: self.owned })
+    }
+
+    /// Closes in order, once all that was sent is reported or half of the time is over, and waits for the end. It answers how the
+    /// connection ended, or [`Error::TimedOut`]; then closing goes on in the background.
+    pub fn close(self, wait: Duration) -> Result<End, Error> {
+        self.line().close(wait)
+    }
+
+    /// Ends the connection at once.
+    pub fn abort(self) {
+        self.line().abort();
+    }
+
+    /// How the connection has ended, if it has.
+    pub fn end(&self) -> Option<End> {
+        self.line().end()
+    }
+
+    /// What was counted, and where the window stands.
+    pub fn statistics(&self) -> Statistics {
+        self.line().statistics()
+    }
+
+    /// Asks for these values of a feature, as [`Connection::prefer`].
+    pub fn prefer(
+        &self,
+        feature: Feature,
+        place: Place,
+        values: &[u64],
+    ) -> Result<(), PreferError> {
+        self.line()
+            .call(|it| it.prefer(feature, place, values, Instant::now()))
+    }
+
+    /// What this end holds for a feature.
+    pub fn feature(&self, feature: Feature, place: Place) -> Held {
+        self.line().call(|it| it.feature(feature, place))
+    }
+
+    /// The address of the peer.
+    pub fn peer_addr(&self) -> SocketAddr {
+        self.line().peer()
+    }
+
+    /// The address of the system's socket.
+    pub fn local_addr(&self) -> Result<SocketAddr, Error> {
+        Ok(self.line().wire().local_addr()?)
+    }
+}
+
+impl Sender {
+    /// As [`Socket::send`].
+    pub fn send(&self, data: &[u8]) -> Result<(), Error> {
+        send(&self.owned.line, data, Wait::Ever)
+    }
+
+    /// As [`Socket::send_timeout`].
+    pub fn send_timeout(&self, data: &[u8], wait: Duration) -> Result<(), Error> {
+        send(&self.owned.line, data, Wait::of(wait))
+    }
+
+    /// As [`Socket::try_send`].
+    pub fn try_send(&self, data: &[u8]) -> Result<(), Error> {
+        send(&self.owned.line, data, Wait::Not)
+    }
+
+    /// As [`Socket::send_batch`].
+    pub fn send_batch<T: AsRef<[u8]>>(&self, packets: &[T]) -> Result<usize, Error> {
+        send_batch(&self.owned.line, packets)
+    }
+
+    /// As [`Socket::statistics`].
+    pub fn statistics(&self) -> Statistics {
+        self.owned.line.statistics()
+    }
+
+    /// As [`Socket::close`], while the other half may still read what has come.
+    pub fn close(&self, wait: Duration) -> Result<End, Error> {
+        self.owned.line.close(wait)
+    }
+}
+
+impl Receiver {
+    /// As [`Socket::recv`].
+    pub fn recv(&self) -> Result<Vec<u8>, Error> {
+        self.owned.line.read(Wait::Ever, |it| it.pop_front())
+    }
+
+    /// As [`Socket::recv_timeout`].
+    pub fn recv_timeout(&self, wait: Duration) -> Result<Vec<u8>, Error> {
+        self.owned.line.read(Wait::of(wait), |it| it.pop_front())
+    }
+
+    /// As [`Socket::try_recv`].
+    pub fn try_recv(&self) -> Result<Vec<u8>, Error> {
+        self.owned.line.read(Wait::Not, |it| it.pop_front())
+    }
+
+    /// As [`Socket::recv_batch`].
+    pub fn recv_batch(&self, packets: &mut Vec<Vec<u8>>) -> Result<usize, Error> {
+        recv_batch(&self.owned.line, packets)
+    }
+}
+
+fn send(line: &Line, data: &[u8], wait: Wait) -> Result<(), Error> {
+    line.write(wait, |send| send(data))
+}
+
+fn send_batch<T: AsRef<[u8]>>(line: &Line, packets: &[T]) -> Result<usize, Error> {
+    line.write(Wait::Ever, |send| {
+        for (count, packet) in packets.iter().enumerate() {
+            match send(packet.as_ref()) {
+                Ok(()) => {}
+                Err(SendError::WindowFull) if count != 0 => return Ok(count),
+                Err(fault) if count == 0 => return Err(fault),
+                // What was sent counts; the next call is told.
+                Err(_) => return Ok(count),
+            }
+        }
+        Ok(packets.len())
+    })
+}
+
+fn recv_batch(line: &Line, packets: &mut Vec<Vec<u8>>) -> Result<usize, Error> {
+    line.read(Wait::Ever, |inbox| {
+        let count = inbox.len();
+        packets.extend(inbox.drain(..));
+        (count != 0).then_some(count)
+    })
+}

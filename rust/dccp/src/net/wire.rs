@@ -1,0 +1,105 @@
+//! Datagrams of the system's UDP, many with one call where that can be.
+
+use super::system::{ROOMS, System};
+use crate::Transmit;
+use std::io::{self, ErrorKind};
+use std::net::{Ipv4Addr, Ipv6Addr, SocketAddr, UdpSocket};
+use std::ops::Range;
+use std::time::Duration;
+
+/// Datagrams that were heard at once, and from whom each came.
+pub(super) struct Batch {
+    /// Where the system puts them.
+    pub(super) rooms: Vec<u8>,
+    /// Of each whom it came from, and where it lies in the rooms.
+    pub(super) heard: Vec<(SocketAddr, Range<usize>)>,
+}
+
+impl Batch {
+    pub(super) fn new() -> Batch {
+        Batch {
+            rooms: vec![0; ROOMS],
+            heard: Vec::new(),
+        }
+    }
+
+    /// Each datagram, with whom it came from.
+    pub(super) fn datagrams(&self) -> Vec<(SocketAddr, &[u8])> {
+        self.heard
+            .iter()
+            .map(|(from, place)| (*from, &self.rooms[place.clone()]))
+            .collect()
+    }
+}
+
+/// A socket of the system, and whom it hears: one peer, or all.
+pub(super) struct Wire {
+    socket: UdpSocket,
+    peer: Option<SocketAddr>,
+    system: System,
+}
+
+impl Wire {
+    /// Over a socket that is connected to this peer, or to none.
+    pub(super) fn new(socket: UdpSocket, peer: Option<SocketAddr>) -> io::Result<Wire> {
+        let system = System::new(&socket)?;
+        Ok(Wire {
+            socket,
+            peer,
+            system,
+        })
+    }
+
+    pub(super) fn local_addr(&self) -> io::Result<SocketAddr> {
+        self.socket.local_addr()
+    }
+
+    /// The address from which this machine speaks to a peer: the socket's own, or where that is any, what the system would take.
+    pub(super) fn address_towards(&self, peer: SocketAddr) -> io::Result<SocketAddr> {
+        let own = self.local_addr()?;
+        if !own.ip().is_unspecified() {
+            return Ok(own);
+        }
+        let probe = UdpSocket::bind(any_address(peer))?;
+        probe.connect(peer)?;
+        Ok(SocketAddr::new(probe.local_addr()?.ip(), own.port()))
+    }
+
+    /// Hears what has come, or what comes in this time; maybe nothing.
+    pub(super) fn receive(&self, batch: &mut Batch, wait: Duration) -> io::Result<()> {
+        self.system.receive(&self.socket, self.peer, batch, wait)
+    }
+
+    /// Sends frames to a peer. One that the system does not take is lost.
+    pub(super) fn send(&self, peer: SocketAddr, frames: &[Transmit]) {
+        let to = self.peer.is_none().then_some(peer);
+        self.system.send(&self.socket, to, frames);
+    }
+
+    /// Wakes the driver, if it sleeps for long.
+    pub(super) fn ring(&self) {
+        self.system.ring();
+    }
+}
+
+/// Any address and port of the family of a peer.
+pub(super) fn any_address(peer: SocketAddr) -> SocketAddr {
+    match peer {
+        SocketAddr::V4(_) => (Ipv4Addr::UNSPECIFIED, 0).into(),
+        SocketAddr::V6(_) => (Ipv6Addr::UNSPECIFIED, 0).into(),
+    }
+}
+
+/// Whether a fault of a datagram socket is a lost datagram, or none that has come, and no fault of the socket.
+pub(super) fn is_passing(fault: &io::Error) -> bool {
+    matches!(
+        fault.kind(),
+        ErrorKind::WouldBlock
+            | ErrorKind::TimedOut
+            | ErrorKind::Interrupted
+            | ErrorKind::ConnectionRefused
+            | ErrorKind::ConnectionReset
+            | ErrorKind::HostUnreachable
+            | ErrorKind::NetworkUnreachable
+    )
+}
