@@ -2,7 +2,10 @@
 import contextlib
 import difflib
 import functools
+import os
+import random
 import re
+import socket
 import subprocess
 import sys
 import tempfile
@@ -64,3 +67,32 @@ def definitions(crate):
             name = re.match(r"(?:(?:abbrev|unfoldable|pub|record|data) )+(\w+) ?[:({]", part)
             if name:
                 yield name[1], " ".join(part.split())
+
+
+# How C is compiled so that it stops where its behaviour is not defined, or memory is not its own.
+CLEAN = ["-g", "-fsanitize=address,undefined", "-fno-sanitize-recover"]
+
+
+def said(*words, **how):
+    """What a command says, and a line with its status where that is not 0."""
+    found = subprocess.run(words, stdout=subprocess.PIPE, stderr=subprocess.STDOUT, text=True, errors="replace", **how)
+    return found.stdout + (f"status {found.returncode}\n" if found.returncode else "")
+
+
+def free_port():
+    """A port that nobody has, below those that the system hands to clients."""
+    with socket.socket(socket.AF_INET, socket.SOCK_DGRAM) as it:
+        while True:
+            port = random.randrange(20_000, 30_000)
+            with contextlib.suppress(OSError):
+                it.bind(("127.0.0.1", port))
+                return str(port)
+
+
+def install_library(room):
+    """Installs the library under a folder, and says whether it is there. DCCP_ARCHIVE names one that is built, else it is proved first."""
+    found = said(TOP / "tools" / "library", room, *filter(None, [os.environ.get("DCCP_ARCHIVE")]))
+    is_there = (Path(room) / "lib" / "libdccp.a").exists()
+    if not is_there:
+        print(f"{found}the library was not installed: nothing was tried")
+    return is_there

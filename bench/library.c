@@ -7,27 +7,23 @@
 #include <time.h>
 
 #include "dccp.h"
+#include "dccp_heap.h"
 
-/* The heap functions of the library, in place of lib/libdccp_heap.a. */
-struct room {
-    bool ok;
-    void *at;
-};
-
+/* The heap functions of dccp_heap.h, which count. */
 static size_t blocks, bytes;
 
-struct room rattle_alloc(size_t size, size_t align) {
+rattle_block rattle_alloc(size_t size, size_t align) {
     void *at = malloc(size ? size : align);
     blocks++;
     bytes += size;
-    return (struct room){at != NULL, at ? at : &blocks};
+    return (rattle_block){at != NULL, at ? at : &blocks};
 }
 
-struct room rattle_realloc(void *old, size_t old_size, size_t size, size_t align) {
+rattle_block rattle_realloc(void *old, size_t old_size, size_t size, size_t align) {
     void *at = realloc(old, size ? size : align);
     blocks++;
     bytes += size - old_size;
-    return (struct room){at != NULL, at ? at : old};
+    return (rattle_block){at != NULL, at ? at : old};
 }
 
 void rattle_dealloc(void *at) { free(at); }

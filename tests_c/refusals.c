@@ -5,28 +5,24 @@
 #include <string.h>
 
 #include "dccp.h"
+#include "dccp_heap.h"
 
-/* The heap functions of the library, in place of lib/libdccp_heap.a. The allocation that `refused` counts down to fails. */
-struct room {
-    bool ok;
-    void *at;
-};
-
+/* The heap functions of dccp_heap.h. The allocation that `refused` counts down to fails. */
 static unsigned refused, held;
 
 /* Whether this allocation is the one that fails. */
 static bool is_refused(void) { return refused && --refused == 0; }
 
-struct room rattle_alloc(size_t size, size_t align) {
+rattle_block rattle_alloc(size_t size, size_t align) {
     void *at = is_refused() ? NULL : malloc(size ? size : align);
     if (at) held++;
-    return (struct room){at != NULL, at ? at : &held};
+    return (rattle_block){at != NULL, at ? at : &held};
 }
 
-struct room rattle_realloc(void *old, size_t old_size, size_t size, size_t align) {
+rattle_block rattle_realloc(void *old, size_t old_size, size_t size, size_t align) {
     (void)old_size;
     void *at = is_refused() ? NULL : realloc(old, size ? size : align);
-    return (struct room){at != NULL, at ? at : old};
+    return (rattle_block){at != NULL, at ? at : old};
 }
 
 void rattle_dealloc(void *at) {

@@ -1,0 +1,280 @@
+// DCCP for C++17: values that own what dccp.h and dccp_socket.h make, spans in place of pointers with lengths, and exceptions.
+//
+// A dccp::socket is a client or a server over the system's UDP, without a thread (dccp_socket.c has to be linked); a dccp::end is one end
+// without socket and clock, for a program with a loop of its own. What may fail for what a peer does, as sending over a full window, is
+// answered; what fails for a mistake or for want of memory is thrown.
+//
+//     auto socket = dccp::socket::connect("192.0.2.1", "5001", 42);
+//     while (auto event = socket.poll()) {
+//         if (event->kind == DCCP_EVENT_OPENED) event->connection.send("hello");
+//         if (event->kind == DCCP_EVENT_DATA) take(event->data);
+//         if (event->kind == DCCP_EVENT_ENDED) break;
+//     }
+#ifndef DCCP_HPP
+#define DCCP_HPP
+
+#include <cerrno>
+#include <chrono>
+#include <cstdint>
+#include <initializer_list>
+#include <memory>
+#include <optional>
+#include <stdexcept>
+#include <string>
+#include <string_view>
+#include <system_error>
+#include <utility>
+#include <vector>
+
+#include "dccp.h"
+#include "dccp_socket.h"
+
+namespace dccp {
+
+// Bytes that somebody else keeps: those of anything with data() and size() of bytes or characters.
+class bytes {
+  public:
+    constexpr bytes() = default;
+    constexpr bytes(const uint8_t *data, std::size_t size) : data_(data), size_(size) {}
+    bytes(std::string_view text) : data_(reinterpret_cast<const uint8_t *>(text.data())), size_(text.size()) {}
+    bytes(const char *text) : bytes(std::string_view(text)) {}
+    bytes(const std::string &text) : bytes(std::string_view(text)) {}
+    template <typename Container, typename = decltype(std::declval<const Container &>().data() + std::declval<const Container &>().size())>
+    bytes(const Container &all) : data_(reinterpret_cast<const uint8_t *>(all.data())), size_(all.size()) {
+        static_assert(sizeof(*all.data()) == 1, "a container of bytes");
+    }
+
+    // Never a null pointer, also of no bytes, as dccp.h asks for.
+    const uint8_t *data() const { return data_ == nullptr ? &nothing_ : data_; }
+    std::size_t size() const { return size_; }
+    bool empty() const { return size_ == 0; }
+    const uint8_t *begin() const { return data(); }
+    const uint8_t *end() const { return data() + size_; }
+    uint8_t operator[](std::size_t at) const { return data_[at]; }
+    std::string_view text() const { return {reinterpret_cast<const char *>(data()), size_}; }
+
+  private:
+    static constexpr uint8_t nothing_ = 0;
+    const uint8_t *data_ = nullptr;
+    std::size_t size_ = 0;
+};
+
+// A call that was refused, and its status.
+class error : public std::runtime_error {
+  public:
+    explicit error(dccp_status status) : std::runtime_error(dccp_status_text(status)), status_(status) {}
+    dccp_status status() const { return status_; }
+
+  private:
+    dccp_status status_;
+};
+
+// Throws a status that is not DCCP_OK.
+inline void check(dccp_status status) {
+    if (status != DCCP_OK) throw error(status);
+}
+
+// A wish for a feature: these values, best first, which are asked for.
+inline dccp_wish offer(dccp_feature_kind feature, std::initializer_list<uint64_t> values, bool at_peer = false) {
+    if (DCCP_MOST_VALUES < values.size()) throw error(DCCP_BAD_LIST);
+    dccp_wish wish{};
+    for (uint64_t value : values) wish.values[wish.count++] = value;
+    wish.feature = static_cast<uint32_t>(feature);
+    wish.at_peer = at_peer;
+    wish.is_offered = true;
+    return wish;
+}
+
+// A connection of a dccp::socket, which keeps it: until the poll that follows its last event.
+class connection {
+  public:
+    explicit connection(dccp_connection *it = nullptr) : it_(it) {}
+
+    // Whether there was room: DCCP_OK, or DCCP_WINDOW_FULL, DCCP_NOT_NEGOTIATED, DCCP_NOT_OPEN or DCCP_NOT_MADE. Throws DCCP_TOO_LONG.
+    dccp_status send(bytes data) const {
+        dccp_status status = dccp_connection_send(it_, data.data(), data.size());
+        if (status == DCCP_TOO_LONG) throw error(status);
+        return status;
+    }
+    // Closes in order, or ends at once. One that has ended stays so.
+    void close() const { (void)dccp_connection_close(it_); }
+    void abort() const { (void)dccp_connection_abort(it_); }
+
+    void prefer(dccp_feature_kind feature, const std::vector<uint64_t> &values, bool at_peer = false) const {
+        static constexpr uint64_t none = 0;
+        check(dccp_connection_prefer(it_, feature, at_peer, values.empty() ? &none : values.data(), values.size()));
+    }
+    dccp_feature_state feature(dccp_feature_kind feature, bool at_peer = false) const {
+        dccp_feature_state state{};
+        check(dccp_connection_feature(it_, feature, at_peer, &state));
+        return state;
+    }
+    dccp_view look() const {
+        dccp_view view{};
+        check(dccp_connection_look(it_, &view));
+        return view;
+    }
+
+    template <typename T>
+    T *user() const {
+        return static_cast<T *>(dccp_connection_user(it_));
+    }
+    void set_user(void *user) const { dccp_connection_set_user(it_, user); }
+
+    dccp_connection *get() const { return it_; }
+    friend bool operator==(connection one, connection other) { return one.it_ == other.it_; }
+    friend bool operator!=(connection one, connection other) { return one.it_ != other.it_; }
+    friend bool operator<(connection one, connection other) { return std::less<dccp_connection *>()(one.it_, other.it_); }
+
+  private:
+    dccp_connection *it_;
+};
+
+// What a socket tells. The data stay until the next poll.
+struct event {
+    dccp_event_kind kind;
+    dccp::connection connection;
+    bytes data;
+    dccp_end_cause cause;
+    uint8_t code;
+
+    // Of DCCP_EVENT_ENDED: whether both ends closed, by all that can be known.
+    bool is_orderly() const { return cause == DCCP_END_RESET && (code == 1 || code == 3); }
+};
+
+// What a socket is made from, where the usual is not what is wanted.
+struct options {
+    std::vector<dccp_wish> wishes = {};
+    std::string client_name = {}, server_name = {};
+    uint32_t most = 0;
+    std::chrono::milliseconds patience{0}, idle{0};
+};
+
+// A client, or a server of many, over the system's UDP.
+class socket {
+  public:
+    // Throws std::system_error where the system refuses, or the options are none.
+    static socket connect(const std::string &host, const std::string &port, uint32_t service, const options &with = {}) {
+        const dccp_socket_options given = of(with);
+        return socket(dccp_socket_connect(host.c_str(), port.c_str(), service, &given));
+    }
+    static socket listen(const std::string &host, const std::string &port, const std::vector<uint32_t> &services, const options &with = {}) {
+        const dccp_socket_options given = of(with);
+        return socket(dccp_socket_listen(host.empty() ? nullptr : host.c_str(), port.c_str(), services.data(), services.size(), &given));
+    }
+
+    // The next event: waiting for it, or for so long at most. Throws std::system_error where the system's socket fails.
+    std::optional<event> poll() { return poll_for(-1); }
+    std::optional<event> poll(std::chrono::milliseconds wait) { return poll_for(static_cast<int>(wait.count())); }
+
+    int descriptor() const { return dccp_socket_descriptor(it_.get()); }
+    // In how long a poll has something to do even if nothing comes; none: never.
+    std::optional<std::chrono::milliseconds> wait() const {
+        const int left = dccp_socket_wait(it_.get());
+        if (left < 0) return std::nullopt;
+        return std::chrono::milliseconds(left);
+    }
+    uint16_t port() const { return dccp_socket_port(it_.get()); }
+    // That of a client, until its last event was told.
+    std::optional<dccp::connection> connection() const {
+        dccp_connection *it = dccp_socket_connection(it_.get());
+        if (it == nullptr) return std::nullopt;
+        return dccp::connection(it);
+    }
+
+  private:
+    struct freeing {
+        void operator()(dccp_socket *it) const { dccp_socket_free(it); }
+    };
+    explicit socket(dccp_socket *it) : it_(it) {
+        if (it == nullptr) throw std::system_error(errno, std::generic_category(), "dccp socket");
+    }
+    static dccp_socket_options of(const options &with) {
+        dccp_socket_options given = DCCP_SOCKET_OPTIONS_INIT;
+        given.wishes = with.wishes.data();
+        given.wish_count = with.wishes.size();
+        given.client_name = with.client_name.empty() ? nullptr : with.client_name.c_str();
+        given.server_name = with.server_name.empty() ? nullptr : with.server_name.c_str();
+        given.most = with.most;
+        given.patience = static_cast<uint32_t>(with.patience.count());
+        given.idle = static_cast<uint32_t>(with.idle.count());
+        return given;
+    }
+    std::optional<event> poll_for(int milliseconds) {
+        dccp_socket_event told;
+        const int found = dccp_socket_poll(it_.get(), milliseconds, &told);
+        if (found < 0) throw std::system_error(errno, std::generic_category(), "dccp socket");
+        if (found == 0) return std::nullopt;
+        return event{told.kind, dccp::connection(told.connection), bytes(told.data, told.length), told.cause, told.code};
+    }
+
+    std::unique_ptr<dccp_socket, freeing> it_;
+};
+
+// One end without socket and clock, as dccp.h has it. Each call leaves a frame for the peer, which may have no bytes.
+class end {
+  public:
+    end() = default;
+    end(const dccp_settings &settings, const std::vector<dccp_wish> &wishes = {}) {
+        check(dccp_make(&it_, &settings, some(wishes), wishes.size()));
+    }
+    end(end &&other) noexcept : it_(std::exchange(other.it_, DCCP_NONE)) {}
+    end &operator=(end &&other) noexcept {
+        if (this != &other) {
+            dccp_free(&it_);
+            it_ = std::exchange(other.it_, DCCP_NONE);
+        }
+        return *this;
+    }
+    ~end() { dccp_free(&it_); }
+
+    dccp_status accept(const dccp_settings &settings, const std::vector<dccp_wish> &wishes, bytes datagram, uint64_t now, dccp_told &told) {
+        return dccp_accept(&it_, &settings, some(wishes), wishes.size(), datagram.data(), datagram.size(), now, &frame_, &told);
+    }
+    dccp_status open(uint64_t now) { return dccp_open(&it_, now, &frame_); }
+    dccp_status send(bytes data, uint64_t now) { return dccp_send(&it_, data.data(), data.size(), now, &frame_); }
+    dccp_status close(uint64_t now) { return dccp_close(&it_, now, &frame_); }
+    dccp_status abort(uint64_t now) { return dccp_abort(&it_, now, &frame_); }
+    dccp_status tick(uint64_t now) { return dccp_tick(&it_, now, &frame_); }
+    dccp_status receive(bytes datagram, uint64_t now, dccp_told &told) {
+        return dccp_receive(&it_, datagram.data(), datagram.size(), now, &frame_, &told);
+    }
+    dccp_status prefer(dccp_feature_kind feature, const std::vector<uint64_t> &values, bool at_peer, uint64_t now) {
+        static constexpr uint64_t none = 0;
+        const uint64_t *first = values.empty() ? &none : values.data();
+        return dccp_prefer(&it_, static_cast<uint32_t>(feature), at_peer, first, values.size(), now, &frame_);
+    }
+    // None: no timer runs.
+    std::optional<std::chrono::milliseconds> until_first(uint64_t now) {
+        const uint64_t left = dccp_until_first(&it_, now);
+        if (left == DCCP_NEVER) return std::nullopt;
+        return std::chrono::milliseconds(left);
+    }
+    dccp_view look() {
+        dccp_view view{};
+        check(dccp_look(&it_, &view));
+        return view;
+    }
+    dccp_feature_state feature(dccp_feature_kind feature, bool at_peer = false) {
+        dccp_feature_state state{};
+        check(dccp_feature(&it_, static_cast<uint32_t>(feature), at_peer, &state));
+        return state;
+    }
+
+    // What the last call has left for the peer, until the next call.
+    bytes frame() const { return {frame_.bytes, frame_.length}; }
+    explicit operator bool() const { return it_.made; }
+
+  private:
+    static const dccp_wish *some(const std::vector<dccp_wish> &wishes) {
+        static constexpr dccp_wish none{};
+        return wishes.empty() ? &none : wishes.data();
+    }
+
+    dccp_end it_ = DCCP_NONE;
+    dccp_frame frame_{};
+};
+
+}  // namespace dccp
+
+#endif

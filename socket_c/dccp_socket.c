@@ -1,0 +1,633 @@
+/* DCCP over the UDP of POSIX systems: see dccp_socket.h. Each connection is an end of dccp.h, found by the address of its peer. */
+#ifndef _POSIX_C_SOURCE
+#define _POSIX_C_SOURCE 200809L
+#endif
+#include "dccp_socket.h"
+
+#include <arpa/inet.h>
+#include <errno.h>
+#include <fcntl.h>
+#include <limits.h>
+#include <netdb.h>
+#include <netinet/in.h>
+#include <poll.h>
+#include <stdio.h>
+#include <stdlib.h>
+#include <string.h>
+#include <sys/socket.h>
+#include <time.h>
+#include <unistd.h>
+
+/* Syncs and Resets that go out in a second for a connection, and for strangers; milliseconds for which an end that has ended is kept, and
+ * after which timers are looked at although datagrams come; places of the table; the Sequence Window; the buffer asked of the system. */
+enum { ANSWERS = 20, STRANGERS = 100, LINGER = 2000, TICK = 5, PLACES = 512, WIDTH = 10000, BUFFER = 1 << 21 };
+enum { MOST_WISHES = 16, MOST_SERVICES = 16 };
+
+/* An address of the system's, of IPv4 or IPv6. */
+typedef union address {
+    struct sockaddr any;
+    struct sockaddr_in v4;
+    struct sockaddr_in6 v6;
+} address;
+
+/* How many of something were done in this second. */
+typedef struct limit {
+    uint64_t second;
+    unsigned done;
+} limit;
+
+struct dccp_connection {
+    dccp_socket *udp;
+    dccp_connection *next;          /* in its place of the table */
+    dccp_connection *newer, *older; /* in the list of all */
+    void *user;
+    address peer;
+    dccp_end end;
+    limit answers;
+    uint64_t heard;  /* when something was taken of the peer last, or a wait for it began */
+    uint64_t ended;  /* when it ended */
+    uint64_t marked; /* how many packets were taken */
+    dccp_end_cause cause;
+    uint8_t code;
+    bool has_ended, is_opened, wants_room;
+    bool is_told; /* that it has ended, or that this is told to nobody */
+};
+
+struct dccp_socket {
+    int descriptor, random;
+    bool is_server, has_names;
+    uint32_t most, count, patience, idle;
+    uint32_t services[MOST_SERVICES];
+    size_t service_count;
+    dccp_wish wishes[MOST_WISHES];
+    size_t wish_count;
+    address own, client_name, server_name;
+    limit strangers;
+    uint64_t ticked; /* when timers were looked at last */
+    dccp_connection *places[PLACES], *newest;
+    dccp_socket_event data; /* told after the opening that the same datagram is */
+    bool has_data;
+    uint8_t room[DCCP_MOST_FRAME_BYTES + 1];
+};
+
+static uint64_t now(void) {
+    struct timespec t;
+    clock_gettime(CLOCK_MONOTONIC, &t);
+    return (uint64_t)t.tv_sec * 1000 + (uint64_t)t.tv_nsec / 1000000;
+}
+
+static bool may(limit *it, unsigned most) {
+    uint64_t second = now() / 1000;
+    if (it->second != second) {
+        it->second = second;
+        it->done = 0;
+    }
+    return it->done++ < most;
+}
+
+/* A number that nobody can guess, for a first packet (RFC 4340, section 7.2). */
+static bool draw(const dccp_socket *udp, uint64_t *number) {
+    if (read(udp->random, number, sizeof *number) != (ssize_t)sizeof *number) return false;
+    *number >>= 16;
+    return true;
+}
+
+/* Addresses. */
+
+static socklen_t size_of(const address *it) {
+    return it->any.sa_family == AF_INET ? (socklen_t)sizeof it->v4 : (socklen_t)sizeof it->v6;
+}
+
+static uint16_t port_of(const address *it) { return ntohs(it->any.sa_family == AF_INET ? it->v4.sin_port : it->v6.sin6_port); }
+
+static void set_port(address *it, uint16_t port) {
+    if (it->any.sa_family == AF_INET)
+        it->v4.sin_port = htons(port);
+    else
+        it->v6.sin6_port = htons(port);
+}
+
+static bool is_same(const address *one, const address *other) {
+    if (one->any.sa_family != other->any.sa_family || port_of(one) != port_of(other)) return false;
+    if (one->any.sa_family == AF_INET) return one->v4.sin_addr.s_addr == other->v4.sin_addr.s_addr;
+    return memcmp(&one->v6.sin6_addr, &other->v6.sin6_addr, 16) == 0 && one->v6.sin6_scope_id == other->v6.sin6_scope_id;
+}
+
+static size_t place_of(const address *it) {
+    bool is_v4 = it->any.sa_family == AF_INET;
+    const uint8_t *bytes = is_v4 ? (const uint8_t *)&it->v4.sin_addr : (const uint8_t *)&it->v6.sin6_addr;
+    uint32_t sum = port_of(it);
+    for (size_t at = 0; at < (is_v4 ? 4u : 16u); at++) sum = sum * 31 + bytes[at];
+    return sum % PLACES;
+}
+
+static bool is_unspecified(const address *it) {
+    if (it->any.sa_family == AF_INET) return it->v4.sin_addr.s_addr == htonl(INADDR_ANY);
+    return IN6_IS_ADDR_UNSPECIFIED(&it->v6.sin6_addr);
+}
+
+/* An address of IPv4 that the system spells as one of IPv6, as itself. */
+static address plain(const address *it) {
+    address found = *it;
+    if (it->any.sa_family == AF_INET || !IN6_IS_ADDR_V4MAPPED(&it->v6.sin6_addr)) return found;
+    memset(&found, 0, sizeof found);
+    found.v4.sin_family = AF_INET;
+    found.v4.sin_port = it->v6.sin6_port;
+    memcpy(&found.v4.sin_addr, it->v6.sin6_addr.s6_addr + 12, 4);
+    return found;
+}
+
+/* The address from which the machine speaks to a peer: the socket's own, or where that is any, what the system would take. */
+static bool own_towards(const dccp_socket *udp, const address *peer, address *own) {
+    *own = udp->own;
+    if (is_unspecified(own)) {
+        socklen_t size = sizeof *own;
+        int probe = socket(peer->any.sa_family, SOCK_DGRAM, 0);
+        bool is_found = 0 <= probe && connect(probe, &peer->any, size_of(peer)) == 0 && getsockname(probe, &own->any, &size) == 0;
+        if (0 <= probe) close(probe);
+        if (!is_found) return false;
+        set_port(own, port_of(&udp->own));
+    }
+    *own = plain(own);
+    return true;
+}
+
+static void spell(const address *it, bool is_v6, uint8_t *bytes) {
+    static const uint8_t mapped[12] = {0, 0, 0, 0, 0, 0, 0, 0, 0, 0, 0xff, 0xff};
+    memset(bytes, 0, 16);
+    if (it->any.sa_family != AF_INET) {
+        memcpy(bytes, &it->v6.sin6_addr, 16);
+    } else if (is_v6) {
+        memcpy(bytes, mapped, 12);
+        memcpy(bytes + 12, &it->v4.sin_addr, 4);
+    } else {
+        memcpy(bytes, &it->v4.sin_addr, 4);
+    }
+}
+
+/* The settings of an end towards a peer, by addresses or by the names that were agreed on. */
+static bool settle(const dccp_socket *udp, const address *peer, uint32_t service, dccp_settings *settings) {
+    address own, other = plain(peer);
+    if (udp->has_names) {
+        own = udp->is_server ? udp->server_name : udp->client_name;
+        other = udp->is_server ? udp->client_name : udp->server_name;
+    } else if (!own_towards(udp, peer, &own)) {
+        return false;
+    }
+    memset(settings, 0, sizeof *settings);
+    settings->is_v6 = own.any.sa_family == AF_INET6 || other.any.sa_family == AF_INET6;
+    spell(&own, settings->is_v6, settings->own_address);
+    spell(&other, settings->is_v6, settings->peer_address);
+    settings->own_port = port_of(&own);
+    settings->peer_port = port_of(&other);
+    settings->service = service;
+    return draw(udp, &settings->first_number);
+}
+
+/* The table of connections, and the list of all. */
+
+static dccp_connection *find(const dccp_socket *udp, const address *peer) {
+    dccp_connection *it = udp->places[place_of(peer)];
+    while (it != NULL && !is_same(&it->peer, peer)) it = it->next;
+    return it;
+}
+
+static dccp_connection *add(dccp_socket *udp, const address *peer) {
+    dccp_connection *it = calloc(1, sizeof *it), **place = &udp->places[place_of(peer)];
+    if (it == NULL) return NULL;
+    it->udp = udp;
+    it->peer = *peer;
+    it->heard = now();
+    it->next = *place;
+    *place = it;
+    it->older = udp->newest;
+    if (it->older != NULL) it->older->newer = it;
+    udp->newest = it;
+    udp->count++;
+    return it;
+}
+
+/* Takes a connection out of the table and the list. */
+static void part(dccp_connection *it) {
+    dccp_socket *udp = it->udp;
+    dccp_connection **place = &udp->places[place_of(&it->peer)];
+    while (*place != it) place = &(*place)->next;
+    *place = it->next;
+    if (it->newer != NULL)
+        it->newer->older = it->older;
+    else
+        udp->newest = it->older;
+    if (it->older != NULL) it->older->newer = it->newer;
+    udp->count--;
+}
+
+static void discard(dccp_connection *it) {
+    if (it == NULL) return;
+    dccp_free(&it->end);
+    free(it);
+}
+
+/* Frames and events. */
+
+/* Hands a frame to the system. One that it does not take is lost. */
+static void hand_over(const dccp_socket *udp, const address *peer, const dccp_frame *frame) {
+    if (frame->length == 0) return;
+    const struct sockaddr *to = udp->is_server ? &peer->any : NULL;
+    (void)!sendto(udp->descriptor, frame->bytes, frame->length, 0, to, to == NULL ? 0 : size_of(peer));
+}
+
+static dccp_view seen(dccp_connection *it) {
+    dccp_view view;
+    memset(&view, 0, sizeof view);
+    (void)dccp_look(&it->end, &view);
+    return view;
+}
+
+static bool is_open(const dccp_view *view) { return view->phase == DCCP_PHASE_PARTOPEN || view->phase == DCCP_PHASE_OPEN; }
+
+static void finish(dccp_connection *it, dccp_end_cause cause, uint8_t code) {
+    if (it->has_ended) return;
+    it->has_ended = true;
+    it->ended = now();
+    it->cause = cause;
+    it->code = code;
+    /* Of one that nobody knows of, nobody is told that it has ended. */
+    it->is_told = it->udp->is_server && !it->is_opened;
+}
+
+static int tell(dccp_connection *it, dccp_event_kind kind, dccp_socket_event *event) {
+    memset(event, 0, sizeof *event);
+    event->connection = it;
+    event->kind = kind;
+    return 1;
+}
+
+/* Tells what has come of a connection and is not told yet, if anything. */
+static int next_event(dccp_connection *it, dccp_socket_event *event) {
+    dccp_view view = seen(it);
+    if (!it->has_ended && !it->is_opened && is_open(&view)) {
+        it->is_opened = true;
+        return tell(it, DCCP_EVENT_OPENED, event);
+    }
+    if (!it->has_ended && it->wants_room && is_open(&view) && view.in_flight < view.window) {
+        it->wants_room = false;
+        return tell(it, DCCP_EVENT_ROOM, event);
+    }
+    if (!it->has_ended || it->is_told) return 0;
+    it->is_told = true;
+    (void)tell(it, DCCP_EVENT_ENDED, event);
+    event->cause = it->cause;
+    event->code = it->code;
+    return 1;
+}
+
+/* Takes what became of a datagram, and hands over what answers it. */
+static void take(dccp_connection *it, const dccp_told *told, const dccp_frame *frame) {
+    bool is_answer = told->kind == DCCP_TOLD_SYNCED || told->kind == DCCP_TOLD_SENT_RESET;
+    dccp_view view = seen(it);
+    if (!is_answer || may(&it->answers, ANSWERS)) hand_over(it->udp, &it->peer, frame);
+    if (view.marked != it->marked) it->heard = now();
+    it->marked = view.marked;
+    bool is_over = told->kind == DCCP_TOLD_WAS_RESET || (told->kind == DCCP_TOLD_SENT_RESET && view.phase == DCCP_PHASE_CLOSED);
+    if (is_over) finish(it, DCCP_END_RESET, told->code);
+}
+
+/* Hears a datagram of a connection, and tells what came of it, if anything. */
+static int hear(dccp_connection *it, size_t length, dccp_socket_event *event) {
+    dccp_socket *udp = it->udp;
+    dccp_frame frame;
+    dccp_told told;
+    if (dccp_receive(&it->end, udp->room, length, now(), &frame, &told) != DCCP_OK) return 0;
+    take(it, &told, &frame);
+    if (told.kind != DCCP_TOLD_DATA || it->has_ended) return next_event(it, event);
+    (void)tell(it, DCCP_EVENT_DATA, &udp->data);
+    udp->data.data = udp->room + told.first;
+    udp->data.length = told.past - told.first;
+    udp->has_data = true;
+    return next_event(it, event);
+}
+
+/* The Service Code that a Request asks for (RFC 4340, section 5.1), if it is one that is served; else the first. */
+static uint32_t asked_service(const dccp_socket *udp, size_t length, bool *is_request) {
+    *is_request = 9 <= length && ((udp->room[8] >> 1) & 15) == 0;
+    if (!*is_request || length < 20) return udp->services[0];
+    uint32_t asked = 0;
+    for (size_t at = 16; at < 20; at++) asked = asked << 8 | udp->room[at];
+    for (size_t at = 0; at < udp->service_count; at++)
+        if (udp->services[at] == asked) return asked;
+    return udp->services[0];
+}
+
+/* Hears a datagram of a peer without a connection. It may open one, of which nothing is told yet. */
+static void meet(dccp_socket *udp, const address *peer, size_t length) {
+    bool is_request;
+    uint32_t service = asked_service(udp, length, &is_request);
+    if (!udp->is_server || udp->most <= udp->count || (!is_request && !may(&udp->strangers, STRANGERS))) return;
+    dccp_settings settings;
+    dccp_connection *it = settle(udp, peer, service, &settings) ? add(udp, peer) : NULL;
+    if (it == NULL) return; /* It asks again. */
+    dccp_frame frame;
+    dccp_told told;
+    dccp_status status = dccp_accept(&it->end, &settings, udp->wishes, udp->wish_count, udp->room, length, now(), &frame, &told);
+    if (status == DCCP_OK) take(it, &told, &frame);
+    if (status == DCCP_NO_CONNECTION) hand_over(udp, peer, &frame);
+    if (status == DCCP_OK && seen(it).phase != DCCP_PHASE_CLOSED) return;
+    part(it);
+    discard(it);
+}
+
+/* Takes the next datagram that has come: 1 with an event, 0 without, -1 where there is none, and -2 for a fault. */
+static int take_datagram(dccp_socket *udp, dccp_socket_event *event) {
+    address from;
+    memset(&from, 0, sizeof from);
+    socklen_t size = sizeof from;
+    ssize_t length = recvfrom(udp->descriptor, udp->room, sizeof udp->room, MSG_DONTWAIT, &from.any, &size);
+    if (length < 0) {
+        bool is_none = errno == EAGAIN || errno == EWOULDBLOCK;
+        bool is_lost = errno == ECONNREFUSED || errno == EHOSTUNREACH || errno == ENETUNREACH || errno == EINTR;
+        return is_none ? -1 : is_lost ? 0 : -2;
+    }
+    dccp_connection *it = udp->is_server ? find(udp, &from) : udp->newest;
+    bool is_request = 9 <= length && ((udp->room[8] >> 1) & 15) == 0;
+    /* One that has ended, and was told of, stands in no way of a new Request. */
+    if (it != NULL && it->has_ended && it->is_told && is_request && udp->is_server) {
+        part(it);
+        discard(it);
+        it = NULL;
+    }
+    if (it != NULL) return hear(it, (size_t)length, event);
+    if (udp->is_server) meet(udp, &from, (size_t)length);
+    return 0;
+}
+
+/* Timers. */
+
+/* In how many milliseconds a connection has something to do. */
+static uint64_t due_in(dccp_connection *it) {
+    uint64_t time = now(), left = dccp_until_first(&it->end, time);
+    dccp_view view = seen(it);
+    uint64_t own = it->has_ended ? it->ended + LINGER : it->heard + (is_open(&view) ? it->udp->idle : it->udp->patience);
+    own = own <= time ? 0 : own - time;
+    return own < left ? own : left;
+}
+
+/* Does what the time has come for at a connection. */
+static void tick(dccp_connection *it) {
+    dccp_frame frame;
+    dccp_view view;
+    while (dccp_tick(&it->end, now(), &frame) == DCCP_OK) hand_over(it->udp, &it->peer, &frame);
+    view = seen(it);
+    if (it->has_ended || now() < it->heard + (is_open(&view) ? it->udp->idle : it->udp->patience)) return;
+    if (dccp_abort(&it->end, now(), &frame) == DCCP_OK) hand_over(it->udp, &it->peer, &frame);
+    finish(it, DCCP_END_SILENT, 0);
+}
+
+/* Does what the time has come for at all, and tells the first event that it finds. */
+static int tick_all(dccp_socket *udp, dccp_socket_event *event) {
+    udp->ticked = now();
+    for (dccp_connection *it = udp->newest, *older; it != NULL; it = older) {
+        older = it->older;
+        if (due_in(it) == 0) tick(it);
+        if (next_event(it, event) == 1) return 1;
+        if (!it->has_ended || now() < it->ended + LINGER) continue;
+        part(it);
+        discard(it);
+    }
+    return 0;
+}
+
+int dccp_socket_wait(dccp_socket *udp) {
+    uint64_t least = DCCP_NEVER;
+    if (udp->has_data) return 0;
+    for (dccp_connection *it = udp->newest; it != NULL; it = it->older) {
+        uint64_t left = (it->has_ended && !it->is_told) ? 0 : due_in(it);
+        if (left < least) least = left;
+    }
+    return least == DCCP_NEVER ? -1 : least < INT_MAX ? (int)least : INT_MAX;
+}
+
+/* Takes what has come, up to the first event; then timers, which are also looked at while datagrams come. */
+static int turn(dccp_socket *udp, dccp_socket_event *event) {
+    for (;;) {
+        if (udp->has_data) {
+            udp->has_data = false;
+            *event = udp->data;
+            return 1;
+        }
+        if (udp->ticked + TICK <= now() && tick_all(udp, event) == 1) return 1;
+        int found = take_datagram(udp, event);
+        if (found == 1) return 1;
+        if (found == -2) return -1;
+        if (found == -1) return tick_all(udp, event);
+    }
+}
+
+int dccp_socket_poll(dccp_socket *udp, int milliseconds, dccp_socket_event *event) {
+    uint64_t begun = now();
+    for (;;) {
+        int found = turn(udp, event);
+        if (found != 0) return found;
+        uint64_t gone = now() - begun;
+        if (0 <= milliseconds && (uint64_t)milliseconds <= gone) return 0;
+        int left = milliseconds < 0 ? -1 : milliseconds - (int)gone, wait = dccp_socket_wait(udp);
+        struct pollfd readable = {.fd = udp->descriptor, .events = POLLIN};
+        if (poll(&readable, 1, wait < 0 || (0 <= left && left < wait) ? left : wait) < 0 && errno != EINTR) return -1;
+    }
+}
+
+/* Making. */
+
+/* The address of a host and port, for a socket that connects or binds to it. */
+static struct addrinfo *look_up(const char *host, const char *port, bool is_server) {
+    struct addrinfo wanted, *found = NULL;
+    memset(&wanted, 0, sizeof wanted);
+    wanted.ai_socktype = SOCK_DGRAM;
+    wanted.ai_flags = is_server ? AI_PASSIVE : 0;
+    int fault = getaddrinfo(host, port, &wanted, &found);
+    if (fault == 0) return found;
+    if (fault != EAI_SYSTEM) errno = fault == EAI_MEMORY ? ENOMEM : ENOENT;
+    return NULL;
+}
+
+/* Opens a socket of the system that is connected or bound to the first of the addresses that takes it. */
+static bool reach(dccp_socket *udp, struct addrinfo *found) {
+    const int buffer = BUFFER;
+    for (struct addrinfo *it = found; it != NULL; it = it->ai_next) {
+        udp->descriptor = socket(it->ai_family, SOCK_DGRAM, 0);
+        if (udp->descriptor < 0) continue;
+        /* A refusal leaves the buffer as it is. */
+        (void)setsockopt(udp->descriptor, SOL_SOCKET, SO_RCVBUF, &buffer, sizeof buffer);
+        int fault = udp->is_server ? bind(udp->descriptor, it->ai_addr, it->ai_addrlen) : connect(udp->descriptor, it->ai_addr, it->ai_addrlen);
+        socklen_t size = sizeof udp->own;
+        if (fault == 0 && getsockname(udp->descriptor, &udp->own.any, &size) == 0) return true;
+        int why = errno;
+        close(udp->descriptor);
+        udp->descriptor = -1;
+        errno = why;
+    }
+    return false;
+}
+
+/* Reads a name, "ADDRESS PORT". */
+static bool read_name(const char *text, address *name) {
+    char host[64];
+    unsigned port;
+    memset(name, 0, sizeof *name);
+    if (sscanf(text, "%63s %u", host, &port) != 2 || UINT16_MAX < port) return false;
+    if (inet_pton(AF_INET, host, &name->v4.sin_addr) == 1)
+        name->v4.sin_family = AF_INET;
+    else if (inet_pton(AF_INET6, host, &name->v6.sin6_addr) == 1)
+        name->v6.sin6_family = AF_INET6;
+    else
+        return false;
+    set_port(name, (uint16_t)port);
+    return true;
+}
+
+static uint32_t usual(uint32_t wanted, uint32_t value) { return wanted == 0 ? value : wanted; }
+
+/* Takes over what is asked for; false where a name is none, or there are too many wishes. */
+static bool arrange(dccp_socket *udp, const dccp_socket_options *given) {
+    dccp_socket_options options = DCCP_SOCKET_OPTIONS_INIT;
+    if (given != NULL) memcpy(&options, given, given->size < sizeof options ? given->size : sizeof options);
+    udp->most = usual(options.most, 1000);
+    udp->patience = usual(options.patience, 30000);
+    udp->idle = usual(options.idle, 180000);
+    udp->wishes[0] = (dccp_wish){.values = {WIDTH}, .count = 1, .feature = DCCP_FEATURE_SEQUENCE_WINDOW, .is_offered = true};
+    udp->wish_count = 1 + options.wish_count;
+    if (MOST_WISHES < udp->wish_count) return false;
+    if (options.wish_count != 0) memcpy(udp->wishes + 1, options.wishes, options.wish_count * sizeof *options.wishes);
+    udp->has_names = options.client_name != NULL && options.server_name != NULL;
+    return !udp->has_names || (read_name(options.client_name, &udp->client_name) && read_name(options.server_name, &udp->server_name));
+}
+
+/* Whether an end can be made with these wishes; else errno says why not. */
+static bool try_wishes(const dccp_socket *udp) {
+    dccp_end end = DCCP_NONE;
+    dccp_settings settings;
+    memset(&settings, 0, sizeof settings);
+    dccp_status status = dccp_make(&end, &settings, udp->wishes, udp->wish_count);
+    dccp_free(&end);
+    errno = status == DCCP_NO_MEMORY ? ENOMEM : EINVAL;
+    return status == DCCP_OK;
+}
+
+void dccp_socket_free(dccp_socket *udp) {
+    if (udp == NULL) return;
+    for (dccp_connection *it = udp->newest, *older; it != NULL; it = older) {
+        older = it->older;
+        discard(it);
+    }
+    if (0 <= udp->descriptor) close(udp->descriptor);
+    if (0 <= udp->random) close(udp->random);
+    free(udp);
+}
+
+/* A socket without connections, or NULL. */
+static dccp_socket *make(const char *host, const char *port, bool is_server, const dccp_socket_options *options) {
+    dccp_socket *udp = calloc(1, sizeof *udp);
+    if (udp == NULL) return NULL;
+    udp->descriptor = udp->random = -1;
+    udp->is_server = is_server;
+    errno = EINVAL;
+    bool is_made = arrange(udp, options) && try_wishes(udp) && 0 <= (udp->random = open("/dev/urandom", O_RDONLY | O_CLOEXEC));
+    struct addrinfo *found = is_made ? look_up(host, port, is_server) : NULL;
+    is_made = found != NULL && reach(udp, found);
+    if (found != NULL) freeaddrinfo(found);
+    if (is_made) return udp;
+    int why = errno;
+    dccp_socket_free(udp);
+    errno = why;
+    return NULL;
+}
+
+/* Asks for the service of the peer to which the socket is connected. */
+static bool ask(dccp_socket *udp, uint32_t service) {
+    address peer;
+    socklen_t size = sizeof peer;
+    dccp_settings settings;
+    dccp_frame frame;
+    memset(&peer, 0, sizeof peer);
+    if (getpeername(udp->descriptor, &peer.any, &size) != 0 || !settle(udp, &peer, service, &settings)) return false;
+    dccp_connection *it = add(udp, &peer);
+    errno = ENOMEM;
+    if (it == NULL || dccp_make(&it->end, &settings, udp->wishes, udp->wish_count) != DCCP_OK) return false;
+    if (dccp_open(&it->end, now(), &frame) != DCCP_OK) return false;
+    hand_over(udp, &peer, &frame);
+    return true;
+}
+
+dccp_socket *dccp_socket_connect(const char *host, const char *port, uint32_t service, const dccp_socket_options *options) {
+    dccp_socket *udp = make(host, port, false, options);
+    if (udp == NULL || ask(udp, service)) return udp;
+    int why = errno;
+    dccp_socket_free(udp);
+    errno = why;
+    return NULL;
+}
+
+dccp_socket *dccp_socket_listen(const char *host, const char *port, const uint32_t *services, size_t service_count,
+                                const dccp_socket_options *options) {
+    errno = EINVAL;
+    if (service_count == 0 || MOST_SERVICES < service_count) return NULL;
+    dccp_socket *udp = make(host, port, true, options);
+    if (udp == NULL) return NULL;
+    memcpy(udp->services, services, service_count * sizeof *services);
+    udp->service_count = service_count;
+    return udp;
+}
+
+/* What the owner reads and does. */
+
+int dccp_socket_descriptor(const dccp_socket *udp) { return udp->descriptor; }
+
+uint16_t dccp_socket_port(const dccp_socket *udp) { return port_of(&udp->own); }
+
+dccp_connection *dccp_socket_connection(const dccp_socket *udp) {
+    return udp->is_server || udp->newest == NULL || udp->newest->is_told ? NULL : udp->newest;
+}
+
+dccp_status dccp_connection_send(dccp_connection *it, const void *data, size_t length) {
+    static const uint8_t nothing[1] = {0};
+    dccp_frame frame;
+    if (it->has_ended) return DCCP_NOT_MADE;
+    dccp_status status = dccp_send(&it->end, length == 0 ? nothing : data, length, now(), &frame);
+    hand_over(it->udp, &it->peer, &frame);
+    it->wants_room = status == DCCP_WINDOW_FULL || status == DCCP_NOT_NEGOTIATED;
+    return status;
+}
+
+dccp_status dccp_connection_close(dccp_connection *it) {
+    dccp_frame frame;
+    if (it->has_ended) return DCCP_NOT_MADE;
+    dccp_status status = dccp_close(&it->end, now(), &frame);
+    hand_over(it->udp, &it->peer, &frame);
+    if (status == DCCP_OK) it->heard = now();
+    return status;
+}
+
+dccp_status dccp_connection_abort(dccp_connection *it) {
+    dccp_frame frame;
+    if (it->has_ended) return DCCP_NOT_MADE;
+    dccp_status status = dccp_abort(&it->end, now(), &frame);
+    hand_over(it->udp, &it->peer, &frame);
+    if (status == DCCP_OK) finish(it, DCCP_END_ABORTED, 0);
+    return status;
+}
+
+dccp_status dccp_connection_prefer(dccp_connection *it, dccp_feature_kind feature, bool at_peer, const uint64_t *values, size_t count) {
+    dccp_frame frame;
+    dccp_status status = dccp_prefer(&it->end, (uint32_t)feature, at_peer, values, count, now(), &frame);
+    hand_over(it->udp, &it->peer, &frame);
+    return status;
+}
+
+dccp_status dccp_connection_feature(dccp_connection *it, dccp_feature_kind feature, bool at_peer, dccp_feature_state *state) {
+    return dccp_feature(&it->end, (uint32_t)feature, at_peer, state);
+}
+
+dccp_status dccp_connection_look(dccp_connection *it, dccp_view *view) { return dccp_look(&it->end, view); }
+
+void dccp_connection_set_user(dccp_connection *it, void *user) { it->user = user; }
+
+void *dccp_connection_user(const dccp_connection *it) { return it->user; }
