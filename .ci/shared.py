@@ -9,6 +9,7 @@ import socket
 import subprocess
 import sys
 import tempfile
+import time
 from pathlib import Path
 
 TOP = Path(__file__).resolve().parent.parent
@@ -96,3 +97,22 @@ def install_library(room):
     if not is_there:
         print(f"{found}the library was not installed: nothing was tried")
     return is_there
+
+
+def ended(program, seconds):
+    """What a program said, which is stopped where it does not end in so many seconds."""
+    try:
+        return program.communicate(timeout=seconds)[0]
+    except subprocess.TimeoutExpired:
+        program.terminate()
+        return program.communicate()[0]
+
+
+def beside(server, *clients):
+    """Runs programs beside a server that is stopped at last, if it has not ended, and gives what each said."""
+    how = {"stdout": subprocess.PIPE, "stderr": subprocess.STDOUT, "text": True}
+    with subprocess.Popen(server, **how) as serving:
+        time.sleep(0.3)
+        begun = [subprocess.Popen(it, **how) for it in clients]
+        found = [ended(it, 60) for it in begun]
+        return [*found, ended(serving, 4)]
