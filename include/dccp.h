@@ -22,7 +22,8 @@
  * The caller keeps to this, which nothing checks:
  *   - A handle is passed to one call at a time. It may go to another thread, if the two are ordered by a lock or a join.
  *   - The fields of a handle are read and written by the library alone, and a handle is not copied while it is in use.
- *   - No pointer is NULL, not even that of no bytes; what is passed by one call does not overlap; a bool is 0 or 1.
+ *   - No pointer is NULL, except that of no bytes, values or wishes, whose length or count is 0; what is passed by one call does not overlap;
+ *     a bool is 0 or 1.
  *   - No call comes from a signal handler.
  * Any number in place of a feature, a timer or a value, and any bytes, are answered by a status.
  */
@@ -232,40 +233,65 @@ typedef struct dccp_feature_state {
     uint32_t stand; /* a dccp_stand */
 } dccp_feature_state;
 
-/* Makes an end in the handle. An end that the handle held is freed first, also where making fails; then the handle holds none.
- * The wishes are taken in their order. DCCP_OK; DCCP_NO_NUMBER for the first number; DCCP_NO_FEATURE, DCCP_BAD_LIST or
- * DCCP_NOT_OURS of the first wish that is refused; DCCP_NO_MEMORY. Nothing that is passed is kept. */
+/* Makes an end in the handle. An end that the handle held is freed first, also where making fails; then the handle holds none. The
+ * wishes are taken in their order. Nothing that is passed is kept.
+ *     DCCP_OK
+ *     DCCP_NO_NUMBER   the first number is not below 2^48
+ *     DCCP_NO_FEATURE  a wish is for no feature; of the first wish that is refused, as the next two
+ *     DCCP_BAD_LIST    its values are none, over eight, twice the same, not permitted, or not just one where one is due
+ *     DCCP_NOT_OURS    it is for the Sequence Window or Ack Ratio of the peer
+ *     DCCP_NO_MEMORY */
 dccp_status dccp_make(dccp_end *end, const dccp_settings *settings, const dccp_wish *wishes, size_t count);
 
 /* Frees what the handle holds. Afterwards it holds none, and may be freed again or made again. */
 void dccp_free(dccp_end *end);
 
-/* Makes a server's end of the first datagram of a peer, as dccp_make does it and with `is_server` taken for true. DCCP_OK: a Request has
- * opened a connection, which is the peer's from now on; where one of its options was a fault, the phase is DCCP_PHASE_CLOSED already. Else the
- * handle holds none: DCCP_NO_CONNECTION, and the frame answers the datagram, if there is an answer; a status of dccp_make, or
- * DCCP_TOO_LONG over 2,044 bytes, and `told` is as it was. It takes memory for any datagram: whoever minds leaves out those that are no
- * Request, of which `(datagram[8] >> 1) & 15` is 0. */
+/* Makes a server's end of the first datagram of a peer, as dccp_make does it and with `is_server` taken for true. It takes memory for any
+ * datagram: whoever minds leaves out those that are no Request, of which `(datagram[8] >> 1) & 15` is 0.
+ *     DCCP_OK             a Request has opened a connection, which is the peer's from now on; where one of its options was a fault, the phase
+ *                         is DCCP_PHASE_CLOSED already
+ *     DCCP_NO_CONNECTION  the handle holds none, and the frame answers the datagram, if there is an answer
+ *     DCCP_TOO_LONG       over 2,044 bytes; as with the next, the handle holds none, and `told` is as it was
+ *     a status of dccp_make */
 dccp_status dccp_accept(dccp_end *end, const dccp_settings *settings, const dccp_wish *wishes, size_t count, const uint8_t *datagram,
-                     size_t length, uint64_t now, dccp_frame *frame, dccp_told *told);
+                        size_t length, uint64_t now, dccp_frame *frame, dccp_told *told);
 
-/* A client asks for its service, once: its Request is left. DCCP_OK, DCCP_NOT_MADE, DCCP_NOT_FRESH. */
+/* A client asks for its service, once: its Request is left.
+ *     DCCP_OK
+ *     DCCP_NOT_MADE
+ *     DCCP_NOT_FRESH  a server's end, or one that was opened before */
 dccp_status dccp_open(dccp_end *end, uint64_t now, dccp_frame *frame);
 
-/* Sends data, 0 to 1,024 bytes; in DCCP_PHASE_PARTOPEN a client speaks first. DCCP_OK, DCCP_NOT_MADE, and the first that holds of
- * DCCP_NOT_OPEN (in all phases but DCCP_PHASE_PARTOPEN and DCCP_PHASE_OPEN), DCCP_TOO_LONG, DCCP_NOT_NEGOTIATED, DCCP_WINDOW_FULL. */
+/* Sends data, 0 to 1,024 bytes; in DCCP_PHASE_PARTOPEN a client speaks first. The first that holds:
+ *     DCCP_NOT_MADE
+ *     DCCP_NOT_OPEN        in all phases except DCCP_PHASE_PARTOPEN and DCCP_PHASE_OPEN
+ *     DCCP_TOO_LONG        more than 1,024 bytes
+ *     DCCP_NOT_NEGOTIATED  the peer sends no Ack Vectors yet
+ *     DCCP_WINDOW_FULL     as many packets are in flight as may be: offer the data again, or drop them
+ *     DCCP_OK */
 dccp_status dccp_send(dccp_end *end, const uint8_t *data, size_t length, uint64_t now, dccp_frame *frame);
 
-/* Closes the connection in order. No data are delivered to this end any more. DCCP_OK, DCCP_NOT_MADE; DCCP_NOT_OPEN in all phases but
- * DCCP_PHASE_PARTOPEN and DCCP_PHASE_OPEN. */
+/* Closes the connection in order. No data are delivered to this end any more.
+ *     DCCP_OK
+ *     DCCP_NOT_MADE
+ *     DCCP_NOT_OPEN  in all phases except DCCP_PHASE_PARTOPEN and DCCP_PHASE_OPEN */
 dccp_status dccp_close(dccp_end *end, uint64_t now, dccp_frame *frame);
 
-/* Ends the connection at once. DCCP_OK, DCCP_NOT_MADE; DCCP_NOT_LIVE in DCCP_PHASE_CLOSED, DCCP_PHASE_LISTEN and DCCP_PHASE_TIMEWAIT. */
+/* Ends the connection at once.
+ *     DCCP_OK
+ *     DCCP_NOT_MADE
+ *     DCCP_NOT_LIVE  in DCCP_PHASE_CLOSED, DCCP_PHASE_LISTEN and DCCP_PHASE_TIMEWAIT */
 dccp_status dccp_abort(dccp_end *end, uint64_t now, dccp_frame *frame);
 
-/* Asks for these values of a feature, best first, at the peer or at this end. DCCP_OK, DCCP_NOT_MADE, DCCP_NO_FEATURE; DCCP_NOT_OPEN in all
- * phases but DCCP_PHASE_PARTOPEN and DCCP_PHASE_OPEN; then DCCP_BAD_LIST, DCCP_NOT_OURS. What comes of it is seen by dccp_feature. */
+/* Asks for these values of a feature, best first, at the peer or at this end. What comes of it is seen by dccp_feature.
+ *     DCCP_OK
+ *     DCCP_NO_FEATURE
+ *     DCCP_NOT_MADE
+ *     DCCP_NOT_OPEN  in all phases except DCCP_PHASE_PARTOPEN and DCCP_PHASE_OPEN
+ *     DCCP_BAD_LIST  the values are none, over eight, twice the same, not permitted, or not just one where one is due
+ *     DCCP_NOT_OURS  the Sequence Window or Ack Ratio of the peer */
 dccp_status dccp_prefer(dccp_end *end, uint32_t feature, bool at_peer, const uint64_t *values, size_t count, uint64_t now,
-                     dccp_frame *frame);
+                        dccp_frame *frame);
 
 /* Tells the end the first of its timers that has run out. DCCP_OK, also where that leaves no frame: call it again, at most six times at one
  * time, until it answers DCCP_NOTHING_DUE, where none has run out; DCCP_NOT_MADE. */
@@ -275,24 +301,35 @@ dccp_status dccp_tick(dccp_end *end, uint64_t now, dccp_frame *frame);
  * other call. */
 uint64_t dccp_until_first(dccp_end *end, uint64_t now);
 
-/* A timer has run out: for whoever keeps the timers instead of the library, and does not call dccp_tick. DCCP_OK; DCCP_NOTHING_DUE where it
- * has nothing to do in this phase, which is no fault; DCCP_NOT_MADE, DCCP_NO_TIMER. */
+/* A timer has run out: for whoever keeps the timers instead of the library, and does not call dccp_tick.
+ *     DCCP_OK
+ *     DCCP_NO_TIMER
+ *     DCCP_NOT_MADE
+ *     DCCP_NOTHING_DUE  it has nothing to do in this phase, which is no fault */
 dccp_status dccp_timer(dccp_end *end, uint32_t timer, uint64_t now, dccp_frame *frame);
 
-/* A datagram of the peer has arrived: the bytes of one DCCP packet, from the generic header on. DCCP_OK, and what became of it in `told`;
- * DCCP_NOT_MADE, or DCCP_TOO_LONG over 2,044 bytes, and `told` is as it was. */
+/* A datagram of the peer has arrived: the bytes of one DCCP packet, from the generic header on.
+ *     DCCP_OK        what became of it is in `told`
+ *     DCCP_NOT_MADE  `told` is as it was
+ *     DCCP_TOO_LONG  over 2,044 bytes; `told` is as it was */
 dccp_status dccp_receive(dccp_end *end, const uint8_t *datagram, size_t length, uint64_t now, dccp_frame *frame, dccp_told *told);
 
-/* Reads an end. DCCP_OK, or DCCP_NOT_MADE and `view` is as it was. */
+/* Reads an end.
+ *     DCCP_OK
+ *     DCCP_NOT_MADE  `view` is as it was */
 dccp_status dccp_look(dccp_end *end, dccp_view *view);
 
-/* Reads what an end holds for a feature. DCCP_OK; DCCP_NOT_MADE or DCCP_NO_FEATURE, and `state` is as it was. */
+/* Reads what an end holds for a feature.
+ *     DCCP_OK
+ *     DCCP_NO_FEATURE  `state` is as it was
+ *     DCCP_NOT_MADE    `state` is as it was */
 dccp_status dccp_feature(dccp_end *end, uint32_t feature, bool at_peer, dccp_feature_state *state);
 
 /* Makes a listener in the handle, for at most `most` flows at a time, 1 to 1,024. One that the handle held is freed first, also where making
  * fails; then the handle holds none. Of the settings count the own address and port and the service; `is_v6` has to be false and
  * `first_number` below 2^48, and the others make no difference. The wishes are those of each peer's end, which makes no offer by itself: so
- * one for its own Sequence Window or Ack Ratio changes nothing. The statuses of dccp_make, and DCCP_NO_SUCH_LISTENER for IPv6 and for another `most`.
+ * one for its own Sequence Window or Ack Ratio changes nothing. The statuses of dccp_make, and DCCP_NO_SUCH_LISTENER for IPv6 and for another
+ * `most`.
  * A flow takes about 87 KB, which it gives back where it ends. */
 dccp_status dccp_listener_make(dccp_listener *listener, const dccp_settings *settings, const dccp_wish *wishes, size_t count, uint16_t most);
 
@@ -307,13 +344,13 @@ void dccp_listener_free(dccp_listener *listener);
  * nothing is left. But for DCCP_OK `told` is as it was. Anybody may call forth the frame of DCCP_BUSY, and those of DCCP_TOLD_SYNCED and
  * DCCP_TOLD_SENT_RESET: limit how many go out in a second. One that is left out is a lost frame. */
 dccp_status dccp_listener_arrive(dccp_listener *listener, const dccp_peer *peer, uint64_t first_number, const uint8_t *datagram, size_t length,
-                              uint64_t now, dccp_frame *frame, dccp_told *told);
+                                 uint64_t now, dccp_frame *frame, dccp_told *told);
 
-/* Sends data to a peer, as dccp_send does it once the flow is DCCP_PHASE_OPEN. DCCP_OK; DCCP_NOT_MADE, DCCP_NO_FLOW; DCCP_NOT_OPEN, DCCP_TOO_LONG,
- * DCCP_WINDOW_FULL; DCCP_NOT_NEGOTIATED: the peer sends no Ack Vectors. A flow's end asks for nothing by itself, so its peer has to offer
+/* Sends data to a peer, as dccp_send does it once the flow is DCCP_PHASE_OPEN. DCCP_OK; DCCP_NOT_MADE, DCCP_NO_FLOW; DCCP_NOT_OPEN,
+ * DCCP_TOO_LONG, DCCP_WINDOW_FULL; DCCP_NOT_NEGOTIATED: the peer sends no Ack Vectors. A flow's end asks for nothing by itself, so its peer has to offer
  * them: by a wish for DCCP_FEATURE_SEND_ACK_VECTOR, not at_peer, of the value 1, that is_offered. */
 dccp_status dccp_listener_send(dccp_listener *listener, const dccp_peer *peer, const uint8_t *data, size_t length, uint64_t now,
-                            dccp_frame *frame);
+                               dccp_frame *frame);
 
 /* Closes a peer's connection in order, as dccp_close. DCCP_OK; DCCP_NOT_MADE, DCCP_NO_FLOW, DCCP_NOT_OPEN. */
 dccp_status dccp_listener_close(dccp_listener *listener, const dccp_peer *peer, uint64_t now, dccp_frame *frame);

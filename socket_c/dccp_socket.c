@@ -377,6 +377,7 @@ static void tick(dccp_connection *it) {
     dccp_view view;
     while (dccp_tick(&it->end, now(), &frame) == DCCP_OK) hand_over(it->udp, &it->peer, &frame);
     view = seen(it);
+    if (view.phase == DCCP_PHASE_CLOSED) finish(it, DCCP_END_SILENT, 0); /* The end gave up by itself. */
     if (it->has_ended || now() < it->heard + (is_open(&view) ? it->udp->idle : it->udp->patience)) return;
     if (dccp_abort(&it->end, now(), &frame) == DCCP_OK) hand_over(it->udp, &it->peer, &frame);
     finish(it, DCCP_END_SILENT, 0);

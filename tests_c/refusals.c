@@ -175,6 +175,8 @@ static void a_server(void) {
     dccp_end end = DCCP_NONE;
     dccp_settings own = server();
     dccp_wish none = {.count = 0}, ninth = {.values = {1}, .count = 9, .feature = DCCP_FEATURE_CCID};
+    dccp_wish tenth = {.values = {1}, .count = 1, .feature = 10};
+    dccp_wish theirs = {.values = {1}, .count = 1, .feature = DCCP_FEATURE_ACK_RATIO, .at_peer = true, .is_offered = true};
     dccp_frame frame;
     dccp_told told;
     static uint8_t bytes[DCCP_MOST_FRAME_BYTES + 1];
@@ -192,6 +194,8 @@ static void a_server(void) {
     same("its frame", 0, frame.length);
     same("the end that was there", false, end.made);
     same("2,045 bytes", DCCP_TOO_LONG, dccp_accept(&end, &own, &none, 0, bytes, sizeof bytes, 0, &frame, &told));
+    same("feature 10", DCCP_NO_FEATURE, dccp_accept(&end, &own, &tenth, 1, bytes, 11, 0, &frame, &told));
+    same("the peer's ratio", DCCP_NOT_OURS, dccp_accept(&end, &own, &theirs, 1, bytes, 11, 0, &frame, &told));
     same("nine values", DCCP_BAD_LIST, dccp_accept(&end, &own, &ninth, 1, bytes, 11, 0, &frame, &told));
     same("blocks that are kept", 0, held);
 }
@@ -253,6 +257,7 @@ static void calls_in_open(dccp_end *one, dccp_end *other) {
     dccp_told told;
     static uint8_t bytes[DCCP_MOST_FRAME_BYTES + 1];
     uint64_t twice[2] = {2, 2};
+    dccp_feature_state state;
     same("the timer Ack", DCCP_OK, dccp_timer(other, DCCP_TIMER_ACK, 0, &frame));
     same("its Ack", 3, (frame.bytes[8] >> 1) & 15);
     exchange(one, other, &frame);
@@ -263,6 +268,9 @@ static void calls_in_open(dccp_end *one, dccp_end *other) {
     same("2,044 bytes", DCCP_OK, dccp_receive(one, bytes, DCCP_MOST_FRAME_BYTES, 0, &frame, &told));
     same("what became of them", DCCP_TOLD_DROPPED, told.kind);
     same("2,045 bytes", DCCP_TOO_LONG, dccp_receive(one, bytes, DCCP_MOST_FRAME_BYTES + 1, 0, &frame, &told));
+    same("feature 10", DCCP_NO_FEATURE, dccp_prefer(one, 10, false, twice, 1, 0, &frame));
+    same("feature 10 read", DCCP_NO_FEATURE, dccp_feature(one, 10, false, &state));
+    same("no values", DCCP_BAD_LIST, dccp_prefer(one, DCCP_FEATURE_CCID, false, NULL, 0, 0, &frame));
     same("2 twice", DCCP_BAD_LIST, dccp_prefer(one, DCCP_FEATURE_CCID, false, twice, 2, 0, &frame));
     same("the peer's ratio", DCCP_NOT_OURS, dccp_prefer(one, DCCP_FEATURE_ACK_RATIO, true, twice, 1, 0, &frame));
 }
@@ -273,7 +281,7 @@ static void data_in_open(dccp_end *one, dccp_end *other) {
     dccp_frame frame, answer;
     dccp_told told;
     same("the window", 4, look(one).window);
-    for (unsigned length = 0; length < 4; length++) same("a packet", DCCP_OK, dccp_send(one, bytes, length, 0, &frame));
+    for (unsigned length = 0; length < 4; length++) same("a packet", DCCP_OK, dccp_send(one, length ? bytes : NULL, length, 0, &frame));
     same("its arrival", DCCP_OK, dccp_receive(other, frame.bytes, frame.length, 0, &answer, &told));
     same("its data", DCCP_TOLD_DATA, told.kind);
     same("how many they are", 3, told.past - told.first);
@@ -282,15 +290,44 @@ static void data_in_open(dccp_end *one, dccp_end *other) {
     same("what is in flight", 4, look(one).in_flight);
 }
 
+/* A packet of another client with the names of the first: a Sync acknowledges its number (RFC 4340, section 7.5.4). */
+static void a_sync(dccp_end *other) {
+    dccp_end again = DCCP_NONE;
+    dccp_settings settings = client;
+    dccp_frame frame;
+    dccp_told told;
+    settings.first_number = 500000;
+    same("another client", DCCP_OK, dccp_make(&again, &settings, NULL, 0));
+    same("its open", DCCP_OK, dccp_open(&again, 0, &frame));
+    same("its Request in OPEN", DCCP_OK, dccp_receive(other, frame.bytes, frame.length, 0, &frame, &told));
+    same("what became of it", DCCP_TOLD_SYNCED, told.kind);
+    same("what the Sync acknowledges", 500000, told.number);
+    dccp_free(&again);
+}
+
+/* Ends that offer nothing send no Ack Vectors, which CCID 2 needs (RFC 4341, section 4). */
+static void without_vectors(void) {
+    dccp_end one = DCCP_NONE, other = DCCP_NONE;
+    dccp_settings own = client, settings = server();
+    dccp_frame frame;
+    own.is_plain = settings.is_plain = true;
+    same("a plain client", DCCP_OK, dccp_make(&one, &own, NULL, 0));
+    same("a plain server", DCCP_OK, dccp_make(&other, &settings, NULL, 0));
+    same("its open", DCCP_OK, dccp_open(&one, 0, &frame));
+    exchange(&other, &one, &frame);
+    same("data without vectors", DCCP_NOT_NEGOTIATED, dccp_send(&one, NULL, 0, 0, &frame));
+    dccp_free(&one);
+    dccp_free(&other);
+}
+
 static void a_connection(void) {
     dccp_end one = DCCP_NONE, other = DCCP_NONE;
     dccp_settings settings = server();
-    dccp_wish none = {.count = 0};
     dccp_frame frame;
     dccp_told told;
     uint8_t byte = 0;
-    same("a client", DCCP_OK, dccp_make(&one, &client, &none, 0));
-    same("a server", DCCP_OK, dccp_make(&other, &settings, &none, 0));
+    same("a client", DCCP_OK, dccp_make(&one, &client, NULL, 0));
+    same("a server", DCCP_OK, dccp_make(&other, &settings, NULL, 0));
     same("its phase", DCCP_PHASE_LISTEN, look(&other).phase);
     same("a server's open", DCCP_NOT_FRESH, dccp_open(&other, 0, &frame));
     same("abort in CLOSED", DCCP_NOT_LIVE, dccp_abort(&one, 0, &frame));
@@ -302,8 +339,12 @@ static void a_connection(void) {
     same("open twice", DCCP_NOT_FRESH, dccp_open(&one, 0, &frame));
     same("the client's phase", DCCP_PHASE_OPEN, look(&one).phase);
     same("the server's phase", DCCP_PHASE_OPEN, look(&other).phase);
+    same("the first number that the client received", server().first_number, look(&one).isr);
+    same("the first number that the server received", client.first_number, look(&other).isr);
+    same("what the server took", look(&other).gsr - look(&other).isr + 1, look(&other).marked);
     calls_in_open(&one, &other);
     data_in_open(&one, &other);
+    a_sync(&other);
     same("abort", DCCP_OK, dccp_abort(&one, 0, &frame));
     same("its Reset arrives", DCCP_OK, dccp_receive(&other, frame.bytes, frame.length, 0, &frame, &told));
     same("the news of it", DCCP_TOLD_WAS_RESET, told.kind);
@@ -519,6 +560,8 @@ static void memory_of_a_flow(void) {
 }
 
 int main(void) {
+    same("the border", DCCP_ABI, dccp_abi());
+    same("the version", DCCP_VERSION, dccp_version());
     without_an_end();
     wishes();
     a_request();
@@ -527,6 +570,7 @@ int main(void) {
     memory(make);
     memory(accept);
     a_connection();
+    without_vectors();
     without_a_listener();
     limits_of_a_listener();
     a_listener();

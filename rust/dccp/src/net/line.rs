@@ -177,6 +177,10 @@ impl State {
         if self.silent_at() <= now {
             self.give_up(End::Silent, now);
         }
+        if self.connection.phase() == Phase::Closed {
+            // The end gave up by itself.
+            self.ended(End::Silent, now);
+        }
         let Some(since) = self.let_go else { return };
         match self.connection.phase() {
             Phase::PartOpen | Phase::Open => {
