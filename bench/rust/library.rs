@@ -7,10 +7,6 @@
 use crate::sys::{self, Frame, Settings, Told, View};
 use std::ptr;
 
-unsafe extern "C" {
-    fn dccp_timer(end: *mut sys::End, timer: u32, now: u64, frame: *mut Frame) -> u32;
-}
-
 /// The timer Ack of `include/dccp.h`.
 pub const TIMER_ACK: u32 = 1;
 
@@ -75,7 +71,7 @@ impl End {
     /// Tells the end that this timer has run out, whether or not it has something to do.
     pub fn timer(&mut self, timer: u32, now: u64, frame: &mut Frame) {
         // SAFETY: as the head of this module says.
-        unsafe { dccp_timer(&mut self.0, timer, now, frame) };
+        unsafe { sys::dccp_timer(&mut self.0, timer, now, frame) };
     }
 
     /// Tells the first timer that has run out, if one has.

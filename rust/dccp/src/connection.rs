@@ -2,8 +2,8 @@
 
 use crate::end::End;
 use crate::{
-    AbortError, CloseError, Config, Feature, Held, MakeError, OpenError, Phase, Place, PreferError,
-    SendError, sys,
+    AbortError, CloseError, Config, Feature, Held, MakeError, Numbers, OpenError, Phase, Place,
+    PreferError, SendError, Timer, sys,
 };
 use std::collections::VecDeque;
 use std::time::{Duration, Instant};
@@ -300,6 +300,31 @@ impl Connection {
         self.called(now);
     }
 
+    /// A timer has run out: for an owner who keeps the timers himself, and does not call [`Connection::handle_timeout`]. Tells whether
+    /// it had something to do in this phase; a timer that had nothing to do changes nothing.
+    ///
+    /// ```
+    /// use dccp::{Config, Connection, Timer};
+    /// use std::time::Instant;
+    ///
+    /// let (own, peer) = ("192.0.2.1:40000".parse()?, "192.0.2.2:5001".parse()?);
+    /// let mut client = Connection::new(&Config::client(own, peer, 42, 1_000))?;
+    /// let now = Instant::now();
+    /// client.open(now)?;
+    /// // In REQUEST no data are in flight, and another Request may go out at any time.
+    /// assert!(!client.handle_timer(Timer::Rto, now));
+    /// assert!(client.handle_timer(Timer::Request, now));
+    /// // The second Request has the number after that of the first.
+    /// assert_eq!(client.numbers().greatest_sent, 1_001);
+    /// # Ok::<(), Box<dyn std::error::Error>>(())
+    /// ```
+    pub fn handle_timer(&mut self, timer: Timer, now: Instant) -> bool {
+        let time = self.time(now);
+        let status = queue(&mut self.frames, self.end.timer(timer as u32, time), false);
+        self.called(now);
+        status == sys::DONE
+    }
+
     /// When [`Connection::handle_timeout`] has something to do; None where no timer runs. Ask again after every other call.
     pub fn poll_timeout(&self) -> Option<Instant> {
         self.due
@@ -358,6 +383,17 @@ impl Connection {
     /// All frames that wait for the peer.
     pub(crate) fn take_frames(&mut self) -> impl Iterator<Item = Transmit> + '_ {
         self.frames.drain(..)
+    }
+
+    /// The numbers of this end's packets and of its peer's.
+    pub fn numbers(&self) -> Numbers {
+        Numbers {
+            first_sent: self.view.iss,
+            greatest_sent: self.view.gss,
+            greatest_acknowledged: self.view.gar,
+            first_received: self.view.isr,
+            greatest_received: self.view.gsr,
+        }
     }
 
     /// The time as the end counts it.

@@ -124,6 +124,12 @@ impl End {
         self.call(|end, frame| unsafe { sys::dccp_tick(end, now, frame) })
     }
 
+    /// Tells that this timer has run out; the status is `DONE` where it had something to do.
+    pub fn timer(&mut self, timer: u32, now: u64) -> (u32, &[u8]) {
+        // SAFETY: as the head of this module says.
+        self.call(|end, frame| unsafe { sys::dccp_timer(end, timer, now, frame) })
+    }
+
     /// How many milliseconds it is until a timer runs out, or None where none runs.
     pub fn until_first(&mut self, now: u64) -> Option<u64> {
         // SAFETY: as the head of this module says.

@@ -56,8 +56,8 @@ pub use crate::connection::{Accepted, Connection, Event, Transmit};
 pub use crate::endpoint::Endpoint;
 pub use crate::listener::Listener;
 pub use crate::names::{
-    AbortError, ArriveError, CloseError, Feature, FlowError, Held, ListenError, MakeError,
-    OpenError, Phase, Place, PreferError, SendError,
+    AbortError, ArriveError, CloseError, Feature, FlowError, Held, ListenError, MakeError, Numbers,
+    OpenError, Phase, Place, PreferError, SendError, Timer,
 };
 
 /// The most data of one packet.

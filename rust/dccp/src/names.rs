@@ -69,6 +69,38 @@ pub enum Feature {
     CheckDataChecksum = 9,
 }
 
+/// A timer of an end. [`Connection::handle_timeout`](crate::Connection::handle_timeout) keeps all six.
+#[derive(Clone, Copy, Debug, PartialEq, Eq)]
+pub enum Timer {
+    /// No answer to the Request has come.
+    Request = 0,
+    /// An acknowledgement is due.
+    Ack = 1,
+    /// A Change is not confirmed.
+    Negotiate = 2,
+    /// Data are not acknowledged.
+    Rto = 3,
+    /// A Close or CloseReq is not answered.
+    Close = 4,
+    /// Two lifetimes of a segment have gone by in TIMEWAIT.
+    TimeWait = 5,
+}
+
+/// The numbers of a connection's packets (RFC 4340, section 7.1), each below 2^48.
+#[derive(Clone, Copy, Debug, PartialEq, Eq)]
+pub struct Numbers {
+    /// ISS: of the first packet that this end sends.
+    pub first_sent: u64,
+    /// GSS: the greatest that this end has sent.
+    pub greatest_sent: u64,
+    /// GAR: the greatest that the peer has acknowledged. ISS before it has acknowledged any.
+    pub greatest_acknowledged: u64,
+    /// ISR: of the first packet of the peer; 0 before it was received.
+    pub first_received: u64,
+    /// GSR: the greatest that was received; 0 before any was.
+    pub greatest_received: u64,
+}
+
 /// Where a feature is located.
 #[derive(Clone, Copy, Debug, PartialEq, Eq)]
 pub enum Place {

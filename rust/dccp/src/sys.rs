@@ -155,6 +155,7 @@ unsafe extern "C" {
     ) -> u32;
     pub fn dccp_tick(end: *mut End, now: u64, frame: *mut Frame) -> u32;
     pub fn dccp_until_first(end: *mut End, now: u64) -> u64;
+    pub fn dccp_timer(end: *mut End, timer: u32, now: u64, frame: *mut Frame) -> u32;
     pub fn dccp_receive(
         end: *mut End,
         datagram: *const u8,
