@@ -1,0 +1,174 @@
+//! One end of a path, however it is driven.
+
+use dccp::{Config, Connection, Event, Listener, Phase};
+use std::net::SocketAddrV4;
+use std::time::Instant;
+
+/// How an end is driven.
+#[derive(Clone, Copy, Debug, PartialEq, Eq)]
+pub enum Manner {
+    /// With the waits that RFC 4340 gives as examples, and no other rule.
+    Classic,
+    /// Classic, and by the owner of this program.
+    Reference,
+}
+
+/// An end, and what a path asks of it.
+pub trait End {
+    /// A client asks for its service.
+    fn open(&mut self, now: Instant);
+    /// A datagram has arrived.
+    fn receive(&mut self, datagram: &[u8], now: Instant);
+    /// Sends data; tells whether they went.
+    fn send(&mut self, data: &[u8], now: Instant) -> bool;
+    /// Closes the connection.
+    fn close(&mut self, now: Instant);
+    /// When [`End::tick`] has something to do.
+    fn due(&mut self) -> Option<Instant>;
+    /// The time has come that [`End::due`] told.
+    fn tick(&mut self, now: Instant);
+    /// The next frame for the peer.
+    fn frame(&mut self) -> Option<Vec<u8>>;
+    /// The next that its owner is told.
+    fn event(&mut self) -> Option<Event>;
+    /// Where it stands; CLOSED where it is no more.
+    fn phase(&mut self) -> Phase;
+    /// Its window, in packets.
+    fn window(&mut self) -> u32;
+    /// How many timeouts its congestion control was told of.
+    fn timeouts(&self) -> u64;
+}
+
+/// An end that its connection drives alone.
+#[derive(Debug)]
+pub struct Alone {
+    connection: Connection,
+    timeouts: u64,
+}
+
+impl Alone {
+    /// The end of this connection.
+    pub fn new(connection: Connection) -> Alone {
+        Alone {
+            connection,
+            timeouts: 0,
+        }
+    }
+}
+
+impl End for Alone {
+    fn open(&mut self, now: Instant) {
+        self.connection.open(now).expect("it is fresh");
+    }
+
+    fn receive(&mut self, datagram: &[u8], now: Instant) {
+        self.connection.handle_datagram(datagram, now);
+    }
+
+    fn send(&mut self, data: &[u8], now: Instant) -> bool {
+        self.connection.in_flight() < self.connection.window()
+            && self.connection.send(data, now).is_ok()
+    }
+
+    fn close(&mut self, now: Instant) {
+        // It may have been closed by the peer.
+        let _ = self.connection.close(now);
+    }
+
+    fn due(&mut self) -> Option<Instant> {
+        self.connection.poll_timeout()
+    }
+
+    fn tick(&mut self, now: Instant) {
+        let had = self.connection.in_flight() > 0;
+        self.connection.handle_timeout(now);
+        self.timeouts += u64::from(had && self.connection.in_flight() == 0);
+    }
+
+    fn frame(&mut self) -> Option<Vec<u8>> {
+        self.connection.poll_transmit().map(|it| it.bytes)
+    }
+
+    fn event(&mut self) -> Option<Event> {
+        self.connection.poll_event()
+    }
+
+    fn phase(&mut self) -> Phase {
+        self.connection.phase()
+    }
+
+    fn window(&mut self) -> u32 {
+        self.connection.window()
+    }
+
+    fn timeouts(&self) -> u64 {
+        self.timeouts
+    }
+}
+
+/// The flow of one peer at a listener.
+#[derive(Debug)]
+pub struct Flow {
+    listener: Listener,
+    peer: SocketAddrV4,
+    first_number: u64,
+}
+
+impl Flow {
+    /// A listener for this peer.
+    pub fn new(config: &Config, peer: SocketAddrV4, first_number: u64) -> Flow {
+        Flow {
+            listener: Listener::new(config, 1).expect("a listener is made"),
+            peer,
+            first_number,
+        }
+    }
+}
+
+impl End for Flow {
+    fn open(&mut self, _: Instant) {}
+
+    fn receive(&mut self, datagram: &[u8], now: Instant) {
+        let heard = self
+            .listener
+            .handle_datagram(self.peer, self.first_number, datagram, now);
+        heard.expect("the peer is the only one");
+    }
+
+    fn send(&mut self, data: &[u8], now: Instant) -> bool {
+        self.listener.send(self.peer, data, now).is_ok()
+    }
+
+    fn close(&mut self, now: Instant) {
+        // It may have been closed by the peer.
+        let _ = self.listener.close(self.peer, now);
+    }
+
+    fn due(&mut self) -> Option<Instant> {
+        self.listener.poll_timeout()
+    }
+
+    fn tick(&mut self, now: Instant) {
+        self.listener.handle_timeout(now);
+    }
+
+    fn frame(&mut self) -> Option<Vec<u8>> {
+        self.listener.poll_transmit().map(|(_, it)| it.bytes)
+    }
+
+    fn event(&mut self) -> Option<Event> {
+        self.listener.poll_event().map(|(_, it)| it)
+    }
+
+    fn phase(&mut self) -> Phase {
+        self.listener.phase(self.peer).unwrap_or(Phase::Closed)
+    }
+
+    fn window(&mut self) -> u32 {
+        0
+    }
+
+    fn timeouts(&self) -> u64 {
+        0
+    }
+}

@@ -1,0 +1,128 @@
+//! One way of a path: a queue before a link of some capacity, and what befalls a frame on the link.
+
+use crate::random::Random;
+use std::collections::VecDeque;
+use std::ops::Range;
+
+/// Microseconds of counted time.
+pub type Micros = u64;
+
+/// Microseconds of a second.
+pub const SECOND: Micros = 1_000_000;
+
+/// Microseconds of a millisecond.
+pub const MILLISECOND: Micros = 1_000;
+
+/// The bytes of a full packet: 1,024 of data, and 24 of a DataAck's header (RFC 4340, section 5.3).
+pub const FULL_PACKET: usize = 1_048;
+
+/// How much a link carries.
+#[derive(Clone, Copy, Debug)]
+pub enum Capacity {
+    /// So many full packets a second, and shorter frames as much sooner.
+    Packets(u64),
+    /// So many frames a second, however long.
+    Frames(u64),
+}
+
+impl Capacity {
+    /// How long the link is busy with a frame, in nanoseconds.
+    fn busy(self, length: usize) -> u64 {
+        match self {
+            Capacity::Packets(rate) => 1_000_000_000 * length as u64 / (rate * FULL_PACKET as u64),
+            Capacity::Frames(rate) => 1_000_000_000 / rate,
+        }
+    }
+}
+
+/// Which frames are lost on a link.
+#[derive(Clone, Copy, Debug)]
+pub enum Loss {
+    /// None.
+    Never,
+    /// Each with this probability.
+    Each(f64),
+    /// All of a burst. Bursts last so long, and take this share of the time.
+    Bursts {
+        /// From 0 up to 1.
+        share: f64,
+        /// How long each is.
+        length: Micros,
+    },
+}
+
+/// What one way of a path is like.
+#[derive(Clone, Debug)]
+pub struct Way {
+    /// How much the link carries.
+    pub capacity: Capacity,
+    /// How long a frame is under way once the link has taken it.
+    pub delay: Micros,
+    /// How many frames wait at most, with the one that the link is busy with.
+    pub queue: usize,
+    /// Which frames are lost.
+    pub loss: Loss,
+    /// How much longer a frame may be under way; frames overtake each other by it.
+    pub jitter: Micros,
+    /// When all frames are lost.
+    pub outage: Range<Micros>,
+}
+
+/// A way, and what is under way on it.
+#[derive(Debug)]
+pub struct Link {
+    way: Way,
+    random: Random,
+    /// When each frame that still waits has left, in nanoseconds.
+    leaves: VecDeque<u64>,
+    /// The burst that is under way, or the next.
+    burst: Range<Micros>,
+}
+
+impl Link {
+    /// A link with nothing on it.
+    pub fn new(way: Way, random: Random) -> Link {
+        Link {
+            way,
+            random,
+            leaves: VecDeque::new(),
+            burst: 0..0,
+        }
+    }
+
+    /// A frame of so many bytes is handed to the link. Gives the time when it arrives; None where it is lost.
+    pub fn carry(&mut self, length: usize, now: Micros) -> Option<Micros> {
+        let nanos = now * 1_000;
+        while self.leaves.front().is_some_and(|leaves| *leaves <= nanos) {
+            self.leaves.pop_front();
+        }
+        if self.leaves.len() >= self.way.queue {
+            return None;
+        }
+        let free = self.leaves.back().copied().unwrap_or(nanos);
+        let leaves = free + self.way.capacity.busy(length);
+        self.leaves.push_back(leaves);
+        let leaves = leaves.div_ceil(1_000);
+        if self.way.outage.contains(&leaves) || self.is_lost(leaves) {
+            return None;
+        }
+        let later = self.random.fraction() * self.way.jitter as f64;
+        Some(leaves + self.way.delay + later as Micros)
+    }
+
+    /// Whether a frame is lost that leaves at this time.
+    fn is_lost(&mut self, leaves: Micros) -> bool {
+        match self.way.loss {
+            Loss::Never => false,
+            Loss::Each(probability) => self.random.happens(probability),
+            Loss::Bursts { share, length } => {
+                while self.burst.end <= leaves {
+                    let pause = self.random.waiting(length as f64 * (1.0 - share) / share);
+                    let begin = self.burst.end + pause as Micros;
+                    self.burst = begin..begin + length;
+                }
+                self.burst.contains(&leaves)
+            }
+        }
+    }
+}

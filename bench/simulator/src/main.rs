@@ -1,0 +1,157 @@
+//! Paths between two ends of the library, in counted time: what each carries by the rules that an end goes by, beside what it carries in
+//! the classic manner.
+//!
+//! - `rows [NAME..]` prints the table, and ends with 1 where a row misses its figure;
+//! - `pictures FOLDER [NAME..]` writes of each row the course of a run, as SVG.
+
+mod end;
+mod frame;
+mod link;
+mod owner;
+mod picture;
+mod random;
+mod rows;
+mod rules;
+mod run;
+
+use crate::end::Manner;
+use crate::rows::{Result, Row, rows};
+use crate::run::{Load, Manners, Outcome, Sender, run};
+use std::env;
+use std::fs;
+use std::path::Path;
+use std::process::ExitCode;
+use std::sync::Mutex;
+use std::sync::atomic::{AtomicUsize, Ordering};
+use std::thread;
+
+fn main() -> ExitCode {
+    let words: Vec<String> = env::args().skip(1).collect();
+    let words: Vec<&str> = words.iter().map(String::as_str).collect();
+    match words.as_slice() {
+        ["rows", names @ ..] => named(names).map_or_else(refused, |rows| table(&rows)),
+        ["pictures", folder, names @ ..] => {
+            named(names).map_or_else(refused, |rows| pictures(Path::new(folder), &rows))
+        }
+        _ => refused(),
+    }
+}
+
+fn refused() -> ExitCode {
+    eprintln!("usage: simulator rows [NAME..] | pictures FOLDER [NAME..]");
+    ExitCode::from(2)
+}
+
+/// The rows of these names, or all where none is named; None where a name is of no row.
+fn named(names: &[&str]) -> Option<Vec<Row>> {
+    let all = rows();
+    let is_known = |name: &&str| all.iter().any(|row| row.name == *name);
+    if !names.iter().all(is_known) {
+        return None;
+    }
+    let is_wanted = |row: &Row| names.is_empty() || names.contains(&row.name);
+    Some(all.into_iter().filter(is_wanted).collect())
+}
+
+/// The manners of client and server.
+fn manners(row: &Row, manner: Manner) -> Manners {
+    if !row.has_classic_peer {
+        return (manner, manner);
+    }
+    match row.scenario.sender {
+        Sender::Client | Sender::ToFlow => (manner, Manner::Classic),
+        Sender::Server | Sender::Flow => (Manner::Classic, manner),
+    }
+}
+
+const COLUMNS: [Manner; 2] = [Manner::Classic, Manner::Reference];
+
+/// Runs all seeds of all rows in all columns, on as many threads as there are processors.
+fn results(rows: &[Row]) -> Vec<[Result; 2]> {
+    let jobs: Vec<(usize, usize, u64)> = rows
+        .iter()
+        .enumerate()
+        .flat_map(|(row, it)| (0..COLUMNS.len()).map(move |column| (row, column, it.seeds)))
+        .flat_map(|(row, column, seeds)| (1..=seeds).map(move |seed| (row, column, seed)))
+        .collect();
+    let next = AtomicUsize::new(0);
+    let done: Mutex<Vec<(usize, usize, Outcome)>> = Mutex::new(Vec::new());
+    thread::scope(|scope| {
+        for _ in 0..thread::available_parallelism().map_or(1, usize::from) {
+            scope.spawn(|| {
+                while let Some(&(row, column, seed)) =
+                    jobs.get(next.fetch_add(1, Ordering::Relaxed))
+                {
+                    let it = &rows[row];
+                    let outcome = run(&it.scenario, manners(it, COLUMNS[column]), seed);
+                    done.lock()
+                        .expect("no thread has panicked")
+                        .push((row, column, outcome));
+                }
+            });
+        }
+    });
+    let mut results: Vec<[Result; 2]> = Vec::new();
+    results.resize_with(rows.len(), || {
+        [const {
+            Result {
+                outcomes: Vec::new(),
+            }
+        }; 2]
+    });
+    for (row, column, outcome) in done.into_inner().expect("no thread has panicked") {
+        results[row][column].outcomes.push(outcome);
+    }
+    results
+}
+
+/// The share and the silence of a row, or the wait of the closing end, in words.
+fn figures(row: &Row, it: &Result) -> (String, String) {
+    match row.scenario.load {
+        Load::Close => ("-".to_owned(), format!("{:.0}", it.closing())),
+        Load::Always | Load::Voice(..) => (
+            format!("{:.3}", it.share(&row.scenario)),
+            format!("{:.0}", it.silence()),
+        ),
+    }
+}
+
+/// Prints the table; the status is 1 where a row misses a figure.
+fn table(rows: &[Row]) -> ExitCode {
+    let mut misses = Vec::new();
+    println!("{:64} classic            by the rules", "");
+    println!(
+        "{:<18} {:<43} {:>8} {:>8} {:>10} {:>8} {:>8} {:>7} {:>9}",
+        "row", "path", "share", "silence", "share", "silence", "timeouts", "Syncs", "back"
+    );
+    for (row, [classic, ruled]) in rows.iter().zip(results(rows)) {
+        let ((share, silence), (after, quiet)) = (figures(row, &classic), figures(row, &ruled));
+        println!(
+            "{:<18} {:<43} {share:>8} {silence:>8} {after:>10} {quiet:>8} {:>8.1} {:>7.0} {:>9.0}",
+            row.name,
+            row.title,
+            ruled.timeouts(),
+            ruled.syncs(),
+            ruled.frames_back()
+        );
+        let missed = ruled.misses(row).into_iter();
+        misses.extend(missed.map(|it| format!("{}: {it}", row.name)));
+    }
+    for miss in &misses {
+        println!("{miss}");
+    }
+    ExitCode::from(u8::from(!misses.is_empty()))
+}
+
+/// Writes a picture of the first seed of each row.
+fn pictures(folder: &Path, rows: &[Row]) -> ExitCode {
+    for row in rows {
+        let courses = COLUMNS.map(|manner| run(&row.scenario, manners(row, manner), 1).course);
+        let drawn = picture::draw(row, &courses);
+        if let Err(fault) = fs::write(folder.join(format!("{}.svg", row.name)), drawn.to_string()) {
+            eprintln!("{}: {fault}", folder.display());
+            return ExitCode::from(2);
+        }
+    }
+    ExitCode::SUCCESS
+}
