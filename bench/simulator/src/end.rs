@@ -1,20 +1,12 @@
 //! One end of a path, however it is driven.
 
 use dccp::{Config, Connection, Event, Listener, Phase};
+use std::fmt;
 use std::net::SocketAddrV4;
 use std::time::Instant;
 
-/// How an end is driven.
-#[derive(Clone, Copy, Debug, PartialEq, Eq)]
-pub enum Manner {
-    /// With the waits that RFC 4340 gives as examples, and no other rule.
-    Classic,
-    /// Classic, and by the owner of this program.
-    Reference,
-}
-
 /// An end, and what a path asks of it.
-pub trait End {
+pub trait End: fmt::Debug + Send {
     /// A client asks for its service.
     fn open(&mut self, now: Instant);
     /// A datagram has arrived.

@@ -2,11 +2,14 @@
 //! the classic manner.
 //!
 //! - `rows [NAME..]` prints the table, and ends with 1 where a row misses its figure;
+//! - `loopback` measures two paths over real sockets, and ends with 1 where one is far from the same path in counted time;
 //! - `pictures FOLDER [NAME..]` writes of each row the course of a run, as SVG.
 
 mod end;
+mod ends;
 mod frame;
 mod link;
+mod loopback;
 mod owner;
 mod picture;
 mod random;
@@ -14,7 +17,7 @@ mod rows;
 mod rules;
 mod run;
 
-use crate::end::Manner;
+use crate::ends::Manner;
 use crate::rows::{Result, Row, rows};
 use crate::run::{Load, Manners, Outcome, Sender, run};
 use std::env;
@@ -30,6 +33,7 @@ fn main() -> ExitCode {
     let words: Vec<&str> = words.iter().map(String::as_str).collect();
     match words.as_slice() {
         ["rows", names @ ..] => named(names).map_or_else(refused, |rows| table(&rows)),
+        ["loopback"] => loopback(),
         ["pictures", folder, names @ ..] => {
             named(names).map_or_else(refused, |rows| pictures(Path::new(folder), &rows))
         }
@@ -38,7 +42,7 @@ fn main() -> ExitCode {
 }
 
 fn refused() -> ExitCode {
-    eprintln!("usage: simulator rows [NAME..] | pictures FOLDER [NAME..]");
+    eprintln!("usage: simulator rows [NAME..] | loopback | pictures FOLDER [NAME..]");
     ExitCode::from(2)
 }
 
@@ -109,7 +113,7 @@ fn results(rows: &[Row]) -> Vec<[Result; 2]> {
 fn figures(row: &Row, it: &Result) -> (String, String) {
     match row.scenario.load {
         Load::Close => ("-".to_owned(), format!("{:.0}", it.closing())),
-        Load::Always | Load::Voice(..) => (
+        Load::Always(_) | Load::Voice(..) => (
             format!("{:.3}", it.share(&row.scenario)),
             format!("{:.0}", it.silence()),
         ),
@@ -141,6 +145,17 @@ fn table(rows: &[Row]) -> ExitCode {
         println!("{miss}");
     }
     ExitCode::from(u8::from(!misses.is_empty()))
+}
+
+/// Measures two paths over sockets; the status is 1 where one is far from the same path in counted time.
+fn loopback() -> ExitCode {
+    match loopback::measure(10) {
+        Ok(are_near) => ExitCode::from(u8::from(!are_near)),
+        Err(fault) => {
+            eprintln!("loopback: {fault}");
+            ExitCode::from(2)
+        }
+    }
 }
 
 /// Writes a picture of the first seed of each row.

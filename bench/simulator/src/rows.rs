@@ -59,7 +59,7 @@ fn path(rate: u64, round_trip: u64, queue: usize, seconds: u64) -> Scenario {
         there: way.clone(),
         back: way,
         sender: Sender::Client,
-        load: Load::Always,
+        load: Load::Always(1_024),
         ccid: None,
         measured: 0..seconds * SECOND,
         forged: 0,
@@ -139,7 +139,7 @@ impl Scenario {
     pub fn share(&self, outcome: &Outcome) -> f64 {
         match self.load {
             Load::Voice(..) => outcome.delivered as f64 / outcome.offered as f64,
-            Load::Always | Load::Close => outcome.delivered as f64 / self.carried(),
+            Load::Always(_) | Load::Close => outcome.delivered as f64 / self.carried(),
         }
     }
 }
@@ -298,36 +298,104 @@ fn lossy() -> Vec<Row> {
     ]
 }
 
-/// Voice over paths that lose at random.
-fn voice() -> Vec<Row> {
-    let losing = |share, ccid| path(1_200, 40, 100, 120).losing(share).voice(ccid);
-    let few = Goal::Silence(100 * MILLISECOND);
-    vec![
-        row(
-            "voice-5",
+/// Voice over paths that lose at random: name, title, round trip and loss, and the goals with CCID 2 and with CCID 248.
+type Voice = (
+    [&'static str; 2],
+    [&'static str; 2],
+    u64,
+    f64,
+    [&'static [Goal]; 2],
+);
+
+/// At most this silence of voice by CCID 248.
+const SHORT: Goal = Goal::Silence(100 * MILLISECOND);
+
+const VOICES: [Voice; 8] = [
+    (
+        ["voice-0", "voice-248-0"],
+        ["voice, RTT 40", "voice by CCID 248, RTT 40"],
+        40,
+        0.0,
+        [&[], &[]],
+    ),
+    (
+        ["voice-1", "voice-248-1"],
+        [
+            "voice, RTT 40, loss 1%",
+            "voice by CCID 248, RTT 40, loss 1%",
+        ],
+        40,
+        0.01,
+        [&[], &[]],
+    ),
+    (
+        ["voice-5", "voice-248-5"],
+        [
             "voice, RTT 40, loss 5%",
-            losing(0.05, None),
-            &[Goal::Share(0.90)],
-        ),
-        row(
-            "voice-10",
-            "voice, RTT 40, loss 10%",
-            losing(0.10, None),
-            &[Goal::Share(0.68)],
-        ),
-        row(
-            "voice-248-5",
             "voice by CCID 248, RTT 40, loss 5%",
-            losing(0.05, Some(248)),
-            &[Goal::Share(0.949), few],
-        ),
-        row(
-            "voice-248-10",
+        ],
+        40,
+        0.05,
+        [&[Goal::Share(0.90)], &[Goal::Share(0.949), SHORT]],
+    ),
+    (
+        ["voice-10", "voice-248-10"],
+        [
+            "voice, RTT 40, loss 10%",
             "voice by CCID 248, RTT 40, loss 10%",
-            losing(0.10, Some(248)),
-            &[Goal::Share(0.895), few],
-        ),
-    ]
+        ],
+        40,
+        0.10,
+        [&[Goal::Share(0.68)], &[Goal::Share(0.895), SHORT]],
+    ),
+    (
+        ["voice-far-0", "voice-far-248-0"],
+        ["voice, RTT 200", "voice by CCID 248, RTT 200"],
+        200,
+        0.0,
+        [&[], &[]],
+    ),
+    (
+        ["voice-far-1", "voice-far-248-1"],
+        [
+            "voice, RTT 200, loss 1%",
+            "voice by CCID 248, RTT 200, loss 1%",
+        ],
+        200,
+        0.01,
+        [&[], &[]],
+    ),
+    (
+        ["voice-far-5", "voice-far-248-5"],
+        [
+            "voice, RTT 200, loss 5%",
+            "voice by CCID 248, RTT 200, loss 5%",
+        ],
+        200,
+        0.05,
+        [&[], &[]],
+    ),
+    (
+        ["voice-far-10", "voice-far-248-10"],
+        [
+            "voice, RTT 200, loss 10%",
+            "voice by CCID 248, RTT 200, loss 10%",
+        ],
+        200,
+        0.10,
+        [&[], &[]],
+    ),
+];
+
+fn voice() -> Vec<Row> {
+    let rows = |(names, titles, round_trip, loss, goals): Voice| {
+        let path = path(1_200, round_trip, 100, 120).losing(loss);
+        [None, Some(248)]
+            .into_iter()
+            .enumerate()
+            .map(move |(at, ccid)| row(names[at], titles[at], path.clone().voice(ccid), goals[at]))
+    };
+    VOICES.into_iter().flat_map(rows).collect()
 }
 
 impl Result {

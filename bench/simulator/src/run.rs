@@ -1,23 +1,21 @@
 //! One run of a path: two ends, what one of them sends, and what comes of it.
 
-use crate::end::{Alone, End, Flow, Manner};
+use crate::end::End;
+use crate::ends::{self, Made, Manner, addresses};
 use crate::frame::{self, SYNC};
 use crate::link::{Link, MILLISECOND, Micros, SECOND, Way};
-use crate::owner::Owner;
 use crate::random::Random;
-use crate::rules::OFFERED_WIDTH;
-use dccp::{Accepted, Config, Connection, Event, Feature, Phase, Place};
+use dccp::{Event, Phase};
 use std::cmp::Reverse;
 use std::collections::BinaryHeap;
-use std::net::SocketAddrV4;
 use std::ops::Range;
 use std::time::{Duration, Instant};
 
 /// What the sender has to send.
 #[derive(Clone, Copy, Debug, PartialEq, Eq)]
 pub enum Load {
-    /// Always a packet of 1,024 bytes.
-    Always,
+    /// Always a packet of so many bytes.
+    Always(usize),
     /// So many bytes each so often; what is refused is dropped.
     Voice(usize, Micros),
     /// Nothing: the client closes as soon as it is open.
@@ -108,21 +106,14 @@ enum Coming {
 /// How a run is driven: the manners of the client and the server.
 pub type Manners = (Manner, Manner);
 
-const SERVICE: u32 = 42;
-
-fn addresses() -> (SocketAddrV4, SocketAddrV4) {
-    let here = SocketAddrV4::new([10, 0, 0, 1].into(), 40_000);
-    (here, SocketAddrV4::new([10, 0, 0, 2].into(), 5_001))
-}
-
 /// A run that goes on.
 #[derive(Debug)]
 struct Run {
     /// The instants of the library count from here.
     base: Instant,
     now: Micros,
-    client: Box<dyn EndBox>,
-    server: Option<Box<dyn EndBox>>,
+    client: Box<dyn End>,
+    server: Option<Box<dyn End>>,
     to_server: Link,
     to_client: Link,
     coming: BinaryHeap<Reverse<(Micros, u64, Coming)>>,
@@ -140,28 +131,6 @@ struct Run {
     has_begun: bool,
 }
 
-/// An end that can be shown.
-trait EndBox: End + std::fmt::Debug {}
-
-impl<T: End + std::fmt::Debug> EndBox for T {}
-
-/// What an end of this manner is made from.
-fn configured(config: Config, manner: Manner, ccid: Option<u64>) -> Config {
-    let config = match manner {
-        Manner::Classic => config,
-        Manner::Reference => config.offer(Feature::SequenceWindow, Place::Here, &[OFFERED_WIDTH]),
-    };
-    match (ccid, manner) {
-        (None, _) => config,
-        (Some(ccid), Manner::Classic) => config.offer(Feature::Ccid, Place::Here, &[ccid]),
-        (Some(ccid), Manner::Reference) => config.offer(Feature::Ccid, Place::Here, &[ccid]).offer(
-            Feature::AckRatio,
-            Place::Here,
-            &[1],
-        ),
-    }
-}
-
 /// Runs a scenario with the ends driven in these manners.
 pub fn run(scenario: &Scenario, manners: Manners, seed: u64) -> Outcome {
     let mut run = Run::new(scenario, manners, seed);
@@ -173,20 +142,10 @@ pub fn run(scenario: &Scenario, manners: Manners, seed: u64) -> Outcome {
 impl Run {
     fn new(scenario: &Scenario, manners: Manners, seed: u64) -> Run {
         let mut random = Random::new(seed);
-        let (here, there) = addresses();
-        let ccid = scenario.ccid.filter(|_| scenario.sender.is_client());
-        let first = random.draw() >> 16;
-        let config = Config::client(here.into(), there.into(), SERVICE, first);
-        let mut config = configured(config, manners.0, ccid);
-        if scenario.sender == Sender::Flow {
-            config = config.offer(Feature::SendAckVector, Place::Here, &[1]);
-        }
         let base = Instant::now();
-        let connection = Connection::new(&config).expect("a client's end");
-        let client: Box<dyn EndBox> = match manners.0 {
-            Manner::Classic => Box::new(Alone::new(connection)),
-            Manner::Reference => Box::new(Owner::new(connection, base)),
-        };
+        let ccid = scenario.ccid.filter(|_| scenario.sender.is_client());
+        let to_flow = scenario.sender == Sender::Flow;
+        let client = ends::client(manners.0, ccid, to_flow, random.draw() >> 16, base);
         let (up, down) = if scenario.sender.is_client() {
             (&scenario.there, &scenario.back)
         } else {
@@ -282,29 +241,19 @@ impl Run {
     /// Makes the server's end of a Request.
     fn accept(&mut self, frame: &[u8]) {
         let now = self.instant();
-        let (here, there) = addresses();
         let first = self.random.draw() >> 16;
         if self.scenario.sender.has_flow() {
-            let mut flow = Flow::new(&Config::listener(there, SERVICE), here, first);
+            let mut flow = ends::flow(first);
             flow.receive(frame, now);
-            self.server = Some(Box::new(flow));
+            self.server = Some(flow);
             return;
         }
-        let ccid = self
-            .scenario
-            .ccid
-            .filter(|_| !self.scenario.sender.is_client());
-        let config = Config::server(there.into(), here.into(), SERVICE, first);
-        let config = configured(config, self.manners.1, ccid);
-        match Connection::accept(&config, frame, now).expect("a server's end") {
-            Accepted::Connection(connection) => {
-                self.server = Some(match self.manners.1 {
-                    Manner::Classic => Box::new(Alone::new(*connection)),
-                    Manner::Reference => Box::new(Owner::accepted(*connection, now)),
-                });
-            }
-            Accepted::Answer(answer) => self.put_to_client(answer.bytes),
-            Accepted::Nothing => {}
+        let is_sender = !self.scenario.sender.is_client();
+        let ccid = self.scenario.ccid.filter(|_| is_sender);
+        match ends::server(self.manners.1, ccid, first, frame, now) {
+            Made::End(end) => self.server = Some(end),
+            Made::Answer(answer) => self.put_to_client(answer),
+            Made::Nothing => {}
         }
     }
 
@@ -348,7 +297,7 @@ impl Run {
         self.after_server();
     }
 
-    fn sender(&mut self) -> Option<&mut Box<dyn EndBox>> {
+    fn sender(&mut self) -> Option<&mut Box<dyn End>> {
         if self.scenario.sender.is_client() {
             Some(&mut self.client)
         } else {
@@ -358,12 +307,12 @@ impl Run {
 
     /// The sender sends what it may.
     fn fill(&mut self) {
-        if self.scenario.load != Load::Always {
+        let Load::Always(bytes) = self.scenario.load else {
             return;
-        }
+        };
         let now = self.instant();
         if let Some(sender) = self.sender() {
-            while sender.send(&[0; 1_024], now) {}
+            while sender.send(&[0; 1_024][..bytes], now) {}
         }
     }
 

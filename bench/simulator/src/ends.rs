@@ -1,0 +1,100 @@
+//! The two ends of a path, in the manners in which they are driven.
+
+use crate::end::{Alone, End, Flow};
+use crate::owner::Owner;
+use crate::rules::OFFERED_WIDTH;
+use dccp::{Accepted, Config, Connection, Feature, Place};
+use std::net::SocketAddrV4;
+use std::time::Instant;
+
+/// How an end is driven.
+#[derive(Clone, Copy, Debug, PartialEq, Eq)]
+pub enum Manner {
+    /// With the waits that RFC 4340 gives as examples, and no other rule.
+    Classic,
+    /// Classic, and by the owner of this program.
+    Reference,
+}
+
+/// What a datagram of a peer that is not known makes.
+pub enum Made {
+    /// A server's end.
+    End(Box<dyn End>),
+    /// No end, and an answer.
+    Answer(Vec<u8>),
+    /// Nothing.
+    Nothing,
+}
+
+const SERVICE: u32 = 42;
+
+/// The addresses of the client and the server, as their packets have them.
+pub fn addresses() -> (SocketAddrV4, SocketAddrV4) {
+    let client = SocketAddrV4::new([10, 0, 0, 1].into(), 40_000);
+    (client, SocketAddrV4::new([10, 0, 0, 2].into(), 5_001))
+}
+
+/// What an end of this manner is made from; a sender of another congestion control than is usual has its number.
+fn configured(config: Config, manner: Manner, ccid: Option<u64>) -> Config {
+    let config = match manner {
+        Manner::Classic => config,
+        Manner::Reference => config.offer(Feature::SequenceWindow, Place::Here, &[OFFERED_WIDTH]),
+    };
+    match (ccid, manner) {
+        (None, _) => config,
+        (Some(ccid), Manner::Classic) => config.offer(Feature::Ccid, Place::Here, &[ccid]),
+        (Some(ccid), Manner::Reference) => config.offer(Feature::Ccid, Place::Here, &[ccid]).offer(
+            Feature::AckRatio,
+            Place::Here,
+            &[1],
+        ),
+    }
+}
+
+/// A client's end. Its peer needs Ack Vectors that it does not ask for, where that is a listener's flow.
+pub fn client(
+    manner: Manner,
+    ccid: Option<u64>,
+    to_flow: bool,
+    first: u64,
+    now: Instant,
+) -> Box<dyn End> {
+    let (here, there) = addresses();
+    let config = Config::client(here.into(), there.into(), SERVICE, first);
+    let mut config = configured(config, manner, ccid);
+    if to_flow {
+        config = config.offer(Feature::SendAckVector, Place::Here, &[1]);
+    }
+    let connection = Connection::new(&config).expect("the wishes are permitted");
+    match manner {
+        Manner::Classic => Box::new(Alone::new(connection)),
+        Manner::Reference => Box::new(Owner::new(connection, now)),
+    }
+}
+
+/// What a server makes of a datagram of a peer that it does not know.
+pub fn server(
+    manner: Manner,
+    ccid: Option<u64>,
+    first: u64,
+    datagram: &[u8],
+    now: Instant,
+) -> Made {
+    let (here, there) = addresses();
+    let config = Config::server(there.into(), here.into(), SERVICE, first);
+    let config = configured(config, manner, ccid);
+    match Connection::accept(&config, datagram, now).expect("the wishes are permitted") {
+        Accepted::Connection(connection) => Made::End(match manner {
+            Manner::Classic => Box::new(Alone::new(*connection)),
+            Manner::Reference => Box::new(Owner::accepted(*connection, now)),
+        }),
+        Accepted::Answer(answer) => Made::Answer(answer.bytes),
+        Accepted::Nothing => Made::Nothing,
+    }
+}
+
+/// A listener's end of the client.
+pub fn flow(first: u64) -> Box<dyn End> {
+    let (here, there) = addresses();
+    Box::new(Flow::new(&Config::listener(there, SERVICE), here, first))
+}
