@@ -1,6 +1,6 @@
 //! The congestion control of what an end sends: CCID 2 (RFC 4341), and the fixed window of CCID 248.
 
-use crate::numbers::{distance, is_before};
+use crate::numbers::{ahead, back, distance, is_before};
 use std::collections::VecDeque;
 
 const MOST_ENTRIES: usize = 2_048;
@@ -12,14 +12,6 @@ enum Standing {
     Out,
     Reported,
     Lost,
-}
-
-/// A stretch of an Ack Vector: so many numbers from this one down that were received, unmarked or marked.
-#[derive(Clone, Copy, Debug)]
-pub struct Stretch {
-    pub number: u64,
-    pub length: u64,
-    pub is_marked: bool,
 }
 
 /// The flight list, and the window.
@@ -72,27 +64,36 @@ impl Congestion {
         self.out += 1;
     }
 
-    /// Hears what the vectors of a packet tell as received, from the greatest number down.
-    pub fn report(&mut self, stretches: &[Stretch], ratio: u64) {
+    /// Hears the bytes of a packet's vectors, which tell of the number that it acknowledges and those below.
+    pub fn report(&mut self, acknowledged: u64, vectors: impl Iterator<Item = u8>, ratio: u64) {
         let (mut is_congested, mut news) = (false, 0);
         let mut past = self.entries.len();
-        for stretch in stretches {
+        let mut next = acknowledged;
+        for byte in vectors {
+            let (state, length) = (byte >> 6, u64::from(byte & 63) + 1);
+            let number = next;
+            next = back(next, length);
+            if state > 1
+                || past == self.settled
+                || is_before(self.entries[past - 1].0, ahead(next, 1))
+            {
+                continue;
+            }
             while past > self.settled {
-                let at = past - 1;
-                let (number, standing) = self.entries[at];
-                let below = distance(number, stretch.number);
-                if below < stretch.length {
+                let (entry, standing) = self.entries[past - 1];
+                let below = distance(entry, number);
+                if below < length {
                     if standing != Standing::Reported {
                         self.out -= u32::from(standing == Standing::Out);
-                        self.entries[at].1 = Standing::Reported;
-                        news += u32::from(!stretch.is_marked);
-                        is_congested |= stretch.is_marked && self.is_after_recovery(number);
+                        self.entries[past - 1].1 = Standing::Reported;
+                        news += u32::from(state == 0);
+                        is_congested |= state == 1 && self.is_after_recovery(entry);
                     }
                 } else if below < 1 << 47 {
                     // It is below the stretch.
                     break;
                 }
-                past = at;
+                past -= 1;
             }
         }
         while self

@@ -1,14 +1,14 @@
 //! One end of a connection (RFC 4340, section 8).
 
 use crate::buffer::Buffer;
-use crate::congestion::{Congestion, Stretch};
+use crate::congestion::Congestion;
 use crate::features::{
     ACK_RATIO, CCID, Counted, Features, Place, SEND_ACK_VECTOR, SEQUENCE_WINDOW, SHORT_SEQNOS,
     Stand, Wish, WishFault,
 };
 use crate::marks::{Marked, Marks};
 use crate::numbers::{ahead, back, distance, is_before, is_within, later};
-use crate::options::{ACK_VECTOR, CHANGE_L, CONFIRM_R, List, Next, is_understood};
+use crate::options::{ACK_VECTOR, CHANGE_L, CONFIRM_R, List, MARKED_VECTOR, Next, is_understood};
 use crate::packet::{Addresses, Cause, Draft, Kind, MOST_DATA, Packet, check, seal};
 use std::ops::Range;
 
@@ -107,7 +107,6 @@ pub struct Endpoint {
     /// What the options of the next packet are made of; kept for their memory.
     confirms: Vec<u8>,
     options: Vec<u8>,
-    stretches: Vec<Stretch>,
     /// Whether the packet in hand has an Ack Vector.
     has_report: bool,
 }
@@ -157,7 +156,6 @@ impl Endpoint {
             heard: 0,
             confirms: Vec::new(),
             options: Vec::new(),
-            stretches: Vec::new(),
             has_report: false,
         }
     }
@@ -589,7 +587,6 @@ impl Endpoint {
     fn take(&mut self, packet: &Packet<'_>, offset: usize, is_newest: bool) -> Outcome {
         let ccid = self.features.value(CCID, Place::Here);
         self.confirms.clear();
-        self.stretches.clear();
         self.has_report = false;
         self.features.begin();
         let counts = is_newest && self.heeds(packet.kind);
@@ -598,7 +595,8 @@ impl Endpoint {
         }
         if packet.kind.has_acknowledgement() && packet.kind != Kind::Sync && self.has_report {
             let ratio = self.features.value(ACK_RATIO, Place::Here);
-            self.congestion.report(&self.stretches, ratio);
+            self.congestion
+                .report(packet.acknowledged, vectors(packet), ratio);
         }
         let is = self.features.value(CCID, Place::Here);
         if is != ccid {
@@ -654,7 +652,6 @@ impl Endpoint {
             .then_some(packet.acknowledged);
         let mut counted = Counted::default();
         let mut before = None;
-        let mut next = packet.acknowledged;
         let mut fault = None;
         for item in List::of(packet.kind, packet.options) {
             let Next::Entry(entry) = item else {
@@ -681,20 +678,7 @@ impl Endpoint {
                         break;
                     }
                 }
-                ACK_VECTOR | 39 => {
-                    self.has_report = true;
-                    for byte in entry.data {
-                        let (state, length) = (byte >> 6, u64::from(byte & 63) + 1);
-                        if state < 2 {
-                            self.stretches.push(Stretch {
-                                number: next,
-                                length,
-                                is_marked: state == 1,
-                            });
-                        }
-                        next = back(next, length);
-                    }
-                }
+                ACK_VECTOR | MARKED_VECTOR => self.has_report = true,
                 _ => {}
             }
         }
@@ -749,4 +733,13 @@ impl Endpoint {
         }
         false
     }
+}
+
+/// The bytes of a packet's Ack Vectors, one behind the other.
+fn vectors<'a>(packet: &Packet<'a>) -> impl Iterator<Item = u8> + use<'a> {
+    let entries = List::of(packet.kind, packet.options).filter_map(|item| match item {
+        Next::Entry(entry) if matches!(entry.kind, ACK_VECTOR | MARKED_VECTOR) => Some(entry.data),
+        Next::Entry(_) | Next::MandatoryFault => None,
+    });
+    entries.flatten().copied()
 }

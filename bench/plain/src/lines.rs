@@ -1,5 +1,7 @@
 //! Lines of text: how an input is parted into them, their words, and why one is refused.
 
+use std::io::BufRead;
+
 pub const MOST_INPUT: usize = 16_777_216;
 pub const MOST_LINE: usize = 4_096;
 
@@ -43,9 +45,11 @@ pub fn lines(input: &[u8]) -> impl Iterator<Item = Result<&str, Refused>> {
             return None;
         }
         let window = &rest[..rest.len().min(MOST_LINE + 1)];
-        let end = window.iter().position(|byte| *byte == b'\n');
         let begin = at;
-        at += end.map_or(window.len(), |end| end + 1);
+        // A slice is read without a fault.
+        let taken = { window }.skip_until(b'\n').unwrap_or(window.len());
+        at += taken;
+        let end = (window[taken - 1] == b'\n').then_some(taken - 1);
         Some(judged(window, end, begin))
     })
 }
@@ -224,16 +228,28 @@ pub fn put_hex(bytes: &[u8], out: &mut Vec<u8>) {
     }
 }
 
+/// Two digits of each number below 100.
+const DECIMALS: [[u8; 2]; 100] = {
+    let mut pairs = [[0; 2]; 100];
+    let mut number = 0;
+    while number < 100 {
+        pairs[number as usize] = [b'0' + number / 10, b'0' + number % 10];
+        number += 1;
+    }
+    pairs
+};
+
 /// A number in decimal.
 pub fn put_number(number: u64, out: &mut Vec<u8>) {
     let (mut digits, mut at, mut rest) = ([0; 20], 20, number);
-    loop {
+    while rest >= 10 {
+        at -= 2;
+        digits[at..at + 2].copy_from_slice(&DECIMALS[(rest % 100) as usize]);
+        rest /= 100;
+    }
+    if rest > 0 || at == 20 {
         at -= 1;
-        digits[at] = b'0' + (rest % 10) as u8;
-        rest /= 10;
-        if rest == 0 {
-            break;
-        }
+        digits[at] = b'0' + rest as u8;
     }
     out.extend_from_slice(&digits[at..]);
 }

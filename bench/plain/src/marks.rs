@@ -1,6 +1,6 @@
 //! The numbers that an end has processed, and the Ack Vectors that tell of them (RFC 4340, section 11.4).
 
-use crate::numbers::{ahead, back, distance, is_before};
+use crate::numbers::{ahead, distance, is_before};
 use crate::options::ACK_VECTOR;
 use std::collections::VecDeque;
 
@@ -8,6 +8,10 @@ const SPAN: u64 = 2_048;
 const MOST_BYTES: usize = 253;
 const MOST_RUN: u64 = 64;
 const MOST_RECORDS: usize = 64;
+
+/// The states of a vector's bytes.
+const RECEIVED: u8 = 0;
+const NOT_RECEIVED: u8 = 3 << 6;
 
 /// What marking a number answers.
 #[derive(Clone, Copy, Debug, PartialEq, Eq)]
@@ -25,11 +29,20 @@ struct Record {
     is_whole: bool,
 }
 
-/// A set of numbers with a floor: a bit for each of the 2,048 numbers from the floor on.
+/// Successive numbers that are marked, as places: from the first up to, without, the last.
+#[derive(Clone, Copy, Debug)]
+struct Run {
+    begin: u64,
+    end: u64,
+}
+
+/// A set of numbers with a floor, as runs in ascending order. Places count on from the first floor, so that they do not wrap.
 #[derive(Clone, Debug)]
 pub struct Marks {
     floor: u64,
-    bits: [u64; SPAN as usize / 64],
+    /// The place of the floor.
+    bottom: u64,
+    runs: VecDeque<Run>,
     records: VecDeque<Record>,
 }
 
@@ -38,14 +51,10 @@ impl Marks {
     pub fn new(floor: u64) -> Marks {
         Marks {
             floor,
-            bits: [0; SPAN as usize / 64],
+            bottom: 0,
+            runs: VecDeque::new(),
             records: VecDeque::with_capacity(MOST_RECORDS),
         }
-    }
-
-    fn is_marked(&self, number: u64) -> bool {
-        let place = number % SPAN;
-        self.bits[place as usize / 64] & 1 << (place % 64) != 0
     }
 
     pub fn mark(&mut self, number: u64) -> Marked {
@@ -53,45 +62,60 @@ impl Marks {
         if steps >= 1 << 47 {
             return Marked::BelowFloor;
         }
+        let place = self.bottom + steps;
         if steps >= SPAN {
-            self.raise(back(number, SPAN - 1));
-        } else if self.is_marked(number) {
+            self.raise(steps - (SPAN - 1));
+        }
+        // Mostly it is above all of them.
+        let above = match self.runs.back() {
+            Some(last) if last.begin <= place => self.runs.len(),
+            _ => self.runs.partition_point(|run| run.begin <= place),
+        };
+        let below = above.checked_sub(1);
+        if below.is_some_and(|at| place < self.runs[at].end) {
             return Marked::Again;
         }
-        let place = number % SPAN;
-        self.bits[place as usize / 64] |= 1 << (place % 64);
+        let below = below.filter(|at| self.runs[*at].end == place);
+        let joins_above = self
+            .runs
+            .get(above)
+            .is_some_and(|run| run.begin == place + 1);
+        match (below, joins_above) {
+            (Some(at), true) => {
+                self.runs[at].end = self.runs[above].end;
+                self.runs.remove(above);
+            }
+            (Some(at), false) => self.runs[at].end = place + 1,
+            (None, true) => self.runs[above].begin = place,
+            (None, false) => self.runs.insert(
+                above,
+                Run {
+                    begin: place,
+                    end: place + 1,
+                },
+            ),
+        }
         Marked::New
     }
 
-    /// Raises the floor; what lies below it leaves the set.
-    fn raise(&mut self, floor: u64) {
-        let steps = distance(self.floor, floor);
-        if steps >= SPAN {
-            self.bits = [0; SPAN as usize / 64];
-        } else {
-            let mut number = self.floor;
-            while number != floor {
-                let place = number % SPAN;
-                let word = &mut self.bits[place as usize / 64];
-                let left = distance(number, floor).min(64 - place % 64);
-                let mask = if left == 64 {
-                    u64::MAX
-                } else {
-                    ((1 << left) - 1) << (place % 64)
-                };
-                *word &= !mask;
-                number = ahead(number, left);
+    /// Raises the floor by so many numbers; what lies below it leaves the set.
+    fn raise(&mut self, steps: u64) {
+        self.floor = ahead(self.floor, steps);
+        self.bottom += steps;
+        while let Some(first) = self.runs.front_mut() {
+            if first.end > self.bottom {
+                first.begin = first.begin.max(self.bottom);
+                break;
             }
+            self.runs.pop_front();
         }
-        self.floor = floor;
     }
 
     /// Writes the options of the vector from this number down to the floor, of one option or two, and keeps a record of it.
     pub fn write(&mut self, number: u64, acknowledged: u64, has_two: bool, out: &mut Vec<u8>) {
         let steps = distance(self.floor, acknowledged);
-        let total = if steps < 1 << 47 { steps + 1 } else { 0 };
         let mut vector = Vector::new(has_two);
-        let is_whole = self.put_runs(acknowledged, total, &mut vector);
+        let is_whole = steps >= 1 << 47 || self.put_runs(self.bottom + steps + 1, &mut vector);
         vector.write(out);
         if self.records.len() == MOST_RECORDS {
             self.records.pop_front();
@@ -103,36 +127,17 @@ impl Marks {
         });
     }
 
-    /// Puts the runs of so many numbers from this one down. Tells whether there was room for all.
-    fn put_runs(&self, number: u64, total: u64, vector: &mut Vector) -> bool {
-        // What is beyond the set is not marked.
-        let mut run = total.saturating_sub(SPAN);
-        let mut left = total - run;
-        let mut is_marked = false;
-        let place = back(number, run) % SPAN;
-        let mut index = place as usize / 64;
-        // The bits of a word that are still to come, at the top.
-        let mut bits = (place % 64 + 1) as u32;
-        let mut word = self.bits[index] << (64 - bits);
-        while left > 0 {
-            if (word >> 63 == 1) != is_marked {
-                if !vector.put(is_marked, run) {
-                    return false;
-                }
-                (is_marked, run) = (!is_marked, 0);
+    /// Puts what lies from the floor up to, without, this place, downwards. Tells whether there was room for all.
+    fn put_runs(&self, mut place: u64, vector: &mut Vector) -> bool {
+        for run in self.runs.iter().rev() {
+            if !vector.put(NOT_RECEIVED, place - run.end)
+                || !vector.put(RECEIVED, run.end - run.begin)
+            {
+                return false;
             }
-            let others = if is_marked { !word } else { word };
-            let like = others.leading_zeros().min(bits);
-            let like = u64::from(like).min(left) as u32;
-            (run, left, bits) = (run + u64::from(like), left - u64::from(like), bits - like);
-            if bits == 0 {
-                index = index.checked_sub(1).unwrap_or(self.bits.len() - 1);
-                (bits, word) = (64, self.bits[index]);
-            } else {
-                word <<= like;
-            }
+            place = run.begin;
         }
-        vector.put(is_marked, run)
+        vector.put(NOT_RECEIVED, place - self.bottom)
     }
 
     /// The peer has an Ack or DataAck with this number; the floor rises if that told of all.
@@ -141,7 +146,7 @@ impl Marks {
         if let Some(record) = self.records.iter().rev().find(is_found) {
             let floor = ahead(record.acknowledged, 1);
             if is_before(self.floor, floor) {
-                self.raise(floor);
+                self.raise(distance(self.floor, floor));
             }
         }
     }
@@ -165,8 +170,7 @@ impl Vector {
     }
 
     /// Puts a run, in pieces. Tells whether there was room.
-    fn put(&mut self, is_marked: bool, mut run: u64) -> bool {
-        let state = if is_marked { 0 } else { 3 << 6 };
+    fn put(&mut self, state: u8, mut run: u64) -> bool {
         while run > 0 {
             if self.count == self.most {
                 return false;

@@ -8,6 +8,7 @@ pub const CONFIRM_L: u8 = 33;
 pub const CHANGE_R: u8 = 34;
 pub const CONFIRM_R: u8 = 35;
 pub const ACK_VECTOR: u8 = 38;
+pub const MARKED_VECTOR: u8 = 39;
 
 /// An option of a list.
 #[derive(Clone, Copy, Debug)]
