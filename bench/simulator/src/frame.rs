@@ -85,3 +85,24 @@ fn checksum(bytes: &[u8]) -> u16 {
     }
     !(sum as u16)
 }
+
+#[cfg(test)]
+mod tests {
+    use super::*;
+
+    #[test]
+    fn a_forged_packet_is_sound() {
+        let (from, to) = (
+            SocketAddrV4::new([10, 0, 0, 1].into(), 40_000),
+            SocketAddrV4::new([10, 0, 0, 2].into(), 5_001),
+        );
+        let frame = forged_data(from, to, 0x0102_0304_0506);
+        // By hand: the words 0a00 0001 0a00 0002 0021 0010 9c40 1389 0400 0500 0102 0304 0506 make d609, and its complement is 29f6.
+        let bytes = [
+            0x9c, 0x40, 0x13, 0x89, 4, 0, 0x29, 0xf6, 5, 0, 1, 2, 3, 4, 5, 6,
+        ];
+        assert_eq!(frame, bytes);
+        let numbers = long_numbers(&frame).map(|it| (it.kind, it.own, it.acknowledged));
+        assert_eq!(numbers, Some((DATA, 0x0102_0304_0506, None)));
+    }
+}

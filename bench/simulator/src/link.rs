@@ -126,3 +126,53 @@ impl Link {
         }
     }
 }
+
+#[cfg(test)]
+mod tests {
+    use super::*;
+
+    fn way() -> Way {
+        Way {
+            capacity: Capacity::Packets(1_000),
+            delay: 50 * MILLISECOND,
+            queue: 3,
+            loss: Loss::Never,
+            jitter: 0,
+            outage: 0..0,
+        }
+    }
+
+    #[test]
+    fn full_packets_leave_one_after_the_other_and_the_fourth_finds_no_room() {
+        let mut link = Link::new(way(), Random::new(1));
+        let arrivals = [0, 0, 0, 0].map(|now| link.carry(FULL_PACKET, now));
+        assert_eq!(arrivals, [Some(51_000), Some(52_000), Some(53_000), None]);
+        // The first has left at 1 ms; half a packet takes half as long.
+        assert_eq!(link.carry(FULL_PACKET / 2, 1_000), Some(53_500));
+    }
+
+    #[test]
+    fn an_outage_loses_what_leaves_in_it() {
+        let outage = 10_000..20_000;
+        let mut link = Link::new(Way { outage, ..way() }, Random::new(1));
+        assert_eq!(link.carry(FULL_PACKET, 8_999), Some(59_999));
+        assert_eq!(link.carry(FULL_PACKET, 9_000), None);
+        assert_eq!(link.carry(FULL_PACKET, 19_000), Some(70_000));
+    }
+
+    #[test]
+    fn losses_have_their_share() {
+        let bursts = Loss::Bursts {
+            share: 0.1,
+            length: 20 * MILLISECOND,
+        };
+        for loss in [Loss::Each(0.1), bursts] {
+            let mut link = Link::new(Way { loss, ..way() }, Random::new(1));
+            let sent = 0..100_000_u64;
+            let lost = sent
+                .filter(|at| link.carry(100, at * 2_000).is_none())
+                .count();
+            assert!((9_000..11_000).contains(&lost), "{lost} of 100,000");
+        }
+    }
+}

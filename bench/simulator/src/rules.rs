@@ -217,3 +217,89 @@ impl Bucket {
         has_one
     }
 }
+
+#[cfg(test)]
+mod tests {
+    use super::*;
+
+    #[test]
+    fn a_timeout_waits_for_the_round_trip_and_a_variation_of_a_quarter_of_a_second_at_least() {
+        let mut trip = RoundTrip::default();
+        assert_eq!(trip.timeout_wait(), 1_000);
+        // RFC 6298, section 2.2: the variation is half the first sample, 4 times 50 under 250.
+        trip.sample(100);
+        assert_eq!((trip.time(), trip.timeout_wait()), (Some(100), 350));
+        // Section 2.3: 7/8 of 100 and 1/8 of 900 is 200; 3/4 of 50 and 1/4 of 800 is 237.
+        trip.sample(900);
+        assert_eq!((trip.time(), trip.timeout_wait()), (Some(200), 200 + 948));
+        trip.timeout();
+        trip.timeout();
+        assert_eq!(trip.timeout_wait(), 4 * 1_148);
+        for _ in 0..20 {
+            trip.timeout();
+        }
+        assert_eq!(trip.timeout_wait(), LONGEST_WAIT);
+        trip.progress();
+        assert_eq!(trip.timeout_wait(), 1_148);
+    }
+
+    #[test]
+    fn an_ack_ratio_has_32_acks_a_window_and_at_most_half_of_it() {
+        let of = |window, used, peer_width| {
+            aim(Use {
+                window,
+                used,
+                peer_width,
+            })
+        };
+        assert_eq!(of(3, 3, 10_000), 1);
+        assert_eq!(of(4, 4, 10_000), 2);
+        assert_eq!(of(64, 64, 10_000), 2);
+        // 65/32 rounded up.
+        assert_eq!(of(65, 65, 10_000), 3);
+        assert_eq!(of(1_024, 1_024, 10_000), 32);
+        // A voice of 4 in flight under a large window.
+        assert_eq!(of(1_024, 8, 10_000), 2);
+        // A peer that keeps 100: 4 times 1,024 by 100, rounded up.
+        assert_eq!(of(1_024, 1_024, 100), 41);
+        // 4 times 40 by 32 is 5; of a window of 8 half is 4.
+        assert_eq!(of(8, 40, 32), 4);
+    }
+
+    #[test]
+    fn an_ack_ratio_falls_at_once_and_rises_from_1_after_five_seconds() {
+        let mut ratio = AckRatio::default();
+        let of = |window| Use {
+            window,
+            used: window,
+            peer_width: 10_000,
+        };
+        assert_eq!(ratio.wanted(of(3), 2, 1_000, 200), Some(1));
+        assert_eq!(ratio.wanted(of(8), 1, 5_999, 200), None);
+        assert_eq!(ratio.wanted(of(8), 1, 6_000, 200), Some(2));
+        // 4 is twice 2, and a period has gone by.
+        assert_eq!(ratio.wanted(of(128), 2, 6_199, 200), None);
+        assert_eq!(ratio.wanted(of(128), 2, 6_200, 200), Some(4));
+        // 3 is neither under half of 4 nor over half of the window.
+        assert_eq!(ratio.wanted(of(96), 4, 6_201, 200), None);
+        assert_eq!(ratio.wanted(of(6), 4, 6_202, 200), Some(2));
+    }
+
+    #[test]
+    fn a_bucket_has_a_second_of_tokens() {
+        let mut bucket = Bucket::new(2);
+        let taken: Vec<bool> = [0, 0, 0, 499, 500, 501, 10_000, 10_000, 10_000]
+            .map(|now| bucket.take(now))
+            .to_vec();
+        assert_eq!(
+            taken,
+            [true, true, false, false, true, false, true, true, false]
+        );
+    }
+
+    #[test]
+    fn numbers_wrap() {
+        assert_eq!(distance(NUMBERS - 1, 1), 2);
+        assert!(is_at_or_after(1, NUMBERS - 1) && !is_at_or_after(NUMBERS - 1, 1));
+    }
+}
