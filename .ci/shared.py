@@ -39,7 +39,7 @@ def answer(words, *pieces, program=LAUNCHER):
 @functools.cache
 def program():
     """The program itself, for a check that the launcher would stand in the way of. It is built first where it has to be."""
-    subprocess.run([LAUNCHER], stdin=subprocess.DEVNULL, stdout=subprocess.DEVNULL, check=False)
+    subprocess.run([LAUNCHER, "run"], stdin=subprocess.DEVNULL, stdout=subprocess.DEVNULL, check=False)
     return PROGRAM
 
 

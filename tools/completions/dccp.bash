@@ -1,0 +1,34 @@
+# Completes the words of both programs in bash: the form first, then its settings, and file names where a form reads one.
+_dccp_words() {
+  local form=${COMP_WORDS[1]} word=${COMP_WORDS[COMP_CWORD]} before=${COMP_WORDS[COMP_CWORD - 1]} settings=
+  if [ "$COMP_CWORD" = 1 ]; then
+    mapfile -t COMPREPLY < <(compgen -W "$1" -- "$word")
+    return
+  fi
+  # With a readline that parts words at `=`, that is a word of its own.
+  [ "$word" != = ] || word=
+  [ "$before" != = ] || before=${COMP_WORDS[COMP_CWORD - 2]}
+  case $before in
+    --side) mapfile -t COMPREPLY < <(compgen -W 'server client' -- "$word"); return ;;
+    --first | --seeds | --seed | --events | --workers | --buffer | --most | --flow) return ;;
+  esac
+  case $2:$form in
+    dccp:replay) settings='--side --plain --buffer' ;;
+    dccp:campaign) settings='--first --seeds --events --workers' ;;
+    dccp:listen) settings='--most' ;;
+    dccp_bridge:seed) settings='--seed --events' ;;
+    dccp_bridge:frames) settings='--flow --side' ;;
+  esac
+  case $2:$form:$word in
+    dccp_bridge:capture:* | dccp_bridge:unwrap:* | dccp_bridge:json:* | dccp_bridge:frames:[!-]*)
+      mapfile -t COMPREPLY < <(compgen -f -- "$word") ;;
+    *) mapfile -t COMPREPLY < <(compgen -W "$settings" -- "$word") ;;
+  esac
+}
+
+_dccp() { _dccp_words 'run replay campaign show listen ecn' dccp; }
+
+_dccp_bridge() { _dccp_words 'capture unwrap seed frames json --help --version' dccp_bridge; }
+
+complete -o filenames -F _dccp dccp
+complete -o filenames -F _dccp_bridge dccp_bridge
