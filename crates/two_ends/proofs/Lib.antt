@@ -38,7 +38,8 @@ pub mod Believing
 pub mod Consequences
 pub mod Spelling
 pub mod Wanting
-pub mod Preferring
+pub mod Placing
+mod Preferring
 pub mod Nearing
 pub mod Refusing
 pub mod Sharing

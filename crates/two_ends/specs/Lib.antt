@@ -9,6 +9,7 @@ pub mod Safe
 pub mod Delivered
 pub mod Asked
 pub mod CameOf
+pub mod Placed
 pub mod Counted
 pub mod Reached
 pub mod Remembered

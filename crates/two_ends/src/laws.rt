@@ -2,7 +2,8 @@
 //!
 //! Each part of `Safe` has a function whose clauses follow from it and from no weaker one. They are what a reader may
 //! hold against the definitions, by plain counts where numbers are in them.
-ghost use Rattle.std.specs.Prelude.{◌≡◌, ◌≢◌, ℕ, ◌+◌, ◌^◌, ◌<◌, ◌≤◌, false, List, [], ◌∷◌, ◌++◌, Some, None, IsTrue, IsSome, Contains, take, drop, slice_get};
+ghost use Rattle.std.specs.Prelude.{◌≡◌, ◌≢◌, ℕ, ◌+◌, ◌^◌, ◌<◌, ◌≤◌, true, false, List, [], ◌∷◌, ◌++◌, Some, None, IsTrue, IsSome, Contains, take, drop, slice_get};
+ghost use Rattle.ack_vectors.specs.Vector.{is_whole_under};
 ghost use Rattle.congestion_trait.specs.Flight.{Has};
 ghost use Rattle.congestion_trait.specs.declared.flight.Standing.TheVariants as standing;
 ghost use Rattle.dccp_endpoint.specs.Drafts.{Fits};
@@ -18,6 +19,7 @@ ghost use Rattle.feature_lists.specs.declared.features.Feature.{Feature};
 ghost use Rattle.feature_lists.specs.declared.features.Place.{Place};
 ghost use Rattle.feature_lists.specs.declared.features.Place.TheVariants as place;
 ghost use Rattle.feature_machine.specs.declared.stands.Stand.TheVariants.{Stable};
+ghost use Rattle.run_list.specs.MarkedSet.{has};
 ghost use Rattle.seq_circle.specs.Circle.{IsBefore};
 ghost use Rattle.seq_circle.specs.Counts.{number_of};
 ghost use Rattle.world_events.specs.Actors.{other};
@@ -36,7 +38,7 @@ ghost use Rattle.two_ends.specs.Numbered.{Facts};
 ghost use Rattle.two_ends.specs.Pairs.{FeatureAt, held_at, said_by};
 ghost use Rattle.two_ends.specs.Preferred.{AsksNothing, IsLastAsked, WantsValues, row_of, values_configured};
 ghost use Rattle.two_ends.specs.Reached.{IsBeginning};
-ghost use Rattle.two_ends.specs.Reported.{HasSentVector, IsSpokenOf, IsUncut, IsUntold, LiesBelowFloor, processed_by};
+ghost use Rattle.two_ends.specs.Reported.{HasSentVector, IsSpokenOf, IsUntold, LiesBelowFloor, processed_by};
 ghost use Rattle.two_ends.specs.Safe.{Safe};
 ghost use Rattle.two_ends.specs.Shared.{ChangesByLists};
 ghost use Rattle.two_ends.specs.World.{WorldState, half_of};
@@ -103,7 +105,9 @@ pub fn vectors_tell_what_was_processed<C: Congestion>()
         → HasSentVector (half_of w.world side) frame ack bytes → frame.floor < 2 ^ 48 → ack < 2 ^ 48 → n < 2 ^ 48
         → state_at ack bytes n ≡ Some state → is_received (Some state) ≡ false → Contains (processed_by (half_of w.world side) frame) n → ⊥ }
     ensures all { (w : Controlled C) → Safe C.control w → (side : Side) (frame : SentFrame) (ack n : ℕ) (bytes : List ℕ)
-        → HasSentVector (half_of w.world side) frame ack bytes → IsUncut (half_of w.world side) frame ack → IsSpokenOf frame ack n
+        → HasSentVector (half_of w.world side) frame ack bytes
+        → is_whole_under (has (processed_by (half_of w.world side) frame)) frame.floor ack (half_of w.world side).end.config.vectors ≡ true
+        → IsSpokenOf frame ack n
         → Contains (processed_by (half_of w.world side) frame) n → IsTrue (is_received (state_at ack bytes n)) }
     ensures none_after { (w : Controlled C) → Safe C.control w → (side : Side) (frame : SentFrame) (ack n : ℕ) (bytes : List ℕ)
         → HasSentVector (half_of w.world side) frame ack bytes

@@ -9,6 +9,7 @@
 //! sides; no code runs there. A world keeps every frame, so events take memory; where it is wanting nothing changes.
 #![tactic(auto)]
 
+mod facts;
 mod far;
 mod features;
 mod frames;
@@ -18,6 +19,11 @@ mod marks;
 mod sides;
 mod world;
 
+pub use crate::facts::{
+    frames_are_numbered_in_order, frames_say_one_thing_of_a_feature, records_are_of_own_frames,
+    resets_move_nothing, sets_hold_what_was_processed, the_newest_acknowledgement_was_processed,
+    what_is_heard_was_sent,
+};
 pub use crate::features::{
     every_feature_agrees, exchanges_settle, hearing_keeps_a_row, location_decides,
     negotiating_stays_reachable, numbers_count_frames, offering_is_a_move, preferring_is_a_move,
