@@ -1,0 +1,2 @@
+pub mod Granting
+mod Rows

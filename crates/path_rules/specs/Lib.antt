@@ -1,0 +1,5 @@
+pub mod AckRatio
+pub mod GivingUp
+pub mod Limits
+pub mod RoundTrip
+pub mod Waits

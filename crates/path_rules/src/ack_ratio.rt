@@ -1,0 +1,86 @@
+//! How many data packets the peer of a sender may take for one Ack.
+ghost use Rattle.std.specs.Prelude.{◌≡◌, ◌<◌, ◌^◌};
+ghost use Rattle.path_rules.specs.AckRatio.{ack_ratio_aim, half, lowers_ratio, period, raises_ratio, shares, wants_ack_ratio};
+
+use crate::round_trip::RoundTrip;
+
+/// The Ack Ratio that a sender holds, and since when.
+#[derive(Clone, Copy, Debug, PartialEq, Eq)]
+pub struct AckRatio {
+    /// Its value.
+    pub held: u64,
+    /// When it was last asked for, in milliseconds; None before the first time.
+    pub asked: Option<u64>,
+}
+
+/// How long what was in flight is remembered: a round trip, of 200 milliseconds at least (own).
+pub fn period(path: Option<RoundTrip>) -> u64
+    ensures { result ≡ period path }
+{
+    match path {
+        Some(path) => (u64::from(path.smoothed) / 1_000).max(200),
+        None => 200,
+    }
+}
+
+// A part of so many packets, rounded up.
+fn shares(packets: u64, part: u64) -> u64
+    requires packets { packets < 2 ^ 40 }
+    requires part { part < 2 ^ 48 }
+    ensures { result ≡ shares packets part }
+{
+    let part = part.max(1);
+    (packets + part - 1) / part
+}
+
+fn half(window: u32) -> u64
+    ensures { result ≡ half window }
+{
+    (u64::from(window) + 1) / 2
+}
+
+/// The Ack Ratio that a sender wants (RFC 4341, section 6.1.2; own): 1 with a window below 4. Else 32 Acks for the
+/// packets that it uses of its window, or as few as a quarter of its peer's Sequence Window allows; 2 at least, and at
+/// most half the window, rounded up.
+///
+/// `used` is what the sender uses of its window, `width` the peer's Sequence Window, below 2^48.
+pub fn ack_ratio_aim(window: u32, used: u32, width: u64) -> u64
+    requires { width < 2 ^ 48 }
+    ensures { result ≡ ack_ratio_aim window used width }
+{
+    if window < 4 {
+        return 1;
+    }
+    let by_window = shares(u64::from(used), 32);
+    let by_width = shares(4 * u64::from(used), width);
+    by_window.max(by_width).min(half(window)).max(2)
+}
+
+fn lowers(held: u64, aim: u64, window: u32) -> bool
+    ensures { result ≡ lowers_ratio held aim window }
+{
+    aim < held && (aim == 1 || half(window) < held || aim <= held / 2)
+}
+
+// Whether it is raised, where it was asked for so long ago.
+fn raises(held: u64, aim: u64, waited: Option<u64>, period: u64) -> bool
+    ensures { result ≡ raises_ratio held aim waited period }
+{
+    if held < 2 {
+        return held < aim && waited.is_none_or(|waited| 5_000 <= waited);
+    }
+    held <= aim / 2 && waited.is_none_or(|waited| period <= waited)
+}
+
+/// Whether a sender asks for the Ack Ratio that it wants (own; RFC 4341, section 6.1.2, would have it doubled where Acks
+/// are lost). It lowers it at once where 1 is wanted, where the one it holds is above half the window, or at least twice
+/// what is wanted. It raises it from 1 five seconds after it has last asked, and else by twice at least, once a period.
+pub fn wants_ack_ratio(ratio: &AckRatio, aim: u64, window: u32, period: u64, now: u64) -> bool
+    ensures { result ≡ wants_ack_ratio ratio.now aim window period now }
+{
+    let waited = match ratio.asked {
+        Some(asked) => Some(now.saturating_sub(asked)),
+        None => None,
+    };
+    lowers(ratio.held, aim, window) || raises(ratio.held, aim, waited, period)
+}

@@ -1,0 +1,21 @@
+//! What the rules come to.
+ghost use Rattle.path_rules.specs.AckRatio.{AckRatiosFit};
+ghost use Rattle.path_rules.specs.Limits.{LimitsHold};
+ghost use Rattle.path_rules.specs.RoundTrip.{TimeoutsAreBounded};
+
+/// However many ask for tokens, and whenever: what is granted is what the bucket held at first and what came in since,
+/// at most (own).
+pub fn limits_hold()
+    ensures { LimitsHold }
+{}
+
+/// A timeout lies in 250 milliseconds to 64 seconds, and waits for 250 milliseconds beyond the round trip, where that
+/// leaves room for them (own; RFC 6298, section 2).
+pub fn timeouts_are_bounded()
+    ensures { TimeoutsAreBounded }
+{}
+
+/// The Ack Ratio that a sender wants is one of 1, of 2, or of at most half its window (RFC 4341, section 6.1.2).
+pub fn ack_ratios_fit_the_window()
+    ensures { AckRatiosFit }
+{}
