@@ -1,5 +1,5 @@
 -- Flows: the two ends between which packets go, in either direction (own).
-use Rattle.std.specs.Prelude.{◌≡◌, ℕ, ◌+◌, ◌*◌, ◌%◌, ◌^◌, Bool, ◌&&◌, ◌||◌, ◌==◌, nat_lt, if◌then◌else◌, List, [], ◌∷◌, ◌++◌, length, position, Option, Some, None}
+use Rattle.std.specs.Prelude.{◌≡◌, ℕ, ◌≤◌, ◌<◌, ◌+◌, ◌*◌, ◌%◌, ◌^◌, Bool, ◌&&◌, ◌||◌, ◌==◌, nat_lt, if◌then◌else◌, List, [], ◌∷◌, ◌++◌, length, position, Option, Some, None}
 use Rattle.std.specs.BTreeMap.{is_at}
 use Rattle.std.specs.List.{list_any, position_from}
 use Rattle.std.specs.Map.{lookup}
@@ -50,7 +50,7 @@ same_end a b = a.0 == b.0 && a.1 == b.1
 
 -- two flows are one where the version of IP and both ends agree
 abbrev pub same_flow : Flow → Flow → Bool
-same_flow a b = a.0 == b.0 && (same_end a.1 b.1 && same_end a.2 b.2)
+same_flow a b = (a.0 == b.0 && same_end a.1 b.1) && same_end a.2 b.2
 
 -- the number of the flow at this place, from 1; a new one has the next number
 abbrev pub flow_number_at : Option ℕ → List Flow → ℕ
@@ -90,11 +90,28 @@ key_cmp a b =
     (ordering_then (nat_cmp a.0 b.0) (ordering_then (ordering_then (nat_cmp a.1.0 b.1.0) (nat_cmp a.1.1 b.1.1)) (nat_cmp a.1.2 b.1.2)))
     (ordering_then (nat_cmp a.2.0 b.2.0) (nat_cmp a.2.1 b.2.1))
 
+-- the number of a flow that was seen, where the first of these has this one
+abbrev pub flow_number_from : ℕ → Flow → List Flow → Option ℕ
+flow_number_from first flow seen = position_from (same_flow flow) first seen
+
 -- the number of a flow that was seen, from 1 in the order in which they were
 abbrev pub number_if_seen : Flow → List Flow → Option ℕ
-number_if_seen flow seen = position_from (same_flow flow) 1 seen
+number_if_seen flow seen = flow_number_from 1 flow seen
 
--- A map in the order of keys has under the key of each flow that was seen its number, and nothing under that of another
--- flow.
+-- So many flows stand in a set, and further ones in a map by an order (own).
+abbrev pub most_first : ℕ
+most_first = 4096
+
+-- the number of the first further one
+abbrev pub first_further : ℕ
+first_further = 4097
+
+-- Flows stand in a set and behind it, which begins where the set is full.
+pub record IsSplit (first further : List Flow) : Type 0 where
+  pub few : length first ≤ most_first
+  pub full : length first < most_first → further ≡ []
+
+-- A map in the order of keys has under the key of each further flow that was seen its number, and nothing under that of
+-- another flow.
 abbrev pub HasNumbers : List (FlowKey × ℕ) → List Flow → Type 0
-HasNumbers numbers seen = (flow : Flow) → lookup (is_at (key_cmp (key_of flow))) numbers ≡ number_if_seen flow seen
+HasNumbers numbers further = (flow : Flow) → lookup (is_at (key_cmp (key_of flow))) numbers ≡ flow_number_from first_further flow further

@@ -1,21 +1,22 @@
 //! Flows, and the lines of their packets.
-ghost use Rattle.std.specs.Prelude.{◌≡◌, ◌≤◌, ◌%◌, ◌^◌, length, [], None, IfOk, OnOk, OnErr, true};
+ghost use Rattle.std.specs.Prelude.{◌≡◌, ◌+◌, ◌≤◌, ◌<◌, ◌^◌, length, [], None, IfOk, OnOk, OnErr, true};
 ghost use Rattle.byteorder.specs.Endian.{big_number};
 ghost use Rattle.capture_reader.specs.Records.{entry_of};
 ghost use Rattle.packet_show.specs.Network.{carried_by};
-ghost use Rattle.packet_show.specs.Flows.{blended, version_of, from_end, to_end, is_lesser_end, flow_between, flow_of, flow_number, key_of, mixed, number_if_seen, with_flow};
+ghost use Rattle.packet_show.specs.Flows.{version_of, from_end, to_end, is_lesser_end, flow_between, flow_of, flow_number, number_if_seen, with_flow};
 ghost use Rattle.packet_show.specs.Lines.{shows, shows_packet, shows_malformed, parts_by, Shows};
 ghost use Rattle.tool_text.specs.Text.{SameText};
 
+use crate::further_flows::FurtherFlows;
 use crate::network::{Datagram, carried};
 use crate::packet::{put_malformed, put_packet};
 use byteorder::{BigEndian, ByteOrder};
 use capture_reader::Record;
 use dccp_packets::{Malformed, Packet, decode};
 use dccp_sum::Pseudo;
+use indexmap::IndexSet;
 use seq_circle::NoMemory;
 use std::alloc::Global;
-use std::collections::BTreeMap;
 use std::marker::Model;
 
 /// Whether a record has a line.
@@ -30,41 +31,32 @@ pub enum Shown {
 /// One end of a flow (own): its address as a number, and its port.
 pub type FlowEnd = (u128, u16);
 
-// The version of IP, and both ends, the lesser first.
-type Flow = (u8, FlowEnd, FlowEnd);
+/// A flow: the version of IP, and both ends, the lesser first.
+pub(crate) type Flow = (u8, FlowEnd, FlowEnd);
 
-// Under which a flow is found: its mixed number, both ports and the version, and both addresses.
-type FlowKey = (u64, (u16, u16, u8), (u128, u128));
-
-// Odd numbers without a pattern: the fractions of the golden ratio and of the square root of two, times 2^64.
-const GOLDEN: u64 = 0x9e37_79b9_7f4a_7c15;
-
-const ROOT_OF_TWO: u64 = 0x6a09_e667_f3bc_c909;
-
-const PORTS: u64 = 65_536;
+// So many flows stand in the set of the first ones.
+const MOST_FIRST: usize = 4_096;
 
 /// The flows that were seen, in the order in which they were first seen (own). A flow is the pair of both ends, in
 /// either direction. Contracts see the list of flows.
 ///
-/// A flow is found by comparing with others, as many as the logarithm of how many there are. So whoever chose the ends
-/// cannot make that slow, as they could in a table that hashes them by a rule which they know. What is compared begins
-/// with a number that is mixed from both ends, which mostly decides at once; where ends were chosen so that it does
-/// not, the rest does.
+/// The first 4,096 stand in a set that is hashed by a rule which everybody knows, so whoever chose the ends can have
+/// each found among all of them, and no more. Further ones are found in an order.
 #[derive(Drop)]
 pub struct Flows {
-    seen: Vec<Flow>,
-    numbers: BTreeMap<FlowKey, u64>,
+    first: IndexSet<Flow>,
+    further: FurtherFlows,
 }
 
 impl Model for Flows {
-    ghost use Rattle.std.specs.Prelude.{List};
-    ghost use Rattle.packet_show.specs.Flows.{Flow, HasNumbers};
+    ghost use Rattle.std.specs.Prelude.{List, ◌++◌};
+    ghost use Rattle.packet_show.specs.Flows.{Flow, IsSplit};
 
     ghost Value = { List Flow };
 
-    ghost view = { λ f. f.seen.items };
+    ghost view = { λ f. f.first.keys ++ f.further };
 
-    ghost invariant = { λ f. HasNumbers f.numbers.entries f.seen.items };
+    ghost invariant = { λ f. IsSplit f.first.keys f.further };
 }
 
 fn v4_number(address: [u8; 4]) -> u128
@@ -133,63 +125,33 @@ fn flow_of(pseudo: &Pseudo, from: u16, to: u16) -> Flow
     )
 }
 
-// The low 64 bits of a number.
-fn low(number: u128) -> u64
-    ensures { result ≡ number % 2 ^ 64 }
-{
-    (number % (1 << 64)) as u64
-}
-
-fn blended(number: u64, factor: u64, more: u64) -> u64
-    ensures { result ≡ blended number factor more }
-{
-    number.wrapping_mul(factor).wrapping_add(more)
-}
-
-// A number that seldom is the same for two flows.
-fn mixed(flow: &Flow) -> u64
-    ensures { result ≡ mixed flow.now }
-{
-    let ports = blended(u64::from(flow.1.1), PORTS, u64::from(flow.2.1));
-    let other = blended(low(flow.2.0), ROOT_OF_TWO, ports);
-    blended(low(flow.1.0), GOLDEN, other)
-}
-
-fn key_of(flow: &Flow) -> FlowKey
-    ensures { result ≡ key_of flow.now }
-{
-    (
-        mixed(flow),
-        (flow.1.1, flow.2.1, flow.0),
-        (flow.1.0, flow.2.0),
-    )
-}
-
 impl Flows {
     /// No flow yet. It takes no memory.
     pub fn new(alloc: Global) -> Flows
         ensures { result ≡ [] }
     {
         Flows {
-            seen: Vec::new(alloc),
-            numbers: BTreeMap::new(alloc),
+            first: IndexSet::new(alloc),
+            further: FurtherFlows::new(alloc),
         }
     }
 
     /// How many flows were numbered.
     pub fn count(&self) -> u64
-        ensures { result ≡ length self.now }
+        ensures value { result ≡ length self.now }
+        ensures fits { result < 2 ^ 63 + 4097 }
     {
-        self.seen.len() as u64
+        self.first.len() as u64 + self.further.len()
     }
 
     // The number of a flow that was seen.
+    #[tactic(auto, using(crate::proofs::Numbered::number_in_first, crate::proofs::Numbered::number_past_first))]
     fn number_if_seen(&self, flow: &Flow) -> Option<u64>
         ensures { result ≡ number_if_seen flow.now self.now }
     {
-        match self.numbers.get(&key_of(flow)) {
-            Some(number) => Some(*number),
-            None => None,
+        match self.first.get_index_of(flow) {
+            Some(place) => Some(place as u64 + 1),
+            None => self.further.number_if_seen(flow),
         }
     }
 
@@ -201,7 +163,7 @@ impl Flows {
     {
         match self.number_if_seen(flow) {
             Some(number) => (Some(number), number),
-            None => (None, self.seen.len() as u64 + 1),
+            None => (None, self.count() + 1),
         }
     }
 
@@ -219,21 +181,18 @@ impl Flows {
     }
 
     // Notes a flow that was not seen before.
-    #[tactic(auto, using(crate::proofs::Numbered::noted_now))]
     fn add(&mut self, flow: Flow) -> Result<(), NoMemory>
         requires { number_if_seen flow self.old ≡ None }
         ensures ok { OnOk result (self.new ≡ with_flow flow self.old) }
         ensures unchanged { OnErr result (self.new ≡ self.old) }
     {
-        let number = self.seen.len() as u64 + 1;
-        self.seen.reserve(1)?;
-        match self.numbers.insert(key_of(&flow), number) {
-            Ok(_) => {}
-            Err(_) => return Err(NoMemory),
-        }
-        match self.seen.push(flow) {
-            Ok(()) => Ok(()),
-            Err(_) => unreachable!(),
+        if self.first.len() < MOST_FIRST {
+            match self.first.insert(flow) {
+                Ok(_) => Ok(()),
+                Err(_) => Err(NoMemory),
+            }
+        } else {
+            self.further.add(flow)
         }
     }
 

@@ -7,6 +7,7 @@
 
 mod capture_lines;
 mod flows;
+mod further_flows;
 mod laws;
 mod names;
 mod network;

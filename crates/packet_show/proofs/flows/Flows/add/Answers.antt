@@ -1,24 +1,15 @@
-use Rattle.std.proofs.Common.{rules, ◌≡◌, ap, sym, ◌∙◌, subst, ℕ, ◌+◌, cond, List, [], ◌∷◌, ◌++◌, length, Some, None}
-use Rattle.std.specs.BTreeMap.{is_at}
-use Rattle.std.specs.Map.{lookup}
-use Rattle.packet_show.specs.Flows.{Flow, HasNumbers, FlowKey, key_cmp, key_of, number_if_seen}
-use Rattle.packet_show.proofs.Numbered.{numbers_now}
+-- A flow that was not seen, put behind the set where that is full.
+use Rattle.std.proofs.Common.{◌≡◌, ap, ◌∙◌, List}
+use Rattle.packet_show.specs.Flows.{Flow, number_if_seen}
+use Rattle.packet_show.proofs.Numbered.{none_further, noted_further}
 use Rattle.packet_show.proofs.flows.Flows.add.Goals as goal
 
--- the list has one more, and so has the map
-pub invariant_of-self-2 : goal.invariant_of-self-2
-invariant_of-self-2 c =
-    let flow : Flow = c.args.flow in
-    let seen : List Flow = c.self.inside.seen.items in
-    let before = c.self.inside.numbers.entries in
-    let after = c.insert.new.self.entries in
-    let none : number_if_seen flow seen ≡ None = ap (λ (list : List Flow). number_if_seen flow list) c.self.view_is ∙ c.requires in
-    let size : c.len.result ≡ length seen = search rules in
-    let updates : (q : FlowKey)
-    → lookup (is_at (key_cmp q)) after ≡ cond (is_at (key_cmp (key_of flow)) q) (Some (length seen + 1)) (lookup (is_at (key_cmp q)) before) =
-    λ q. c.in-Ok.ensures.updates.0 q
-    ∙ ap (λ (n : ℕ). cond (is_at (key_cmp c.key_of.result) q) (Some (n + 1)) (lookup (is_at (key_cmp q)) before)) size
-    ∙ ap (λ (key : FlowKey). cond (is_at (key_cmp key) q) (Some (length seen + 1)) (lookup (is_at (key_cmp q)) before)) c.key_of.ensures in
-    let items : c.push.new.self.items ≡ seen ++ flow ∷ [] = c.in-Ok-push.ensures.items
-    ∙ ap (λ (list : List Flow). list ++ flow ∷ []) c.in_ok-reserve.ensures.items in
-    subst (λ (list : List Flow). HasNumbers after list) (sym items) (numbers_now flow before after seen c.self.invariant none updates)
+pub add-requires : goal.add-requires
+add-requires c =
+    none_further c.args.flow c.self.inside.first.keys c.self.inside.further c.self.invariant
+    (ap (λ (list : List Flow). number_if_seen c.args.flow list) c.self.view_is ∙ c.requires)
+
+pub returns-else-len-lt-MOST_FIRST-clause-ok : goal.returns-else-len-lt-MOST_FIRST-clause-ok
+returns-else-len-lt-MOST_FIRST-clause-ok c =
+    noted_further c.add.result c.args.flow c.self.inside.first.keys c.self.inside.further c.add.new.self c.args.self.now c.self.view_is c.requires
+    c.add.ensures.ok
