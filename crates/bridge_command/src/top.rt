@@ -1,10 +1,10 @@
 //! The second tool's one call: a form of its words over a source and a sink.
-ghost use Rattle.std.specs.Prelude.{◌≡◌, ◌≢◌, ◌⊎◌, [], Some, None, false, true};
+ghost use Rattle.std.specs.Prelude.{◌≡◌, ◌⊎◌, [], Some, None, false, true};
 ghost use Rattle.dccp_io.specs.Counts.{Rose};
 ghost use Rattle.bridge_command.specs.Schedule.{seed_text};
 ghost use Rattle.bridge_command.specs.Forms.{OnBridgeInput, OnBridgeRead, bridge_accepted, bridge_reads_past, bridge_text, has_input, is_bridge_refused};
 ghost use Rattle.bridge_command.specs.Words.{IsBridgeFormWithinBounds, OnSeed, asked_form, bridge_usage, has_bridge_settings};
-ghost use Rattle.tool_text.specs.Ends.{SinkFails, IsWritten, Answers, StopsWithin, EndsForCause};
+ghost use Rattle.tool_text.specs.Ends.{SinkFails, IsWritten, OnJobEnd, Answers, StopsWithin, EndsForCause};
 
 use crate::capture::capture_frames;
 use crate::frames::frame_flow;
@@ -14,7 +14,7 @@ use crate::unwrap::unwrap_capture;
 use crate::words::{Form, USAGE, form_of};
 use dccp_io::{Sink, Source, write_all};
 use std::alloc::Global;
-use tool_text::Status;
+use tool_text::{JobEnd, Status};
 
 /// Does what the words ask for (own), those after the program's name. `capture` reads what `run` or `replay` wrote, and
 /// writes a classic capture with a record for each frame that was sent. `unwrap` reads a capture, classic or pcapng, of
@@ -43,27 +43,27 @@ pub fn bridge<S: Source, K: Sink>(
 
     // What each form that reads its input writes and how it ends, and how far it had read where it refuses it.
     ensures answers { OnBridgeInput words.now (S.left input.old) (λ form bytes.
-        Answers (bridge_text form bytes) (is_bridge_refused form bytes) result (S.left input.new) (K.taken output.old) (K.taken output.new)) }
+        OnJobEnd result (λ end. Answers (bridge_text form bytes) (is_bridge_refused form bytes) end (S.left input.new) (K.taken output.old) (K.taken output.new))) }
     ensures past { OnBridgeInput words.now (S.left input.old) (λ form bytes.
-        StopsWithin (bridge_reads_past form) (bridge_accepted form bytes) bytes result (S.left input.new)) }
+        OnJobEnd result (λ end. StopsWithin (bridge_reads_past form) (bridge_accepted form bytes) bytes end (S.left input.new))) }
 
     // What a seed owes, which reads nothing: the same as of an empty input. And why any form ended.
-    ensures told { OnSeed words.now (λ run. Answers (seed_text run.seed run.events) false result (Some []) (K.taken output.old) (K.taken output.new)) }
+    ensures told { OnSeed words.now (λ run.
+        OnJobEnd result (λ end. Answers (seed_text run.seed run.events) false end (Some []) (K.taken output.old) (K.taken output.new))) }
     ensures form_unread { (form : Form) → asked_form words.now ≡ Some form → has_input form ≡ false → input.new ≡ input.old }
     ensures cause { (form : Form) → asked_form words.now ≡ Some form
-        → EndsForCause result (Rose (S.faults input.old) (S.faults input.new)) (SinkFails K.faults K.empty_takes output.old output.new) }
+        → OnJobEnd result (λ end. EndsForCause end (Rose (S.faults input.old) (S.faults input.new)) (SinkFails K.faults K.empty_takes output.old output.new)) }
 {
     match form_of(alloc, words) {
-        Ok(Some(form)) => perform(alloc, form, input, output),
+        Ok(Some(form)) => perform(alloc, form, input, output).status(),
         Ok(None) => refuse_words(output),
         Err(_) => Status::Memory,
     }
 }
 
 // Does what a form asks for.
-fn perform<S: Source, K: Sink>(alloc: Global, form: Form, input: &mut S, output: &mut K) -> Status
+fn perform<S: Source, K: Sink>(alloc: Global, form: Form, input: &mut S, output: &mut K) -> JobEnd
     requires { IsBridgeFormWithinBounds form }
-    ensures words { result ≢ Status.Words }
     ensures answers { OnBridgeRead form (S.left input.old) (λ bytes.
         Answers (bridge_text form bytes) (is_bridge_refused form bytes) result (S.left input.new) (K.taken output.old) (K.taken output.new)) }
     ensures past { OnBridgeRead form (S.left input.old) (λ bytes.

@@ -7,8 +7,8 @@ use Rattle.std.specs.Io.KnownBytes.{append_known, prepend_known}
 use Rattle.std.specs.Prelude.{flat_map, is_some}
 use Rattle.dccp_io.specs.Fronts.{GivesAtMost}
 use Rattle.tool_text.specs.Ends.{HasBegun, IsCutOff, IsMovedOut}
-use Rattle.tool_text.specs.declared.output.status.Status.{Status}
-use Rattle.tool_text.specs.declared.output.status.Status.TheVariants as status
+use Rattle.tool_text.specs.declared.output.status.JobEnd.{JobEnd}
+use Rattle.tool_text.specs.declared.output.status.JobEnd.TheVariants as ended
 use Rattle.tool_text.proofs.Ending.{answers-early, append-none, append-twice, begun-behind, begun-longer, not-both}
 use Rattle.capture_reader.proofs.Opening.{passed-ahead}
 use Rattle.bridge_records.specs.Pieces.{Goes, GoesThroughPieces, Judgement, JudgesPiece, Piece, PieceWork, Stops, Taken, by_next_piece, done_by, unended, in_front, most_piece_bytes, next_piece, piece_text, pieces_from, pieces_of, taken_by, taken_so_far, text_of_pieces, end_piece}
@@ -147,7 +147,7 @@ module _ {P V : Type 0} (job : PieceWork P V) (first : V) where
   end-refused state given true why is = cc is
   end-refused state given false why is = let same : CutShort ≡ why = cc is in ap (λ (w : PieceFault). taken_so_far state given (Some w)) same
 
-  module _ (state : V) (given : ℕ) (left known : Option (List ℕ)) (text : List ℕ) (before after later : Option (List ℕ)) (input : List ℕ) (result : Status)
+  module _ (state : V) (given : ℕ) (left known : Option (List ℕ)) (text : List ℕ) (before after later : Option (List ℕ)) (input : List ℕ) (result : JobEnd)
       (along : Along job first state given left text before after input) where
     -- the job ended early
     pub through-early : IsCutOff result → HasBegun after later text → GoesThroughPieces job first input result known before later
@@ -163,7 +163,7 @@ module _ {P V : Type 0} (job : PieceWork P V) (first : V) where
 
     -- behind the last turn the rest of the text was left, and what stands behind the last piece
     pub through-last : (refusal : Option PieceFault) (pending : List ℕ) → pieces_from job 0 state given (drop given input) ≡ taken_so_far state given refusal
-        → LeavesText (text ++ job.closing state refusal) (is_some refusal) result after later → (result ≡ status.Done → known ≡ Some [])
+        → LeavesText (text ++ job.closing state refusal) (is_some refusal) result after later → (result ≡ ended.Done → known ≡ Some [])
         → prepend_known pending known ≡ left → length pending ≤ 524288 → GoesThroughPieces job first input result known before later
     through-last refusal pending is leaves none held fits =
         let rest = taken_so_far state given refusal in

@@ -5,8 +5,8 @@ use Rattle.std.specs.Prelude.{is_err, is_some}
 use Rattle.dccp_io.specs.Ahead.{BytesAhead, ahead_of}
 use Rattle.dccp_io.specs.Fronts.{TakesFront}
 use Rattle.tool_text.specs.Ends.{HasBegun, IsMovedOut}
-use Rattle.tool_text.specs.declared.output.status.Status.{Status}
-use Rattle.tool_text.specs.declared.output.status.Status.TheVariants as status
+use Rattle.tool_text.specs.declared.output.status.JobEnd.{JobEnd}
+use Rattle.tool_text.specs.declared.output.status.JobEnd.TheVariants as ended
 use Rattle.tool_text.proofs.Ending.{none-left, on-err, on-ok, unwritten}
 use Rattle.bridge_records.specs.Pieces.{GoesThroughPieces, PieceWork, Stops, by_next_piece, unended, most_piece_bytes, next_piece, pieces_from, taken_so_far}
 use Rattle.bridge_records.specs.Turns.{KeepsBlock, LeavesText, Standing, TurnsPiece}
@@ -52,7 +52,7 @@ module _ {S K P V : Type 0} (left : S → Option (List ℕ)) (faults : S → ℕ
   }
 
   -- what the loop comes to
-  abbrev pub Through : S → Option (List ℕ) → Status → Type 0
+  abbrev pub Through : S → Option (List ℕ) → JobEnd → Type 0
   Through source later result = IfSome (left first) (λ input. GoesThroughPieces job start input result (left source) (taken opened) later)
 
   module _ (state : V) (source : S) (ahead : BytesAhead) (output : K) (text : List ℕ) (given : ℕ)
@@ -76,20 +76,20 @@ module _ {S K P V : Type 0} (left : S → Option (List ℕ)) (faults : S → ℕ
 
     -- the sink failed
     pub unmoved : {A E : Type 0} (later : K) (flushed : Result A E) → OnErr flushed (TakesFront (taken output) (taken later) text) → is_err flushed ≡ true
-        → Through source (taken later) status.Write
+        → Through source (taken later) ended.Write
     unmoved later flushed taken_front failing =
         let begun = on-err flushed (TakesFront (taken output) (taken later) text) taken_front failing in
         IfSome_then (left first) before.along (λ (input : List ℕ) along.
         through-early job start state given (ahead_of ahead (left source)) (left source) text (taken opened) (taken output)
-        (taken later) input status.Write along
+        (taken later) input ended.Write along
         (inr (inl refl)) (begun.0, begun.2))
 
     -- no memory was left
-    pub out-of-memory : (handed : S) → Through handed (taken output) status.Memory
+    pub out-of-memory : (handed : S) → Through handed (taken output) ended.Memory
     out-of-memory handed =
         IfSome_then (left first) before.along (λ (input : List ℕ) along.
         through-early job start state given (ahead_of ahead (left source)) (left handed) text (taken opened) (taken output)
-        (taken output) input status.Memory along
+        (taken output) input ended.Memory along
         (inr (inr refl)) (unwritten text (taken output) (taken output) refl))
 
     module _ (new : Standing S V) (t : Turn) (keeps : KeepsBlock faults (standing source ahead state text) new)
@@ -135,7 +135,7 @@ module _ {S K P V : Type 0} (left : S → Option (List ℕ)) (faults : S → ℕ
           }
 
       -- the input is at its end, or refused
-      over-by : (end : Option PieceFault) (later : Option (List ℕ)) (result : Status) (input : List ℕ)
+      over-by : (end : Option PieceFault) (later : Option (List ℕ)) (result : JobEnd) (input : List ℕ)
           → TurnsPiece left faults job given (standing source ahead state text) new (Ok (turn.Over end))
           → LeavesText (new.text ++ job.closing new.state end) (is_some end) result (taken output) later
           → Along job start state given (ahead_of ahead (left source)) text (taken opened) (taken output) input
@@ -161,7 +161,7 @@ module _ {S K P V : Type 0} (left : S → Option (List ℕ)) (faults : S → ℕ
           (λ is. cc (closes.done is)) same.ahead
           (subst (λ (n : ℕ). length new.ahead.pending ≤ n) (keeps.same_size ∙ before.size) keeps.fits)
 
-      pub over : (end : Option PieceFault) (later : Option (List ℕ)) (result : Status) → t ≡ turn.Over end
+      pub over : (end : Option PieceFault) (later : Option (List ℕ)) (result : JobEnd) → t ≡ turn.Over end
           → LeavesText (new.text ++ job.closing new.state end) (is_some end) result (taken output) later → Through new.source later result
       over end later result is leaves =
           IfSome_then (left first) before.along (λ (input : List ℕ) along.
@@ -169,7 +169,7 @@ module _ {S K P V : Type 0} (left : S → Option (List ℕ)) (faults : S → ℕ
           (subst (λ (s : Turn). TurnsPiece left faults job given (standing source ahead state text) new (Ok s)) is turns) leaves along)
 
       -- the source failed
-      pub turned-off : (later : Option (List ℕ)) (out : List ℕ) (result : Status) → t ≡ turn.Failed → out ≡ new.text → result ≡ status.Read
+      pub turned-off : (later : Option (List ℕ)) (out : List ℕ) (result : JobEnd) → t ≡ turn.Failed → out ≡ new.text → result ≡ ended.Read
           → HasBegun (taken output) later out
           → Through new.source later result
       turned-off later out result is same read begun =

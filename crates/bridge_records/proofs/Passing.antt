@@ -18,7 +18,7 @@ use Rattle.bridge_records.specs.Pieces.{Goes, GoesThroughPieces, Judgement, Piec
 use Rattle.bridge_records.proofs.Along.{piece-there}
 use Rattle.bridge_records.proofs.FirstPiece.{pieces-cut}
 use Rattle.bridge_records.specs.declared.pieces.fault.PieceFault.{PieceFault}
-use Rattle.tool_text.specs.declared.output.status.Status.{Status}
+use Rattle.tool_text.specs.declared.output.status.JobEnd.{JobEnd}
 use Rattle.dccp_io.specs.Counts.{one_more}
 use Rattle.bridge_records.specs.Blocks.{section_block, section_order}
 use Rattle.bridge_records.specs.Classic.{any_format, head_in}
@@ -39,7 +39,7 @@ deeds_from work first nanos entries = done_by (work.begun first nanos).deed ++ d
 
 -- where a job begins may be said otherwise
 module _ {P V : Type 0} (job : PieceWork P V) where
-  pub goes-alike : (first begun : V) (input : List ℕ) (result : Status) (left before after : Option (List ℕ)) → begun ≡ first
+  pub goes-alike : (first begun : V) (input : List ℕ) (result : JobEnd) (left before after : Option (List ℕ)) → begun ≡ first
       → GoesThroughPieces job begun input result left before after → GoesThroughPieces job first input result left before after
   goes-alike first begun input result left before after same goes = subst (λ (state : V). GoesThroughPieces job state input result left before after) same goes
 

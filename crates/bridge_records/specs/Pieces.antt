@@ -1,7 +1,7 @@
 -- What a job makes of the pieces of an input, and what is written of it (own).
 use Rattle.std.specs.Prelude.{◌≡◌, ℕ, zero, suc, ◌+◌, ◌-◌, ◌^◌, ◌++◌, nat_lt, Bool, is_some, if◌then◌else◌, List, [], ◌∷◌, length, take, flat_map, Option, Some, None, Result, Ok, Err}
 use Rattle.tool_text.specs.Ends.{Answers, StopsWithin}
-use Rattle.tool_text.specs.declared.output.status.Status.{Status}
+use Rattle.tool_text.specs.declared.output.status.JobEnd.{JobEnd}
 use Rattle.bridge_records.specs.declared.pieces.fault.PieceFault.{PieceFault}
 use Rattle.bridge_records.specs.declared.pieces.fault.PieceFault.TheVariants.{CutShort, TooLarge}
 
@@ -111,6 +111,6 @@ text_of_pieces job taken = flat_map job.told taken.deeds ++ job.closing taken.la
 
 -- The pieces of an input were gone through: what was written and how it ended, and how far the input was read past the
 -- last accepted piece where it was refused.
-pub record GoesThroughPieces {P V : Type 0} (job : PieceWork P V) (first : V) (input : List ℕ) (result : Status) (left before after : Option (List ℕ)) : Type 0 where
+pub record GoesThroughPieces {P V : Type 0} (job : PieceWork P V) (first : V) (input : List ℕ) (result : JobEnd) (left before after : Option (List ℕ)) : Type 0 where
   pub answers : Answers (text_of_pieces job (pieces_of job first input)) (is_some (pieces_of job first input).refusal) result left before after
   pub past : StopsWithin 524288 (pieces_of job first input).accepted input result left

@@ -4,8 +4,8 @@ use Rattle.dccp_io.specs.Ahead.{BytesAhead, ahead_of}
 use Rattle.dccp_io.specs.Counts.{Rose}
 use Rattle.seq_circle.specs.declared.memory.NoMemory as no_memory
 use Rattle.tool_text.specs.Ends.{HasBegun, HasTaken, IsAnswered, IsCutOff}
-use Rattle.tool_text.specs.declared.output.status.Status.{Status}
-use Rattle.tool_text.specs.declared.output.status.Status.TheVariants as status
+use Rattle.tool_text.specs.declared.output.status.JobEnd.{JobEnd}
+use Rattle.tool_text.specs.declared.output.status.JobEnd.TheVariants as ended
 use Rattle.bridge_records.specs.Pieces.{JudgesPiece, PieceWork, Stops, by_next_piece, most_piece_bytes, next_piece}
 use Rattle.bridge_records.specs.declared.pieces.turns.Turn.{Turn}
 use Rattle.bridge_records.specs.declared.pieces.turns.Turn.TheVariants as turn
@@ -52,8 +52,8 @@ TurnsPiece left faults job given old new (Ok turn.Failed) = (new.text ≡ old.te
 TurnsPiece left faults job given old new (Err _) = Unit {0}
 
 -- What was left of a text was written: whole with an answer, and otherwise a front of it.
-pub record LeavesText (text : List ℕ) (refused : Bool) (result : Status) (before after : Option (List ℕ)) : Type 0 where
+pub record LeavesText (text : List ℕ) (refused : Bool) (result : JobEnd) (before after : Option (List ℕ)) : Type 0 where
   pub whole : IsAnswered result → HasTaken before after text
   pub front : IsCutOff result → HasBegun before after text
-  pub done : result ≡ status.Done → refused ≡ false
-  pub input : result ≡ status.Input → refused ≡ true
+  pub done : result ≡ ended.Done → refused ≡ false
+  pub input : result ≡ ended.Input → refused ≡ true

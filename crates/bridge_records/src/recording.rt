@@ -1,5 +1,5 @@
 //! A job over the records of a capture.
-ghost use Rattle.std.specs.Prelude.{◌≡◌, ◌≢◌, ◌+◌, ◌≤◌, ◌++◌, ℕ, List, length, OnOk, Some};
+ghost use Rattle.std.specs.Prelude.{◌≡◌, ◌+◌, ◌≤◌, ◌++◌, ℕ, List, length, OnOk, Some};
 ghost use Rattle.bridge_records.specs.Pieces.{GoesThroughPieces, piece_text};
 ghost use Rattle.capture_reader.specs.Records.{entry_of};
 ghost use Rattle.dccp_io.specs.Counts.{Rose, one_more};
@@ -16,7 +16,7 @@ use dccp_io::{Sink, Source};
 use seq_circle::NoMemory;
 use std::alloc::Global;
 use std::marker::Model;
-use tool_text::Status;
+use tool_text::JobEnd;
 
 /// A job over the records of a capture (own). Contracts see what it does where the capture begins and with a record,
 /// the text of what it does, and the text behind the last record.
@@ -193,8 +193,7 @@ pub fn run_records<J: RecordJob + Drop, S: Source, K: Sink>(
     job: J,
     input: &mut S,
     output: &mut K,
-) -> Status
-    ensures words { result ≢ Status.Words }
+) -> JobEnd
     ensures through { (bytes : List ℕ) → S.left input.old ≡ Some bytes
         → GoesThroughPieces (records_work J.work) (first_reading job) bytes result (S.left input.new) (K.taken output.old) (K.taken output.new) }
     ensures cause { EndsForCause result (Rose (S.faults input.old) (S.faults input.new)) (SinkFails K.faults K.empty_takes output.old output.new) }

@@ -5,8 +5,8 @@ use Rattle.fault_campaign.specs.declared.report.Report.{Report}
 use Rattle.tool_text.specs.Text.{labelled_number}
 use Rattle.tool_text.specs.Ends.{HasBegun, HasTaken, IsCutOff, EndsForCause}
 use Rattle.tool_forms.specs.declared.campaign_words.Campaign.{Campaign}
-use Rattle.tool_text.specs.declared.output.status.Status.{Status}
-use Rattle.tool_text.specs.declared.output.status.Status.TheVariants as status
+use Rattle.tool_text.specs.declared.output.status.JobEnd.{JobEnd}
+use Rattle.tool_text.specs.declared.output.status.JobEnd.TheVariants as ended
 
 -- a count behind its name
 abbrev pub count_line : List ℕ → ℕ → List ℕ
@@ -34,8 +34,8 @@ campaign_text c = report_text (totals c.first c.seeds c.events)
 
 -- What a campaign owes, which reads nothing and has nothing to refuse: Done is the whole text, and what was cut off is
 -- a front of it. It ends with Write only where the sink failed, and where that did not, with Done, if memory is found.
-pub record AnswersUnread (text : List ℕ) (result : Status) (before after : Option (List ℕ)) (sink_failed : Type 0) : Type 0 where
-  pub whole : result ≡ status.Done → HasTaken before after text
+pub record AnswersUnread (text : List ℕ) (result : JobEnd) (before after : Option (List ℕ)) (sink_failed : Type 0) : Type 0 where
+  pub whole : result ≡ ended.Done → HasTaken before after text
   pub front : IsCutOff result → HasBegun before after text
-  pub accepted : result ≢ status.Input
+  pub accepted : result ≢ ended.Input
   pub cause : EndsForCause result ⊥ sink_failed

@@ -1,5 +1,5 @@
 //! `campaign`: seeds that are run by workers, and what is counted of them.
-ghost use Rattle.std.specs.Prelude.{◌≡◌, ◌≢◌, ◌++◌, IfOk, OnOk};
+ghost use Rattle.std.specs.Prelude.{◌≡◌, ◌++◌, IfOk, OnOk};
 ghost use Rattle.dccp_command.specs.CampaignText.{AnswersUnread, arrival_text, campaign_text, count_line, report_text, run_text};
 ghost use Rattle.tool_forms.specs.CampaignWords.{IsWithinBounds};
 ghost use Rattle.tool_text.specs.Ends.{SinkFailed};
@@ -10,7 +10,7 @@ use seq_circle::NoMemory;
 use std::alloc::Global;
 use std::thread::Threads;
 use tool_forms::Campaign;
-use tool_text::{Status, put, put_counted};
+use tool_text::{JobEnd, put, put_counted};
 
 // Puts a count's line.
 fn put_count(text: &mut Vec<u8>, name: &[u8], count: u64) -> Result<(), NoMemory>
@@ -85,17 +85,16 @@ pub(crate) fn run_campaign<R: Threads + Sync, G: Gate + Sync, K: Sink>(
     gate: &G,
     job: Campaign,
     output: &mut K,
-) -> Status
+) -> JobEnd
     requires { IsWithinBounds job }
-    ensures words { result ≢ Status.Words }
     ensures answers { AnswersUnread (campaign_text job) result (K.taken output.old) (K.taken output.new)
         (SinkFailed (K.faults output.old) (K.faults output.new) (K.empty_takes output.old) (K.empty_takes output.new)) }
 {
     let Ok(text) = counted(rt, alloc, gate, job) else {
-        return Status::Memory;
+        return JobEnd::Memory;
     };
     match write_all(output, &text) {
-        Err(_) => Status::Write,
-        Ok(()) => Status::Done,
+        Err(_) => JobEnd::Write,
+        Ok(()) => JobEnd::Done,
     }
 }

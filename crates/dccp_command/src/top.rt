@@ -1,11 +1,11 @@
 //! The tool's one call: a form of its words over a source and a sink.
-ghost use Rattle.std.specs.Prelude.{◌≡◌, ◌≢◌, ◌⊎◌, ℕ, List, Some, None, true, false};
+ghost use Rattle.std.specs.Prelude.{◌≡◌, ◌⊎◌, ℕ, List, Some, None, true, false};
 ghost use Rattle.dccp_io.specs.Counts.{Rose};
 ghost use Rattle.tool_jobs.specs.Transcript.{SafeThroughout};
 ghost use Rattle.dccp_command.specs.CampaignText.{AnswersUnread, campaign_text};
 ghost use Rattle.dccp_command.specs.Forms.{OnInput, OnRead, form_accepted, form_reads_past, form_text, is_form_refused, reads_input};
 ghost use Rattle.tool_forms.specs.Words.{IsFormWithinBounds, OnRun, form_of, has_settings, usage};
-ghost use Rattle.tool_text.specs.Ends.{SinkFails, IsWritten, IsAnswered, Answers, StopsWithin, EndsForCause};
+ghost use Rattle.tool_text.specs.Ends.{SinkFails, IsWritten, IsAnswered, OnJobEnd, Answers, StopsWithin, EndsForCause};
 
 use crate::campaigning::run_campaign;
 use dccp_io::{Sink, Source, write_all};
@@ -15,7 +15,7 @@ use std::alloc::Global;
 use std::thread::Threads;
 use tool_forms::{Campaign, Form, USAGE, form_of};
 use tool_jobs::{listen_to_peers, play_nonces, replay_at_buffer, replay_frames, run_schedule};
-use tool_text::Status;
+use tool_text::{JobEnd, Status};
 
 /// Does what the words ask for (own), those after the program's name. `run` plays a schedule: it reads `input`, and
 /// writes to `output` a line for each event and for each frame that it sent, and at last the state of both ends.
@@ -53,20 +53,20 @@ pub fn dccp<R: Threads + Sync, G: Gate + Sync, S: Source, K: Sink>(
 
     // What each form that reads its input writes and how it ends, and how far it had read where it refuses it.
     ensures answers { OnInput words.now (S.left input.old) (λ form bytes.
-        Answers (form_text form bytes) (is_form_refused form bytes) result (S.left input.new) (K.taken output.old) (K.taken output.new)) }
+        OnJobEnd result (λ end. Answers (form_text form bytes) (is_form_refused form bytes) end (S.left input.new) (K.taken output.old) (K.taken output.new))) }
     ensures past { OnInput words.now (S.left input.old) (λ form bytes.
-        StopsWithin (form_reads_past form) (form_accepted form bytes) bytes result (S.left input.new)) }
+        OnJobEnd result (λ end. StopsWithin (form_reads_past form) (form_accepted form bytes) bytes end (S.left input.new))) }
 
     // What holds of both ends of `run`, what a campaign writes, and why any form ended.
-    ensures safe { OnRun words.now (S.left input.old) (λ bytes. IsAnswered result → SafeThroughout bytes) }
+    ensures safe { OnRun words.now (S.left input.old) (λ bytes. OnJobEnd result (λ end. IsAnswered end → SafeThroughout bytes)) }
     ensures form_unread { (form : Form) → form_of words.now ≡ Some form → reads_input form ≡ false → input.new ≡ input.old }
     ensures totals { (campaign : Campaign) → form_of words.now ≡ Some (Form.Campaign campaign)
-        → AnswersUnread (campaign_text campaign) result (K.taken output.old) (K.taken output.new) (SinkFails K.faults K.empty_takes output.old output.new) }
+        → OnJobEnd result (λ end. AnswersUnread (campaign_text campaign) end (K.taken output.old) (K.taken output.new) (SinkFails K.faults K.empty_takes output.old output.new)) }
     ensures cause { (form : Form) → form_of words.now ≡ Some form
-        → EndsForCause result (Rose (S.faults input.old) (S.faults input.new)) (SinkFails K.faults K.empty_takes output.old output.new) }
+        → OnJobEnd result (λ end. EndsForCause end (Rose (S.faults input.old) (S.faults input.new)) (SinkFails K.faults K.empty_takes output.old output.new)) }
 {
     match form_of(alloc, words) {
-        Ok(Some(form)) => perform(rt, alloc, gate, form, input, output),
+        Ok(Some(form)) => perform(rt, alloc, gate, form, input, output).status(),
         Ok(None) => refuse_words(output),
         Err(_) => Status::Memory,
     }
@@ -80,9 +80,8 @@ fn perform<R: Threads + Sync, G: Gate + Sync, S: Source, K: Sink>(
     form: Form,
     input: &mut S,
     output: &mut K,
-) -> Status
+) -> JobEnd
     requires { IsFormWithinBounds form }
-    ensures words { result ≢ Status.Words }
     ensures answers { OnRead form (S.left input.old) (λ bytes.
         Answers (form_text form bytes) (is_form_refused form bytes) result (S.left input.new) (K.taken output.old) (K.taken output.new)) }
     ensures past { OnRead form (S.left input.old) (λ bytes.

@@ -20,8 +20,8 @@ use Rattle.packet_show.specs.Flows.{Flow}
 use Rattle.packet_show.specs.Lines.{shows}
 use Rattle.packet_show.specs.declared.show.Tally.{Tally}
 use Rattle.packet_show.specs.declared.show.Turn.TheVariants as turn
-use Rattle.tool_text.specs.declared.output.status.Status.{Status}
-use Rattle.tool_text.specs.declared.output.status.Status.TheVariants as status
+use Rattle.tool_text.specs.declared.output.status.JobEnd.{JobEnd}
+use Rattle.tool_text.specs.declared.output.status.JobEnd.TheVariants as ended
 use Rattle.packet_show.specs.CaptureText.{first_tally, counted_record, tallied, record_text, last_line, fault_line, text_from, size_of, end_of_records, capture_text, is_faulty, records_end}
 use Rattle.packet_show.specs.Show.{Turns, Closes, ShowsHeaderFault, ShowsRecords, shown_text}
 use Rattle.tool_text.specs.Ends.{HasBegun, IsCutOff, Answers, IsMovedOut}
@@ -154,8 +154,8 @@ over-by format number given left tally text before after whole input end along o
 }
 
 -- behind them a text was closed
-over-closed : (tally : Tally) (text : List ℕ) (end : Option CaptureFault) (before after later left : Option (List ℕ)) (whole : Captured) (result : Status)
-    → Over tally text end before after whole → Closes (text ++ last_line tally end) end result after later → (result ≡ status.Done → left ≡ Some [])
+over-closed : (tally : Tally) (text : List ℕ) (end : Option CaptureFault) (before after later left : Option (List ℕ)) (whole : Captured) (result : JobEnd)
+    → Over tally text end before after whole → Closes (text ++ last_line tally end) end result after later → (result ≡ ended.Done → left ≡ Some [])
     → Answers (shown_text whole) (is_some whole.end) result left before later
 over-closed tally text end before after later left whole result over closes none = record {
   whole = λ answered.
@@ -170,7 +170,7 @@ over-closed tally text end before after later left whole result over closes none
 
 -- the input ended between two records
 pub shown-end : (format : Format) (number given : ℕ) (left known : Option (List ℕ)) (pending : List ℕ) (tally : Tally) (text : List ℕ)
-    (before after later : Option (List ℕ)) (whole : Captured) (input : List ℕ) (result : Status)
+    (before after later : Option (List ℕ)) (whole : Captured) (input : List ℕ) (result : JobEnd)
     → Along format number given left tally text before after whole input
     → IfSome left (λ bytes. (bytes ≡ []) × (prepend_known pending known ≡ Some [])) → Closes (text ++ last_line tally None) None result after later
     → ShowsRecords whole input result known before later
@@ -185,7 +185,7 @@ shown-end format number given left known pending tally text before after later w
 -- a fault ended the records
 pub shown-fault : (format : Format) (number given : ℕ) (left known : Option (List ℕ)) (tally : Tally) (text : List ℕ) (before after later : Option (List ℕ))
     (whole : Captured)
-    (input : List ℕ) (why : CaptureFault) (result : Status) → Along format number given left tally text before after whole input
+    (input : List ℕ) (why : CaptureFault) (result : JobEnd) → Along format number given left tally text before after whole input
     → IfSome left (λ bytes. next_of format number given bytes ≡ Err why) → Passed 262160 left known
     → Closes (text ++ last_line tally (Some why)) (Some why) result after later
     → ShowsRecords whole input result known before later
@@ -203,7 +203,7 @@ shown-fault format number given left known tally text before after later whole i
 
 pub shown-early : (format : Format) (number given : ℕ) (left known : Option (List ℕ)) (tally : Tally) (text : List ℕ) (before after later : Option (List ℕ))
     (whole : Captured)
-    (input : List ℕ) (result : Status) → IsCutOff result → Along format number given left tally text before after whole input → HasBegun after later text
+    (input : List ℕ) (result : JobEnd) → IsCutOff result → Along format number given left tally text before after whole input → HasBegun after later text
     → ShowsRecords whole input result known before later
 shown-early format number given left known tally text before after later whole input result off along begun = record {
   answers = answers-early (shown_text whole) (is_some whole.end) result known before later off
@@ -215,7 +215,7 @@ shown-early format number given left known tally text before after later whole i
 captured-behind : (bytes : List ℕ) (format : Format) → opened bytes ≡ Ok format → captured bytes ≡ records_from format 0 0 24 (drop 24 bytes)
 captured-behind bytes format told = ap (λ (o : Result Format CaptureFault). captured_by o bytes) told
 
-pub shown-whole : (bytes : List ℕ) (format : Format) (result : Status) (left before after : Option (List ℕ)) → opened bytes ≡ Ok format
+pub shown-whole : (bytes : List ℕ) (format : Format) (result : JobEnd) (left before after : Option (List ℕ)) → opened bytes ≡ Ok format
     → ShowsRecords (records_from format 0 0 24 (drop 24 bytes)) (drop 24 bytes) result left before after
     → Answers (capture_text bytes) (is_faulty bytes) result left before after
 shown-whole bytes format result left before after told shows =
@@ -227,8 +227,8 @@ passed-in [] bytes left (n, most, is) = (24 + n, omega arith, is ∙ ap Some (dr
 passed-in (entry ∷ entries) bytes left (n, most, is) =
     (n, omega arith, is ∙ ap (λ (behind : List ℕ). Some (drop n behind)) (drop-drop (size_of (entry ∷ entries)) 24 bytes))
 
-pub passed-whole : (bytes : List ℕ) (format : Format) (result : Status) (left before after : Option (List ℕ)) → opened bytes ≡ Ok format
-    → ShowsRecords (records_from format 0 0 24 (drop 24 bytes)) (drop 24 bytes) result left before after → result ≡ status.Input
+pub passed-whole : (bytes : List ℕ) (format : Format) (result : JobEnd) (left before after : Option (List ℕ)) → opened bytes ≡ Ok format
+    → ShowsRecords (records_from format 0 0 24 (drop 24 bytes)) (drop 24 bytes) result left before after → result ≡ ended.Input
     → Passed 524288 (Some (drop (records_end bytes) bytes)) left
 passed-whole bytes format result left before after told shows is =
     subst (λ (c : Captured). Passed 524288 (Some (drop (end_of_records c.records) bytes)) left) (sym (captured-behind bytes format told))
@@ -246,11 +246,11 @@ turned left faults lender old new entry tally next text written before after who
     rw (advances.same_format, number, advances.answer.given, counts, puts)
     (along-turn old.format old.number old.given (rest left old) (rest left new) tally text before after whole input entry along advances.answer.next)
 
-pub ended : {S : Type 0} (left : S → Option (List ℕ)) (faults lender : S → ℕ) (old new : CapturesState S) (tally : Tally) (text : List ℕ)
-    (before after later : Option (List ℕ)) (whole : Captured) (input : List ℕ) (result : Status)
+pub over-whole : {S : Type 0} (left : S → Option (List ℕ)) (faults lender : S → ℕ) (old new : CapturesState S) (tally : Tally) (text : List ℕ)
+    (before after later : Option (List ℕ)) (whole : Captured) (input : List ℕ) (result : JobEnd)
     → Along old.format old.number old.given (rest left old) tally text before after whole input → Advances left faults lender old new (Ok None)
     → Closes (text ++ last_line tally None) None result after later → ShowsRecords whole input result (left new.source) before later
-ended left faults lender old new tally text before after later whole input result along advances closes =
+over-whole left faults lender old new tally text before after later whole input result along advances closes =
     shown-end old.format old.number old.given (rest left old)
     (left new.source) new.pending tally text before after later whole input result along advances.answer.next closes
 
@@ -262,7 +262,7 @@ blamed left faults old new why unended other (inr (is, inl (read, rose))) = absu
 blamed left faults old new why unended other (inr (is, inr (not, stands))) = stands
 
 pub faulted : {S : Type 0} (left : S → Option (List ℕ)) (faults lender : S → ℕ) (old new : CapturesState S) (tally : Tally) (text : List ℕ)
-    (before after later : Option (List ℕ)) (whole : Captured) (input : List ℕ) (why : CaptureFault) (result : Status) → old.fault ≡ None → (why ≡ ReadFault → ⊥)
+    (before after later : Option (List ℕ)) (whole : Captured) (input : List ℕ) (why : CaptureFault) (result : JobEnd) → old.fault ≡ None → (why ≡ ReadFault → ⊥)
     → Along old.format old.number old.given (rest left old) tally text before after whole input → Advances left faults lender old new (Err why)
     → Closes (text ++ last_line tally (Some why)) (Some why) result after later → ShowsRecords whole input result (left new.source) before later
 faulted left faults lender old new tally text before after later whole input why result unended other along advances closes =
@@ -282,17 +282,17 @@ source-failed left faults lender old new unended advances = rose-by left faults 
 -- the last line was not written whole
 pub closes-cut : (text more : List ℕ) (end : Option CaptureFault) (before middle after : Option (List ℕ)) → middle ≡ append_known before text
     → HasBegun middle after more
-    → Closes (text ++ more) end status.Write before after
+    → Closes (text ++ more) end ended.Write before after
 closes-cut text more end before middle after first begun = record {
-  whole = λ answered. absurd (not-both status.Write answered (inr (inl refl)));
+  whole = λ answered. absurd (not-both ended.Write answered (inr (inl refl)));
   front = λ _. begun-behind before middle after text more first begun;
   done = λ is. cc is;
   input = λ is. cc is;
 }
 
 -- a refused file header, by its fault
-pub refused-as : (why : CaptureFault) (result : Status) (before after : Option (List ℕ)) → (why ≡ ReadFault → ⊥) → (why ≡ NoMemory → ⊥)
-    → (result ≢ status.Words) × (result ≢ status.Read) × Closes (fault_line first_tally why) (Some why) result before after
+pub refused-as : (why : CaptureFault) (result : JobEnd) (before after : Option (List ℕ)) → (why ≡ ReadFault → ⊥) → (why ≡ NoMemory → ⊥)
+    → Closes (fault_line first_tally why) (Some why) result before after
     → ShowsHeaderFault why result before after
 refused-as BadMagic result before after read memory closes = closes
 refused-as BadVersion result before after read memory closes = closes
@@ -303,7 +303,7 @@ refused-as ReadFault result before after read memory closes = absurd (read refl)
 refused-as NoMemory result before after read memory closes = absurd (memory refl)
 refused-as TooLarge result before after read memory closes = closes
 
-refused-whole : (why : CaptureFault) (bytes : List ℕ) (result : Status) (left before after : Option (List ℕ)) → opened bytes ≡ Err why
+refused-whole : (why : CaptureFault) (bytes : List ℕ) (result : JobEnd) (left before after : Option (List ℕ)) → opened bytes ≡ Err why
     → Closes (fault_line first_tally why) (Some why) result before after → Answers (capture_text bytes) (is_faulty bytes) result left before after
 refused-whole why bytes result left before after told closes =
     let none : captured bytes ≡ record { records = []; end = Some why } = ap (λ (o : Result Format CaptureFault). captured_by o bytes) told in
@@ -317,27 +317,27 @@ refused-past why bytes left told (n, most, is) =
     subst (λ (c : Captured). Passed 524288 (Some (drop (end_of_records c.records) bytes)) left) (sym none) (n, omega arith, is)
 
 -- what a refused file header comes to
-pub record Refuses (bytes : List ℕ) (result : Status) (left before after : Option (List ℕ)) : Type 0 where
+pub record Refuses (bytes : List ℕ) (result : JobEnd) (left before after : Option (List ℕ)) : Type 0 where
   pub answers : Answers (capture_text bytes) (is_faulty bytes) result left before after
-  pub past : result ≡ status.Input → Passed 524288 (Some (drop (records_end bytes) bytes)) left
+  pub past : result ≡ ended.Input → Passed 524288 (Some (drop (records_end bytes) bytes)) left
 
-refuses-fault : (why : CaptureFault) (bytes : List ℕ) (result : Status) (left before after : Option (List ℕ)) → opened bytes ≡ Err why
+refuses-fault : (why : CaptureFault) (bytes : List ℕ) (result : JobEnd) (left before after : Option (List ℕ)) → opened bytes ≡ Err why
     → Passed 262144 (Some bytes) left
-    → (result ≢ status.Words) × (result ≢ status.Read) × Closes (fault_line first_tally why) (Some why) result before after
+    → Closes (fault_line first_tally why) (Some why) result before after
     → Refuses bytes result left before after
 refuses-fault why bytes result left before after told past closes = record {
-  answers = refused-whole why bytes result left before after told closes.2;
+  answers = refused-whole why bytes result left before after told closes;
   past = λ _. refused-past why bytes left told past;
 }
 
-refuses-early : (bytes : List ℕ) (result : Status) (left before after : Option (List ℕ)) → IsCutOff result → after ≡ before
+refuses-early : (bytes : List ℕ) (result : JobEnd) (left before after : Option (List ℕ)) → IsCutOff result → after ≡ before
     → Refuses bytes result left before after
 refuses-early bytes result left before after off same = record {
   answers = answers-early (capture_text bytes) (is_faulty bytes) result left before after off (unwritten (capture_text bytes) before after same);
   past = λ is. absurd (not-both result (inr is) off);
 }
 
-pub refuses : {S : Type 0} (left : S → Option (List ℕ)) (faults : S → ℕ) (source handed : S) (why : CaptureFault) (bytes : List ℕ) (result : Status)
+pub refuses : {S : Type 0} (left : S → Option (List ℕ)) (faults : S → ℕ) (source handed : S) (why : CaptureFault) (bytes : List ℕ) (result : JobEnd)
     (before after : Option (List ℕ)) → left source ≡ Some bytes → Passed 262144 (left source) (left handed) → header.RefusesHeader left faults source handed why
     → ShowsHeaderFault why result before after → Refuses bytes result (left handed) before after
 refuses left faults source handed BadMagic bytes result before after told past cause closes =
@@ -366,12 +366,12 @@ refuses left faults source handed NoMemory bytes result before after told past c
 
 -- the records ended, however
 pub over : {S : Type 0} (left : S → Option (List ℕ)) (faults lender : S → ℕ) (old new : CapturesState S) (tally next : Tally) (text written : List ℕ)
-    (before after later : Option (List ℕ)) (whole : Captured) (input : List ℕ) (end : Option CaptureFault) (result : Status) → old.fault ≡ None
+    (before after later : Option (List ℕ)) (whole : Captured) (input : List ℕ) (end : Option CaptureFault) (result : JobEnd) → old.fault ≡ None
     → Along old.format old.number old.given (rest left old) tally text before after whole input
     → Turns left faults lender old new tally next text written (Ok (turn.Ended end)) → Closes (written ++ last_line next end) end result after later
     → ShowsRecords whole input result (left new.source) before later
 over left faults lender old new tally next text written before after later whole input None result unended along (advances, counts, puts) closes =
-    ended left faults lender old new tally text before after later whole input result along advances
+    over-whole left faults lender old new tally text before after later whole input result along advances
     (subst (λ (t : Tally). Closes (text ++ last_line t None) None result after later) counts
     (subst (λ (front : List ℕ). Closes (front ++ last_line next None) None result after later) puts closes))
 over left faults lender old new tally next text written before after later whole input (Some why) result unended along (other, advances, counts, puts) closes =

@@ -8,8 +8,8 @@ use Rattle.seq_circle.specs.declared.memory.NoMemory as no_memory
 use Rattle.packet_show.specs.declared.show.Tally.{Tally}
 use Rattle.packet_show.specs.declared.show.Turn.{Turn}
 use Rattle.packet_show.specs.declared.show.Turn.TheVariants as turn
-use Rattle.tool_text.specs.declared.output.status.Status.{Status}
-use Rattle.tool_text.specs.declared.output.status.Status.TheVariants as status
+use Rattle.tool_text.specs.declared.output.status.JobEnd.{JobEnd}
+use Rattle.tool_text.specs.declared.output.status.JobEnd.TheVariants as ended
 use Rattle.packet_show.specs.CaptureText.{tallied, record_text, fault_line, first_tally, text_from, size_of}
 use Rattle.tool_text.specs.Ends.{IsAnswered, IsCutOff, HasTaken, HasBegun, Answers}
 
@@ -29,19 +29,18 @@ Turns left faults lender old new tally after text written (Err _) = (lender new.
 
 -- Behind a capture's records: the text and the last line were written, whole with an answer and otherwise a front of
 -- both.
-pub record Closes (text : List ℕ) (end : Option CaptureFault) (result : Status) (before after : Option (List ℕ)) : Type 0 where
+pub record Closes (text : List ℕ) (end : Option CaptureFault) (result : JobEnd) (before after : Option (List ℕ)) : Type 0 where
   pub whole : IsAnswered result → HasTaken before after text
   pub front : IsCutOff result → HasBegun before after text
-  pub done : result ≡ status.Done → is_some end ≡ false
-  pub input : result ≡ status.Input → is_some end ≡ true
+  pub done : result ≡ ended.Done → is_some end ≡ false
+  pub input : result ≡ ended.Input → is_some end ≡ true
 
 -- A file header was refused: the line of its fault was written as the only one, or nothing where the source failed or
 -- memory was not found.
-abbrev pub ShowsHeaderFault : CaptureFault → Status → Option (List ℕ) → Option (List ℕ) → Type 0
-ShowsHeaderFault ReadFault result before after = (result ≡ status.Read) × (after ≡ before)
-ShowsHeaderFault NoMemory result before after = (result ≡ status.Memory) × (after ≡ before)
-ShowsHeaderFault why result before after =
-    (result ≢ status.Words) × (result ≢ status.Read) × Closes (fault_line first_tally why) (Some why) result before after
+abbrev pub ShowsHeaderFault : CaptureFault → JobEnd → Option (List ℕ) → Option (List ℕ) → Type 0
+ShowsHeaderFault ReadFault result before after = (result ≡ ended.Read) × (after ≡ before)
+ShowsHeaderFault NoMemory result before after = (result ≡ ended.Memory) × (after ≡ before)
+ShowsHeaderFault why result before after = Closes (fault_line first_tally why) (Some why) result before after
 
 -- all that `show` writes of a capture whose records are these
 abbrev pub shown_text : Captured → List ℕ
@@ -49,6 +48,6 @@ shown_text whole = text_from first_tally whole.records whole.end
 
 -- The records of an input behind its file header were shown: what was written, how it ended, and, where a fault ended
 -- them, how far the input was read past the last whole record.
-pub record ShowsRecords (whole : Captured) (input : List ℕ) (result : Status) (left before after : Option (List ℕ)) : Type 0 where
+pub record ShowsRecords (whole : Captured) (input : List ℕ) (result : JobEnd) (left before after : Option (List ℕ)) : Type 0 where
   pub answers : Answers (shown_text whole) (is_some whole.end) result left before after
-  pub past : result ≡ status.Input → Passed 262160 (Some (drop (size_of whole.records) input)) left
+  pub past : result ≡ ended.Input → Passed 262160 (Some (drop (size_of whole.records) input)) left

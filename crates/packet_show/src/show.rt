@@ -1,7 +1,8 @@
 //! `show`: a capture's records, one by one.
-ghost use Rattle.std.specs.Prelude.{◌≡◌, ◌≢◌, ℕ, ◌≤◌, List, [], drop, ◌++◌, false, Some, None, IfSome, OnOk, OnErr};
+ghost use Rattle.std.specs.Prelude.{◌≡◌, ℕ, ◌≤◌, List, [], drop, ◌++◌, false, Some, None, IfSome, OnOk, OnErr};
 ghost use Rattle.dccp_io.specs.Counts.{Rose};
 ghost use Rattle.dccp_io.specs.Fronts.{TakesFront};
+ghost use Rattle.capture_reader.specs.declared.fault.CaptureFault.TheVariants.{ReadFault};
 ghost use Rattle.capture_reader.specs.Records.{entry_of, records_from};
 ghost use Rattle.capture_reader.specs.State.{Passed, holds_record, rest};
 ghost use Rattle.packet_show.specs.CaptureText.{CanCount, CountsFit, capture_text, first_tally, is_faulty, last_line, record_text, records_end, tallied};
@@ -15,7 +16,7 @@ use capture_reader::{CaptureFault, Captures, Record};
 use dccp_io::{Failed, Sink, Source, write_all};
 use seq_circle::NoMemory;
 use std::alloc::Global;
-use tool_text::{Status, answered, cut_off, flush, flush_if_full};
+use tool_text::{JobEnd, answered, cut_off, flush, flush_if_full};
 
 /// The records that were shown so far.
 #[derive(Drop)]
@@ -111,22 +112,19 @@ fn finish<K: Sink>(
     text: &mut Vec<u8>,
     tally: &Tally,
     end: Option<CaptureFault>,
-) -> Status
+) -> JobEnd
     requires { CountsFit tally.now }
-    ensures words { result ≢ Status.Words }
-    ensures read { result ≢ Status.Read }
     ensures closes { Closes (text.old.items ++ last_line tally.now end) end result (K.taken output.old) (K.taken output.new) }
-    ensures write { result ≡ Status.Write
-        → SinkFailed (K.faults output.old) (K.faults output.new) (K.empty_takes output.old) (K.empty_takes output.new) }
+    ensures cause { EndsForCause result ⊥ (SinkFails K.faults K.empty_takes output.old output.new) }
 {
     if flush(output, text).is_err() {
-        return Status::Write;
+        return JobEnd::Write;
     }
     if put_last_line(text, tally, end).is_err() {
-        return Status::Memory;
+        return JobEnd::Memory;
     }
     match write_all(output, text) {
-        Err(_) => Status::Write,
+        Err(_) => JobEnd::Write,
         Ok(()) => answered(end.is_some()),
     }
 }
@@ -137,13 +135,12 @@ fn show_all<S: Source + Drop, K: Sink>(
     output: &mut K,
     tally: &mut Tally,
     text: &mut Vec<u8>,
-) -> Status
+) -> JobEnd
     requires fresh { tally.old ≡ first_tally }
     requires empty { text.old.items ≡ [] }
     requires number { captures.old.number ≡ 0 }
     requires given { captures.old.given ≡ 24 }
     requires unended { captures.old.fault ≡ None }
-    ensures words { result ≢ Status.Words }
     ensures shows { IfSome (rest S.left captures.old) (λ bytes. ShowsRecords (records_from captures.old.format 0 0 24 bytes) bytes result
         (S.left captures.new.source) (K.taken output.old) (K.taken output.new)) }
     ensures same_lender { S.lender captures.new.source ≡ S.lender captures.old.source }
@@ -152,13 +149,13 @@ fn show_all<S: Source + Drop, K: Sink>(
 {
     loop {
         if flush_if_due(captures, output, text).is_err() {
-            return Status::Write;
+            return JobEnd::Write;
         }
         match show_next(captures, tally, text) {
             Ok(Turn::Shown) => {}
             Ok(Turn::Ended(end)) => return finish(output, text, tally, end),
-            Ok(Turn::Failed) => return cut_off(output, text, Status::Read),
-            Err(NoMemory) => return cut_off(output, text, Status::Memory),
+            Ok(Turn::Failed) => return cut_off(output, text, JobEnd::Read),
+            Err(NoMemory) => return cut_off(output, text, JobEnd::Memory),
         }
     }
 }
@@ -168,11 +165,10 @@ fn show_records<S: Source + Drop, K: Sink>(
     alloc: Global,
     captures: &mut Captures<S>,
     output: &mut K,
-) -> Status
+) -> JobEnd
     requires number { captures.old.number ≡ 0 }
     requires given { captures.old.given ≡ 24 }
     requires unended { captures.old.fault ≡ None }
-    ensures words { result ≢ Status.Words }
     ensures shows { IfSome (rest S.left captures.old) (λ bytes. ShowsRecords (records_from captures.old.format 0 0 24 bytes) bytes result
         (S.left captures.new.source) (K.taken output.old) (K.taken output.new)) }
     ensures same_lender { S.lender captures.new.source ≡ S.lender captures.old.source }
@@ -185,14 +181,13 @@ fn show_records<S: Source + Drop, K: Sink>(
 }
 
 // Ends where the file header was refused.
-fn refuse_header<K: Sink>(alloc: Global, why: CaptureFault, output: &mut K) -> Status
+fn refuse_header<K: Sink>(alloc: Global, why: CaptureFault, output: &mut K) -> JobEnd
     ensures refuses { ShowsHeaderFault why result (K.taken output.old) (K.taken output.new) }
-    ensures write { result ≡ Status.Write
-        → SinkFailed (K.faults output.old) (K.faults output.new) (K.empty_takes output.old) (K.empty_takes output.new) }
+    ensures cause { EndsForCause result (why ≡ ReadFault) (SinkFails K.faults K.empty_takes output.old output.new) }
 {
     match why {
-        CaptureFault::ReadFault => Status::Read,
-        CaptureFault::NoMemory => Status::Memory,
+        CaptureFault::ReadFault => JobEnd::Read,
+        CaptureFault::NoMemory => JobEnd::Memory,
         _ => finish(output, &mut Vec::new(alloc), &Tally::new(alloc), Some(why)),
     }
 }
@@ -201,11 +196,10 @@ fn refuse_header<K: Sink>(alloc: Global, why: CaptureFault, output: &mut K) -> S
 /// that ended them. The lines are written in blocks as the records are read, and before the source is asked for more.
 /// It keeps one record of the input, the flows and one block of text. Input comes where the capture has a fault, Read
 /// where the source failed, Write where the sink did, and Memory where no memory was left.
-pub fn show_capture<S: Source, K: Sink>(alloc: Global, input: &mut S, output: &mut K) -> Status
-    ensures words { result ≢ Status.Words }
+pub fn show_capture<S: Source, K: Sink>(alloc: Global, input: &mut S, output: &mut K) -> JobEnd
     ensures text { (bytes : List ℕ) → S.left input.old ≡ Some bytes
         → Answers (capture_text bytes) (is_faulty bytes) result (S.left input.new) (K.taken output.old) (K.taken output.new) }
-    ensures past { (bytes : List ℕ) → S.left input.old ≡ Some bytes → result ≡ Status.Input
+    ensures past { (bytes : List ℕ) → S.left input.old ≡ Some bytes → result ≡ JobEnd.Input
         → Passed 524288 (Some (drop (records_end bytes) bytes)) (S.left input.new) }
     ensures cause { EndsForCause result (Rose (S.faults input.old) (S.faults input.new))
         (SinkFailed (K.faults output.old) (K.faults output.new) (K.empty_takes output.old) (K.empty_takes output.new)) }

@@ -113,16 +113,16 @@ has-room w event n few room is = subst (GrowsControlled w n) is (event-grows w e
 -- the world of a schedule
 
 -- an event that was shown
-pub shown-few : (number : ℕ) (before after : Controlled Both) (event : Event) (old new : List ℕ) (answer : Result (Unit {0}) LineFault) (n : ℕ)
-    → ShowsEvent (event_shown number before event) old new after answer → answer ≡ Ok tt → SentFew before n → SentFew after (n + 1)
-shown-few number before after event old new answer n shows fine few = by (happens_to kinds_control before event) refl shows where
+pub shown-few : (number : ℕ) (before after : Controlled Both) (event : Event) (old new : List ℕ) (n : ℕ)
+    → ShowsEvent (event_shown number before event) old new after (Ok tt) → SentFew before n → SentFew after (n + 1)
+shown-few number before after event old new n shows few = by (happens_to kinds_control before event) refl shows where
   by : (result : Result (ControlledStep Both) WorldFault) → happens_to kinds_control before event ≡ result
-      → ShowsEvent (by_step number before event result) old new after answer → SentFew after (n + 1)
+      → ShowsEvent (by_step number before event result) old new after (Ok tt) → SentFew after (n + 1)
   by (Ok step) is shown = subst (λ (w : Controlled Both). SentFew w (n + 1)) (sym shown.1) (one-more-frame before event step n few is)
-  by (Err fault.NoSuchFrame) is shown = absurd (cc (sym fine ∙ shown.1))
-  by (Err fault.Full) is shown = absurd (cc (sym fine ∙ shown.1))
-  by (Err fault.FarShort) is shown = absurd (cc (sym fine ∙ shown.1))
-  by (Err fault.NoMemory) is shown = absurd (cc (sym fine ∙ shown.1))
+  by (Err fault.NoSuchFrame) is shown = cc shown.1
+  by (Err fault.Full) is shown = cc shown.1
+  by (Err fault.FarShort) is shown = cc shown.1
+  by (Err fault.NoMemory) is shown = cc shown.1
 
 pub few-at : (client server : Config) (world : Option (Controlled Both)) (n : ℕ) → IfSome world (λ w. SentFew w n)
     → SentFew (world_or_start client server world) n

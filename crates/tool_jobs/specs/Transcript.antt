@@ -26,6 +26,8 @@ use Rattle.schedule_text.specs.Reading.{read_line}
 use Rattle.schedule_text.specs.declared.line.Line.{Line}
 use Rattle.schedule_text.specs.declared.line.Line.TheVariants as line
 use Rattle.tool_text.specs.Refusals.{whole_line}
+use Rattle.tool_text.specs.declared.lines.error.LineError.{LineError}
+use Rattle.tool_text.specs.declared.lines.error.LineError.TheVariants as line_error
 use Rattle.tool_text.specs.declared.words.faults.LineFault.{LineFault}
 use Rattle.tool_text.specs.declared.words.faults.LineWhy.{LineWhy}
 use Rattle.tool_text.specs.declared.words.faults.LineWhy.TheVariants as why
@@ -167,10 +169,11 @@ judged_line play number line = by_line play number (read_line line)
 abbrev pub run_job : Job Scene Play
 run_job = record { judged = judged_line; told = scene_text; ending = λ play. end_lines (world_of play) }
 
--- An event was shown so.
-abbrev pub ShowsEvent : Result Scene LineFault → List ℕ → List ℕ → Controlled Both → Result (Unit {0}) LineFault → Type 0
+-- An event was shown so, unless memory was not found.
+abbrev pub ShowsEvent : Result Scene LineFault → List ℕ → List ℕ → Controlled Both → Result (Unit {0}) LineError → Type 0
+ShowsEvent shown old new after (Err line_error.NoMemory) = Unit {0}
 ShowsEvent (Ok scene) old new after answer = (new ≡ old ++ scene_text scene) × (after ≡ scene.step.after) × (answer ≡ Ok tt)
-ShowsEvent (Err fault) old new after answer = (new ≡ old) × (answer ≡ Err fault)
+ShowsEvent (Err fault) old new after answer = (new ≡ old) × (answer ≡ Err (line_error.Refused fault))
 
 -- Neither side has sent more frames than this.
 abbrev pub SentFew : Controlled Both → ℕ → Type 0

@@ -10,8 +10,8 @@ use Rattle.tool_text.specs.Jobs.{Job, Verdict, Accepted, Refused, Judges, Gone, 
 use Rattle.tool_text.specs.Turns.{Leaves}
 use Rattle.tool_text.proofs.FirstLine.{gone-cut, is-line}
 use Rattle.tool_text.specs.Ends.{HasBegun, IsCutOff, IsMovedOut}
-use Rattle.tool_text.specs.declared.output.status.Status.{Status}
-use Rattle.tool_text.specs.declared.output.status.Status.TheVariants as status
+use Rattle.tool_text.specs.declared.output.status.JobEnd.{JobEnd}
+use Rattle.tool_text.specs.declared.output.status.JobEnd.TheVariants as ended
 use Rattle.tool_text.proofs.Ending.{answers-early, append-none, append-twice, begun-behind, begun-longer, none-left, not-both}
 use Rattle.tool_text.specs.declared.words.faults.LineFault.{LineFault}
 
@@ -142,7 +142,7 @@ module _ {P V : Type 0} (job : Job P V) (first : V) where
 
   module _ (Keeps : V → ℕ → Type 0) (state : V) (number given : ℕ) (left known : Option (List ℕ)) (front text : List ℕ) (before after later : Option (List ℕ))
       (input : List ℕ)
-      (result : Status) (along : Along job first state number given left front text before after input) where
+      (result : JobEnd) (along : Along job first state number given left front text before after input) where
     -- the job ended early
     pub through-early : IsCutOff result → HasBegun after later text → GoesThrough job Keeps first front input result known before later
     through-early off begun =
@@ -161,7 +161,7 @@ module _ {P V : Type 0} (job : Job P V) (first : V) where
     through-last : (refusal : Option LineFault) → gone_from job state number given (lines_of (drop given input)) ≡ gone_so_far state number given refusal
         → Keeps state number
         → Leaves (text ++ last_lines job state number refusal) (is_some refusal) result after later
-        → (result ≡ status.Done → known ≡ Some []) → (result ≡ status.Input → GivesAtMost 16384 (Some (drop given input)) known)
+        → (result ≡ ended.Done → known ≡ Some []) → (result ≡ ended.Input → GivesAtMost 16384 (Some (drop given input)) known)
         → GoesThrough job Keeps first front input result known before later
     through-last refusal is kept leaves none far =
         let rest = gone_so_far state number given refusal in

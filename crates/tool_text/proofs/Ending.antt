@@ -1,11 +1,13 @@
 -- How a call of the tool ends.
-use Rattle.std.proofs.Common.{◌≡◌, refl, sym, ap, ◌∙◌, inl, inr, ℕ, ◌+◌, List, [], ◌∷◌, ◌++◌, length, take, drop, Bool, Option, Some, None, Result, Ok, Err, OnOk, OnErr, append_assoc, arith}
+use Rattle.std.proofs.Common.{◌≡◌, refl, sym, ap, ◌∙◌, subst, inl, inr, ℕ, ◌+◌, List, [], ◌∷◌, ◌++◌, length, take, drop, Bool, Option, Some, None, Result, Ok, Err, OnOk, OnErr, append_assoc, arith}
 use Rattle.std.proofs.lemmas.List.{append-nil, take_all, take_at, take-append-drop}
 use Rattle.std.proofs.Math.Seq.{take-append-add}
 use Rattle.std.specs.Prelude.{is_err, true, false}
 use Rattle.std.specs.Io.KnownBytes.{append_known, prepend_known}
 use Rattle.dccp_io.specs.Fronts.{TakesFront}
-use Rattle.tool_text.specs.Ends.{HasTaken, HasBegun, IsWritten, IsAnswered, IsCutOff, Answers}
+use Rattle.tool_text.specs.Ends.{HasTaken, HasBegun, IsWritten, IsAnswered, IsCutOff, Answers, EndsForCause, OnJobEnd, status_of}
+use Rattle.tool_text.specs.declared.output.status.JobEnd.{JobEnd}
+use Rattle.tool_text.specs.declared.output.status.JobEnd.TheVariants as ended
 use Rattle.tool_text.specs.declared.output.status.Status.{Status}
 
 -- a text was written whole, or a front of it
@@ -60,7 +62,7 @@ none-left pending None is = cc is
 none-left [] (Some bytes) is = is
 none-left (byte ∷ pending) (Some bytes) is = cc is
 
-pub not-both : (result : Status) → IsAnswered result → IsCutOff result → ⊥
+pub not-both : (result : JobEnd) → IsAnswered result → IsCutOff result → ⊥
 not-both result (inl answered) (inl off) = cc (answered, off)
 not-both result (inl answered) (inr (inl off)) = cc (answered, off)
 not-both result (inl answered) (inr (inr off)) = cc (answered, off)
@@ -69,13 +71,32 @@ not-both result (inr answered) (inr (inl off)) = cc (answered, off)
 not-both result (inr answered) (inr (inr off)) = cc (answered, off)
 
 -- the job ended early
-pub answers-early : (text : List ℕ) (faulty : Bool) (result : Status) (left before after : Option (List ℕ)) → IsCutOff result → HasBegun before after text
+pub answers-early : (text : List ℕ) (faulty : Bool) (result : JobEnd) (left before after : Option (List ℕ)) → IsCutOff result → HasBegun before after text
     → Answers text faulty result left before after
 answers-early text faulty result left before after off begun = record {
   whole = λ answered. absurd (not-both result answered off);
   front = λ _. begun;
   done = λ is. absurd (not-both result (inl is) off);
   input = λ is. absurd (not-both result (inr is) off);
+}
+
+on-status-of : (end : JobEnd) (Holds : JobEnd → Type 0) → Holds end → OnJobEnd (status_of end) Holds
+on-status-of ended.Done Holds holds = holds
+on-status-of ended.Input Holds holds = holds
+on-status-of ended.Read Holds holds = holds
+on-status-of ended.Write Holds holds = holds
+on-status-of ended.Memory Holds holds = holds
+
+-- what holds of how a job ended holds of its program's status
+pub on-job-end : (end : JobEnd) (status : Status) (Holds : JobEnd → Type 0) → status ≡ status_of end → Holds end → OnJobEnd status Holds
+on-job-end end status Holds is holds = subst (λ (s : Status). OnJobEnd s Holds) (sym is) (on-status-of end Holds holds)
+
+-- a job that ends for a cause ends for whatever this shows
+pub ends-for-more : (result : JobEnd) (source more sink : Type 0) → (source → more) → EndsForCause result source sink → EndsForCause result more sink
+ends-for-more result source more sink shows ends = record {
+  read = λ is. shows (ends.read is);
+  write = ends.write;
+  complete = λ no fine. ends.complete (λ failed. no (shows failed)) fine;
 }
 
 pub unwritten : (text : List ℕ) (before after : Option (List ℕ)) → after ≡ before → HasBegun before after text

@@ -13,7 +13,6 @@ pub mod Past
 pub mod Pieces
 pub mod Placed
 pub mod RowLaws
-pub mod Causes
 pub mod Ending
 pub mod Along
 pub mod FirstLine

@@ -10,8 +10,8 @@ use Rattle.tool_text.specs.declared.lines.turns.Turn.{Turn}
 use Rattle.tool_text.specs.declared.lines.turns.Turn.TheVariants as turn
 use Rattle.tool_text.proofs.Along.{Along, along-first, along-line, along-moved, through-early, through-end, through-refused}
 use Rattle.tool_text.specs.Ends.{HasBegun, IsMovedOut}
-use Rattle.tool_text.specs.declared.output.status.Status.{Status}
-use Rattle.tool_text.specs.declared.output.status.Status.TheVariants as status
+use Rattle.tool_text.specs.declared.output.status.JobEnd.{JobEnd}
+use Rattle.tool_text.specs.declared.output.status.JobEnd.TheVariants as ended
 use Rattle.tool_text.proofs.Ending.{on-err, on-ok, unwritten}
 use Rattle.tool_text.specs.Refusals.{refusal_line}
 use Rattle.tool_text.specs.declared.words.faults.LineFault.{LineFault}
@@ -48,7 +48,7 @@ module _ {S K P V : Type 0} (left : S → Option (List ℕ)) (faults lender : S 
   }
 
   -- what the loop comes to
-  abbrev pub Through : S → Option (List ℕ) → Status → Type 0
+  abbrev pub Through : S → Option (List ℕ) → JobEnd → Type 0
   Through source later result = IfSome (rest_of_input left first) (λ input. GoesThrough job Keeps start front input result (left source) (taken opened) later)
 
   module _ (state : V) (old : LinesState S) (output : K) (text : List ℕ) (number : ℕ)
@@ -74,27 +74,27 @@ module _ {S K P V : Type 0} (left : S → Option (List ℕ)) (faults lender : S 
 
     -- the sink failed
     pub unmoved : {A E : Type 0} (later : K) (flushed : Result A E) → OnErr flushed (TakesFront (taken output) (taken later) text) → is_err flushed ≡ true
-        → Through old.source (taken later) status.Write
+        → Through old.source (taken later) ended.Write
     unmoved later flushed taken_front failing =
         let begun = on-err flushed (TakesFront (taken output) (taken later) text) taken_front failing in
         IfSome_then (rest_of_input left first) before.along (λ (input : List ℕ) along.
         through-early job start Keeps state number old.given (rest_of_input left old) (left old.source) front text (taken opened) (taken output)
-        (taken later) input status.Write along
+        (taken later) input ended.Write along
         (inr (inl refl)) (begun.0, begun.2))
 
     -- no memory was left
-    pub out-of-memory : (source : S) → Through source (taken output) status.Memory
+    pub out-of-memory : (source : S) → Through source (taken output) ended.Memory
     out-of-memory source =
         IfSome_then (rest_of_input left first) before.along (λ (input : List ℕ) along.
         through-early job start Keeps state number old.given (rest_of_input left old) (left source) front text (taken opened) (taken output)
-        (taken output) input status.Memory along
+        (taken output) input ended.Memory along
         (inr (inr refl)) (unwritten text (taken output) (taken output) refl))
 
     module _ (new : LinesState S) (next : V) (written : List ℕ) (t : Turn)
-        (turns : TakesTurn left faults lender job Keeps number old new state next text written (Ok t)) where
+        (turns : TakesTurn left faults lender job Keeps number old new state next text written t) where
       pub turned-on : t ≡ turn.Accepted → InLoop left faults lender taken failed empty job Keeps start next first new opened output front written (number + 1)
       turned-on is =
-          let accepted = subst (λ (s : Turn). TakesTurn left faults lender job Keeps number old new state next text written (Ok s)) is turns in
+          let accepted = subst (λ (s : Turn). TakesTurn left faults lender job Keeps number old new state next text written s) is turns in
           let gives = accepted.0.answer in
           let given = gives.given in
           let some = gives.some in
@@ -114,10 +114,10 @@ module _ {S K P V : Type 0} (left : S → Option (List ℕ)) (faults lender : S 
           }
 
       -- the input is at its end
-      pub turned-to-end : (later : Option (List ℕ)) (result : Status) → t ≡ turn.Ended → Leaves (written ++ job.ending next) false result (taken output) later
+      pub turned-to-end : (later : Option (List ℕ)) (result : JobEnd) → t ≡ turn.Ended → Leaves (written ++ job.ending next) false result (taken output) later
           → Through new.source later result
       turned-to-end later result is leaves =
-          let ended = subst (λ (s : Turn). TakesTurn left faults lender job Keeps number old new state next text written (Ok s)) is turns in
+          let ended = subst (λ (s : Turn). TakesTurn left faults lender job Keeps number old new state next text written s) is turns in
           let same = subst (λ (v : V). Leaves (text ++ job.ending v) false result (taken output) later) ended.1
           (subst (λ (w : List ℕ). Leaves (w ++ job.ending next) false result (taken output) later) ended.2 leaves) in
           IfSome_then (rest_of_input left first) before.along (λ (input : List ℕ) along.
@@ -126,10 +126,10 @@ module _ {S K P V : Type 0} (left : S → Option (List ℕ)) (faults lender : S 
           new.pending before.kept ended.0.answer.next same)
 
       -- what stands next is refused
-      pub turned-down : (later : Option (List ℕ)) (fault : LineFault) (result : Status) → t ≡ turn.Refused fault
+      pub turned-down : (later : Option (List ℕ)) (fault : LineFault) (result : JobEnd) → t ≡ turn.Refused fault
           → Leaves (written ++ refusal_line number fault) true result (taken output) later → Through new.source later result
       turned-down later fault result is leaves =
-          let refused = subst (λ (s : Turn). TakesTurn left faults lender job Keeps number old new state next text written (Ok s)) is turns in
+          let refused = subst (λ (s : Turn). TakesTurn left faults lender job Keeps number old new state next text written s) is turns in
           let same = subst (λ (w : List ℕ). Leaves (w ++ refusal_line number fault) true result (taken output) later) refused.1 leaves in
           IfSome_then (rest_of_input left first) before.along (λ (input : List ℕ) along.
           through-refused job start Keeps state number old.given (rest_of_input left old) (left new.source) front text (taken opened)
@@ -137,11 +137,11 @@ module _ {S K P V : Type 0} (left : S → Option (List ℕ)) (faults lender : S 
           fault before.kept refused.0.past refused.0.refused same)
 
       -- the source failed
-      pub turned-off : (later : Option (List ℕ)) (out : List ℕ) (result : Status) → t ≡ turn.Failed → out ≡ written → result ≡ status.Read
+      pub turned-off : (later : Option (List ℕ)) (out : List ℕ) (result : JobEnd) → t ≡ turn.Failed → out ≡ written → result ≡ ended.Read
           → HasBegun (taken output) later out
           → Through new.source later result
       turned-off later out result is same read begun =
-          let ended = subst (λ (s : Turn). TakesTurn left faults lender job Keeps number old new state next text written (Ok s)) is turns in
+          let ended = subst (λ (s : Turn). TakesTurn left faults lender job Keeps number old new state next text written s) is turns in
           IfSome_then (rest_of_input left first) before.along (λ (input : List ℕ) along.
           through-early job start Keeps state number old.given (rest_of_input left old) (left new.source) front text (taken opened)
           (taken output) later input result along

@@ -3,6 +3,8 @@ use Rattle.std.specs.Prelude.{◌≡◌, ◌⊎◌, ℕ, Bool, true, false, List
 use Rattle.std.specs.Io.KnownBytes.{append_known}
 use Rattle.dccp_io.specs.Counts.{Rose}
 use Rattle.dccp_io.specs.Fronts.{GivesAtMost}
+use Rattle.tool_text.specs.declared.output.status.JobEnd.{JobEnd}
+use Rattle.tool_text.specs.declared.output.status.JobEnd.TheVariants as ended
 use Rattle.tool_text.specs.declared.output.status.Status.{Status}
 use Rattle.tool_text.specs.declared.output.status.Status.TheVariants as status
 
@@ -35,30 +37,47 @@ pub record IsWritten (text : List ℕ) (before after : Option (List ℕ)) (sink_
   pub front : HasBegun before after text
   pub whole : (sink_failed → ⊥) → HasTaken before after text
 
+-- The status of a program whose job ended so.
+abbrev pub status_of : JobEnd → Status
+status_of ended.Done = status.Done
+status_of ended.Input = status.Input
+status_of ended.Read = status.Read
+status_of ended.Write = status.Write
+status_of ended.Memory = status.Memory
+
+-- A program ended as a job does for which this holds. No job ends with Words.
+abbrev pub OnJobEnd : Status → (JobEnd → Type 0) → Type 0
+OnJobEnd status.Done Holds = Holds ended.Done
+OnJobEnd status.Input Holds = Holds ended.Input
+OnJobEnd status.Words Holds = ⊥
+OnJobEnd status.Read Holds = Holds ended.Read
+OnJobEnd status.Write Holds = Holds ended.Write
+OnJobEnd status.Memory Holds = Holds ended.Memory
+
 -- The whole job was done, or the input was refused: both write all that there is to write.
-abbrev pub IsAnswered : Status → Type 0
-IsAnswered result = (result ≡ status.Done) ⊎ (result ≡ status.Input)
+abbrev pub IsAnswered : JobEnd → Type 0
+IsAnswered result = (result ≡ ended.Done) ⊎ (result ≡ ended.Input)
 
 -- A fault or want of memory ended the job.
-abbrev pub IsCutOff : Status → Type 0
-IsCutOff result = (result ≡ status.Read) ⊎ ((result ≡ status.Write) ⊎ (result ≡ status.Memory))
+abbrev pub IsCutOff : JobEnd → Type 0
+IsCutOff result = (result ≡ ended.Read) ⊎ ((result ≡ ended.Write) ⊎ (result ≡ ended.Memory))
 
 -- Where an input is refused, at most so many bytes were read behind those that were accepted.
-abbrev pub StopsWithin : ℕ → ℕ → List ℕ → Status → Option (List ℕ) → Type 0
-StopsWithin most accepted bytes result left = result ≡ status.Input → GivesAtMost most (Some (drop accepted bytes)) left
+abbrev pub StopsWithin : ℕ → ℕ → List ℕ → JobEnd → Option (List ℕ) → Type 0
+StopsWithin most accepted bytes result left = result ≡ ended.Input → GivesAtMost most (Some (drop accepted bytes)) left
 
 -- What a form that reads its input owes, where that input has this text and is refused or not: an answer is the whole
 -- text, what was cut off is a front of it, Done leaves nothing to read, and Done and Input say whether the input was
 -- refused.
-pub record Answers (text : List ℕ) (is_refused : Bool) (result : Status) (left before after : Option (List ℕ)) : Type 0 where
+pub record Answers (text : List ℕ) (is_refused : Bool) (result : JobEnd) (left before after : Option (List ℕ)) : Type 0 where
   pub whole : IsAnswered result → HasTaken before after text
   pub front : IsCutOff result → HasBegun before after text
-  pub done : result ≡ status.Done → (is_refused ≡ false) × (left ≡ Some [])
-  pub input : result ≡ status.Input → is_refused ≡ true
+  pub done : result ≡ ended.Done → (is_refused ≡ false) × (left ≡ Some [])
+  pub input : result ≡ ended.Input → is_refused ≡ true
 
 -- Why a form ends: with Read only where the source failed, with Write only where the sink did, and where neither failed
 -- with an answer, if memory is found.
-pub record EndsForCause (result : Status) (source_failed sink_failed : Type 0) : Type 0 where
-  pub read : result ≡ status.Read → source_failed
-  pub write : result ≡ status.Write → sink_failed
-  pub complete : (source_failed → ⊥) → (sink_failed → ⊥) → IsAnswered result ⊎ (result ≡ status.Memory)
+pub record EndsForCause (result : JobEnd) (source_failed sink_failed : Type 0) : Type 0 where
+  pub read : result ≡ ended.Read → source_failed
+  pub write : result ≡ ended.Write → sink_failed
+  pub complete : (source_failed → ⊥) → (sink_failed → ⊥) → IsAnswered result ⊎ (result ≡ ended.Memory)

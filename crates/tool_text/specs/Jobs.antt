@@ -2,8 +2,10 @@
 use Rattle.std.specs.Prelude.{ℕ, ◌+◌, ◌++◌, is_some, List, [], ◌∷◌, length, flat_map, Option, Some, None, Result, Ok, Err, ◌≡◌}
 use Rattle.dccp_io.specs.Lines.{Next, End, Line, Long, Much, lines_of, next_in_lines, text_of}
 use Rattle.tool_text.specs.Ends.{Answers, IsAnswered, StopsWithin}
-use Rattle.tool_text.specs.declared.output.status.Status.{Status}
+use Rattle.tool_text.specs.declared.output.status.JobEnd.{JobEnd}
 use Rattle.tool_text.specs.Refusals.{refusal_line, whole_line}
+use Rattle.tool_text.specs.declared.lines.error.LineError.{LineError}
+use Rattle.tool_text.specs.declared.lines.error.LineError.TheVariants as line_error
 use Rattle.tool_text.specs.declared.words.faults.LineFault.{LineFault}
 use Rattle.tool_text.specs.declared.words.faults.LineWhy.TheVariants as why
 
@@ -26,10 +28,11 @@ line_text job None = []
 line_text job (Some deed) = job.told deed
 
 -- A line was judged so: an accepted one leaves its text at the text's end and leads on, a refused one leaves the text
--- as it was.
-abbrev pub Judges : {P V : Type 0} → Job P V → Verdict P V → List ℕ → List ℕ → V → Result (Unit {0}) LineFault → Type 0
+-- as it was. Where memory was not found, any line may have been.
+abbrev pub Judges : {P V : Type 0} → Job P V → Verdict P V → List ℕ → List ℕ → V → Result (Unit {0}) LineError → Type 0
+Judges job verdict old new after (Err line_error.NoMemory) = Unit {0}
 Judges job (Accepted deed next) old new after answer = (new ≡ old ++ line_text job deed) × (after ≡ next) × (answer ≡ Ok tt)
-Judges job (Refused fault) old new after answer = (new ≡ old) × (answer ≡ Err fault)
+Judges job (Refused fault) old new after answer = (new ≡ old) × (answer ≡ Err (line_error.Refused fault))
 
 -- So many events a job over lines of events plays at most (own).
 abbrev pub most_events : ℕ
@@ -95,7 +98,7 @@ text_of_job job gone = flat_map job.told gone.deeds ++ last_lines job gone.last 
 
 -- The lines of an input were gone through behind a text that stood first: what was written and how it ended, how far
 -- the input was read past the last accepted line where one was refused, and what holds of the last state.
-pub record GoesThrough {P V : Type 0} (job : Job P V) (Keeps : V → ℕ → Type 0) (first : V) (front input : List ℕ) (result : Status)
+pub record GoesThrough {P V : Type 0} (job : Job P V) (Keeps : V → ℕ → Type 0) (first : V) (front input : List ℕ) (result : JobEnd)
     (left before after : Option (List ℕ)) : Type 0 where
   pub answers : Answers (front ++ text_of_job job (gone_through job first input)) (is_some (gone_through job first input).refusal) result left before after
   pub past : StopsWithin 16384 (gone_through job first input).accepted input result left

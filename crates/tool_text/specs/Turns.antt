@@ -4,27 +4,28 @@ use Rattle.dccp_io.specs.Fronts.{GivesAtMost}
 use Rattle.dccp_io.specs.Lines.{LinesState, Finds, next_in_bytes, rest_of_input, text_of}
 use Rattle.dccp_io.specs.declared.lines.Stop.{Stop}
 use Rattle.dccp_io.specs.declared.lines.Stop.TheVariants as stop
-use Rattle.seq_circle.specs.declared.memory.NoMemory as no_memory
 use Rattle.tool_text.specs.Jobs.{Job, Judges, Refused, by_next, too_long}
 use Rattle.tool_text.specs.declared.lines.turns.Turn.{Turn}
 use Rattle.tool_text.specs.declared.lines.turns.Turn.TheVariants as turn
 use Rattle.tool_text.specs.Ends.{HasBegun, HasTaken, IsAnswered, IsCutOff}
-use Rattle.tool_text.specs.declared.output.status.Status.{Status}
-use Rattle.tool_text.specs.declared.output.status.Status.TheVariants as status
+use Rattle.tool_text.specs.declared.output.status.JobEnd.{JobEnd}
+use Rattle.tool_text.specs.declared.output.status.JobEnd.TheVariants as ended
 use Rattle.tool_text.specs.Refusals.{whole_line}
-use Rattle.tool_text.specs.declared.words.faults.LineFault.{LineFault}
+use Rattle.tool_text.specs.declared.lines.error.LineError.{LineError}
+use Rattle.tool_text.specs.declared.lines.error.LineError.TheVariants as line_error
 use Rattle.tool_text.specs.declared.words.faults.LineWhy.TheVariants as why
 
--- The turn in which the reader stopped, and the one in which a line was judged.
+-- The turn in which the reader stopped.
 abbrev pub stopped_turn : Stop → Turn
 stopped_turn stop.TooLong = turn.Refused too_long
 stopped_turn stop.TooMuch = turn.Refused (whole_line why.TooMuchInput)
 stopped_turn stop.Failed = turn.Failed
 
--- a line that was judged is accepted, or refused with its fault
-abbrev pub judged_turn : Result (Unit {0}) LineFault → Turn
+-- The turn in which a line was judged: it is accepted, or refused with its fault, or memory was not found.
+abbrev pub judged_turn : Result (Unit {0}) LineError → Turn
 judged_turn (Ok _) = turn.Accepted
-judged_turn (Err fault) = turn.Refused fault
+judged_turn (Err (line_error.Refused fault)) = turn.Refused fault
+judged_turn (Err line_error.NoMemory) = turn.NoMemory
 
 -- What stands next is refused. At most 8,192 bytes were read behind it, and of a line 4,097 at most.
 pub record RefusesNext {S : Type 0} (left : S → Option (List ℕ)) (faults lender : S → ℕ) (old new : LinesState S) (IsRefused : List ℕ → Type 0) : Type 0 where
@@ -36,20 +37,20 @@ pub record RefusesNext {S : Type 0} (left : S → Option (List ℕ)) (faults len
 -- One turn: the line that stands next was judged and accepted, or what stands next is refused, or the input is at its
 -- end, and nothing else changed.
 abbrev pub TakesTurn : {S P V : Type 0} → (S → Option (List ℕ)) → (S → ℕ) → (S → ℕ) → Job P V → (V → ℕ → Type 0) → ℕ → LinesState S → LinesState S → V → V
-    → List ℕ → List ℕ → Result Turn no_memory.NoMemory → Type 0
-TakesTurn left faults lender job Keeps number old new state next text written (Ok turn.Accepted) =
+    → List ℕ → List ℕ → Turn → Type 0
+TakesTurn left faults lender job Keeps number old new state next text written turn.Accepted =
     Finds left faults lender old new (Ok true) × Judges job (job.judged state number (text_of new.line)) text written next (Ok tt) × Keeps next (number + 1)
-TakesTurn left faults lender job Keeps number old new state next text written (Ok turn.Ended) =
+TakesTurn left faults lender job Keeps number old new state next text written turn.Ended =
     Finds left faults lender old new (Ok false) × (next ≡ state) × (written ≡ text)
-TakesTurn left faults lender job Keeps number old new state next text written (Ok (turn.Refused fault)) =
+TakesTurn left faults lender job Keeps number old new state next text written (turn.Refused fault) =
     RefusesNext left faults lender old new (λ bytes. by_next job state number (next_in_bytes old.given bytes) ≡ Refused fault) × (written ≡ text)
-TakesTurn left faults lender job Keeps number old new state next text written (Ok turn.Failed) =
+TakesTurn left faults lender job Keeps number old new state next text written turn.Failed =
     Finds left faults lender old new (Err stop.Failed) × (written ≡ text)
-TakesTurn left faults lender job Keeps number old new state next text written (Err _) = lender new.source ≡ lender old.source
+TakesTurn left faults lender job Keeps number old new state next text written turn.NoMemory = lender new.source ≡ lender old.source
 
 -- What was left of a text was written: whole with an answer, and otherwise a front of it.
-pub record Leaves (text : List ℕ) (refused : Bool) (result : Status) (before after : Option (List ℕ)) : Type 0 where
+pub record Leaves (text : List ℕ) (refused : Bool) (result : JobEnd) (before after : Option (List ℕ)) : Type 0 where
   pub whole : IsAnswered result → HasTaken before after text
   pub front : IsCutOff result → HasBegun before after text
-  pub done : result ≡ status.Done → refused ≡ false
-  pub input : result ≡ status.Input → refused ≡ true
+  pub done : result ≡ ended.Done → refused ≡ false
+  pub input : result ≡ ended.Input → refused ≡ true

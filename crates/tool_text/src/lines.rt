@@ -4,10 +4,12 @@
 //! A job says what a line does and what is written at the end. The loop has the rest: the limits of lines and inputs,
 //! the numbers of the lines, the line of a refusal, and text that goes out in blocks and before each read.
 
+mod error;
 mod job;
 mod loops;
 mod refusals;
 mod turns;
 
+pub use crate::lines::error::LineError;
 pub use crate::lines::job::{LineJob, MOST_EVENTS};
 pub use crate::lines::loops::run_lines;

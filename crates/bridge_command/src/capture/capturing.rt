@@ -1,5 +1,5 @@
 //! `capture`: a job over a transcript's lines.
-ghost use Rattle.std.specs.Prelude.{◌≡◌, ◌≢◌, ℕ, List, Some};
+ghost use Rattle.std.specs.Prelude.{◌≡◌, ℕ, List, Some};
 ghost use Rattle.dccp_io.specs.Counts.{Rose};
 ghost use Rattle.tool_text.specs.Ends.{Answers, SinkFails, StopsWithin, EndsForCause};
 ghost use Rattle.bridge_command.specs.Capturing.{first_clock, frames_capture, transcript_refused, transcript_accepted};
@@ -10,7 +10,7 @@ use bridge_records::put_file_header;
 use dccp_io::{Sink, Source};
 use seq_circle::NoMemory;
 use std::alloc::Global;
-use tool_text::{LineFault, LineJob, Status, run_lines};
+use tool_text::{JobEnd, LineError, LineJob, run_lines};
 
 /// When frames are sent: the number of the line that was answered last, as seconds.
 #[derive(Drop)]
@@ -45,18 +45,17 @@ impl LineJob for Clock {
         _number: u64,
         line: &[u8],
         text: &mut Vec<u8>,
-    ) -> Result<Result<(), LineFault>, NoMemory> {
+    ) -> Result<(), LineError> {
         match told_of_line(line) {
-            Err(fault) => Ok(Err(fault)),
-            Ok(None) => Ok(Ok(())),
-            Ok(Some(Told::Other)) => Ok(Ok(())),
+            Err(fault) => Err(LineError::Refused(fault)),
+            Ok(None | Some(Told::Other)) => Ok(()),
             Ok(Some(Told::Number(number))) => {
                 self.seconds = number;
-                Ok(Ok(()))
+                Ok(())
             }
             Ok(Some(Told::Sent { from, frame })) => {
                 put_record(text, self.seconds, from, &frame)?;
-                Ok(Ok(()))
+                Ok(())
             }
         }
     }
@@ -77,8 +76,7 @@ pub(crate) fn capture_frames<S: Source, K: Sink>(
     alloc: Global,
     input: &mut S,
     output: &mut K,
-) -> Status
-    ensures words { result ≢ Status.Words }
+) -> JobEnd
     ensures captured { (bytes : List ℕ) → S.left input.old ≡ Some bytes
         → Answers (frames_capture bytes) (transcript_refused bytes) result (S.left input.new) (K.taken output.old) (K.taken output.new) }
     ensures past { (bytes : List ℕ) → S.left input.old ≡ Some bytes
@@ -87,7 +85,7 @@ pub(crate) fn capture_frames<S: Source, K: Sink>(
 {
     let mut text = Vec::new(alloc);
     if put_file_header(&mut text, false).is_err() {
-        return Status::Memory;
+        return JobEnd::Memory;
     }
     let mut clock = Clock::new();
     run_lines(alloc, &mut clock, &mut text, input, output)

@@ -1,5 +1,5 @@
 //! `frames`: a job over the records of a capture.
-ghost use Rattle.std.specs.Prelude.{◌≡◌, ◌≢◌, ◌≤◌, ◌++◌, ℕ, List, length, IsTrue, OnOk, Some};
+ghost use Rattle.std.specs.Prelude.{◌≡◌, ◌≤◌, ◌++◌, ℕ, List, length, IsTrue, OnOk, Some};
 ghost use Rattle.bridge_records.specs.Pieces.{piece_text};
 ghost use Rattle.bridge_records.specs.Recording.{records_work};
 ghost use Rattle.capture_reader.specs.Records.{entry_of};
@@ -22,7 +22,7 @@ use dccp_packets::{Number, Packet, decode};
 use packet_show::{Datagram, FlowEnd, Flows, carried, from_end};
 use seq_circle::{NoMemory, Seq48};
 use std::alloc::Global;
-use tool_text::Status;
+use tool_text::JobEnd;
 use world_events::Side;
 
 /// What is known of the flow, once a packet of it came.
@@ -260,8 +260,7 @@ pub(crate) fn frame_flow<S: Source, K: Sink>(
     side: Side,
     input: &mut S,
     output: &mut K,
-) -> Status
-    ensures words { result ≢ Status.Words }
+) -> JobEnd
     ensures framed { (bytes : List ℕ) → S.left input.old ≡ Some bytes
         → Answers (frames_text flow side bytes) (is_frames_faulty flow side bytes) result (S.left input.new) (K.taken output.old) (K.taken output.new) }
     ensures past { (bytes : List ℕ) → S.left input.old ≡ Some bytes

@@ -1,5 +1,5 @@
 //! The lines of a seed's schedule, written while the seed is run.
-ghost use Rattle.std.specs.Prelude.{◌≡◌, ◌≢◌, ◌+◌, ◌-◌, ◌*◌, ◌^◌, ◌<◌, ◌≤◌, ◌++◌, [], ◌∷◌, false, IfOk, OnOk, Some};
+ghost use Rattle.std.specs.Prelude.{◌≡◌, ◌+◌, ◌-◌, ◌*◌, ◌^◌, ◌<◌, ◌≤◌, ◌++◌, [], ◌∷◌, false, IfOk, OnOk, Some};
 ghost use Rattle.bridge_command.specs.Schedule.{event_line, event_lines, number_line, number_lines, seed_text};
 ghost use Rattle.fault_campaign.specs.Reports.{size};
 ghost use Rattle.fault_campaign.specs.Seeded.{next_events, played, seeded_events};
@@ -10,7 +10,7 @@ use fault_campaign::{Run, initial_numbers};
 use schedule_text::{Event, print_event, side_name};
 use seq_circle::{NoMemory, Seq48};
 use std::alloc::Global;
-use tool_text::{Status, put, put_counted, put_named};
+use tool_text::{JobEnd, put, put_counted, put_named};
 use world_events::Side;
 
 fn put_number_line(text: &mut Vec<u8>, side: Side, number: Seq48) -> Result<(), NoMemory>
@@ -83,17 +83,16 @@ fn text_of_seed(alloc: Global, seed: u64, events: u32) -> Result<Vec<u8>, NoMemo
 /// Writes the schedule of a campaign's seed with so many events (own): the initial sequence numbers of both ends, and
 /// the events, a line each. It reads nothing and refuses nothing, so it owes what a form owes of an empty input that is
 /// accepted. Write comes where the sink failed, and Memory where no memory was left; then nothing is written.
-pub(crate) fn tell_seed<K: Sink>(alloc: Global, seed: u64, events: u32, output: &mut K) -> Status
+pub(crate) fn tell_seed<K: Sink>(alloc: Global, seed: u64, events: u32, output: &mut K) -> JobEnd
     requires events { 1 ≤ events × events ≤ 4096 }
-    ensures words { result ≢ Status.Words }
     ensures told { Answers (seed_text seed events) false result (Some []) (K.taken output.old) (K.taken output.new) }
     ensures cause { EndsForCause result ⊥ (SinkFails K.faults K.empty_takes output.old output.new) }
 {
     let Ok(text) = text_of_seed(alloc, seed, events) else {
-        return Status::Memory;
+        return JobEnd::Memory;
     };
     match write_all(output, &text) {
-        Err(_) => Status::Write,
-        Ok(()) => Status::Done,
+        Err(_) => JobEnd::Write,
+        Ok(()) => JobEnd::Done,
     }
 }

@@ -1,5 +1,5 @@
 //! `unwrap`: a job over the records of a capture.
-ghost use Rattle.std.specs.Prelude.{◌≡◌, ◌≢◌, ◌≤◌, ◌++◌, ℕ, List, length, false, OnOk, Some};
+ghost use Rattle.std.specs.Prelude.{◌≡◌, ◌≤◌, ◌++◌, ℕ, List, length, false, OnOk, Some};
 ghost use Rattle.capture_reader.specs.Records.{entry_of};
 ghost use Rattle.bridge_records.specs.Writing.{header_for, raw_record};
 ghost use Rattle.dccp_io.specs.Counts.{Rose};
@@ -16,7 +16,7 @@ use dccp_io::{Sink, Source};
 use seq_circle::NoMemory;
 use std::alloc::Global;
 use std::marker::Model;
-use tool_text::{Status, put, put_counted};
+use tool_text::{JobEnd, put, put_counted};
 
 /// Makes of each record one of raw IP.
 #[derive(Drop)]
@@ -143,8 +143,7 @@ pub(crate) fn unwrap_capture<S: Source, K: Sink>(
     alloc: Global,
     input: &mut S,
     output: &mut K,
-) -> Status
-    ensures words { result ≢ Status.Words }
+) -> JobEnd
     ensures unwrapped { (bytes : List ℕ) → S.left input.old ≡ Some bytes
         → Answers (unwrapped_text bytes) (is_unwrapped_faulty bytes) result (S.left input.new) (K.taken output.old) (K.taken output.new) }
     ensures past { (bytes : List ℕ) → S.left input.old ≡ Some bytes

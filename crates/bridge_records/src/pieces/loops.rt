@@ -1,5 +1,5 @@
 //! The loop over the pieces of an input.
-ghost use Rattle.std.specs.Prelude.{◌≡◌, ◌≢◌, ℕ, ◌++◌, List, [], is_some, Some, IfSome};
+ghost use Rattle.std.specs.Prelude.{◌≡◌, ℕ, ◌++◌, List, [], is_some, Some, IfSome};
 ghost use Rattle.dccp_io.specs.Counts.{Rose};
 ghost use Rattle.tool_text.specs.Ends.{EndsForCause, SinkFails};
 ghost use Rattle.bridge_records.specs.Pieces.{GoesThroughPieces};
@@ -11,7 +11,7 @@ use crate::pieces::turns::{Turn, flush_if_due, take_turn};
 use dccp_io::{ReadAhead, Sink, Source, write_all};
 use seq_circle::NoMemory;
 use std::alloc::Global;
-use tool_text::{Status, answered, cut_off};
+use tool_text::{JobEnd, answered, cut_off};
 
 // The bytes of the block.
 const BLOCK: usize = 524_288;
@@ -22,17 +22,15 @@ fn close<J: PieceJob, K: Sink>(
     output: &mut K,
     text: &mut Vec<u8>,
     end: Option<PieceFault>,
-) -> Status
-    ensures words { result ≢ Status.Words }
-    ensures read { result ≢ Status.Read }
+) -> JobEnd
     ensures leaves { LeavesText (text.old.items ++ J.job.closing job.now end) (is_some end) result (K.taken output.old) (K.taken output.new) }
-    ensures write { result ≡ Status.Write → SinkFails K.faults K.empty_takes output.old output.new }
+    ensures cause { EndsForCause result ⊥ (SinkFails K.faults K.empty_takes output.old output.new) }
 {
     if job.finish(end, text).is_err() {
-        return Status::Memory;
+        return JobEnd::Memory;
     }
     match write_all(output, text) {
-        Err(_) => Status::Write,
+        Err(_) => JobEnd::Write,
         Ok(()) => answered(end.is_some()),
     }
 }
@@ -44,24 +42,23 @@ fn take_pieces<J: PieceJob, S: Source, K: Sink>(
     ahead: &mut ReadAhead,
     output: &mut K,
     text: &mut Vec<u8>,
-) -> Status
+) -> JobEnd
     requires ahead { ahead.old ≡ record { pending = []; size = 524288 } }
     requires text { text.old.items ≡ [] }
-    ensures words { result ≢ Status.Words }
     ensures through { IfSome (S.left source.old) (λ bytes. GoesThroughPieces J.job job.old bytes result (S.left source.new) (K.taken output.old) (K.taken output.new)) }
     ensures cause { EndsForCause result (Rose (S.faults source.old) (S.faults source.new)) (SinkFails K.faults K.empty_takes output.old output.new) }
 {
     let mut given = 0;
     loop {
         if flush_if_due(job, ahead, output, text).is_err() {
-            return Status::Write;
+            return JobEnd::Write;
         }
         match take_turn(job, source, ahead, given, text) {
             Ok(Turn::Read) => {}
             Ok(Turn::Taken(used)) => given += used as u64,
             Ok(Turn::Over(end)) => return close(job, output, text, end),
-            Ok(Turn::Failed) => return cut_off(output, text, Status::Read),
-            Err(NoMemory) => return Status::Memory,
+            Ok(Turn::Failed) => return cut_off(output, text, JobEnd::Read),
+            Err(NoMemory) => return JobEnd::Memory,
         }
     }
 }
@@ -77,15 +74,14 @@ pub(crate) fn run_pieces<J: PieceJob, S: Source, K: Sink>(
     job: &mut J,
     input: &mut S,
     output: &mut K,
-) -> Status
-    ensures words { result ≢ Status.Words }
+) -> JobEnd
     ensures through { (bytes : List ℕ) → S.left input.old ≡ Some bytes
         → GoesThroughPieces J.job job.old bytes result (S.left input.new) (K.taken output.old) (K.taken output.new) }
     ensures cause { EndsForCause result (Rose (S.faults input.old) (S.faults input.new)) (SinkFails K.faults K.empty_takes output.old output.new) }
 {
     let mut text = Vec::new(alloc);
     let Ok(mut ahead) = ReadAhead::new(alloc, BLOCK) else {
-        return Status::Memory;
+        return JobEnd::Memory;
     };
     take_pieces(job, input, &mut ahead, output, &mut text)
 }

@@ -8,7 +8,7 @@ use crate::ecn::seen_text::{put_ending, put_event_line};
 use dccp_ecn::{EcnEvent, EcnFault, EcnWorld};
 use seq_circle::NoMemory;
 use std::alloc::Global;
-use tool_text::{LineFault, LineJob, LineWhy, MOST_EVENTS, Words, whole_line};
+use tool_text::{LineError, LineFault, LineJob, LineWhy, MOST_EVENTS, Words, whole_line};
 
 /// Where an input stands.
 #[derive(Drop)]
@@ -46,22 +46,22 @@ impl EcnPlay {
         line: &[u8],
         event: EcnEvent,
         text: &mut Vec<u8>,
-    ) -> Result<Result<(), LineFault>, NoMemory>
+    ) -> Result<(), LineError>
         requires { length line.now ≤ 4096 }
-        ensures { IfOk result (λ answer. Judges ecn_job (by_ecn_event self.old number line.now event) text.old.items text.new.items self.new answer) }
+        ensures { Judges ecn_job (by_ecn_event self.old number line.now event) text.old.items text.new.items self.new result }
     {
         if MOST_EVENTS <= self.events {
-            return Ok(Err(whole_line(LineWhy::TooManyEvents)));
+            return Err(LineError::Refused(whole_line(LineWhy::TooManyEvents)));
         }
         match self.world.step(event) {
             Ok(seen) => {
                 self.events += 1;
                 put_event_line(text, number, line, &self.world, seen)?;
-                Ok(Ok(()))
+                Ok(())
             }
-            Err(EcnFault::NoSuchFrame) => Ok(Err(lacking_index(line))),
-            Err(EcnFault::Full) => Ok(Err(whole_line(LineWhy::TooManyEvents))),
-            Err(EcnFault::NoMemory) => Err(NoMemory),
+            Err(EcnFault::NoSuchFrame) => Err(LineError::Refused(lacking_index(line))),
+            Err(EcnFault::Full) => Err(LineError::Refused(whole_line(LineWhy::TooManyEvents))),
+            Err(EcnFault::NoMemory) => Err(LineError::NoMemory),
         }
     }
 }
@@ -80,10 +80,10 @@ impl LineJob for EcnPlay {
         number: u64,
         line: &[u8],
         text: &mut Vec<u8>,
-    ) -> Result<Result<(), LineFault>, NoMemory> {
+    ) -> Result<(), LineError> {
         match read_ecn_line(line) {
-            Err(fault) => Ok(Err(fault)),
-            Ok(None) => Ok(Ok(())),
+            Err(fault) => Err(LineError::Refused(fault)),
+            Ok(None) => Ok(()),
             Ok(Some(event)) => self.play(number, line, event, text),
         }
     }

@@ -1,5 +1,5 @@
 //! `ecn`: an input's events, between an ECN-capable sender and an ECN-capable receiver.
-ghost use Rattle.std.specs.Prelude.{◌≡◌, ◌≢◌, ℕ, List, Some};
+ghost use Rattle.std.specs.Prelude.{◌≡◌, ℕ, List, Some};
 ghost use Rattle.dccp_io.specs.Counts.{Rose};
 ghost use Rattle.tool_jobs.specs.Play.{ecn_accepted, ecn_refused, ecn_text};
 ghost use Rattle.tool_text.specs.Ends.{Answers, SinkFails, StopsWithin, EndsForCause};
@@ -7,15 +7,14 @@ ghost use Rattle.tool_text.specs.Ends.{Answers, SinkFails, StopsWithin, EndsForC
 use crate::ecn::play::EcnPlay;
 use dccp_io::{Sink, Source};
 use std::alloc::Global;
-use tool_text::{Status, run_lines};
+use tool_text::{JobEnd, run_lines};
 
 /// Lets the events of an input take place between an ECN-capable sender and an ECN-capable receiver (own): it reads the
 /// lines of `input` one by one, and writes to `output` a line for what is seen of each event, and at last how many
 /// packets were sent and reports kept, or the line of the first refusal. With status 0 or 1 the output is the text of
 /// the whole input, with another a front of it. Read comes where the source failed, Write where the sink did, and
 /// Memory where no memory was left.
-pub fn play_nonces<S: Source, K: Sink>(alloc: Global, input: &mut S, output: &mut K) -> Status
-    ensures words { result ≢ Status.Words }
+pub fn play_nonces<S: Source, K: Sink>(alloc: Global, input: &mut S, output: &mut K) -> JobEnd
     ensures played { (bytes : List ℕ) → S.left input.old ≡ Some bytes
         → Answers (ecn_text bytes) (ecn_refused bytes) result (S.left input.new) (K.taken output.old) (K.taken output.new) }
     ensures past { (bytes : List ℕ) → S.left input.old ≡ Some bytes
@@ -24,7 +23,7 @@ pub fn play_nonces<S: Source, K: Sink>(alloc: Global, input: &mut S, output: &mu
 {
     let mut text = Vec::new(alloc);
     let Ok(mut play) = EcnPlay::new(alloc) else {
-        return Status::Memory;
+        return JobEnd::Memory;
     };
     run_lines(alloc, &mut play, &mut text, input, output)
 }

@@ -1,5 +1,5 @@
 //! `listen`: what peers send, handed to one listener.
-ghost use Rattle.std.specs.Prelude.{◌≡◌, ◌≢◌, ◌≤◌, ℕ, List, Some};
+ghost use Rattle.std.specs.Prelude.{◌≡◌, ◌≤◌, ℕ, List, Some};
 ghost use Rattle.dccp_io.specs.Counts.{Rose};
 ghost use Rattle.tool_jobs.specs.Listen.{listen_accepted, listen_refused, listen_text};
 ghost use Rattle.tool_text.specs.Ends.{Answers, SinkFails, StopsWithin, EndsForCause};
@@ -7,7 +7,7 @@ ghost use Rattle.tool_text.specs.Ends.{Answers, SinkFails, StopsWithin, EndsForC
 use crate::listen::serving::Serving;
 use dccp_io::{Sink, Source};
 use std::alloc::Global;
-use tool_text::{Status, run_lines};
+use tool_text::{JobEnd, run_lines};
 
 /// Hands what peers send, and what is asked of their ends, to one listener of at most `most` flows, 1 to 1,024 (own):
 /// it reads the lines of `input` one by one, and writes to `output` a line for what each peer is answered and for each
@@ -19,10 +19,9 @@ pub fn listen_to_peers<S: Source, K: Sink>(
     most: u16,
     input: &mut S,
     output: &mut K,
-) -> Status
+) -> JobEnd
     requires least { 1 ≤ most }
     requires most { most ≤ 1024 }
-    ensures words { result ≢ Status.Words }
     ensures listened { (bytes : List ℕ) → S.left input.old ≡ Some bytes
         → Answers (listen_text most bytes) (listen_refused most bytes) result (S.left input.new) (K.taken output.old) (K.taken output.new) }
     ensures past { (bytes : List ℕ) → S.left input.old ≡ Some bytes

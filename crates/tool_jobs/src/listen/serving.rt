@@ -1,5 +1,5 @@
 //! Where `listen` stands: one listener, and how much has happened.
-ghost use Rattle.std.specs.Prelude.{◌≡◌, ◌≤◌, [], ◌∷◌, IfOk, Ok};
+ghost use Rattle.std.specs.Prelude.{◌≡◌, ◌≤◌, [], ◌∷◌, OnOk};
 ghost use Rattle.tool_text.specs.Jobs.{Judges, most_events};
 ghost use Rattle.tool_jobs.specs.Calls.{SealsInFull};
 ghost use Rattle.tool_jobs.specs.Listen.{by_call, first_serving, listen_config, listen_job};
@@ -13,7 +13,7 @@ use dccp_endpoint::Lists;
 use dccp_listener::{ListenConfig, Listener, Peer};
 use seq_circle::NoMemory;
 use std::alloc::Global;
-use tool_text::{LineFault, LineJob, LineWhy, MOST_EVENTS, whole_line};
+use tool_text::{LineError, LineJob, LineWhy, MOST_EVENTS, whole_line};
 
 // The Service Codes that are served.
 fn services() -> ArrayVec<u32, 16>
@@ -67,18 +67,18 @@ impl Serving {
         peer: Peer,
         said: &PeerCall<'_>,
         text: &mut Vec<u8>,
-    ) -> Result<Result<(), LineFault>, NoMemory>
+    ) -> Result<(), LineError>
         requires seals { SealsInFull said.now }
         requires few { self.old.events ≤ most_events }
-        ensures verdict { IfOk result (λ answer. Judges listen_job (by_call self.old number peer said.now) text.old.items text.new.items self.new answer) }
-        ensures few { IfOk result (λ answer. answer ≡ Ok tt → self.new.events ≤ most_events) }
+        ensures verdict { Judges listen_job (by_call self.old number peer said.now) text.old.items text.new.items self.new result }
+        ensures few { OnOk result (self.new.events ≤ most_events) }
     {
         if MOST_EVENTS <= self.events {
-            return Ok(Err(whole_line(LineWhy::TooManyEvents)));
+            return Err(LineError::Refused(whole_line(LineWhy::TooManyEvents)));
         }
         exchange(&mut self.listener, number, peer, said, text)?;
         self.events += 1;
-        Ok(Ok(()))
+        Ok(())
     }
 }
 
@@ -96,10 +96,10 @@ impl LineJob for Serving {
         number: u64,
         line: &[u8],
         text: &mut Vec<u8>,
-    ) -> Result<Result<(), LineFault>, NoMemory> {
+    ) -> Result<(), LineError> {
         match read_call(line) {
-            Err(fault) => Ok(Err(fault)),
-            Ok(None) => Ok(Ok(())),
+            Err(fault) => Err(LineError::Refused(fault)),
+            Ok(None) => Ok(()),
             Ok(Some((peer, said))) => self.say(number, peer, &said, text),
         }
     }

@@ -1,5 +1,5 @@
 //! A replay while it is played: an end of some kind, at which frames arrive.
-ghost use Rattle.std.specs.Prelude.{◌≡◌, ◌≢◌, ℕ, ◌++◌, ◌+◌, ◌^◌, ◌<◌, ◌≤◌, List, Some, is_some, length, IfOk, OnOk};
+ghost use Rattle.std.specs.Prelude.{◌≡◌, ℕ, ◌++◌, ◌+◌, ◌^◌, ◌<◌, ◌≤◌, List, Some, is_some, length, IfOk, OnOk};
 ghost use Rattle.dccp_endpoint.specs.Usual.{usual};
 ghost use Rattle.dccp_io.specs.Counts.{Rose};
 ghost use Rattle.tool_text.specs.Ends.{Answers, SinkFails, StopsWithin, EndsForCause};
@@ -16,7 +16,7 @@ use schedule_text::{FrameLine, read_frame};
 use seq_circle::NoMemory;
 use std::alloc::Global;
 use std::marker::Model;
-use tool_text::{LineFault, LineJob, Status, put, run_lines};
+use tool_text::{JobEnd, LineError, LineJob, put, run_lines};
 use world_events::Side;
 
 const CLIENT: [u8; 4] = [10, 0, 0, 1];
@@ -159,17 +159,17 @@ impl<E: ReplayEnd> LineJob for Replay<E> {
         number: u64,
         line: &[u8],
         text: &mut Vec<u8>,
-    ) -> Result<Result<(), LineFault>, NoMemory> {
+    ) -> Result<(), LineError> {
         if E::is_own(line) {
             self.end.heed(number, line, text)?;
-            return Ok(Ok(()));
+            return Ok(());
         }
         match read_frame(line) {
-            Err(fault) => Ok(Err(fault)),
-            Ok(None) => Ok(Ok(())),
+            Err(fault) => Err(LineError::Refused(fault)),
+            Ok(None) => Ok(()),
             Ok(Some(said)) => {
                 self.hear(number, &said, text)?;
-                Ok(Ok(()))
+                Ok(())
             }
         }
     }
@@ -260,8 +260,7 @@ pub(crate) fn replay_at<E: ReplayEnd + Drop, S: Source, K: Sink>(
     end: E,
     input: &mut S,
     output: &mut K,
-) -> Status
-    ensures words { result ≢ Status.Words }
+) -> JobEnd
     ensures replayed { (bytes : List ℕ) → S.left input.old ≡ Some bytes
         → Answers (text_of_replay E.acts side end bytes) (is_some (replay_of_input E.acts side end bytes).refusal) result (S.left input.new) (K.taken output.old) (K.taken output.new) }
     ensures past { (bytes : List ℕ) → S.left input.old ≡ Some bytes
@@ -270,7 +269,7 @@ pub(crate) fn replay_at<E: ReplayEnd + Drop, S: Source, K: Sink>(
 {
     let mut text = Vec::new(alloc);
     let Ok(mut replay) = Replay::begin(side, end, &mut text) else {
-        return Status::Memory;
+        return JobEnd::Memory;
     };
     run_lines(alloc, &mut replay, &mut text, input, output)
 }

@@ -1,5 +1,5 @@
 //! `replay`: an input's frames, handed to one end.
-ghost use Rattle.std.specs.Prelude.{◌≡◌, ◌≢◌, ◌≤◌, ℕ, List, Some};
+ghost use Rattle.std.specs.Prelude.{◌≡◌, ◌≤◌, ℕ, List, Some};
 ghost use Rattle.dccp_io.specs.Counts.{Rose};
 ghost use Rattle.tool_jobs.specs.Bare.{replay_text, replay_refused, replay_accepted};
 ghost use Rattle.tool_jobs.specs.Buffered.{buffered_accepted, buffered_refused, buffered_text};
@@ -10,7 +10,7 @@ use crate::replay::buffered::buffered_end;
 use crate::replay::player::replay_at;
 use dccp_io::{Sink, Source};
 use std::alloc::Global;
-use tool_text::Status;
+use tool_text::JobEnd;
 use world_events::Side;
 
 /// Hands the frames of an input to one end, new and of this side, with its offers or without (own): it reads the lines
@@ -24,8 +24,7 @@ pub fn replay_frames<S: Source, K: Sink>(
     plain: bool,
     input: &mut S,
     output: &mut K,
-) -> Status
-    ensures words { result ≢ Status.Words }
+) -> JobEnd
     ensures replayed { (bytes : List ℕ) → S.left input.old ≡ Some bytes
         → Answers (replay_text side plain bytes) (replay_refused side plain bytes) result (S.left input.new) (K.taken output.old) (K.taken output.new) }
     ensures past { (bytes : List ℕ) → S.left input.old ≡ Some bytes
@@ -33,7 +32,7 @@ pub fn replay_frames<S: Source, K: Sink>(
     ensures cause { EndsForCause result (Rose (S.faults input.old) (S.faults input.new)) (SinkFails K.faults K.empty_takes output.old output.new) }
 {
     let Ok(end) = bare_end(alloc, side, plain) else {
-        return Status::Memory;
+        return JobEnd::Memory;
     };
     replay_at(alloc, side, end, input, output)
 }
@@ -49,10 +48,9 @@ pub fn replay_at_buffer<S: Source, K: Sink>(
     capacity: u16,
     input: &mut S,
     output: &mut K,
-) -> Status
+) -> JobEnd
     requires some { 1 ≤ capacity }
     requires few { capacity ≤ 1024 }
-    ensures words { result ≢ Status.Words }
     ensures replayed { (bytes : List ℕ) → S.left input.old ≡ Some bytes
         → Answers (buffered_text side plain capacity bytes) (buffered_refused side plain capacity bytes) result (S.left input.new) (K.taken output.old) (K.taken output.new) }
     ensures past { (bytes : List ℕ) → S.left input.old ≡ Some bytes
@@ -60,7 +58,7 @@ pub fn replay_at_buffer<S: Source, K: Sink>(
     ensures cause { EndsForCause result (Rose (S.faults input.old) (S.faults input.new)) (SinkFails K.faults K.empty_takes output.old output.new) }
 {
     let Ok(end) = buffered_end(alloc, side, plain, capacity) else {
-        return Status::Memory;
+        return JobEnd::Memory;
     };
     replay_at(alloc, side, end, input, output)
 }

@@ -18,7 +18,7 @@ use feature_lists::{Feature, Place};
 use schedule_text::{Line, print_seen};
 use seq_circle::{NoMemory, Seq48};
 use std::alloc::Global;
-use tool_text::{LineFault, LineWhy, MOST_EVENTS, whole_line};
+use tool_text::{LineError, LineFault, LineWhy, MOST_EVENTS, whole_line};
 use two_ends::{Event, Side, World, WorldFault};
 
 /// Where a schedule stands.
@@ -59,28 +59,28 @@ impl Play {
         number: u64,
         said: &Line,
         text: &mut Vec<u8>,
-    ) -> Result<Result<(), LineFault>, NoMemory>
+    ) -> Result<(), LineError>
         requires { IsPlayable self.old }
-        ensures verdict { IfOk result (λ answer. Judges run_job (by_line self.old number (Ok said.now)) text.old.items text.new.items self.new answer) }
-        ensures playable { IfOk result (λ answer. answer ≡ Ok tt → IsPlayable self.new) }
+        ensures verdict { Judges run_job (by_line self.old number (Ok said.now)) text.old.items text.new.items self.new result }
+        ensures playable { OnOk result (IsPlayable self.new) }
     {
         match said {
-            Line::Nothing => Ok(Ok(())),
-            Line::Version { number } => Ok(self.say_version(*number)),
-            Line::Plain => Ok(self.say_plain()),
-            Line::Iss { side, number } => Ok(self.say_iss(*side, *number)),
+            Line::Nothing => Ok(()),
+            Line::Version { number } => self.say_version(*number),
+            Line::Plain => self.say_plain(),
+            Line::Iss { side, number } => self.say_iss(*side, *number),
             Line::Set {
                 side,
                 place,
                 feature,
                 values,
-            } => Ok(self.say_set(*side, *feature, *place, values.numbers())),
+            } => self.say_set(*side, *feature, *place, values.numbers()),
             Line::Offer {
                 side,
                 place,
                 feature,
                 mandatory,
-            } => Ok(self.say_offer(*side, *feature, *place, *mandatory)),
+            } => self.say_offer(*side, *feature, *place, *mandatory),
             Line::Event(event) => self.say_event(alloc, number, event, text),
         }
     }
@@ -121,7 +121,7 @@ impl Play {
         }
     }
 
-    fn say_version(&mut self, number: u8) -> Result<(), LineFault>
+    fn say_version(&mut self, number: u8) -> Result<(), LineError>
         requires { IsPlayable self.old }
         ensures verdict { (text : List ℕ) → Judges run_job (says_version self.old number) text text self.new result }
         ensures playable { IsPlayable self.new }
@@ -134,7 +134,7 @@ impl Play {
         Ok(())
     }
 
-    fn say_plain(&mut self) -> Result<(), LineFault>
+    fn say_plain(&mut self) -> Result<(), LineError>
         requires { IsPlayable self.old }
         ensures verdict { (text : List ℕ) → Judges run_job (configures self.old says_plain) text text self.new result }
         ensures playable { IsPlayable self.new }
@@ -145,7 +145,7 @@ impl Play {
         Ok(())
     }
 
-    fn say_iss(&mut self, side: Side, number: Seq48) -> Result<(), LineFault>
+    fn say_iss(&mut self, side: Side, number: Seq48) -> Result<(), LineError>
         requires { IsPlayable self.old }
         ensures verdict { (text : List ℕ)
             → Judges run_job (configures self.old (with_iss side number)) text text self.new result }
@@ -168,7 +168,7 @@ impl Play {
         feature: Feature,
         place: Place,
         values: &[u64],
-    ) -> Result<(), LineFault>
+    ) -> Result<(), LineError>
         requires { IsPlayable self.old }
         ensures verdict { (text : List ℕ)
             → Judges run_job (configures self.old (with_set side feature place values.now)) text text self.new result }
@@ -188,7 +188,7 @@ impl Play {
         feature: Feature,
         place: Place,
         mandatory: bool,
-    ) -> Result<(), LineFault>
+    ) -> Result<(), LineError>
         requires { IsPlayable self.old }
         ensures verdict { (text : List ℕ)
             → Judges run_job (configures self.old (with_offered side feature place mandatory)) text text self.new result }
@@ -208,23 +208,21 @@ impl Play {
         number: u64,
         event: &Event,
         text: &mut Vec<u8>,
-    ) -> Result<Result<(), LineFault>, NoMemory>
+    ) -> Result<(), LineError>
         requires { IsPlayable self.old }
-        ensures verdict { IfOk result (λ answer. Judges run_job (says_event self.old number event.now) text.old.items text.new.items self.new answer) }
-        ensures playable { IfOk result (λ answer. answer ≡ Ok tt → IsPlayable self.new) }
+        ensures verdict { Judges run_job (says_event self.old number event.now) text.old.items text.new.items self.new result }
+        ensures playable { OnOk result (IsPlayable self.new) }
     {
         if MOST_EVENTS <= self.events {
-            return Ok(Err(whole_line(LineWhy::TooManyEvents)));
+            return Err(LineError::Refused(whole_line(LineWhy::TooManyEvents)));
         }
         self.make_world(alloc)?;
         let Some(world) = &mut self.world else {
             unreachable!()
         };
-        let answer = show_event(world, number, event, text)?;
-        if answer.is_ok() {
-            self.events += 1;
-        }
-        Ok(answer)
+        show_event(world, number, event, text)?;
+        self.events += 1;
+        Ok(())
     }
 
     // Makes the world of the two configurations, where none is made yet.
@@ -329,9 +327,9 @@ fn show_event(
     number: u64,
     event: &Event,
     text: &mut Vec<u8>,
-) -> Result<Result<(), LineFault>, NoMemory>
+) -> Result<(), LineError>
     requires { SentFew world.old most_events }
-    ensures { IfOk result (λ answer. ShowsEvent (event_shown number world.old event.now) text.old.items text.new.items world.new answer) }
+    ensures { ShowsEvent (event_shown number world.old event.now) text.old.items text.new.items world.new result }
 {
     let actor = event.actor();
     let before = world.frames(actor).len();
@@ -340,13 +338,13 @@ fn show_event(
             let bytes = arrived(world, event);
             print_seen(number, event, &seen, bytes, text)?;
             put_sent_line(text, world, actor, before)?;
-            Ok(Ok(()))
+            Ok(())
         }
-        Err(WorldFault::NoSuchFrame) => Ok(Err(no_such_frame())),
+        Err(WorldFault::NoSuchFrame) => Err(LineError::Refused(no_such_frame())),
         // An event sends one frame at most, and the events are few.
         Err(WorldFault::Full) => unreachable!(),
         Err(WorldFault::FarShort) => unreachable!(),
-        Err(WorldFault::NoMemory) => Err(NoMemory),
+        Err(WorldFault::NoMemory) => Err(LineError::NoMemory),
     }
 }
 

@@ -1,5 +1,5 @@
 //! `run`: a job over a schedule's lines.
-ghost use Rattle.std.specs.Prelude.{◌≡◌, ◌≢◌, ℕ, List, Some, IfOk, Ok};
+ghost use Rattle.std.specs.Prelude.{◌≡◌, ℕ, List, Some, OnOk};
 ghost use Rattle.dccp_io.specs.Counts.{Rose};
 ghost use Rattle.tool_text.specs.Ends.{IsAnswered, Answers, SinkFails, StopsWithin, EndsForCause};
 ghost use Rattle.tool_text.specs.Jobs.{Judges};
@@ -12,7 +12,7 @@ use schedule_text::{Line, read_line_into};
 use seq_circle::NoMemory;
 use std::alloc::Global;
 use std::marker::Model;
-use tool_text::{LineFault, LineJob, Status, run_lines};
+use tool_text::{JobEnd, LineError, LineJob, run_lines};
 use two_ends::every_run_is_safe;
 
 /// A schedule while it is played, with room for what one line says: for one that sends data by itself, since a line that
@@ -48,7 +48,7 @@ impl Schedule {
 }
 
 impl LineJob for Schedule {
-    ghost use Rattle.std.specs.Prelude.{◌≡◌, ℕ, IfOk, Ok};
+    ghost use Rattle.std.specs.Prelude.{◌≡◌, ℕ, OnOk};
     ghost use Rattle.tool_jobs.specs.Scenes.{Scene};
     ghost use Rattle.tool_jobs.specs.Transcript.{IsPlayable, run_job};
 
@@ -64,7 +64,7 @@ impl LineJob for Schedule {
         number: u64,
         line: &[u8],
         text: &mut Vec<u8>,
-    ) -> Result<Result<(), LineFault>, NoMemory> {
+    ) -> Result<(), LineError> {
         // Which of the two rooms a line is read into changes nothing that is said of it.
         match line {
             [b's', b'e', b'n', ..] => {
@@ -88,13 +88,13 @@ fn judge_into(
     number: u64,
     line: &[u8],
     text: &mut Vec<u8>,
-) -> Result<Result<(), LineFault>, NoMemory>
+) -> Result<(), LineError>
     requires { IsPlayable play.old }
-    ensures verdict { IfOk result (λ answer. Judges run_job (judged_line play.old number line.now) text.old.items text.new.items play.new answer) }
-    ensures keeps_on { IfOk result (λ answer. answer ≡ Ok tt → IsPlayable play.new) }
+    ensures verdict { Judges run_job (judged_line play.old number line.now) text.old.items text.new.items play.new result }
+    ensures keeps_on { OnOk result (IsPlayable play.new) }
 {
     match read_line_into(line, said) {
-        Err(fault) => Ok(Err(play.in_place(fault))),
+        Err(fault) => Err(LineError::Refused(play.in_place(fault))),
         Ok(()) => play.say(alloc, number, said, text),
     }
 }
@@ -104,8 +104,7 @@ fn judge_into(
 /// 1 the output is the text of the whole input, and each event took place in a safe world and left a safe one; with
 /// another it is a front of that text. Read comes where the source failed, Write where the sink did, and Memory where
 /// no memory was left.
-pub fn run_schedule<S: Source, K: Sink>(alloc: Global, input: &mut S, output: &mut K) -> Status
-    ensures words { result ≢ Status.Words }
+pub fn run_schedule<S: Source, K: Sink>(alloc: Global, input: &mut S, output: &mut K) -> JobEnd
     ensures transcript { (bytes : List ℕ) → S.left input.old ≡ Some bytes
         → Answers (transcript bytes) (is_refused bytes) result (S.left input.new) (K.taken output.old) (K.taken output.new) }
     ensures safe { (bytes : List ℕ) → S.left input.old ≡ Some bytes → IsAnswered result → SafeThroughout bytes }

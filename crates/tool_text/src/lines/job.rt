@@ -1,8 +1,8 @@
 //! What a job makes of lines.
-ghost use Rattle.std.specs.Prelude.{◌≡◌, ℕ, ◌+◌, ◌≤◌, ◌++◌, IfOk, OnOk, Ok};
+ghost use Rattle.std.specs.Prelude.{◌≡◌, ℕ, ◌+◌, ◌≤◌, ◌++◌, OnOk};
 ghost use Rattle.tool_text.specs.Jobs.{Job, Judges};
 
-use crate::words::LineFault;
+use crate::lines::error::LineError;
 use seq_circle::NoMemory;
 use std::alloc::Global;
 
@@ -21,18 +21,18 @@ pub trait LineJob {
 
     /// Judges the line of this number, counted from 1, without its newline: at most 4,096 bytes. An accepted line
     /// leaves the text of what it does at the text's end; a refused one leaves the text as it was. NoMemory comes where
-    /// no memory was left.
+    /// no memory was left, and then nothing is told of state and text.
     fn judge(
         &mut self,
         alloc: Global,
         number: u64,
         line: &[u8],
         text: &mut Vec<u8>,
-    ) -> Result<Result<(), LineFault>, NoMemory>
+    ) -> Result<(), LineError>
         requires kept { keeps self.old number }
         requires number { number ≤ 16777217 }
-        ensures verdict { IfOk result (λ answer. Judges job (job.judged self.old number line.now) text.old.items text.new.items self.new answer) }
-        ensures keeps_on { IfOk result (λ answer. answer ≡ Ok tt → keeps self.new (number + 1)) };
+        ensures verdict { Judges job (job.judged self.old number line.now) text.old.items text.new.items self.new result }
+        ensures keeps_on { OnOk result (keeps self.new (number + 1)) };
 
     /// Puts the text at the input's end. NoMemory comes where no memory was left.
     fn finish(&mut self, alloc: Global, text: &mut Vec<u8>) -> Result<(), NoMemory>

@@ -1,5 +1,5 @@
 //! The loop over the lines of an input.
-ghost use Rattle.std.specs.Prelude.{◌≡◌, ◌≢◌, ℕ, ◌++◌, List, Bool, true, false, None, Some, IfSome};
+ghost use Rattle.std.specs.Prelude.{◌≡◌, ℕ, ◌++◌, List, Bool, true, false, None, Some, IfSome};
 ghost use Rattle.dccp_io.specs.Counts.{Rose};
 ghost use Rattle.dccp_io.specs.Lines.{rest_of_input};
 ghost use Rattle.tool_text.specs.Ends.{EndsForCause, SinkFails};
@@ -10,36 +10,30 @@ ghost use Rattle.tool_text.specs.Turns.{Leaves};
 use crate::lines::job::LineJob;
 use crate::lines::refusals::put_refusal;
 use crate::lines::turns::{Turn, flush_if_due, judge_next};
-use crate::output::{Status, answered, cut_off};
+use crate::output::{JobEnd, answered, cut_off};
 use crate::words::LineFault;
 use dccp_io::{Lines, Sink, Source, write_all};
-use seq_circle::NoMemory;
 use std::alloc::Global;
 
 // Writes the rest of the text, and answers Input where a line was refused, and Done otherwise. Write comes where the
 // sink failed.
-fn leave<K: Sink>(output: &mut K, text: &[u8], refused: bool) -> Status
-    ensures words { result ≢ Status.Words }
-    ensures read { result ≢ Status.Read }
-    ensures memory { result ≢ Status.Memory }
+fn leave<K: Sink>(output: &mut K, text: &[u8], refused: bool) -> JobEnd
     ensures leaves { Leaves text.now refused result (K.taken output.old) (K.taken output.new) }
-    ensures write { result ≡ Status.Write → SinkFails K.faults K.empty_takes output.old output.new }
+    ensures cause { EndsForCause result ⊥ (SinkFails K.faults K.empty_takes output.old output.new) }
 {
     match write_all(output, text) {
-        Err(_) => Status::Write,
+        Err(_) => JobEnd::Write,
         Ok(()) => answered(refused),
     }
 }
 
 // Writes the rest of the text, and the line of a refusal behind it, under the number of the line that is refused.
-fn refuse<K: Sink>(output: &mut K, text: &mut Vec<u8>, number: u64, fault: LineFault) -> Status
-    ensures words { result ≢ Status.Words }
-    ensures read { result ≢ Status.Read }
+fn refuse<K: Sink>(output: &mut K, text: &mut Vec<u8>, number: u64, fault: LineFault) -> JobEnd
     ensures leaves { Leaves (text.old.items ++ refusal_line number fault) true result (K.taken output.old) (K.taken output.new) }
-    ensures write { result ≡ Status.Write → SinkFails K.faults K.empty_takes output.old output.new }
+    ensures cause { EndsForCause result ⊥ (SinkFails K.faults K.empty_takes output.old output.new) }
 {
     if put_refusal(text, number, fault).is_err() {
-        return Status::Memory;
+        return JobEnd::Memory;
     }
     leave(output, text, true)
 }
@@ -50,15 +44,13 @@ fn end<J: LineJob, K: Sink>(
     job: &mut J,
     output: &mut K,
     text: &mut Vec<u8>,
-) -> Status
+) -> JobEnd
     requires { (number : ℕ) × J.keeps job.old number }
-    ensures words { result ≢ Status.Words }
-    ensures read { result ≢ Status.Read }
     ensures leaves { Leaves (text.old.items ++ J.job.ending job.old) false result (K.taken output.old) (K.taken output.new) }
-    ensures write { result ≡ Status.Write → SinkFails K.faults K.empty_takes output.old output.new }
+    ensures cause { EndsForCause result ⊥ (SinkFails K.faults K.empty_takes output.old output.new) }
 {
     if job.finish(alloc, text).is_err() {
-        return Status::Memory;
+        return JobEnd::Memory;
     }
     leave(output, text, false)
 }
@@ -70,11 +62,10 @@ fn go_through<J: LineJob, S: Source + Drop, K: Sink>(
     lines: &mut Lines<S>,
     output: &mut K,
     text: &mut Vec<u8>,
-) -> Status
+) -> JobEnd
     requires kept { J.keeps job.old 1 }
     requires given { lines.old.given ≡ 0 }
     requires unstopped { lines.old.stop ≡ None }
-    ensures words { result ≢ Status.Words }
     ensures through { IfSome (rest_of_input S.left lines.old) (λ bytes. GoesThrough J.job J.keeps job.old text.old.items bytes result
         (S.left lines.new.source) (K.taken output.old) (K.taken output.new)) }
     ensures same_lender { S.lender lines.new.source ≡ S.lender lines.old.source }
@@ -83,14 +74,14 @@ fn go_through<J: LineJob, S: Source + Drop, K: Sink>(
     let mut number = 1;
     loop {
         if flush_if_due(lines, output, text).is_err() {
-            return Status::Write;
+            return JobEnd::Write;
         }
         match judge_next(alloc, job, number, lines, text) {
-            Ok(Turn::Accepted) => number += 1,
-            Ok(Turn::Ended) => return end(alloc, job, output, text),
-            Ok(Turn::Refused(fault)) => return refuse(output, text, number, fault),
-            Ok(Turn::Failed) => return cut_off(output, text, Status::Read),
-            Err(NoMemory) => return Status::Memory,
+            Turn::Accepted => number += 1,
+            Turn::Ended => return end(alloc, job, output, text),
+            Turn::Refused(fault) => return refuse(output, text, number, fault),
+            Turn::Failed => return cut_off(output, text, JobEnd::Read),
+            Turn::NoMemory => return JobEnd::Memory,
         }
     }
 }
@@ -108,15 +99,14 @@ pub fn run_lines<J: LineJob, S: Source, K: Sink>(
     text: &mut Vec<u8>,
     input: &mut S,
     output: &mut K,
-) -> Status
+) -> JobEnd
     requires { J.keeps job.old 1 }
-    ensures words { result ≢ Status.Words }
     ensures through { (bytes : List ℕ) → S.left input.old ≡ Some bytes
         → GoesThrough J.job J.keeps job.old text.old.items bytes result (S.left input.new) (K.taken output.old) (K.taken output.new) }
     ensures cause { EndsForCause result (Rose (S.faults input.old) (S.faults input.new)) (SinkFails K.faults K.empty_takes output.old output.new) }
 {
     let Ok(mut lines) = Lines::new(alloc, &mut *input) else {
-        return Status::Memory;
+        return JobEnd::Memory;
     };
     let status = go_through(alloc, job, &mut lines, output, text);
     let _ = lines.into_source();

@@ -5,12 +5,12 @@ ghost use Rattle.dccp_io.specs.Lines.{holds_next};
 ghost use Rattle.tool_text.specs.Ends.{IsMovedOut, SinkFails};
 ghost use Rattle.tool_text.specs.Turns.{TakesTurn, judged_turn, stopped_turn};
 
+use crate::lines::error::LineError;
 use crate::lines::job::LineJob;
 use crate::lines::refusals::too_long;
 use crate::output::{flush, flush_if_full};
 use crate::words::{LineFault, LineWhy, whole_line};
 use dccp_io::{Failed, Lines, Sink, Source, Stop};
-use seq_circle::NoMemory;
 use std::alloc::Global;
 
 /// What one turn came to.
@@ -23,6 +23,8 @@ pub(crate) enum Turn {
     Refused(LineFault),
     /// The source failed.
     Failed,
+    /// No memory was left.
+    NoMemory,
 }
 
 // The turn in which the reader stopped: a line that is too long, or too much for an input, is refused.
@@ -37,12 +39,13 @@ fn stopped_turn(stop: Stop) -> Turn
 }
 
 // The turn in which a line was judged.
-fn judged_turn(answer: Result<(), LineFault>) -> Turn
+fn judged_turn(answer: Result<(), LineError>) -> Turn
     ensures { result ≡ judged_turn answer }
 {
     match answer {
         Ok(()) => Turn::Accepted,
-        Err(fault) => Turn::Refused(fault),
+        Err(LineError::Refused(fault)) => Turn::Refused(fault),
+        Err(LineError::NoMemory) => Turn::NoMemory,
     }
 }
 
@@ -74,7 +77,7 @@ pub(crate) fn judge_next<J: LineJob, S: Source + Drop>(
     number: u64,
     lines: &mut Lines<S>,
     text: &mut Vec<u8>,
-) -> Result<Turn, NoMemory>
+) -> Turn
     requires kept { J.keeps job.old number }
     requires number { number ≤ 16777217 }
     requires unstopped { lines.old.stop ≡ None }
@@ -82,11 +85,8 @@ pub(crate) fn judge_next<J: LineJob, S: Source + Drop>(
     ensures { TakesTurn S.left S.faults S.lender J.job J.keeps number lines.old lines.new job.old job.new text.old.items text.new.items result }
 {
     match lines.find() {
-        Err(stop) => Ok(stopped_turn(stop)),
-        Ok(false) => Ok(Turn::Ended),
-        Ok(true) => {
-            let answer = job.judge(alloc, number, lines.text(), text)?;
-            Ok(judged_turn(answer))
-        }
+        Err(stop) => stopped_turn(stop),
+        Ok(false) => Turn::Ended,
+        Ok(true) => judged_turn(job.judge(alloc, number, lines.text(), text)),
     }
 }

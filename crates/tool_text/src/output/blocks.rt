@@ -5,7 +5,7 @@ ghost use Rattle.dccp_io.specs.Fronts.{TakesFront};
 ghost use Rattle.tool_text.specs.Ends.{SinkFailed, HasBegun, HasTaken, IsMovedOut, block_length};
 ghost use Rattle.tool_text.specs.Text.{SameText};
 
-use crate::output::status::Status;
+use crate::output::status::JobEnd;
 use dccp_io::{Failed, Sink, write_all};
 
 // A text of so many bytes is written.
@@ -46,7 +46,7 @@ pub fn flush_if_full<K: Sink>(output: &mut K, text: &mut Vec<u8>) -> Result<(), 
 
 /// Writes the lines that are whole, so that none is lost where the job ends early, and answers why it does (own). All
 /// are written unless the sink failed.
-pub fn cut_off<K: Sink>(output: &mut K, text: &[u8], why: Status) -> Status
+pub fn cut_off<K: Sink>(output: &mut K, text: &[u8], why: JobEnd) -> JobEnd
     ensures same { result ≡ why }
     ensures front { HasBegun (K.taken output.old) (K.taken output.new) text.now }
     ensures whole { (SinkFailed (K.faults output.old) (K.faults output.new) (K.empty_takes output.old) (K.empty_takes output.new) → ⊥) → HasTaken (K.taken output.old) (K.taken output.new) text.now }

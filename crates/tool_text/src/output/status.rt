@@ -1,7 +1,39 @@
-//! How a job ended.
-ghost use Rattle.std.specs.Prelude.{◌≡◌, if◌then◌else◌};
+//! How a job ended, and with what status the program ends.
+ghost use Rattle.std.specs.Prelude.{◌≡◌, ◌≢◌, if◌then◌else◌};
+ghost use Rattle.tool_text.specs.Ends.{status_of};
 
 /// How a job of the tool ended (own).
+#[derive(Clone, Copy, Debug, PartialEq, Eq)]
+pub enum JobEnd {
+    /// The whole job was done; an input that it has was read to its end.
+    Done,
+    /// The input is refused at the place that the last line written states.
+    Input,
+    /// The source failed.
+    Read,
+    /// The sink failed, or took no byte of a piece that was not empty.
+    Write,
+    /// No memory was left.
+    Memory,
+}
+
+impl JobEnd {
+    /// The status of a program whose job ended so (own).
+    pub fn status(self) -> Status
+        ensures value { result ≡ status_of self }
+        ensures not_words { result ≢ Status.Words }
+    {
+        match self {
+            JobEnd::Done => Status::Done,
+            JobEnd::Input => Status::Input,
+            JobEnd::Read => Status::Read,
+            JobEnd::Write => Status::Write,
+            JobEnd::Memory => Status::Memory,
+        }
+    }
+}
+
+/// How a program ends (own): as the job that its words ask for, or with Words, where they ask for none.
 #[derive(Clone, Copy, Debug, PartialEq, Eq)]
 pub enum Status {
     /// The whole job was done; an input that it has was read to its end.
@@ -40,8 +72,8 @@ impl Status {
 }
 
 /// How a job ended that wrote all that there is to write (own): Input where its input was refused, and Done otherwise.
-pub fn answered(refused: bool) -> Status
-    ensures { result ≡ (if refused then Status.Input else Status.Done) }
+pub fn answered(refused: bool) -> JobEnd
+    ensures { result ≡ (if refused then JobEnd.Input else JobEnd.Done) }
 {
-    if refused { Status::Input } else { Status::Done }
+    if refused { JobEnd::Input } else { JobEnd::Done }
 }

@@ -4,6 +4,7 @@ use Rattle.packet_show.specs.declared.show.Tally.{Tally}
 use Rattle.packet_show.specs.CaptureText.{last_line, fault_line, first_tally}
 use Rattle.packet_show.specs.Show.{Closes}
 use Rattle.packet_show.proofs.Showing.{refused-as}
+use Rattle.tool_text.proofs.Ending.{ends-for-more}
 use Rattle.packet_show.proofs.show.refuse_header.Goals as goal
 
 pub returns-in_default : goal.returns-in_default
@@ -13,11 +14,8 @@ returns-in_default g c =
     ∙ ap (λ (tally : Tally). fault_line tally c.args.why) c.new-in_default.ensures in
     record {
       refuses = refused-as c.args.why c.finish.result (g.K.Sink.taken c.args.output.now)
-          (g.K.Sink.taken c.finish.new.output) c.in_default.not-ReadFault c.in_default.not-NoMemory (
-            c.finish.ensures.words,
-            c.finish.ensures.read,
-            subst (λ (text : List ℕ). Closes text (Some c.args.why) c.finish.result (g.K.Sink.taken c.args.output.now)
-                (g.K.Sink.taken c.finish.new.output)) line c.finish.ensures.closes,
-          );
-      write = c.finish.ensures.write;
+          (g.K.Sink.taken c.finish.new.output) c.in_default.not-ReadFault c.in_default.not-NoMemory
+          (subst (λ (text : List ℕ). Closes text (Some c.args.why) c.finish.result (g.K.Sink.taken c.args.output.now)
+          (g.K.Sink.taken c.finish.new.output)) line c.finish.ensures.closes);
+      cause = ends-for-more c.finish.result _ _ _ (λ (no : ⊥). absurd no) c.finish.ensures.cause;
     }

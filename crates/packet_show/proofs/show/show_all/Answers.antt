@@ -4,7 +4,7 @@ use Rattle.std.proofs.lemmas.Option.{IfSome_then}
 use Rattle.capture_reader.specs.Records.{records_from}
 use Rattle.capture_reader.specs.State.{rest}
 use Rattle.packet_show.specs.declared.show.Turn.{Turn}
-use Rattle.tool_text.specs.declared.output.status.Status.TheVariants as status
+use Rattle.tool_text.specs.declared.output.status.JobEnd.TheVariants as ended
 use Rattle.packet_show.specs.Show.{Turns}
 use Rattle.tool_text.specs.Ends.{HasBegun}
 use Rattle.dccp_io.specs.Fronts.{TakesFront}
@@ -57,7 +57,7 @@ returns-then-is_err-clause-shows g c =
     shown-early c.loop-captures.captures.format c.loop-captures.captures.number c.loop-captures.captures.given (rest g.S.Source.left c.loop-captures.captures)
     (g.S.Source.left c.loop-captures.captures.source) c.loop-captures.tally c.loop-captures.text.items (g.K.Sink.taken c.args.output.now)
     (g.K.Sink.taken c.loop-captures.output) (g.K.Sink.taken c.flush_if_due.new.output)
-    (records_from c.args.captures.now.format 0 0 24 bytes) bytes status.Write (inr (inl refl)) along (front.0, front.2))
+    (records_from c.args.captures.now.format 0 0 24 bytes) bytes ended.Write (inr (inl refl)) along (front.0, front.2))
 
 pub returns-in-Ok-Ended-clause-shows : goal.returns-in-Ok-Ended-clause-shows
 returns-in-Ok-Ended-clause-shows g c =

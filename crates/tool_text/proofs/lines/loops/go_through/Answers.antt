@@ -1,5 +1,6 @@
 -- The loop keeps its invariant, and each of its ends is one of the whole input.
-use Rattle.std.proofs.Common.{sym, ◌∙◌}
+use Rattle.std.proofs.Common.{refl, sym, ◌∙◌}
+use Rattle.tool_text.specs.declared.lines.turns.Turn.TheVariants as turn
 use Rattle.tool_text.proofs.Turning.{begins, moved-on, unmoved, out-of-memory, turned-on, turned-to-end, turned-down, turned-off}
 use Rattle.tool_text.proofs.lines.loops.go_through.Goals as goal
 
@@ -21,7 +22,7 @@ loop-alloc-preserved g c =
     c.args.job.now c.args.lines.now
     c.args.output.now c.args.text.now.items c.loop-alloc.job c.loop-alloc.lines c.flush_if_due.new.output c.flush_if_due.new.text.items c.loop-alloc.number
     before
-    c.judge_next.new.lines c.judge_next.new.job c.judge_next.new.text.items c.in-Ok-Accepted.field-0 c.in-Ok-Accepted.ensures c.in-Ok-Accepted.field-0-is
+    c.judge_next.new.lines c.judge_next.new.job c.judge_next.new.text.items turn.Accepted c.in-Accepted.ensures refl
 
 pub returns-then-is_err-clause-through : goal.returns-then-is_err-clause-through
 returns-then-is_err-clause-through g c =
@@ -31,8 +32,8 @@ returns-then-is_err-clause-through g c =
     c.loop-alloc.invariant
     c.flush_if_due.new.output c.flush_if_due.result c.flush_if_due.ensures.front (sym c.is_err.ensures.value ∙ c.if-is_err.true)
 
-pub returns-in-Ok-Ended-clause-through : goal.returns-in-Ok-Ended-clause-through
-returns-in-Ok-Ended-clause-through g c =
+pub returns-in-Ended-clause-through : goal.returns-in-Ended-clause-through
+returns-in-Ended-clause-through g c =
     let before = moved-on g.S.Source.left g.S.Source.faults g.S.Source.lender g.K.Sink.taken g.K.Sink.faults g.K.Sink.empty_takes g.J.LineJob.job
     g.J.LineJob.keeps c.args.job.now c.args.lines.now
     c.args.output.now c.args.text.now.items c.loop-alloc.job c.loop-alloc.lines c.loop-alloc.output c.loop-alloc.text.items c.loop-alloc.number
@@ -43,12 +44,12 @@ returns-in-Ok-Ended-clause-through g c =
     c.args.job.now c.args.lines.now
     c.args.output.now c.args.text.now.items c.loop-alloc.job c.loop-alloc.lines c.flush_if_due.new.output c.flush_if_due.new.text.items c.loop-alloc.number
     before
-    c.judge_next.new.lines c.judge_next.new.job c.judge_next.new.text.items c.in-Ok-Ended.field-0 c.in-Ok-Ended.ensures
-    (g.K.Sink.taken c.end.new.output) _ c.in-Ok-Ended.field-0-is
+    c.judge_next.new.lines c.judge_next.new.job c.judge_next.new.text.items turn.Ended c.in-Ended.ensures
+    (g.K.Sink.taken c.end.new.output) _ refl
     c.end.ensures.leaves
 
-pub returns-in-Ok-Refused-clause-through : goal.returns-in-Ok-Refused-clause-through
-returns-in-Ok-Refused-clause-through g c =
+pub returns-in-Refused-clause-through : goal.returns-in-Refused-clause-through
+returns-in-Refused-clause-through g c =
     let before = moved-on g.S.Source.left g.S.Source.faults g.S.Source.lender g.K.Sink.taken g.K.Sink.faults g.K.Sink.empty_takes g.J.LineJob.job
     g.J.LineJob.keeps c.args.job.now c.args.lines.now
     c.args.output.now c.args.text.now.items c.loop-alloc.job c.loop-alloc.lines c.loop-alloc.output c.loop-alloc.text.items c.loop-alloc.number
@@ -59,11 +60,11 @@ returns-in-Ok-Refused-clause-through g c =
     c.args.job.now c.args.lines.now
     c.args.output.now c.args.text.now.items c.loop-alloc.job c.loop-alloc.lines c.flush_if_due.new.output c.flush_if_due.new.text.items c.loop-alloc.number
     before
-    c.judge_next.new.lines c.judge_next.new.job c.judge_next.new.text.items c.in-Ok-Refused.field-0 c.in-Ok-Refused.ensures (g.K.Sink.taken c.refuse.new.output)
-    c.in-Ok-Refused.fault _ c.in-Ok-Refused.field-0-is c.refuse.ensures.leaves
+    c.judge_next.new.lines c.judge_next.new.job c.judge_next.new.text.items (turn.Refused c.in-Refused.fault) c.in-Refused.ensures (g.K.Sink.taken c.refuse.new.output)
+    c.in-Refused.fault _ refl c.refuse.ensures.leaves
 
-pub returns-in-Ok-Failed-clause-through : goal.returns-in-Ok-Failed-clause-through
-returns-in-Ok-Failed-clause-through g c =
+pub returns-in-Failed-clause-through : goal.returns-in-Failed-clause-through
+returns-in-Failed-clause-through g c =
     let before = moved-on g.S.Source.left g.S.Source.faults g.S.Source.lender g.K.Sink.taken g.K.Sink.faults g.K.Sink.empty_takes g.J.LineJob.job
     g.J.LineJob.keeps c.args.job.now c.args.lines.now
     c.args.output.now c.args.text.now.items c.loop-alloc.job c.loop-alloc.lines c.loop-alloc.output c.loop-alloc.text.items c.loop-alloc.number
@@ -74,11 +75,11 @@ returns-in-Ok-Failed-clause-through g c =
     c.args.job.now c.args.lines.now
     c.args.output.now c.args.text.now.items c.loop-alloc.job c.loop-alloc.lines c.flush_if_due.new.output c.flush_if_due.new.text.items c.loop-alloc.number
     before
-    c.judge_next.new.lines c.judge_next.new.job c.judge_next.new.text.items c.in-Ok-Failed.field-0 c.in-Ok-Failed.ensures (g.K.Sink.taken c.cut_off.new.output)
-    c.deref.result.now _ c.in-Ok-Failed.field-0-is c.deref.ensures.value c.cut_off.ensures.same c.cut_off.ensures.front
+    c.judge_next.new.lines c.judge_next.new.job c.judge_next.new.text.items turn.Failed c.in-Failed.ensures (g.K.Sink.taken c.cut_off.new.output)
+    c.deref.result.now _ refl c.deref.ensures.value c.cut_off.ensures.same c.cut_off.ensures.front
 
-pub returns-in-Err-clause-through : goal.returns-in-Err-clause-through
-returns-in-Err-clause-through g c =
+pub returns-in-NoMemory-clause-through : goal.returns-in-NoMemory-clause-through
+returns-in-NoMemory-clause-through g c =
     let before = moved-on g.S.Source.left g.S.Source.faults g.S.Source.lender g.K.Sink.taken g.K.Sink.faults g.K.Sink.empty_takes g.J.LineJob.job
     g.J.LineJob.keeps c.args.job.now c.args.lines.now
     c.args.output.now c.args.text.now.items c.loop-alloc.job c.loop-alloc.lines c.loop-alloc.output c.loop-alloc.text.items c.loop-alloc.number

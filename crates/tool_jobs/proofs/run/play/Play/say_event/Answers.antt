@@ -1,6 +1,5 @@
 -- Behind an event each side has sent one frame more at most, and its line was judged as it was shown.
-use Rattle.std.proofs.Common.{rules, ◌≡◌, ◌<◌, subst, true, false, Some}
-use Rattle.std.specs.Prelude.{is_ok}
+use Rattle.std.proofs.Common.{rules, ◌≡◌, ◌<◌, subst, Some, Ok, Err}
 use Rattle.tool_jobs.specs.Transcript.{SentFew, ShowsEvent, event_shown, world_of}
 use Rattle.tool_jobs.proofs.Judging.{judged-else, judged-then}
 use Rattle.tool_jobs.proofs.Room.{few-at, shown-few, playable-behind}
@@ -9,38 +8,36 @@ use Rattle.ccid_two.specs.Kinds.{Both}
 use Rattle.tool_jobs.proofs.run.play.Play.say_event.Goals as goal
 use Rattle.tool_text.specs.Jobs.{most_events}
 
-pub returns-then-is_ok-clause-playable : goal.returns-then-is_ok-clause-playable
-returns-then-is_ok-clause-playable c = λ fine.
+pub returns-clause-playable : goal.returns-clause-playable
+returns-clause-playable c =
     let old = c.args.self.now in
     let made : c.make_world.new.self ≡ record old { world = Some (world_of old) } = search rules in
     let here : world_of old ≡ c.in-Some.world = search rules in
     let few = subst (λ (w : Controlled Both). SentFew w old.events) here (few-at old.client old.server old.world old.events c.requires.few) in
     playable-behind old c.make_world.new.self c.show_event.new.world made c.requires
-    (shown-few _ c.in-Some.world c.show_event.new.world c.args.event.now _ _ c.in_ok-answer.answer old.events c.in_ok-answer.ensures fine few)
+    (shown-few _ c.in-Some.world c.show_event.new.world c.args.event.now _ _ old.events c.in_ok-show_event.ensures few)
 
-pub returns-then-is_ok-clause-verdict : goal.returns-then-is_ok-clause-verdict
-returns-then-is_ok-clause-verdict c =
+pub returns-clause-verdict : goal.returns-clause-verdict
+returns-clause-verdict c =
     let old = c.args.self.now in
     let made : c.make_world.new.self ≡ record old { world = Some (world_of old) } = search rules in
     let here : c.in-Some.world ≡ world_of old = search rules in
     let few : old.events < most_events = search rules in
-    let ok : is_ok c.in_ok-answer.answer ≡ true = search rules in
-    judged-then old c.args.text.now.items c.show_event.new.text.items c.show_event.new.world c.in_ok-answer.answer c.args.number c.args.event.now few
-    c.make_world.new.self made ok
+    judged-then old c.args.text.now.items c.show_event.new.text.items c.show_event.new.world c.args.number c.args.event.now few
+    c.make_world.new.self made
     (subst
     (λ (w : Controlled Both).
-    ShowsEvent (event_shown c.args.number w c.args.event.now) c.args.text.now.items c.show_event.new.text.items c.show_event.new.world c.in_ok-answer.answer)
-    here c.in_ok-answer.ensures)
+    ShowsEvent (event_shown c.args.number w c.args.event.now) c.args.text.now.items c.show_event.new.text.items c.show_event.new.world (Ok tt))
+    here c.in_ok-show_event.ensures)
 
-pub returns-else-is_ok-clause-verdict : goal.returns-else-is_ok-clause-verdict
-returns-else-is_ok-clause-verdict c =
+pub returns-in_err-show_event-clause-verdict : goal.returns-in_err-show_event-clause-verdict
+returns-in_err-show_event-clause-verdict c =
     let old = c.args.self.now in
     let here : c.in-Some.world ≡ world_of old = search rules in
     let few : old.events < most_events = search rules in
-    let failed : is_ok c.in_ok-answer.answer ≡ false = search rules in
-    judged-else old c.args.text.now.items c.show_event.new.text.items c.show_event.new.world c.in_ok-answer.answer c.args.number c.args.event.now few _
-    failed
+    judged-else old c.args.text.now.items c.show_event.new.text.items c.show_event.new.world c.args.number c.args.event.now few _ c.in_err-show_event.error
     (subst
     (λ (w : Controlled Both).
-    ShowsEvent (event_shown c.args.number w c.args.event.now) c.args.text.now.items c.show_event.new.text.items c.show_event.new.world c.in_ok-answer.answer)
-    here c.in_ok-answer.ensures)
+    ShowsEvent (event_shown c.args.number w c.args.event.now) c.args.text.now.items c.show_event.new.text.items c.show_event.new.world
+    (Err c.in_err-show_event.error))
+    here c.in_err-show_event.ensures)
