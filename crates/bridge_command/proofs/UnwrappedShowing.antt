@@ -1,12 +1,12 @@
 -- What `show` finds in a record, found in the one that is made of it.
 use Rattle.std.proofs.Common.{arith, ◌≡◌, refl, sym, ap, ◌∙◌, ℕ, ◌/◌, ◌&&◌, ◌==◌, List, [], ◌∷◌, length, drop, slice_index, Bool, true, false, nat_lt, if◌then◌else◌, Option, Some, None}
 use Rattle.std.proofs.lemmas.Bool.Decides.{nat_tests}
-use Rattle.std.proofs.lemmas.Bool.{lt-ltb, ltb-false}
+use Rattle.std.proofs.lemmas.Bool.{lt-ltb, ltb-false, or_parts}
 use Rattle.std.proofs.lemmas.List.{get_or-drop}
 use Rattle.std.proofs.Math.ListN.{drop_of_length-le}
 use Rattle.dccp_packets.specs.Grammar.{number_at}
 use Rattle.packet_show.specs.Network.{carried, in_ethernet, in_frame, in_ip, in_v4, in_v6, is_v4, is_v6, version}
-use Rattle.bridge_command.specs.Links.{IsUntagged, bytes_at_start, ip_at, ip_at_first, ip_by_type, ip_bytes, ip_of_type, start_or}
+use Rattle.bridge_command.specs.Links.{IsUntagged, bytes_at_start, ip_at, ip_at_first, ip_by_type, ip_bytes, ip_of_type, is_tag, start_or}
 
 -- no IP of either version is found where the version is another
 no-v4 : (bytes : List ℕ) → (version bytes == 4) ≡ false → is_v4 bytes ≡ false
@@ -88,20 +88,21 @@ v6-stays bytes true true l x =
     ap (λ (s : Option ℕ). in_ip (bytes_at_start s bytes)) (ip-at-header 6 bytes true true l x) ∙ in-v6 (drop 14 bytes) x
 
 -- by the type of Ethernet
-frame-stays : (kind : ℕ) (bytes : List ℕ) (four six : Bool) → (kind == 2048) ≡ four → (kind == 34525) ≡ six
+frame-stays : (kind : ℕ) (bytes : List ℕ) (four six : Bool) → (kind == 2048) ≡ four → (kind == 34525) ≡ six → (kind == 34916) ≡ false
     → in_ip (bytes_at_start (ip_of_type kind 14 bytes) bytes) ≡ in_frame kind (drop 14 bytes)
-frame-stays kind bytes true six f x = rw f (v4-stays bytes (nat_lt 14 (length bytes)) (version (drop 14 bytes) == 4) refl refl)
-frame-stays kind bytes false true f x = rw (f, x) (v6-stays bytes (nat_lt 14 (length bytes)) (version (drop 14 bytes) == 6) refl refl)
-frame-stays kind bytes false false f x = rw (f, x) refl
+frame-stays kind bytes true six f x other = rw f (v4-stays bytes (nat_lt 14 (length bytes)) (version (drop 14 bytes) == 4) refl refl)
+frame-stays kind bytes false true f x other = rw (f, x) (v6-stays bytes (nat_lt 14 (length bytes)) (version (drop 14 bytes) == 6) refl refl)
+frame-stays kind bytes false false f x other = rw (f, x, other) refl
 
 ethernet-by : (bytes : List ℕ) (short : Bool) → nat_lt (length bytes) 14 ≡ short → IsUntagged bytes
     → in_ip (bytes_at_start (ip_by_type 12 14 bytes) bytes) ≡ in_ethernet bytes
 ethernet-by bytes true s untagged = rw s refl
 ethernet-by bytes false s untagged =
     let kind = number_at 12 2 bytes in
-    let plain : ip_by_type 12 14 bytes ≡ ip_of_type kind 14 bytes = rw (s, untagged) refl in
+    let parts = or_parts (is_tag kind) (kind == 34916) untagged in
+    let plain : ip_by_type 12 14 bytes ≡ ip_of_type kind 14 bytes = rw (s, parts.0) refl in
     let behind : in_ethernet bytes ≡ in_frame kind (drop 14 bytes) = rw s refl in
-    ap (λ (start : Option ℕ). in_ip (bytes_at_start start bytes)) plain ∙ frame-stays kind bytes (kind == 2048) (kind == 34525) refl refl ∙ sym behind
+    ap (λ (start : Option ℕ). in_ip (bytes_at_start start bytes)) plain ∙ frame-stays kind bytes (kind == 2048) (kind == 34525) refl refl parts.1 ∙ sym behind
 
 pub ethernet-stays : (bytes : List ℕ) → IsUntagged bytes → carried 101 (ip_bytes 1 bytes) ≡ carried 1 bytes
 ethernet-stays bytes untagged = ethernet-by bytes (nat_lt (length bytes) 14) refl untagged

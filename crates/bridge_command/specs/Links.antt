@@ -4,8 +4,8 @@ use Rattle.std.specs.Prelude.{◌≡◌, ℕ, ◌+◌, ◌/◌, Bool, false, ◌
 use Rattle.byteorder.specs.Endian.{big_number, little_number}
 use Rattle.dccp_packets.specs.Grammar.{number_at}
 
--- Link types 0 and 108 begin with an address family, 1 is Ethernet, 12 and 101 are raw IP, 113 and 276 those of the
--- "any" device of Linux, 228 is IPv4 and 229 IPv6.
+-- Link types 0 and 108 begin with an address family, 1 is Ethernet, 9 is PPP, 12 and 101 are raw IP, 113 and 276 those
+-- of the "any" device of Linux, 228 is IPv4 and 229 IPv6.
 
 -- IP of this version begins at a place: the first four bits there are the version
 abbrev pub ip_at : ℕ → ℕ → List ℕ → Option ℕ
@@ -20,13 +20,33 @@ start_or None other = other
 abbrev pub ip_at_first : List ℕ → Option ℕ
 ip_at_first bytes = start_or (ip_at 4 0 bytes) (ip_at 6 0 bytes)
 
--- what follows at a place has this type: 0800 for IPv4, 86dd for IPv6
-abbrev pub ip_of_type : ℕ → ℕ → List ℕ → Option ℕ
-ip_of_type kind next bytes = if kind == 2048 then ip_at 4 next bytes else if kind == 34525 then ip_at 6 next bytes else None
+-- what follows at a place has this protocol of PPP (RFC 1332, section 2; RFC 5072, section 3): 0021 for IPv4, 0057 for
+-- IPv6
+abbrev pub ip_of_protocol : ℕ → ℕ → List ℕ → Option ℕ
+ip_of_protocol protocol next bytes = if protocol == 33 then ip_at 4 next bytes else if protocol == 87 then ip_at 6 next bytes else None
 
--- the types of VLAN tags, 8100 and 88a8
+-- behind a header of PPPoE, six bytes, stands the protocol of PPP (RFC 2516, section 4)
+abbrev pub ip_in_session : ℕ → List ℕ → Option ℕ
+ip_in_session next bytes = if nat_lt (length bytes) (next + 8) then None else ip_of_protocol (number_at (next + 6) 2 bytes) (next + 8) bytes
+
+-- what follows at a place has this type: 0800 for IPv4, 86dd for IPv6, 8864 for a session of PPPoE
+abbrev pub ip_of_type : ℕ → ℕ → List ℕ → Option ℕ
+ip_of_type kind next bytes =
+    if kind == 2048 then ip_at 4 next bytes
+    else if kind == 34525 then ip_at 6 next bytes
+    else if kind == 34916 then ip_in_session next bytes
+    else None
+
+-- PPP begins with its protocol, or with an address and a control byte, ff and 03, before it (RFC 1662, section 3.1)
+abbrev pub ip_in_ppp : List ℕ → Option ℕ
+ip_in_ppp bytes =
+    if nat_lt (length bytes) 4 then None
+    else if number_at 0 2 bytes == 65283 then ip_of_protocol (number_at 2 2 bytes) 4 bytes
+    else ip_of_protocol (number_at 0 2 bytes) 2 bytes
+
+-- the types of VLAN tags: 8100, 88a8, and 9100, which some use for the outer one
 abbrev pub is_tag : ℕ → Bool
-is_tag kind = kind == 33024 || kind == 34984
+is_tag kind = kind == 33024 || (kind == 34984 || kind == 37120)
 
 -- the same behind a tag, of whose four bytes the last two are the next type
 abbrev pub ip_behind_tag : ℕ → ℕ → List ℕ → Option ℕ
@@ -67,12 +87,14 @@ abbrev pub ip_start : ℕ → List ℕ → Option ℕ
 ip_start link bytes =
     if link == 0 then ip_in_null bytes
     else if link == 1 then ip_by_type 12 14 bytes
+    else if link == 9 then ip_in_ppp bytes
+    else if link == 12 || link == 101 then ip_at_first bytes
     else if link == 108 then ip_in_loop bytes
     else if link == 113 then ip_by_type 14 16 bytes
     else if link == 228 then ip_at 4 0 bytes
     else if link == 229 then ip_at 6 0 bytes
     else if link == 276 then ip_by_type 0 20 bytes
-    else ip_at_first bytes
+    else None
 
 -- the IP packet that begins there, or no bytes where there is none
 abbrev pub bytes_at_start : Option ℕ → List ℕ → List ℕ
@@ -83,6 +105,6 @@ bytes_at_start None bytes = []
 abbrev pub ip_bytes : ℕ → List ℕ → List ℕ
 ip_bytes link bytes = bytes_at_start (ip_start link bytes) bytes
 
--- the type of Ethernet is no VLAN tag
+-- the type of Ethernet is neither a VLAN tag nor PPPoE
 abbrev pub IsUntagged : List ℕ → Type 0
-IsUntagged bytes = is_tag (number_at 12 2 bytes) ≡ false
+IsUntagged bytes = (is_tag (number_at 12 2 bytes) || number_at 12 2 bytes == 34916) ≡ false

@@ -32,9 +32,9 @@ frame_name_read (letter ∷ index) =
     else if letter == 115 then frame_of_sender Server index
     else Err (flaw_behind 0 why.UnknownWord)
 
--- the first words of the lines of `open`, of ends and of refusals
+-- the first words of the lines of `open` and of ends; that of a refusal is none, so what was refused is refused again
 abbrev pub is_other : List ℕ → Bool
-is_other word = bytes_eq word (codes "open:") || bytes_eq word (codes "end") || bytes_eq word (codes "line")
+is_other word = bytes_eq word (codes "open:") || bytes_eq word (codes "end")
 
 -- a word without the colon at its end, if one stands there
 abbrev pub without_colon : List ℕ → List ℕ

@@ -18,7 +18,7 @@ use tool_text::{JobEnd, Status};
 
 /// Does what the words ask for (own), those after the program's name. `capture` reads what `run` or `replay` wrote, and
 /// writes a classic capture with a record for each frame that was sent. `unwrap` reads a capture, classic or pcapng, of
-/// any of nine link types, and writes a classic one of raw IP, record for record. `seed` reads nothing, and writes the
+/// any of ten link types, and writes a classic one of raw IP, record for record. `seed` reads nothing, and writes the
 /// schedule of a campaign's seed. `frames` reads a capture as `unwrap` does, and writes lines of `replay` for the
 /// packets of a flow that go to a side; and `json` writes an object for each record.
 ///

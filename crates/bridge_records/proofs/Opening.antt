@@ -1,70 +1,52 @@
 -- A file header that a reader of captures takes is taken here, and is none of a section.
-use Rattle.std.proofs.Common.{arith, ◌≡◌, refl, sym, ap, ◌∙◌, ℕ, ◌≤◌, ◌==◌, List, [], ◌∷◌, length, take, Bool, true, false, nat_lt, Ok, Err}
+use Rattle.std.proofs.Common.{arith, ◌≡◌, refl, sym, ap, ◌∙◌, ℕ, ◌≤◌, ◌==◌, List, [], ◌∷◌, length, take, Bool, true, false, nat_lt, Option, Some, None, Result, Ok, Err}
 use Rattle.std.proofs.lemmas.Bool.{ltb-false}
 use Rattle.std.proofs.lemmas.Bool.Decides.{nat_tests}
 use Rattle.std.proofs.lemmas.List.{length-take-le}
-use Rattle.capture_reader.specs.Format.{format_in, format_of, is_link, is_version, magic_in, microseconds, nanoseconds, opened, ordered_number_at}
+use Rattle.capture_reader.specs.Format.{format_by, format_in, format_of, is_link, is_version, magic_in, magic_of, microseconds, nanoseconds, opened, or_fault, ordered_number_at, shown_links}
 use Rattle.capture_reader.specs.declared.fault.CaptureFault.TheVariants as why
+use Rattle.capture_reader.specs.declared.fault.FormatFault.{FormatFault}
+use Rattle.capture_reader.specs.declared.fault.FormatFault.TheVariants as fault
 use Rattle.capture_reader.specs.declared.format.Format.{Format}
 use Rattle.capture_reader.specs.declared.format.Order.{Order}
 use Rattle.capture_reader.specs.declared.format.Order.TheVariants.{Big, Little}
 use Rattle.bridge_records.specs.Blocks.{section_block}
-use Rattle.bridge_records.specs.Classic.{any_format, any_format_in, is_known_link}
+use Rattle.bridge_records.specs.Links.{known_links}
 
 -- the link types of `show` are known
-known-link : (link : ℕ) → is_link link ≡ true → is_known_link link ≡ true
+known-link : (link : ℕ) → is_link shown_links link ≡ true → is_link known_links link ≡ true
 known-link link is = grind (arith, nat_tests)
 
 -- what these say
 abbrev format-with : Order → Bool → List ℕ → Format
 format-with order nanos bytes = record { order = order; nanos = nanos; link = ordered_number_at order 20 4 bytes }
 
--- a magic number, version and link type that are taken
+-- a version and link type that are taken
 taken-in : (order : Order) (nanos : Bool) (bytes : List ℕ) (format : Format) (version link : Bool) → is_version order bytes ≡ version
-    → is_link (ordered_number_at order 20 4 bytes) ≡ link → format_in order nanos bytes ≡ Ok format → any_format_in order nanos bytes ≡ Ok format
+    → is_link shown_links (ordered_number_at order 20 4 bytes) ≡ link → format_in shown_links order nanos bytes ≡ Ok format
+    → format_in known_links order nanos bytes ≡ Ok format
 taken-in order nanos bytes format false link v l told =
-    let stops : format_in order nanos bytes ≡ Err why.BadVersion = rw v refl in cc (sym stops ∙ told)
+    let stops : format_in shown_links order nanos bytes ≡ Err fault.BadVersion = rw v refl in cc (sym stops ∙ told)
 taken-in order nanos bytes format true false v l told =
-    let stops : format_in order nanos bytes ≡ Err why.BadLink = rw (v, l) refl in cc (sym stops ∙ told)
+    let stops : format_in shown_links order nanos bytes ≡ Err fault.BadLink = rw (v, l) refl in cc (sym stops ∙ told)
 taken-in order nanos bytes format true true v l told =
     let known = known-link (ordered_number_at order 20 4 bytes) l in
-    let theirs : format_in order nanos bytes ≡ Ok (format-with order nanos bytes) = rw (v, l) refl in
-    let ours : any_format_in order nanos bytes ≡ Ok (format-with order nanos bytes) = rw (v, known) refl in
+    let theirs : format_in shown_links order nanos bytes ≡ Ok (format-with order nanos bytes) = rw (v, l) refl in
+    let ours : format_in known_links order nanos bytes ≡ Ok (format-with order nanos bytes) = rw (v, known) refl in
     let same : format-with order nanos bytes ≡ format = cc (sym theirs ∙ told) in
     ours ∙ ap (λ (f : Format). Ok f) same
 
--- the same without the two tests
-taken-by : (order : Order) (nanos : Bool) (bytes : List ℕ) (format : Format) → format_in order nanos bytes ≡ Ok format
-    → any_format_in order nanos bytes ≡ Ok format
-taken-by order nanos bytes format told =
-    taken-in order nanos bytes format (is_version order bytes) (is_link (ordered_number_at order 20 4 bytes)) refl refl told
-
--- the four magic numbers are tried in turn
-pub format-taken-in : (bytes : List ℕ) (format : Format) (a b c d : Bool) → (magic_in Big bytes == microseconds) ≡ a → (magic_in Big bytes == nanoseconds) ≡ b
-    → (magic_in Little bytes == microseconds) ≡ c → (magic_in Little bytes == nanoseconds) ≡ d → format_of bytes ≡ Ok format → any_format bytes ≡ Ok format
-format-taken-in bytes format true b c d p q r s told =
-    let theirs : format_of bytes ≡ format_in Big false bytes = rw p refl in
-    let ours : any_format bytes ≡ any_format_in Big false bytes = rw p refl in
-    ours ∙ taken-by Big false bytes format (sym theirs ∙ told)
-format-taken-in bytes format false true c d p q r s told =
-    let theirs : format_of bytes ≡ format_in Big true bytes = rw (p, q) refl in
-    let ours : any_format bytes ≡ any_format_in Big true bytes = rw (p, q) refl in
-    ours ∙ taken-by Big true bytes format (sym theirs ∙ told)
-format-taken-in bytes format false false true d p q r s told =
-    let theirs : format_of bytes ≡ format_in Little false bytes = rw (p, q, r) refl in
-    let ours : any_format bytes ≡ any_format_in Little false bytes = rw (p, q, r) refl in
-    ours ∙ taken-by Little false bytes format (sym theirs ∙ told)
-format-taken-in bytes format false false false true p q r s told =
-    let theirs : format_of bytes ≡ format_in Little true bytes = rw (p, q, r, s) refl in
-    let ours : any_format bytes ≡ any_format_in Little true bytes = rw (p, q, r, s) refl in
-    ours ∙ taken-by Little true bytes format (sym theirs ∙ told)
-format-taken-in bytes format false false false false p q r s told =
-    let stops : format_of bytes ≡ Err why.BadMagic = rw (p, q, r, s) refl in cc (sym stops ∙ told)
+-- the same by the magic number
+taken-by : (magic : Option (Order × Bool)) (bytes : List ℕ) (format : Format) → format_by shown_links magic bytes ≡ Ok format
+    → format_by known_links magic bytes ≡ Ok format
+taken-by None bytes format told = cc told
+taken-by (Some (order, nanos)) bytes format told =
+    taken-in order nanos bytes format (is_version order bytes) (is_link shown_links (ordered_number_at order 20 4 bytes)) refl refl told
 
 -- a header of a section has none of them, in either byte order
 no-section-in : (bytes : List ℕ) (format : Format) (a b c d : Bool) → 4 ≤ length bytes → (magic_in Big bytes == microseconds) ≡ a
     → (magic_in Big bytes == nanoseconds) ≡ b
-    → (magic_in Little bytes == microseconds) ≡ c → (magic_in Little bytes == nanoseconds) ≡ d → format_of bytes ≡ Ok format
+    → (magic_in Little bytes == microseconds) ≡ c → (magic_in Little bytes == nanoseconds) ≡ d → format_of shown_links bytes ≡ Ok format
     → (ordered_number_at Big 0 4 bytes == section_block) ≡ false
 no-section-in [] format a b c d long p q r s told = absurd (omega (arith, long))
 no-section-in (w ∷ []) format a b c d long p q r s told = absurd (omega (arith, long))
@@ -75,13 +57,20 @@ no-section-in (w ∷ x ∷ y ∷ z ∷ bytes) format false true c d long p q r s
 no-section-in (w ∷ x ∷ y ∷ z ∷ bytes) format false false true d long p q r s told = grind (arith, nat_tests)
 no-section-in (w ∷ x ∷ y ∷ z ∷ bytes) format false false false true long p q r s told = grind (arith, nat_tests)
 no-section-in (w ∷ x ∷ y ∷ z ∷ bytes) format false false false false long p q r s told =
-    let stops : format_of (w ∷ x ∷ y ∷ z ∷ bytes) ≡ Err why.BadMagic = rw (p, q, r, s) refl in cc (sym stops ∙ told)
+    let stops : format_of shown_links (w ∷ x ∷ y ∷ z ∷ bytes) ≡ Err fault.BadMagic = rw (p, q, r, s) refl in cc (sym stops ∙ told)
 
 -- a whole file header
 pub record IsTaken (input : List ℕ) (format : Format) : Type 0 where
   pub long : 24 ≤ length input
-  pub taken : any_format (take 24 input) ≡ Ok format
+  pub taken : format_of known_links (take 24 input) ≡ Ok format
   pub no_section : (ordered_number_at Big 0 4 (take 24 input) == section_block) ≡ false
+
+-- a format that an input opens with is that of its file header
+without-fault : (read : Result Format FormatFault) (format : Format) → or_fault read ≡ Ok format → read ≡ Ok format
+without-fault (Ok other) format told =
+    let same : other ≡ format = cc told in
+    ap (λ (f : Format). Ok f) same
+without-fault (Err why) format told = cc told
 
 taken-of : (input : List ℕ) (format : Format) (short : Bool) → nat_lt (length input) 24 ≡ short → opened input ≡ Ok format → IsTaken input format
 taken-of input format true short told =
@@ -90,12 +79,11 @@ taken-of input format false short told =
     let there : 24 ≤ length input = omega (arith, ltb-false (length input) 24 short) in
     let bytes : List ℕ = take 24 input in
     let size : length bytes ≡ 24 = length-take-le 24 input there in
-    let theirs : opened input ≡ format_of bytes = rw short refl in
-    let told_here : format_of bytes ≡ Ok format = sym theirs ∙ told in
+    let theirs : opened input ≡ or_fault (format_of shown_links bytes) = rw short refl in
+    let told_here : format_of shown_links bytes ≡ Ok format = without-fault (format_of shown_links bytes) format (sym theirs ∙ told) in
     record {
       long = there;
-      taken = format-taken-in bytes format (magic_in Big bytes == microseconds) (magic_in Big bytes == nanoseconds) (magic_in Little bytes == microseconds)
-          (magic_in Little bytes == nanoseconds) refl refl refl refl told_here;
+      taken = taken-by (magic_of bytes) bytes format told_here;
       no_section = no-section-in bytes format (magic_in Big bytes == microseconds) (magic_in Big bytes == nanoseconds) (magic_in Little bytes == microseconds)
           (magic_in Little bytes == nanoseconds) (omega (arith, size)) refl refl refl refl told_here;
     }

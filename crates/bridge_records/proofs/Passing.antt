@@ -6,14 +6,15 @@ use Rattle.std.proofs.lemmas.List.{drop-append-le, drop_at, length-drop, take_al
 use Rattle.byteorder.specs.Endian.{big_from, little_from}
 use Rattle.byteorder.specs.Numbers.{big_from-take, little_from-take}
 use Rattle.capture_reader.specs.Capture.{HasRecords, IsCapture, IsRecord, Opened, Refused}
-use Rattle.capture_reader.specs.Format.{opened, ordered_number_at}
-use Rattle.capture_reader.specs.Records.{RecordParts, captured}
+use Rattle.capture_reader.specs.Format.{format_of, opened, ordered_number_at}
+use Rattle.capture_reader.specs.Records.{RecordParts, captured, record_header}
 use Rattle.capture_reader.specs.declared.fault.CaptureFault.{CaptureFault}
+use Rattle.capture_reader.specs.declared.fault.FormatFault.{FormatFault}
 use Rattle.capture_reader.specs.declared.format.Format.{Format}
 use Rattle.capture_reader.specs.declared.format.Order.{Order}
 use Rattle.capture_reader.specs.declared.format.Order.TheVariants.{Big, Little}
 use Rattle.capture_reader.proofs.Capture.{read-capture}
-use Rattle.bridge_records.specs.declared.writing.headers.RecordHeader.{RecordHeader}
+use Rattle.capture_reader.specs.declared.record.RecordHeader.{RecordHeader}
 use Rattle.bridge_records.specs.Pieces.{Goes, GoesThroughPieces, Judgement, PieceNext, PieceWork, Taken, by_next_piece, done_by, in_front, pieces_from, taken_by}
 use Rattle.bridge_records.proofs.Along.{piece-there}
 use Rattle.bridge_records.proofs.FirstPiece.{pieces-cut}
@@ -21,7 +22,7 @@ use Rattle.bridge_records.specs.declared.pieces.fault.PieceFault.{PieceFault}
 use Rattle.tool_text.specs.declared.output.status.JobEnd.{JobEnd}
 use Rattle.dccp_io.specs.Counts.{one_more}
 use Rattle.bridge_records.specs.Blocks.{section_block, section_order}
-use Rattle.bridge_records.specs.Classic.{any_format, head_in}
+use Rattle.bridge_records.specs.Links.{known_links}
 use Rattle.bridge_records.specs.Reading.{FileState, by_format, by_header, by_section, by_start, first_file}
 use Rattle.bridge_records.specs.Recording.{RecordWork, RecordsState, by_judged, first_reading, numbered_entry, reading_at, records_of, records_work}
 use Rattle.bridge_records.specs.declared.reading.Place.{Place}
@@ -117,7 +118,7 @@ module _ {P V : Type 0} (work : RecordWork P V) (format : Format) where
   header-piece : (n given : ℕ) (job : V) (bytes : List ℕ) → 16 ≤ length bytes → given + 16 ≤ 2 ^ 32
       → onward given (here n job) bytes
       ≡ taken_by (here n job) given
-      (by_judged work (here n job) (take 16 bytes) (by_header (file (place.Header format)) format (head_in format.order (take 16 bytes))))
+      (by_judged work (here n job) (take 16 bytes) (by_header (file (place.Header format)) format (record_header format.order (take 16 bytes))))
       (λ next. onward (given + 16) next (drop 16 bytes))
   header-piece n given job bytes long counts =
       let one : 1 ≤ 16 = omega arith in
@@ -173,17 +174,17 @@ module _ {P V : Type 0} (work : RecordWork P V) (format : Format) where
 
   -- a record
   record-piece : (n given : ℕ) (job : V) (bytes body rest : List ℕ) → 16 ≤ length bytes → drop 16 bytes ≡ body ++ rest
-      → (head_in format.order (take 16 bytes)).captured ≡ length body
+      → (record_header format.order (take 16 bytes)).captured ≡ length body
       → length body ≤ 262144 → given + (16 + length body) ≤ 2 ^ 32
-      → onward given (here n job) bytes ≡ passing n job (entry-behind n (head_in format.order (take 16 bytes)) body) (given + (16 + length body)) rest
+      → onward given (here n job) bytes ≡ passing n job (entry-behind n (record_header format.order (take 16 bytes)) body) (given + (16 + length body)) rest
   record-piece n given job bytes [] rest long parts size fits counts =
-      let head = head_in format.order (take 16 bytes) in
+      let head = record_header format.order (take 16 bytes) in
       header-piece n given job bytes long counts
       ∙ ap (λ (j : Judgement P (RecordsState V)). taken_by (here n job) given j (λ (next : RecordsState V). onward (given + 16) next (drop 16 bytes)))
       (none-judged n job (take 16 bytes) head size)
       ∙ ap (λ (left : List ℕ). passing n job (entry-behind n head []) (given + 16) left) parts
   record-piece n given job bytes (byte ∷ body) rest long parts size fits counts =
-      let head = head_in format.order (take 16 bytes) in
+      let head = record_header format.order (take 16 bytes) in
       let all : List ℕ = byte ∷ body in
       let further : given + 16 + length all ≡ given + (16 + length all) = omega arith in
       header-piece n given job bytes long (omega (arith, counts))
@@ -196,7 +197,7 @@ module _ {P V : Type 0} (work : RecordWork P V) (format : Format) where
 
   -- what the header of a record says
   head-same : (number given : ℕ) (entry : RecordParts) (rest bytes : List ℕ) (r : IsRecord format number given entry rest bytes)
-      → head_in format.order (take 16 bytes)
+      → record_header format.order (take 16 bytes)
       ≡ head-of (ordered_number_at format.order 0 4 bytes) (ordered_number_at format.order 4 4 bytes) (length r.body)
       (ordered_number_at format.order 12 4 bytes)
   head-same number given entry rest bytes r =
@@ -213,7 +214,7 @@ module _ {P V : Type 0} (work : RecordWork P V) (format : Format) where
 
   -- the record that is handed on
   entry-same : (number given : ℕ) (entry : RecordParts) (rest bytes : List ℕ) (r : IsRecord format number given entry rest bytes) → number ≤ given
-      → entry-behind number (head_in format.order (take 16 bytes)) r.body ≡ entry
+      → entry-behind number (record_header format.order (take 16 bytes)) r.body ≡ entry
   entry-same number given entry rest bytes r few =
       let next : one_more number ≡ number + 1 = few-more number given few (omega (arith, r.counts)) in
       ap (λ (h : RecordHeader). entry-behind number h r.body) (head-same number given entry rest bytes r)
@@ -231,7 +232,7 @@ module _ {P V : Type 0} (work : RecordWork P V) (format : Format) where
       let whole : length bytes ≡ length (r.header ++ (r.body ++ rest)) = ap length r.whole in
       let joined = length-append r.header (r.body ++ rest) in
       let behind : drop 16 bytes ≡ r.body ++ rest = ap (drop 16) r.whole ∙ drop_at r.header (r.body ++ rest) 16 r.header_length in
-      let captured : (head_in format.order (take 16 bytes)).captured ≡ length r.body =
+      let captured : (record_header format.order (take 16 bytes)).captured ≡ length r.body =
       ap (λ (h : RecordHeader). h.captured) (head-same number given entry rest bytes r) in
       let further : given + (16 + length entry.bytes) ≡ given + (16 + length r.body) = ap (λ (k : ℕ). given + (16 + k)) size in
       let next : number + 1 ≡ one_more number = sym (few-more number given few (omega (arith, r.counts))) in
@@ -247,13 +248,13 @@ module _ {P V : Type 0} (work : RecordWork P V) (format : Format) where
       (record { refusal = others.refusal; deeds = ap (λ (deeds : List P). done_by (work.passed job entry).deed ++ deeds) others.deeds })
 
   -- the file header begins the capture
-  start-judged : (first : V) (piece : List ℕ) → any_format piece ≡ Ok format → (ordered_number_at Big 0 4 piece == section_block) ≡ false
+  start-judged : (first : V) (piece : List ℕ) → format_of known_links piece ≡ Ok format → (ordered_number_at Big 0 4 piece == section_block) ≡ false
       → by_judged work (first_reading first) piece (by_start first_file piece) ≡ Goes (work.begun first format.nanos).deed
       (here 0 (work.begun first format.nanos).next)
   start-judged first piece taken other =
       ap (λ (is : Bool). by_judged work (first_reading first) piece
-      (if is then by_section first_file piece (section_order piece) else by_format first_file (any_format piece))) other
-      ∙ ap (λ (r : Result Format PieceFault). by_judged work (first_reading first) piece (by_format first_file r)) taken
+      (if is then by_section first_file piece (section_order piece) else by_format first_file (format_of known_links piece))) other
+      ∙ ap (λ (r : Result Format FormatFault). by_judged work (first_reading first) piece (by_format first_file r)) taken
 
   input-begun : (first : V) (input : List ℕ) → IsTaken input format
       → records_of work first input ≡ in_front (done_by (work.begun first format.nanos).deed)

@@ -24,9 +24,14 @@ simple_block = 3
 abbrev pub enhanced_block : ℕ
 enhanced_block = 6
 
+-- the same as some wrote it before: two bytes have the interface, and two count lost packets
+abbrev pub packet_block : ℕ
+packet_block = 2
+
 -- blocks of these types are read, and all others skipped
 abbrev pub is_read_block : ℕ → Bool
-is_read_block kind = kind == section_block || (kind == interface_block || (kind == simple_block || kind == enhanced_block))
+is_read_block kind =
+    kind == section_block || (kind == interface_block || (kind == packet_block || (kind == simple_block || kind == enhanced_block)))
 
 -- the byte order in which the number 1a2b3c4d stands behind the first eight bytes
 abbrev pub section_order : List ℕ → Option Order
@@ -46,6 +51,10 @@ length_fault least total =
     if nat_lt total least || not (total % 4 == 0) then Some why.BadBlock
     else if nat_lt 524288 total then Some why.TooLong
     else None
+
+-- a block that is skipped is passed over piece by piece where it is longer than a block that is read may be
+abbrev pub is_passed_over : BlockHead → Bool
+is_passed_over head = nat_lt 524288 head.total && (head.total % 4 == 0 && not (is_read_block head.kind))
 
 -- the byte order of a block: a section's own, or that of the section
 abbrev pub block_order : Order → List ℕ → Option Order

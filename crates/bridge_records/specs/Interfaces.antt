@@ -5,7 +5,6 @@ use Rattle.capture_reader.specs.declared.format.Order.{Order}
 use Rattle.capture_reader.specs.declared.format.Order.TheVariants.{Big, Little}
 use Rattle.bridge_records.specs.declared.pieces.fault.PieceFault.{PieceFault}
 use Rattle.bridge_records.specs.declared.pieces.fault.PieceFault.TheVariants as why
-use Rattle.bridge_records.specs.Classic.{is_known_link}
 use Rattle.bridge_records.specs.declared.interfaces.Interface.{Interface}
 
 -- the option that begins here is sought, or the list ends, at code 0 or where no option has room before the block's
@@ -47,10 +46,10 @@ abbrev pub offset_at : Order → Option ℕ → List ℕ → ℕ
 offset_at order None options = 0
 offset_at order (Some place) options = if has_value order 8 place options then ordered_number_at order (place + 4) 8 options else 0
 
--- the link type, in the first two bytes of this number
-abbrev pub link_in : Order → ℕ → ℕ
-link_in Big first = first / 65536
-link_in Little first = first % 65536
+-- the number in the first two bytes of this one: a link type, or an interface
+abbrev pub front_of : Order → ℕ → ℕ
+front_of Big first = first / 65536
+front_of Little first = first % 65536
 
 -- an interface, by what stands behind its link type: the most captured bytes of a packet, and options
 abbrev pub interface_in : Order → ℕ → List ℕ → Interface
@@ -65,8 +64,7 @@ interface_in order link bytes = record {
 abbrev pub interface_of : Order → ℕ → List ℕ → Result Interface PieceFault
 interface_of order first bytes =
     if nat_lt (length bytes) 8 then Err why.BadBlock
-    else if not (is_known_link (link_in order first)) then Err why.BadLink
-    else Ok (interface_in order (link_in order first) bytes)
+    else Ok (interface_in order (front_of order first) bytes)
 
 -- microseconds are too coarse for an interface's times
 abbrev pub needs_nanos : ℕ → Bool

@@ -1,4 +1,4 @@
-pub mod Classic
+pub mod Links
 pub mod Blocks
 pub mod Interfaces
 pub mod Packets

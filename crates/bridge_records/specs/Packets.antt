@@ -2,7 +2,7 @@
 use Rattle.std.specs.Prelude.{ℕ, ◌+◌, ◌*◌, ◌^◌, ◌==◌, Bool, if◌then◌else◌, min, List, Option, Some, None}
 use Rattle.capture_reader.specs.Format.{ordered_number_at}
 use Rattle.capture_reader.specs.declared.format.Order.{Order}
-use Rattle.bridge_records.specs.declared.writing.headers.RecordHeader.{RecordHeader}
+use Rattle.capture_reader.specs.declared.record.RecordHeader.{RecordHeader}
 use Rattle.bridge_records.specs.Interfaces.{fraction_of, seconds_of, units_of}
 use Rattle.bridge_records.specs.declared.interfaces.Interface.{Interface}
 

@@ -1,17 +1,20 @@
 -- How the pieces of a capture, classic or pcapng, are read, and which records they hold (own; the savefile format of
 -- libpcap and draft-ietf-opsawg-pcapng).
-use Rattle.std.specs.Prelude.{◌≡◌, ◌≤◌, ⊤, ℕ, ◌+◌, ◌-◌, ◌==◌, ◌||◌, not, nat_le, nat_lt, Bool, true, false, if◌then◌else◌, List, [], ◌∷◌, ◌++◌, length, drop, take, slice_get, Option, Some, None, IfSome, Result, Ok, Err}
-use Rattle.capture_reader.specs.Format.{ordered_number_at}
+use Rattle.std.specs.Prelude.{◌≡◌, ◌≤◌, ⊤, ℕ, ◌+◌, ◌-◌, ◌%◌, ◌==◌, ◌||◌, not, nat_le, nat_lt, Bool, true, false, if◌then◌else◌, List, [], ◌∷◌, ◌++◌, length, min, drop, take, slice_get, Option, Some, None, IfSome, Result, Ok, Err}
+use Rattle.capture_reader.specs.Format.{format_of, ordered_number_at}
+use Rattle.capture_reader.specs.declared.fault.FormatFault.{FormatFault}
+use Rattle.capture_reader.specs.declared.fault.FormatFault.TheVariants as fault
 use Rattle.capture_reader.specs.declared.format.Format.{Format}
 use Rattle.capture_reader.specs.declared.format.Order.{Order}
 use Rattle.capture_reader.specs.declared.format.Order.TheVariants.{Big}
-use Rattle.bridge_records.specs.declared.writing.headers.RecordHeader.{RecordHeader}
+use Rattle.capture_reader.specs.declared.record.RecordHeader.{RecordHeader}
 use Rattle.bridge_records.specs.Pieces.{Goes, Judgement, Stops}
 use Rattle.bridge_records.specs.declared.pieces.fault.PieceFault.{PieceFault}
 use Rattle.bridge_records.specs.declared.pieces.fault.PieceFault.TheVariants as why
-use Rattle.bridge_records.specs.Classic.{any_format, head_in}
-use Rattle.bridge_records.specs.Blocks.{block_head, block_order, ends_block, enhanced_block, interface_block, is_read_block, is_section_version, length_fault, section_block, section_order, simple_block}
-use Rattle.bridge_records.specs.Interfaces.{interface_of, needs_nanos}
+use Rattle.capture_reader.specs.Records.{record_header}
+use Rattle.bridge_records.specs.Links.{known_links}
+use Rattle.bridge_records.specs.Blocks.{block_head, block_order, ends_block, enhanced_block, interface_block, is_passed_over, is_read_block, is_section_version, length_fault, packet_block, section_block, section_order, simple_block}
+use Rattle.bridge_records.specs.Interfaces.{front_of, interface_of, needs_nanos}
 use Rattle.bridge_records.specs.Packets.{enhanced_head, simple_head}
 use Rattle.bridge_records.specs.declared.blocks.BlockHead.{BlockHead}
 use Rattle.bridge_records.specs.declared.found.Found.{Found}
@@ -35,6 +38,7 @@ FitsPlace (place.Body format head) = (1 ≤ head.captured) × (head.captured ≤
 FitsPlace (place.Section order total) = (28 ≤ total) × (total ≤ 524288)
 FitsPlace (place.Block order) = ⊤
 FitsPlace (place.Rest order head) = (16 ≤ head.total) × (head.total ≤ 524288)
+FitsPlace (place.Passing order total left) = (4 ≤ left) × (left % 4 ≡ 0)
 
 -- before the first piece
 abbrev pub first_file : FileState
@@ -52,6 +56,7 @@ next_length (place.Body format head) = head.captured
 next_length (place.Section order total) = total - 24
 next_length (place.Block order) = 12
 next_length (place.Rest order head) = head.total - 12
+next_length (place.Passing order total left) = min left 524288
 
 -- the input may end between two records or blocks
 abbrev pub is_between : Place → Bool
@@ -61,6 +66,7 @@ is_between (place.Body format head) = false
 is_between (place.Section order total) = false
 is_between (place.Block order) = true
 is_between (place.Rest order head) = false
+is_between (place.Passing order total left) = false
 
 -- no interface told whether fractions are nanoseconds, where blocks are read
 abbrev pub untold_at : Place → Option Bool → Bool
@@ -71,14 +77,21 @@ untold_at (place.Header format) nanos = false
 untold_at (place.Body format head) nanos = false
 untold_at (place.Section order total) nanos = false
 untold_at (place.Rest order head) nanos = false
+untold_at (place.Passing order total left) nanos = false
 
 -- the same of a file, where it may end
 abbrev pub is_untold : FileState → Bool
 is_untold file = untold_at file.place file.nanos
 
+-- why a capture is refused whose file header has this fault
+abbrev pub format_fault : FormatFault → PieceFault
+format_fault fault.BadMagic = why.BadMagic
+format_fault fault.BadVersion = why.BadVersion
+format_fault fault.BadLink = why.BadLink
+
 -- the file header of a classic capture
-abbrev pub by_format : FileState → Result Format PieceFault → Judgement Found FileState
-by_format file (Err fault) = Stops fault
+abbrev pub by_format : FileState → Result Format FormatFault → Judgement Found FileState
+by_format file (Err fault) = Stops (format_fault fault)
 by_format file (Ok format) = Goes (Some (Begins format.nanos)) (at file (place.Header format))
 
 -- the first section, by its length: the rest of its first block stands next
@@ -98,7 +111,7 @@ by_section file piece (Some order) =
 abbrev pub by_start : FileState → List ℕ → Judgement Found FileState
 by_start file piece =
     if ordered_number_at Big 0 4 piece == section_block then by_section file piece (section_order piece)
-    else by_format file (any_format piece)
+    else by_format file (format_of known_links piece)
 
 -- a record's header in a classic capture: too many captured bytes are refused, none are a record, and else they are the
 -- next piece
@@ -127,10 +140,16 @@ by_block_length file order head None =
     if not (head.total == 12) then Goes None (at file (place.Rest order head))
     else by_empty file order head
 
+-- the first bytes of a block: a long one that is skipped is passed over
+abbrev pub by_block_head : FileState → Order → BlockHead → Judgement Found FileState
+by_block_head file order head =
+    if is_passed_over head then Goes None (at file (place.Passing order head.total (head.total - 12)))
+    else by_block_length file order head (length_fault 12 head.total)
+
 -- the same by its byte order
 abbrev pub by_block : FileState → List ℕ → Option Order → Judgement Found FileState
 by_block file piece None = Stops why.BadBlock
-by_block file piece (Some order) = by_block_length file order (block_head order piece) (length_fault 12 (block_head order piece).total)
+by_block file piece (Some order) = by_block_head file order (block_head order piece)
 
 -- a further section has interfaces of its own
 abbrev pub by_new_section : FileState → Order → List ℕ → Judgement Found FileState
@@ -201,6 +220,7 @@ by_kind file order head piece =
     else if head.kind == interface_block then by_interface_block file order head.first piece
     else if head.kind == simple_block then by_simple file order head.first piece (slice_get file.interfaces 0)
     else if head.kind == enhanced_block then by_enhanced file order piece (slice_get file.interfaces head.first)
+    else if head.kind == packet_block then by_enhanced file order piece (slice_get file.interfaces (front_of order head.first))
     else Goes None (at file (place.Block order))
 
 -- the rest of a block
@@ -209,14 +229,22 @@ by_rest file order head piece =
     if not (ends_block order head.total piece) then Stops why.BadBlock
     else by_kind file order head piece
 
+-- a piece of a block that is passed over: the next, or the last, in which the block ends
+abbrev pub by_passing : FileState → Order → ℕ → ℕ → List ℕ → Judgement Found FileState
+by_passing file order total left piece =
+    if nat_lt 524288 left then Goes None (at file (place.Passing order total (left - 524288)))
+    else if not (ends_block order total piece) then Stops why.BadBlock
+    else Goes None (at file (place.Block order))
+
 -- what a piece comes to, by where it stands
 abbrev pub judged_at : Place → FileState → List ℕ → Judgement Found FileState
 judged_at place.Start file piece = by_start file piece
-judged_at (place.Header format) file piece = by_header file format (head_in format.order piece)
+judged_at (place.Header format) file piece = by_header file format (record_header format.order piece)
 judged_at (place.Body format head) file piece = Goes (Some (Holds format.link head 0)) (at file (place.Header format))
 judged_at (place.Section order total) file piece = by_section_end file order total piece
 judged_at (place.Block order) file piece = by_block file piece (block_order order piece)
 judged_at (place.Rest order head) file piece = by_rest file order head piece
+judged_at (place.Passing order total left) file piece = by_passing file order total left piece
 
 -- What a piece of a capture comes to: a deed of it is the capture's beginning, or a record.
 abbrev pub file_judged : FileState → List ℕ → Judgement Found FileState

@@ -1,7 +1,7 @@
 -- What a job makes of the records of a capture, classic or pcapng (own).
 use Rattle.std.specs.Prelude.{ℕ, Bool, false, List, Option, Some, None}
 use Rattle.capture_reader.specs.Records.{RecordParts}
-use Rattle.bridge_records.specs.declared.writing.headers.RecordHeader.{RecordHeader}
+use Rattle.capture_reader.specs.declared.record.RecordHeader.{RecordHeader}
 use Rattle.bridge_records.specs.Pieces.{Goes, Judgement, PieceWork, Stops, Taken, pieces_of}
 use Rattle.bridge_records.specs.declared.pieces.fault.PieceFault.{PieceFault}
 use Rattle.bridge_records.specs.Reading.{FileState, bytes_held, file_judged, first_file, is_between, is_untold, next_length}

@@ -3,7 +3,7 @@ use Rattle.std.specs.Prelude.{ℕ, ◌+◌, ◌<◌, ◌≤◌, ◌^◌, Bool, i
 use Rattle.byteorder.specs.Endian.{big_bytes}
 use Rattle.capture_reader.specs.Format.{microseconds, nanoseconds}
 use Rattle.capture_reader.specs.Records.{RecordParts}
-use Rattle.bridge_records.specs.declared.writing.headers.RecordHeader.{RecordHeader}
+use Rattle.capture_reader.specs.declared.record.RecordHeader.{RecordHeader}
 
 -- the magic number by what fractions are
 abbrev pub magic : Bool → ℕ

@@ -1,8 +1,7 @@
 //! What the first and last bytes of a pcapng file's blocks say.
-ghost use Rattle.std.specs.Prelude.{◌≡◌, ◌+◌, ◌%◌, ◌≤◌, length, None};
-ghost use Rattle.bridge_records.specs.Blocks.{block_head, block_order, ends_block, is_read_block, is_section_version, length_fault, section_order};
+ghost use Rattle.std.specs.Prelude.{◌≡◌, ◌+◌, ◌%◌, ◌<◌, ◌≤◌, length, None, IsTrue};
+ghost use Rattle.bridge_records.specs.Blocks.{block_head, block_order, ends_block, is_passed_over, is_read_block, is_section_version, length_fault, section_order};
 
-use crate::numbers::{read_u16, read_u32};
 use crate::pieces::PieceFault;
 use capture_reader::Order;
 
@@ -23,6 +22,9 @@ pub(crate) const SECTION: u32 = 0x0a0d_0d0a;
 /// An interface.
 pub(crate) const INTERFACE: u32 = 1;
 
+/// A packet with its interface and time, as some wrote it before.
+pub(crate) const PACKET: u32 = 2;
+
 /// A packet of the first interface, without a time.
 pub(crate) const SIMPLE: u32 = 3;
 
@@ -31,14 +33,14 @@ pub(crate) const ENHANCED: u32 = 6;
 
 const BYTE_ORDER: u32 = 0x1a2b_3c4d;
 
-// The most bytes of a block.
-const MOST_BLOCK: u32 = 524_288;
+/// The most bytes of a block that is read.
+pub(crate) const MOST_BLOCK: u32 = 524_288;
 
 /// A block of this type is read, and not skipped.
 pub(crate) fn is_read_block(kind: u32) -> bool
     ensures { result ≡ is_read_block kind }
 {
-    matches!(kind, SECTION | INTERFACE | SIMPLE | ENHANCED)
+    matches!(kind, SECTION | INTERFACE | PACKET | SIMPLE | ENHANCED)
 }
 
 /// The byte order of a section, from its first twelve bytes, if it has one.
@@ -46,10 +48,10 @@ pub(crate) fn section_order(bytes: &[u8]) -> Option<Order>
     requires { 12 ≤ length bytes.now }
     ensures { result ≡ section_order bytes.now }
 {
-    if read_u32(Order::Big, bytes, 8) == BYTE_ORDER {
+    if Order::Big.read_u32(bytes, 8) == BYTE_ORDER {
         return Some(Order::Big);
     }
-    if read_u32(Order::Little, bytes, 8) == BYTE_ORDER {
+    if Order::Little.read_u32(bytes, 8) == BYTE_ORDER {
         return Some(Order::Little);
     }
     None
@@ -60,8 +62,8 @@ pub(crate) fn is_section_version(order: Order, place: usize, bytes: &[u8]) -> bo
     requires { place + 4 ≤ length bytes.now }
     ensures { result ≡ is_section_version order place bytes.now }
 {
-    let minor = read_u16(order, bytes, place + 2);
-    read_u16(order, bytes, place) == 1 && (minor == 0 || minor == 2)
+    let minor = order.read_u16(bytes, place + 2);
+    order.read_u16(bytes, place) == 1 && (minor == 0 || minor == 2)
 }
 
 /// What is wrong with the length of a block that has at least so many bytes.
@@ -78,12 +80,20 @@ pub(crate) fn length_fault(least: u32, total: u32) -> Option<PieceFault>
     None
 }
 
+/// The block is skipped, and longer than one that is read may be: then it is passed over piece by piece.
+pub(crate) fn is_passed_over(head: &BlockHead) -> bool
+    ensures value { result ≡ is_passed_over head.now }
+    ensures fits { IsTrue result → (524288 < head.now.total) × (head.now.total % 4 ≡ 0) }
+{
+    MOST_BLOCK < head.total && head.total % 4 == 0 && !is_read_block(head.kind)
+}
+
 /// The byte order of a block of a section of this one: a further section has its own.
 pub(crate) fn block_order(order: Order, bytes: &[u8]) -> Option<Order>
     requires { 12 ≤ length bytes.now }
     ensures { result ≡ block_order order bytes.now }
 {
-    if read_u32(order, bytes, 0) == SECTION {
+    if order.read_u32(bytes, 0) == SECTION {
         return section_order(bytes);
     }
     Some(order)
@@ -95,9 +105,9 @@ pub(crate) fn block_head(order: Order, bytes: &[u8]) -> BlockHead
     ensures { result ≡ block_head order bytes.now }
 {
     BlockHead {
-        kind: read_u32(order, bytes, 0),
-        total: read_u32(order, bytes, 4),
-        first: read_u32(order, bytes, 8),
+        kind: order.read_u32(bytes, 0),
+        total: order.read_u32(bytes, 4),
+        first: order.read_u32(bytes, 8),
     }
 }
 
@@ -106,5 +116,5 @@ pub(crate) fn ends_block(order: Order, total: u32, bytes: &[u8]) -> bool
     requires { 4 ≤ length bytes.now }
     ensures { result ≡ ends_block order total bytes.now }
 {
-    read_u32(order, bytes, bytes.len() - 4) == total
+    order.read_u32(bytes, bytes.len() - 4) == total
 }

@@ -1,5 +1,5 @@
 //! What a piece of a capture holds.
-use crate::writing::RecordHeader;
+use capture_reader::RecordHeader;
 
 /// What a piece of a capture holds (own).
 #[derive(Clone, Copy, Debug, PartialEq, Eq)]

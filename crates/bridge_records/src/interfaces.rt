@@ -1,10 +1,8 @@
 //! The interfaces of a section, and how they count time.
 ghost use Rattle.std.specs.Prelude.{◌≡◌, ◌+◌, ◌-◌, ◌*◌, ◌/◌, ◌%◌, ◌≤◌, ◌<◌, length, IfSome};
 ghost use Rattle.bridge_records.specs.Interfaces as spec;
-ghost use Rattle.bridge_records.specs.Interfaces.{link_in, needs_nanos, units_of, seconds_of, nanos_of, fraction_of};
+ghost use Rattle.bridge_records.specs.Interfaces.{front_of, needs_nanos, units_of, seconds_of, nanos_of, fraction_of};
 
-use crate::classic::is_known_link;
-use crate::numbers::{read_u16, read_u32, read_u64};
 use crate::pieces::PieceFault;
 use capture_reader::{Order, behind};
 
@@ -37,14 +35,14 @@ fn option_place(order: Order, code: u16, options: &[u8]) -> Option<usize>
 {
     let mut place = 0;
     while place + 8 <= options.len() {
-        let kind = read_u16(order, options, place);
+        let kind = order.read_u16(options, place);
         if kind == 0 {
             return None;
         }
         if kind == code {
             return Some(place);
         }
-        let size = read_u16(order, options, place + 2) as usize;
+        let size = order.read_u16(options, place + 2) as usize;
         place += 4 + (size + 3) / 4 * 4;
     }
     None
@@ -56,7 +54,7 @@ fn has_value(order: Order, size: u16, place: usize, options: &[u8]) -> bool
     requires short { length options.now ≤ 524288 }
     ensures { result ≡ spec.has_value order size place options.now }
 {
-    read_u16(order, options, place + 2) == size && place + (size as usize + 8) <= options.len()
+    order.read_u16(options, place + 2) == size && place + (size as usize + 8) <= options.len()
 }
 
 // How time is counted, by these options.
@@ -76,14 +74,14 @@ fn offset_in(order: Order, options: &[u8]) -> u64
     ensures { result ≡ spec.offset_at order (spec.option_place order 14 options.now) options.now }
 {
     match option_place(order, OFFSET, options) {
-        Some(place) if has_value(order, 8, place, options) => read_u64(order, options, place + 4),
+        Some(place) if has_value(order, 8, place, options) => order.read_u64(options, place + 4),
         _ => 0,
     }
 }
 
-// The link type, in the first two bytes of this number.
-fn link_in(order: Order, first: u32) -> u32
-    ensures { result ≡ link_in order first }
+/// The number in the first two bytes of this one: a link type, or an interface.
+pub(crate) fn front_of(order: Order, first: u32) -> u32
+    ensures { result ≡ front_of order first }
 {
     match order {
         Order::Big => first / 65_536,
@@ -99,14 +97,11 @@ pub(crate) fn interface_of(order: Order, first: u32, bytes: &[u8]) -> Result<Int
     if bytes.len() < 8 {
         return Err(PieceFault::BadBlock);
     }
-    let link = link_in(order, first);
-    if !is_known_link(link) {
-        return Err(PieceFault::BadLink);
-    }
+    let link = front_of(order, first);
     let options = behind(bytes, 4);
     Ok(Interface {
         link,
-        most: read_u32(order, bytes, 0),
+        most: order.read_u32(bytes, 0),
         resolution: resolution_in(order, options),
         offset: offset_in(order, options),
     })

@@ -1,17 +1,16 @@
 //! Captures as the second program reads and writes them (own; the savefile format of libpcap and
 //! draft-ietf-opsawg-pcapng): the records of one that is read, classic or pcapng, and the bytes of one that is written.
 //!
-//! A capture of any of nine link types is read in pieces whose lengths are known beforehand. Blocks of sections,
-//! interfaces and packets are read, all others skipped, and each record is handed to a job. One block of the input,
-//! 524,288 bytes, and the interfaces of one section, 256 at most, are kept. Written are classic captures of raw IP.
-//! Nothing here looks into a record's bytes.
+//! A capture of any of ten link types is read in pieces whose lengths are known beforehand, and so is a pcapng file of
+//! any interfaces. Blocks of sections, interfaces and packets are read, all others skipped, and each record is handed
+//! to a job. One block of the input, 524,288 bytes, and the interfaces of one section, 256 at most, are kept. Written
+//! are classic captures of raw IP. Nothing here looks into a record's bytes.
 #![tactic(auto)]
 
 mod blocks;
-mod classic;
 mod found;
 mod interfaces;
-mod numbers;
+mod links;
 mod packets;
 mod pieces;
 mod reading;
@@ -19,8 +18,9 @@ mod recording;
 mod writing;
 
 pub use crate::found::Found;
+pub use crate::links::is_known_link;
 pub use crate::pieces::PieceFault;
 pub use crate::recording::{RecordJob, run_records};
 pub use crate::writing::{
-    RAW_IP, RecordHeader, put_file_header, put_record_header, put_u16, what_is_written_is_read,
+    RAW_IP, put_file_header, put_record_header, put_u16, what_is_written_is_read,
 };

@@ -3,16 +3,14 @@ ghost use Rattle.std.specs.Prelude.{◌≡◌, ◌≤◌, length};
 ghost use Rattle.bridge_records.specs.Packets as spec;
 
 use crate::interfaces::{Interface, fraction_of, seconds_of, units_of};
-use crate::numbers::read_u32;
-use crate::writing::RecordHeader;
-use capture_reader::Order;
+use capture_reader::{Order, RecordHeader};
 
 // The time of a packet, in units of its interface.
 fn ticks_in(order: Order, bytes: &[u8]) -> u64
     requires { 8 ≤ length bytes.now }
     ensures { result ≡ spec.ticks_in order bytes.now }
 {
-    u64::from(read_u32(order, bytes, 0)) * (1 << 32) + u64::from(read_u32(order, bytes, 4))
+    u64::from(order.read_u32(bytes, 0)) * (1 << 32) + u64::from(order.read_u32(bytes, 4))
 }
 
 /// What the record of a packet of this interface says, by what stands behind the interface's number; None where the
@@ -33,8 +31,8 @@ pub(crate) fn enhanced_head(
     Some(RecordHeader {
         seconds: seconds_of(units, interface.offset, ticks),
         fraction: fraction_of(nanos, units, ticks),
-        captured: read_u32(order, bytes, 8),
-        original: read_u32(order, bytes, 12),
+        captured: order.read_u32(bytes, 8),
+        original: order.read_u32(bytes, 12),
     })
 }
 

@@ -1,22 +1,20 @@
 //! How the pieces of a capture are read.
-ghost use Rattle.std.specs.Prelude.{◌≡◌, ◌≤◌, length, slice_get, IfOk, Some, None, Ok};
+ghost use Rattle.std.specs.Prelude.{◌≡◌, ◌≤◌, ◌%◌, length, slice_get, IfOk, Some, None, Ok};
 ghost use Rattle.bridge_records.specs.Blocks.{block_order, section_order};
-ghost use Rattle.bridge_records.specs.Classic.{head_in};
+ghost use Rattle.capture_reader.specs.Records.{record_header};
 ghost use Rattle.bridge_records.specs.Reading as spec;
 ghost use Rattle.bridge_records.specs.Reading.{ReadsPiece, file_judged, first_file};
 
 use crate::blocks::{
-    BlockHead, ENHANCED, INTERFACE, SECTION, SIMPLE, block_head, block_order, ends_block,
-    is_read_block, is_section_version, length_fault, section_order,
+    BlockHead, ENHANCED, INTERFACE, MOST_BLOCK, PACKET, SECTION, SIMPLE, block_head, block_order,
+    ends_block, is_passed_over, is_read_block, is_section_version, length_fault, section_order,
 };
-use crate::classic::{format_of, record_header};
 use crate::found::Found;
-use crate::interfaces::{Interface, interface_of, needs_nanos};
-use crate::numbers::read_u32;
+use crate::interfaces::{Interface, front_of, interface_of, needs_nanos};
+use crate::links::KNOWN_LINKS;
 use crate::packets::{enhanced_head, simple_head};
 use crate::pieces::PieceFault;
-use crate::writing::RecordHeader;
-use capture_reader::{Format, MOST_CAPTURED, Order};
+use capture_reader::{Format, MOST_CAPTURED, Order, RecordHeader};
 use seq_circle::NoMemory;
 use std::alloc::Global;
 use std::marker::Model;
@@ -42,6 +40,8 @@ pub(crate) enum Place {
     Block(Order),
     /// The rest of a block, whose length is 16 to 524,288.
     Rest(Order, BlockHead),
+    /// Of a block of this length that is passed over, the last bytes, so many: whole words of four.
+    Passing(Order, u32, u32),
 }
 
 /// A capture while it is read, piece by piece. Contracts see which piece stands next, the interfaces of the
@@ -91,6 +91,7 @@ impl CaptureFile {
             Place::Section(_, total) => total as usize - 24,
             Place::Block(_) => EMPTY as usize,
             Place::Rest(_, head) => (head.total - EMPTY) as usize,
+            Place::Passing(_, _, left) => left.min(MOST_BLOCK) as usize,
         }
     }
 
@@ -121,6 +122,7 @@ impl CaptureFile {
             Place::Section(order, total) => Ok(self.end_section(order, total, piece)),
             Place::Block(order) => Ok(self.begin_block(order, piece)),
             Place::Rest(order, head) => self.end_block(order, head, piece),
+            Place::Passing(order, total, left) => Ok(self.pass_over(order, total, left, piece)),
         }
     }
 
@@ -129,10 +131,10 @@ impl CaptureFile {
         requires { length piece.now ≡ 24 }
         ensures { ReadsPiece (spec.by_start self.old piece.now) piece.now self.old self.new result }
     {
-        if read_u32(Order::Big, piece, 0) == SECTION {
+        if Order::Big.read_u32(piece, 0) == SECTION {
             return self.begin_section(piece);
         }
-        let format = format_of(piece)?;
+        let format = Format::read(&KNOWN_LINKS, piece)?;
         self.place = Place::Header(format);
         Ok(Some(Found::Begins(format.nanos)))
     }
@@ -145,7 +147,7 @@ impl CaptureFile {
         let Some(order) = section_order(piece) else {
             return Err(PieceFault::BadMagic);
         };
-        let total = read_u32(order, piece, 4);
+        let total = order.read_u32(piece, 4);
         if let Some(fault) = length_fault(28, total) {
             return Err(fault);
         }
@@ -159,9 +161,9 @@ impl CaptureFile {
     // A record's header.
     fn read_header(&mut self, format: Format, piece: &[u8]) -> Answer
         requires { length piece.now ≡ 16 }
-        ensures { ReadsPiece (spec.by_header self.old format (head_in format.order piece.now)) piece.now self.old self.new result }
+        ensures { ReadsPiece (spec.by_header self.old format (record_header format.order piece.now)) piece.now self.old self.new result }
     {
-        let head = record_header(format.order, piece);
+        let head = RecordHeader::read(format.order, piece);
         if MOST_CAPTURED < head.captured as usize {
             return Err(PieceFault::TooLong);
         }
@@ -202,6 +204,10 @@ impl CaptureFile {
             return Err(PieceFault::BadBlock);
         };
         let head = block_head(order, piece);
+        if is_passed_over(&head) {
+            self.place = Place::Passing(order, head.total, head.total - EMPTY);
+            return Ok(None);
+        }
         if let Some(fault) = length_fault(EMPTY, head.total) {
             return Err(fault);
         }
@@ -210,6 +216,23 @@ impl CaptureFile {
             return Ok(None);
         }
         if is_read_block(head.kind) || head.first != EMPTY {
+            return Err(PieceFault::BadBlock);
+        }
+        self.place = Place::Block(order);
+        Ok(None)
+    }
+
+    // A piece of a block that is passed over.
+    fn pass_over(&mut self, order: Order, total: u32, left: u32, piece: &[u8]) -> Answer
+        requires least { 4 ≤ length piece.now }
+        requires words { left % 4 ≡ 0 }
+        ensures { ReadsPiece (spec.by_passing self.old order total left piece.now) piece.now self.old self.new result }
+    {
+        if MOST_BLOCK < left {
+            self.place = Place::Passing(order, total, left - MOST_BLOCK);
+            return Ok(None);
+        }
+        if !ends_block(order, total, piece) {
             return Err(PieceFault::BadBlock);
         }
         self.place = Place::Block(order);
@@ -230,6 +253,7 @@ impl CaptureFile {
             INTERFACE => self.add_interface(order, head.first, piece),
             SIMPLE => Ok(self.simple(order, head.first, piece)),
             ENHANCED => Ok(self.enhanced(order, head.first, piece)),
+            PACKET => Ok(self.enhanced(order, front_of(order, head.first), piece)),
             _ => {
                 self.place = Place::Block(order);
                 Ok(Ok(None))

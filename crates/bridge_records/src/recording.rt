@@ -10,8 +10,7 @@ ghost use Rattle.bridge_records.specs.Recording.{RecordWork, first_reading, held
 use crate::found::Found;
 use crate::pieces::{PieceFault, PieceJob, run_pieces};
 use crate::reading::CaptureFile;
-use crate::writing::RecordHeader;
-use capture_reader::Record;
+use capture_reader::{Record, RecordHeader};
 use dccp_io::{Sink, Source};
 use seq_circle::NoMemory;
 use std::alloc::Global;

@@ -6,8 +6,5 @@
 mod headers;
 mod laws;
 
-pub(crate) use crate::writing::headers::{MICROSECONDS, NANOSECONDS};
-pub use crate::writing::headers::{
-    RAW_IP, RecordHeader, put_file_header, put_record_header, put_u16,
-};
+pub use crate::writing::headers::{RAW_IP, put_file_header, put_record_header, put_u16};
 pub use crate::writing::laws::what_is_written_is_read;

@@ -9,7 +9,7 @@ ghost use Rattle.capture_reader.specs.State.{Declines, Opens};
 ghost use Rattle.capture_reader.specs.declared.fault.CaptureFault.TheVariants.{NoMemory};
 
 use crate::CaptureFault;
-use crate::format::{FILE_HEADER, Format, Order, format_of};
+use crate::format::{FILE_HEADER, Format, LINKS, Order};
 use crate::gather::gather;
 use crate::record::{
     MOST_BYTES, MOST_CAPTURED, RECORD_HEADER, Record, RecordHeader, header_in, missing,
@@ -69,9 +69,9 @@ fn open<S: Source>(source: &mut S, ahead: &mut ReadAhead) -> Result<Format, Capt
     if ahead.len() < FILE_HEADER {
         return Err(CaptureFault::CutShort);
     }
-    let format = match format_of(&ahead.pending()[..FILE_HEADER]) {
+    let format = match Format::read(&LINKS, &ahead.pending()[..FILE_HEADER]) {
         Ok(format) => format,
-        Err(fault) => return Err(fault),
+        Err(fault) => return Err(CaptureFault::from(fault)),
     };
     ahead.pass(FILE_HEADER);
     Ok(format)

@@ -1,6 +1,17 @@
 //! Why a capture is refused.
 use thiserror::Error;
 
+/// What is wrong with the 24 bytes of a file header (own): the first of these that holds.
+#[derive(Clone, Copy, Debug, PartialEq, Eq)]
+pub enum FormatFault {
+    /// The first four bytes are no magic number of a classic capture, in either byte order.
+    BadMagic,
+    /// The version is not 2.4.
+    BadVersion,
+    /// The link type is none of those that whoever reads the capture knows.
+    BadLink,
+}
+
 /// Why a capture ended early (own). Of a whole file header the first of BadMagic, BadVersion and BadLink that holds is
 /// answered.
 #[derive(Clone, Copy, Debug, PartialEq, Eq, Error)]
@@ -30,4 +41,19 @@ pub enum CaptureFault {
     /// between two records is whole.
     #[error("the capture goes on behind its first 4294967296 bytes")]
     TooLarge,
+}
+
+impl From<FormatFault> for CaptureFault {
+    ghost use Rattle.std.specs.Prelude.{◌≡◌};
+    ghost use Rattle.capture_reader.specs.Format.{header_fault};
+
+    ghost from_gives = { λ fault capture. capture ≡ header_fault fault };
+
+    fn from(fault: FormatFault) -> CaptureFault {
+        match fault {
+            FormatFault::BadMagic => CaptureFault::BadMagic,
+            FormatFault::BadVersion => CaptureFault::BadVersion,
+            FormatFault::BadLink => CaptureFault::BadLink,
+        }
+    }
 }

@@ -25,13 +25,32 @@ pub struct Record<'a> {
     pub bytes: &'a [u8],
 }
 
-// What a record's header tells.
-#[derive(Clone, Copy)]
-pub(crate) struct RecordHeader {
-    pub(crate) seconds: u32,
-    pub(crate) fraction: u32,
-    pub(crate) captured: u32,
-    pub(crate) original: u32,
+/// What a record's header tells (the savefile format of libpcap).
+#[derive(Clone, Copy, Debug, PartialEq, Eq)]
+pub struct RecordHeader {
+    /// When it was captured, in seconds since 1970.
+    pub seconds: u32,
+    /// The microseconds or nanoseconds behind these seconds.
+    pub fraction: u32,
+    /// How many bytes were captured.
+    pub captured: u32,
+    /// How many bytes the packet had.
+    pub original: u32,
+}
+
+impl RecordHeader {
+    /// What the 16 bytes of a header in this byte order tell.
+    pub fn read(order: Order, bytes: &[u8]) -> RecordHeader
+        requires { 16 ≤ length bytes.now }
+        ensures { result ≡ record_header order bytes.now }
+    {
+        RecordHeader {
+            seconds: order.read_u32(bytes, SECONDS),
+            fraction: order.read_u32(bytes, FRACTION),
+            captured: order.read_u32(bytes, CAPTURED),
+            original: order.read_u32(bytes, ORIGINAL),
+        }
+    }
 }
 
 /// The bytes behind so many (own).
@@ -58,18 +77,6 @@ const FRACTION: usize = 4;
 const CAPTURED: usize = 8;
 
 const ORIGINAL: usize = 12;
-
-fn record_header(order: Order, bytes: &[u8]) -> RecordHeader
-    requires { 16 ≤ length bytes.now }
-    ensures { result ≡ record_header order bytes.now }
-{
-    RecordHeader {
-        seconds: order.read_u32(bytes, SECONDS),
-        fraction: order.read_u32(bytes, FRACTION),
-        captured: order.read_u32(bytes, CAPTURED),
-        original: order.read_u32(bytes, ORIGINAL),
-    }
-}
 
 // What is wrong where so many bytes are needed, so many are there, and so many more count.
 pub(crate) fn missing(count: usize, room: u64, size: usize) -> Option<CaptureFault>
@@ -103,6 +110,6 @@ pub(crate) fn header_in(
     }
     match missing(RECORD_HEADER, room, bytes.len()) {
         Some(fault) => Err(fault),
-        None => Ok(Some(record_header(order, bytes))),
+        None => Ok(Some(RecordHeader::read(order, bytes))),
     }
 }

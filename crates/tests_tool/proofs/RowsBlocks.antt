@@ -40,6 +40,20 @@ blocks_of_two_sections = (refl, refl)
 abbrev pub changed : ℕ → ℕ → List ℕ
 changed place byte = slice_set blocks place byte
 
+-- The first interface has link type 105, of which nobody knows where IP begins: both of its packets have none. Those of
+-- the others stay. And the packet of the other interface in a block of the older kind, whose interface has two bytes.
+blocks_of_another_link :
+    (unwrapped (changed 41 105)
+    ≡ (
+      bytes
+          (codes "a1b2c3d4000200040000000000000000000400000000006500000001" ++ codes "0007a1200000000000000000000000020007a100000000010000002860"
+          ++ codes "00000000000000000000000000000000" ++ codes "000010c6000ec280000000010000002845"),
+      false,
+    ))
+    × (unwrapped (slice_set (slice_set (changed 183 2) 189 1) 191 0) ≡ (records, false))
+unfolding unwrapped_entry digits
+blocks_of_another_link = (refl, refl)
+
 -- A place in the blocks, the byte that stands there instead, how much is written before it is refused, and the line
 -- behind that.
 refused_blocks :
@@ -49,7 +63,6 @@ refused_blocks :
     × (unwrapped (changed 7 24) ≡ refused_behind records 0 "capture BadBlock after record 0\n")
     × (unwrapped (changed 5 8) ≡ refused_behind records 0 "capture RecordTooLong after record 0\n")
     × (unwrapped (changed 31 36) ≡ refused_behind records 0 "capture BadBlock after record 0\n")
-    × (unwrapped (changed 41 105) ≡ refused_behind records 0 "capture BadLink after record 0\n")
     × (unwrapped (changed 83 16) ≡ refused_behind records 24 "capture BadBlock after record 0\n")
     × (unwrapped (changed 75 6) ≡ refused_behind records 24 "capture BadBlock after record 0\n")
     × (unwrapped (changed 139 2) ≡ refused_behind records 24 "capture BadBlock after record 0\n")
@@ -59,7 +72,7 @@ refused_blocks :
     × (unwrapped (changed 260 2) ≡ refused_behind records 78 "capture BadVersion after record 3\n")
     × (unwrapped (changed 304 1) ≡ refused_behind records 78 "capture BadBlock after record 3\n")
 unfolding unwrapped_entry digits
-refused_blocks = (refl, refl, refl, refl, refl, refl, refl, refl, refl, refl, refl, refl, refl, refl, refl)
+refused_blocks = (refl, refl, refl, refl, refl, refl, refl, refl, refl, refl, refl, refl, refl, refl)
 
 -- Link type 276, the least significant byte first: IPv4 behind the header of the device, ARP, IPv6 behind a VLAN tag,
 -- and a record of no bytes.

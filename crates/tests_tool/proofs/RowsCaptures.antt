@@ -14,7 +14,7 @@ abbrev pub transcript : List ℕ
 transcript =
     codes "2 open: ok\nsent c0 9c401389050031ec01000000000003e80000002a\n3 deliver c0: took\n"
     ++ codes "sent s0 13899c400700261403000000000007d000000000000003e80000002a\nend client REQUEST window 4 flight 0 1=2/2\n# the next transcript\n"
-    ++ codes "\nopen: ok\n1: sent reset 4 2 0 0\nsent c1 9c4013890700163b0f000000000003e900000000000007d004020000\nline 4 column 1: BadHex\n"
+    ++ codes "\nopen: ok\n1: sent reset 4 2 0 0\nsent c1 9c4013890700163b0f000000000003e900000000000007d004020000\n"
 
 -- The file header; of each record its header, then that of IPv4, whose checksum was worked out apart, and the frame.
 abbrev pub capture : List ℕ
@@ -46,5 +46,6 @@ refused_lines_of_transcripts :
     × (captured (codes "open") ≡ refused_behind capture 24 "line 1 column 1: UnknownWord\n")
     × (captured (codes "4294967296 open: ok") ≡ refused_behind capture 24 "line 1 column 1: UnknownWord\n")
     × (captured (codes " 1 open: ok") ≡ refused_behind capture 24 "line 1 column 1: Missing\n")
+    × (captured (codes "line 4 column 1: BadHex\n") ≡ refused_behind capture 24 "line 1 column 1: UnknownWord\n")
 unfolding transcript_judged ip_packet digits
-refused_lines_of_transcripts = (refl, refl, refl, refl, refl, refl, refl, refl, refl, refl, refl, refl, refl)
+refused_lines_of_transcripts = (refl, refl, refl, refl, refl, refl, refl, refl, refl, refl, refl, refl, refl, refl)

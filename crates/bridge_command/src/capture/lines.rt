@@ -21,7 +21,7 @@ const LINE_NUMBERS: u64 = 1 << 32;
 /// What a line of a transcript tells. A frame's bytes are decoded where they are put.
 #[derive(Drop)]
 pub(crate) enum Told<'a> {
-    /// No frame: it is the line of `open`, of an end, or of a refusal.
+    /// No frame: it is the line of `open` or of an end.
     Other,
     /// The input's line of this number was answered.
     Number(u32),
@@ -62,7 +62,7 @@ impl<'a> WordKind<'a> for AFrameName {
 fn is_other(word: &[u8]) -> bool
     ensures { result ≡ is_other word.now }
 {
-    is_text(word, b"open:") || is_text(word, b"end") || is_text(word, b"line")
+    is_text(word, b"open:") || is_text(word, b"end")
 }
 
 // A word without the colon at its end, if one stands there.

@@ -3,7 +3,8 @@ ghost use Rattle.std.specs.Prelude.{◌≡◌, ◌+◌, ◌≤◌, ◌++◌, len
 ghost use Rattle.bridge_records.specs.Writing.{header_for, raw_record};
 ghost use Rattle.bridge_command.specs.FrameRecords as spec;
 
-use bridge_records::{RecordHeader, put_record_header, put_u16};
+use bridge_records::{put_record_header, put_u16};
+use capture_reader::RecordHeader;
 use seq_circle::NoMemory;
 use tool_text::{Digits, put};
 use world_events::Side;

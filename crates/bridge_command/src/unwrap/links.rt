@@ -1,7 +1,7 @@
 //! Where the IP packet of a record begins, by the link type.
 ghost use Rattle.std.specs.Prelude.{◌≡◌, ◌+◌, ◌≤◌, ◌<◌, length, IfSome};
 ghost use Rattle.dccp_packets.specs.Grammar.{number_at};
-ghost use Rattle.bridge_command.specs.Links.{ip_at, ip_at_first, ip_behind_tag, ip_behind_tags, ip_by_type, ip_bytes, ip_in_loop, ip_in_null, ip_of_family, ip_of_type, ip_start, is_tag};
+ghost use Rattle.bridge_command.specs.Links.{ip_at, ip_at_first, ip_behind_tag, ip_behind_tags, ip_by_type, ip_bytes, ip_in_loop, ip_in_null, ip_in_ppp, ip_in_session, ip_of_family, ip_of_protocol, ip_of_type, ip_start, is_tag};
 
 use byteorder::{BigEndian, ByteOrder, LittleEndian};
 
@@ -13,6 +13,18 @@ const IPV6: u16 = 0x86dd;
 const VLAN: u16 = 0x8100;
 
 const SERVICE_VLAN: u16 = 0x88a8;
+
+const OUTER_VLAN: u16 = 0x9100;
+
+const SESSION: u16 = 0x8864;
+
+// The protocols of PPP.
+const PPP_IPV4: u16 = 0x0021;
+
+const PPP_IPV6: u16 = 0x0057;
+
+// The address and the control byte that may stand before them.
+const PPP_CONTROL: u16 = 0xff03;
 
 /// The number of 16 bits that stands there, the most significant byte first.
 pub(crate) fn read_u16(bytes: &[u8], place: usize) -> u16
@@ -44,14 +56,54 @@ fn ip_at_first(bytes: &[u8]) -> Option<usize>
     }
 }
 
+// What follows here has this protocol of PPP.
+fn ip_of_protocol(protocol: u16, next: usize, bytes: &[u8]) -> Option<usize>
+    ensures value { result ≡ ip_of_protocol protocol next bytes.now }
+    ensures within { IfSome result (λ n. n < length bytes.now) }
+{
+    match protocol {
+        PPP_IPV4 => ip_at(4, next, bytes),
+        PPP_IPV6 => ip_at(6, next, bytes),
+        _ => None,
+    }
+}
+
+// A session of PPPoE begins here.
+fn ip_in_session(next: usize, bytes: &[u8]) -> Option<usize>
+    requires { next ≤ 64 }
+    ensures value { result ≡ ip_in_session next bytes.now }
+    ensures within { IfSome result (λ n. n < length bytes.now) }
+{
+    if bytes.len() < next + 8 {
+        return None;
+    }
+    ip_of_protocol(read_u16(bytes, next + 6), next + 8, bytes)
+}
+
+// A frame of PPP.
+fn ip_in_ppp(bytes: &[u8]) -> Option<usize>
+    ensures value { result ≡ ip_in_ppp bytes.now }
+    ensures within { IfSome result (λ n. n < length bytes.now) }
+{
+    if bytes.len() < 4 {
+        return None;
+    }
+    match read_u16(bytes, 0) {
+        PPP_CONTROL => ip_of_protocol(read_u16(bytes, 2), 4, bytes),
+        protocol => ip_of_protocol(protocol, 2, bytes),
+    }
+}
+
 // What follows here has this type.
 fn ip_of_type(kind: u16, next: usize, bytes: &[u8]) -> Option<usize>
+    requires { next ≤ 64 }
     ensures value { result ≡ ip_of_type kind next bytes.now }
     ensures within { IfSome result (λ n. n < length bytes.now) }
 {
     match kind {
         IPV4 => ip_at(4, next, bytes),
         IPV6 => ip_at(6, next, bytes),
+        SESSION => ip_in_session(next, bytes),
         _ => None,
     }
 }
@@ -59,12 +111,12 @@ fn ip_of_type(kind: u16, next: usize, bytes: &[u8]) -> Option<usize>
 fn is_tag(kind: u16) -> bool
     ensures { result ≡ is_tag kind }
 {
-    kind == VLAN || kind == SERVICE_VLAN
+    kind == VLAN || kind == SERVICE_VLAN || kind == OUTER_VLAN
 }
 
 // The same behind a tag, of whose four bytes the last two are the next type.
 fn ip_behind_tag(kind: u16, next: usize, bytes: &[u8]) -> Option<usize>
-    requires { next ≤ 64 }
+    requires { next ≤ 60 }
     ensures value { result ≡ ip_behind_tag kind next bytes.now }
     ensures within { IfSome result (λ n. n < length bytes.now) }
 {
@@ -150,17 +202,19 @@ pub(crate) fn ip_start(link: u32, bytes: &[u8]) -> Option<usize>
     match link {
         0 => ip_in_null(bytes),
         1 => ip_by_type(12, 14, bytes),
+        9 => ip_in_ppp(bytes),
+        12 | 101 => ip_at_first(bytes),
         108 => ip_in_loop(bytes),
         113 => ip_by_type(14, 16, bytes),
         228 => ip_at(4, 0, bytes),
         229 => ip_at(6, 0, bytes),
         276 => ip_by_type(0, 20, bytes),
-        _ => ip_at_first(bytes),
+        _ => None,
     }
 }
 
 /// The IP packet in a record of this link type, or no bytes where it has none (the link-layer header types of libpcap;
-/// IEEE 802.1Q). Link types that are not known are taken for raw IP.
+/// IEEE 802.1Q), as where its link type is not known.
 pub(crate) fn ip_bytes(link: u32, bytes: &[u8]) -> &[u8]
     ensures { result.now ≡ ip_bytes link bytes.now }
 {

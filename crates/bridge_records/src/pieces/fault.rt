@@ -1,4 +1,5 @@
 //! Why an input of pieces is refused.
+use capture_reader::FormatFault;
 
 /// Why an input of pieces is refused (own).
 #[derive(Clone, Copy, Debug, PartialEq, Eq)]
@@ -17,4 +18,19 @@ pub enum PieceFault {
     BadBlock,
     /// A piece ends behind the first 4,294,967,296 bytes.
     TooLarge,
+}
+
+impl From<FormatFault> for PieceFault {
+    ghost use Rattle.std.specs.Prelude.{◌≡◌};
+    ghost use Rattle.bridge_records.specs.Reading.{format_fault};
+
+    ghost from_gives = { λ fault piece. piece ≡ format_fault fault };
+
+    fn from(fault: FormatFault) -> PieceFault {
+        match fault {
+            FormatFault::BadMagic => PieceFault::BadMagic,
+            FormatFault::BadVersion => PieceFault::BadVersion,
+            FormatFault::BadLink => PieceFault::BadLink,
+        }
+    }
 }

@@ -4,27 +4,9 @@ ghost use Rattle.byteorder.specs.Endian.{big_bytes};
 ghost use Rattle.bridge_records.specs.Writing.{file_header, magic, record_head};
 
 use byteorder::{BigEndian, ByteOrder};
+use capture_reader::{MICROSECONDS, NANOSECONDS, RecordHeader};
 use seq_circle::NoMemory;
 use tool_text::put;
-
-/// What the header of a record says (own).
-#[derive(Clone, Copy, Debug, PartialEq, Eq)]
-pub struct RecordHeader {
-    /// When it was captured, in seconds since 1970.
-    pub seconds: u32,
-    /// The microseconds or nanoseconds behind these seconds.
-    pub fraction: u32,
-    /// How many bytes were captured.
-    pub captured: u32,
-    /// How many bytes the packet had.
-    pub original: u32,
-}
-
-/// The magic number of a capture whose fractions are microseconds.
-pub(crate) const MICROSECONDS: u32 = 0xa1b2_c3d4;
-
-/// The magic number of a capture whose fractions are nanoseconds.
-pub(crate) const NANOSECONDS: u32 = 0xa1b2_3c4d;
 
 const VERSION: [u8; 4] = [0, 2, 0, 4];
 
