@@ -1,6 +1,6 @@
 -- Worked lines of schedules and replays, read and printed: bytes above 127, the greatest index, and the faults of a line by itself. The
 -- values are by hand, after the texts of the tool's forms (own).
-use Rattle.std.proofs.Common.{◌≡◌, refl, ℕ, true, false, List, [], ◌∷◌, ◌++◌, codes, None, Some, Ok, Err, Result}
+use Rattle.std.proofs.Common.{◌≡◌, refl, ℕ, ◌^◌, ◌<◌, ◌≤◌, length, true, false, List, [], ◌∷◌, ◌++◌, codes, None, Some, Ok, Err, Result}
 use Rattle.std.proofs.Math.ListN.{replicate}
 use Rattle.std.specs.Fmt.{digits}
 use Prim.Native.String.{String}
@@ -16,6 +16,8 @@ use Rattle.schedule_text.specs.declared.line.Line.{Line}
 use Rattle.schedule_text.specs.declared.line.Line.TheVariants as line
 use Rattle.schedule_text.specs.Frames.{frame_line, read_frame}
 use Rattle.schedule_text.specs.Printing.{event_text}
+use Rattle.hex.specs.Hex.{IsBytes}
+use Rattle.schedule_text.specs.Range.{IsPrintable}
 use Rattle.schedule_text.specs.Reading.{read_line}
 use Rattle.schedule_text.specs.Results.{result_line, seen_line}
 
@@ -105,3 +107,9 @@ faults_of_a_line :
     × IsRefused 2 (codes "open ") "line 2 column 6: Trailing\n"
 unfolding digits
 faults_of_a_line = (refl, refl, refl, refl, refl, refl, refl, refl, refl, refl, refl, refl, refl, refl, refl, refl, refl, refl)
+
+-- What can be said of an event, and so is read back where it was printed: data of up to 2,042 bytes, and indices below 2^47
+events_that_a_line_says :
+    ((payload : List ℕ) → length payload ≤ 2042 → IsBytes payload → IsPrintable (event.Send Client payload))
+    × ((index : ℕ) → index < 2 ^ 47 → IsPrintable (event.Deliver Server index))
+events_that_a_line_says = (λ payload few bytes. record { few = few; bytes = bytes }, λ index few. few)

@@ -22,6 +22,7 @@ pub mod RowsPairs
 pub mod RowsPrefers
 pub mod RowsReports
 pub mod RowsRoom
+pub mod RowsSafe
 pub mod RowsSessions
 pub mod RowsShort
 pub mod RowsShortSent

@@ -117,6 +117,22 @@ a_stopped_inbox :
 unfolding code_table
 a_stopped_inbox = refl
 
+-- An inbox that is full and stopped is slow, and drops with 1, what is too long too.
+a_full_and_stopped_inbox :
+    Comes 1
+    ((Arrive 1 (codes "a"), Came Kept)
+    ∷ (Slow, IsSlow true)
+    ∷ (Stop, Stopped)
+    ∷ (Slow, IsSlow true)
+    ∷ (Arrive 2 (codes "b"), Came (Dropped 1))
+    ∷ (Long 3, Came (Dropped 1))
+    ∷ (Write 3, Wrote (145 ∷ []) true)
+    ∷ (Take, TookOver 1 1 (over (codes "a")))
+    ∷ (Slow, IsSlow false)
+    ∷ [])
+unfolding code_table
+a_full_and_stopped_inbox = refl
+
 -- Three of four are slow, and long data are dropped though there is room.
 slow_from_three_quarters_on :
     Comes 4

@@ -1,5 +1,7 @@
+pub mod RowsAnswers
 pub mod RowsBlocks
 pub mod RowsCaptures
 pub mod RowsFrames
+pub mod RowsInterfaces
 pub mod RowsPlaces
 pub mod RowsSeen

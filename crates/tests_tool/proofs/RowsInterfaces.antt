@@ -1,0 +1,46 @@
+-- Versions, times and captured lengths of pcapng files, and where IP begins in a record, by numbers of the drafts of pcapng and of libpcap.
+use Rattle.std.proofs.Common.{◌≡◌, refl, ℕ, Bool, true, false, List, [], ◌∷◌, map, Option, None, Some}
+use Rattle.capture_reader.specs.declared.format.Order.TheVariants.{Big, Little}
+use Rattle.bridge_records.specs.Blocks.{is_section_version}
+use Rattle.bridge_records.specs.Interfaces.{needs_nanos, units_of}
+use Rattle.bridge_records.specs.Packets.{captured_of}
+use Rattle.bridge_command.specs.Links.{ip_start}
+
+-- 1.0 and 1.2 alone, in either byte order
+versions_of_sections :
+    (is_section_version Big 0 (0 ∷ 1 ∷ 0 ∷ 0 ∷ []) ≡ true)
+    × (is_section_version Big 0 (0 ∷ 1 ∷ 0 ∷ 2 ∷ []) ≡ true)
+    × (is_section_version Little 0 (1 ∷ 0 ∷ 2 ∷ 0 ∷ []) ≡ true)
+    × (is_section_version Big 0 (0 ∷ 1 ∷ 0 ∷ 1 ∷ []) ≡ false)
+    × (is_section_version Big 0 (0 ∷ 1 ∷ 0 ∷ 3 ∷ []) ≡ false)
+    × (is_section_version Big 0 (0 ∷ 2 ∷ 0 ∷ 0 ∷ []) ≡ false)
+versions_of_sections = (refl, refl, refl, refl, refl, refl)
+
+-- Six digits write tenths of up to the sixth power, and halves of up to the sixth; a number of 64 bits has room for 10^19 and 2^63.
+units_of_interfaces :
+    (map needs_nanos (0 ∷ 6 ∷ 7 ∷ 127 ∷ 128 ∷ 134 ∷ 135 ∷ 255 ∷ []) ≡ false ∷ false ∷ true ∷ true ∷ false ∷ false ∷ true ∷ true ∷ [])
+    × (units_of 6 ≡ Some 1000000)
+    × (units_of 19 ≡ Some 10000000000000000000)
+    × (units_of 20 ≡ None)
+    × (units_of 127 ≡ None)
+    × (units_of 128 ≡ Some 1)
+    × (units_of 191 ≡ Some 9223372036854775808)
+    × (units_of 192 ≡ None)
+units_of_interfaces = (refl, refl, refl, refl, refl, refl, refl, refl)
+
+-- where no most is said, all is there
+captured_lengths :
+    (captured_of 0 100 ≡ 100)
+    × (captured_of 60 100 ≡ 60)
+    × (captured_of 100 60 ≡ 60)
+captured_lengths = (refl, refl, refl)
+
+-- The family of a loopback record has the most significant byte first, and that of the null device either.
+families_of_loopback :
+    (ip_start 108 (0 ∷ 0 ∷ 0 ∷ 2 ∷ 69 ∷ []) ≡ Some 4)
+    × (ip_start 108 (2 ∷ 0 ∷ 0 ∷ 0 ∷ 69 ∷ []) ≡ None)
+    × (ip_start 0 (0 ∷ 0 ∷ 0 ∷ 2 ∷ 69 ∷ []) ≡ Some 4)
+    × (ip_start 0 (2 ∷ 0 ∷ 0 ∷ 0 ∷ 69 ∷ []) ≡ Some 4)
+    × (ip_start 108 (0 ∷ 0 ∷ 0 ∷ 30 ∷ 96 ∷ []) ≡ Some 4)
+    × (ip_start 108 (0 ∷ 0 ∷ 0 ∷ 30 ∷ 69 ∷ []) ≡ None)
+families_of_loopback = (refl, refl, refl, refl, refl, refl)
