@@ -26,7 +26,7 @@ pub(crate) const UNREAD: Streams = Streams {
 };
 
 // None, and what comes close to a form without options.
-const NO_FORM: &str = "\nwalk\nrun,x\nRun\nshow,x\n";
+const NO_FORM: &str = "\nwalk\nrun,x\nRun\nshow,x\necn,x\nEcn\n";
 
 // Openings alone: each client sends a Request, and nobody hears it. Of 18 features a seed two are asked for.
 const OPENINGS: &str =
