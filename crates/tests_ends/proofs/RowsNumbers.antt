@@ -1,5 +1,5 @@
 -- The numbers that are told of frames beside the bytes that spell them, and the number that was taken last, worked out by hand.
-use Rattle.std.proofs.Common.{◌≡◌, refl, ℕ, Option, None, Some}
+use Rattle.std.proofs.Common.{◌≡◌, refl, ℕ, Option, None, Some, false}
 use Rattle.dccp_packets.specs.Outgoing.{Outgoing}
 use Rattle.dccp_endpoint.specs.Calling.{fires, opens, sends_payload}
 use Rattle.dccp_endpoint.specs.Drafts.{framed}
