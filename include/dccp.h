@@ -66,7 +66,8 @@ typedef enum dccp_status {
     DCCP_NO_FLOW = 15,       /* a call of a listener: the peer has no flow, or none stands at the place */
     DCCP_NO_TIMER = 16,      /* no timer has this number */
     DCCP_NO_NUMBER = 17,     /* the number of a first packet is not below 2^48 */
-    DCCP_NO_SUCH_LISTENER = 18 /* dccp_listener_make: no listener is of IPv6, or for none or over 1,024 flows */
+    DCCP_NO_SUCH_LISTENER = 18, /* dccp_listener_make: no listener is of IPv6, or for none or over 1,024 flows */
+    DCCP_GAVE_UP = 19        /* dccp_listener_tick: a flow was given up */
 } dccp_status;
 
 /* Where a connection stands (RFC 4340, section 8.4). */
@@ -170,6 +171,26 @@ typedef struct dccp_peer {
     uint8_t address[4]; /* of IPv4, in network order */
     uint16_t port;      /* in the byte order of the machine */
 } dccp_peer;
+
+/* By which rules a listener makes room and gives flows up. Waits are in milliseconds, and DCCP_NEVER is for ever. DCCP_USUAL_RULES are those
+ * of a listener that was just made, DCCP_NO_RULES leave all to the owner. */
+typedef struct dccp_flow_rules {
+    uint64_t respond;    /* how long a flow may stand in DCCP_PHASE_RESPOND (RFC 4340, section 8.1.3) */
+    uint64_t crowded;    /* the same where more than half of the table is in DCCP_PHASE_RESPOND */
+    uint64_t closing;    /* how long one may stand in DCCP_PHASE_CLOSEREQ and in DCCP_PHASE_CLOSING */
+    uint64_t idle;       /* how long one in DCCP_PHASE_OPEN may take no packet */
+    bool makes_room;     /* a Request at a full table ends the flow longest in DCCP_PHASE_TIMEWAIT, else the longest in DCCP_PHASE_RESPOND over its time */
+    bool ends_old_flows; /* a peer that begins anew from its port ends its old flow */
+} dccp_flow_rules;
+
+#define DCCP_USUAL_RULES {240000, 10000, 64000, 120000, true, true}
+#define DCCP_NO_RULES {UINT64_MAX, UINT64_MAX, UINT64_MAX, UINT64_MAX, false, false}
+
+/* What is known of a flow beside its end. Times are those of the calls. */
+typedef struct dccp_flow_life {
+    uint64_t since; /* since when it stands in its phase */
+    uint64_t taken; /* when its end last took a packet: what was dropped, or answered with a Sync, is no sign of life */
+} dccp_flow_life;
 
 /* What an end is made from. */
 typedef struct dccp_settings {
@@ -330,7 +351,7 @@ dccp_status dccp_feature(dccp_end *end, uint32_t feature, bool at_peer, dccp_fea
  * `first_number` below 2^48, and the others make no difference. The wishes are those of each peer's end, which makes no offer by itself: so
  * one for its own Sequence Window or Ack Ratio changes nothing. The statuses of dccp_make, and DCCP_NO_SUCH_LISTENER for IPv6 and for another
  * `most`.
- * A flow takes about 87 KB, which it gives back where it ends. */
+ * A flow takes about 87 KB, which it gives back where it ends. The listener goes by DCCP_USUAL_RULES until dccp_listener_rules says else. */
 dccp_status dccp_listener_make(dccp_listener *listener, const dccp_settings *settings, const dccp_wish *wishes, size_t count, uint16_t most);
 
 /* Frees what the handle holds, with all flows. Afterwards it holds none, and may be freed again or made again. */
@@ -338,19 +359,22 @@ void dccp_listener_free(dccp_listener *listener);
 
 /* A datagram has come from this peer. Its flow hears it, or it opens one, if it is a Request that a server's end takes up: that has
  * `first_number` as the number of its first packet, below 2^48, which nobody can guess; draw one for each datagram, or for each whose peer has
- * no flow. DCCP_OK, and what became of it in `told`; a flow that has ended by it is there no more. DCCP_BUSY: it would open one flow more than
- * may stand; nothing has changed, and the frame is a Reset with code 9, Too Busy. Then the owner may close or abort a flow to make room, or
- * let the peer ask again. DCCP_NO_MEMORY, DCCP_NO_NUMBER for the number, DCCP_TOO_LONG over 2,044 bytes, DCCP_NOT_MADE: nothing has changed and
- * nothing is left. But for DCCP_OK `told` is as it was. Anybody may call forth the frame of DCCP_BUSY, and those of DCCP_TOLD_SYNCED and
+ * no flow. DCCP_OK, and what became of it in `told`; a flow that has ended by it is there no more. Where it would open one flow more than
+ * may stand, the rules may end a flow for it, which dccp_listener_evicted names; else DCCP_BUSY: nothing has changed, and the frame is a Reset
+ * with code 9, Too Busy. Then the owner may forget a flow to make room, or let the peer ask again. Where it shows that the peer has begun anew
+ * from its port (DCCP_TOLD_SYNCED, a Reset with code 4 that acknowledges the last Sync of its flow), the rules end that flow and leave no frame, and
+ * the peer's next Request opens another. DCCP_NO_NUMBER for the number, DCCP_TOO_LONG over 2,044 bytes, DCCP_NOT_MADE: nothing has changed and
+ * nothing is left. DCCP_NO_MEMORY: nothing is left, and nothing has changed but that a flow may have made room. Except for DCCP_OK `told` is
+ * as it was. Anybody may call forth the frame of DCCP_BUSY, and those of DCCP_TOLD_SYNCED and
  * DCCP_TOLD_SENT_RESET: limit how many go out in a second. One that is left out is a lost frame. */
 dccp_status dccp_listener_arrive(dccp_listener *listener, const dccp_peer *peer, uint64_t first_number, const uint8_t *datagram, size_t length,
-                                 uint64_t now, dccp_frame *frame, dccp_told *told);
+                              uint64_t now, dccp_frame *frame, dccp_told *told);
 
-/* Sends data to a peer, as dccp_send does it once the flow is DCCP_PHASE_OPEN. DCCP_OK; DCCP_NOT_MADE, DCCP_NO_FLOW; DCCP_NOT_OPEN,
- * DCCP_TOO_LONG, DCCP_WINDOW_FULL; DCCP_NOT_NEGOTIATED: the peer sends no Ack Vectors. A flow's end asks for nothing by itself, so its peer has to offer
+/* Sends data to a peer, as dccp_send does it once the flow is DCCP_PHASE_OPEN. DCCP_OK; DCCP_NOT_MADE, DCCP_NO_FLOW; DCCP_NOT_OPEN, DCCP_TOO_LONG,
+ * DCCP_WINDOW_FULL; DCCP_NOT_NEGOTIATED: the peer sends no Ack Vectors. A flow's end asks for nothing by itself, so its peer has to offer
  * them: by a wish for DCCP_FEATURE_SEND_ACK_VECTOR, not at_peer, of the value 1, that is_offered. */
 dccp_status dccp_listener_send(dccp_listener *listener, const dccp_peer *peer, const uint8_t *data, size_t length, uint64_t now,
-                               dccp_frame *frame);
+                            dccp_frame *frame);
 
 /* Closes a peer's connection in order, as dccp_close. DCCP_OK; DCCP_NOT_MADE, DCCP_NO_FLOW, DCCP_NOT_OPEN. */
 dccp_status dccp_listener_close(dccp_listener *listener, const dccp_peer *peer, uint64_t now, dccp_frame *frame);
@@ -359,11 +383,12 @@ dccp_status dccp_listener_close(dccp_listener *listener, const dccp_peer *peer, 
 dccp_status dccp_listener_abort(dccp_listener *listener, const dccp_peer *peer, uint64_t now, dccp_frame *frame);
 
 /* Tells a flow the first of its timers that has run out, and names its peer. DCCP_OK, also where that leaves no frame: call it again until it
- * answers DCCP_NOTHING_DUE. DCCP_NOT_MADE: nothing was told, and `peer` is as it was. */
+ * answers DCCP_NOTHING_DUE. Where no timer has run out, a flow that has stood or been silent for too long by the rules is given up:
+ * DCCP_GAVE_UP, with its peer and the Reset for it, code 2, Aborted. With DCCP_NOTHING_DUE and DCCP_NOT_MADE `peer` is as it was. */
 dccp_status dccp_listener_tick(dccp_listener *listener, uint64_t now, dccp_peer *peer, dccp_frame *frame);
 
-/* How many milliseconds it is until dccp_listener_tick has something to do; DCCP_NEVER where no timer runs. Ask again after other calls. Both
- * go through the timers of all flows: so hear all datagrams that have come, and then ask. */
+/* How many milliseconds it is until dccp_listener_tick has something to do; DCCP_NEVER where it never has. Ask again after other calls. Both
+ * go through all flows: so hear all datagrams that have come, and then ask. */
 uint64_t dccp_listener_until_first(dccp_listener *listener, uint64_t now);
 
 /* Reads the end of a peer. DCCP_OK; DCCP_NOT_MADE, DCCP_NO_FLOW, and `view` is as it was. */
@@ -372,6 +397,18 @@ dccp_status dccp_listener_look(dccp_listener *listener, const dccp_peer *peer, d
 /* Names the peer at this place, from 0, among those that have a flow, in the order of their addresses and ports. DCCP_OK; DCCP_NOT_MADE, or
  * DCCP_NO_FLOW past the last, and `peer` is as it was. */
 dccp_status dccp_listener_peer(dccp_listener *listener, uint16_t place, dccp_peer *peer);
+
+/* Whose flow made room for the last datagram. DCCP_OK; DCCP_NOT_MADE, or DCCP_NO_FLOW where none did, and `peer` is as it was. */
+dccp_status dccp_listener_evicted(dccp_listener *listener, dccp_peer *peer);
+
+/* Ends a peer's flow at once, whatever its phase, also in DCCP_PHASE_TIMEWAIT, and sends nothing. DCCP_OK; DCCP_NOT_MADE, DCCP_NO_FLOW. */
+dccp_status dccp_listener_forget(dccp_listener *listener, const dccp_peer *peer, uint64_t now);
+
+/* The listener goes by these rules from now on. DCCP_OK, DCCP_NOT_MADE. */
+dccp_status dccp_listener_rules(dccp_listener *listener, const dccp_flow_rules *rules);
+
+/* Reads what is known of a peer's flow beside its end. DCCP_OK; DCCP_NOT_MADE, DCCP_NO_FLOW, and `life` is as it was. */
+dccp_status dccp_listener_life(dccp_listener *listener, const dccp_peer *peer, dccp_flow_life *life);
 
 /* DCCP_ABI and DCCP_VERSION of the library that was linked: a program whose header has another DCCP_ABI does not fit it. */
 uint32_t dccp_abi(void);
@@ -399,6 +436,7 @@ static inline const char *dccp_status_text(dccp_status status) {
         case DCCP_NO_TIMER: return "no timer has this number";
         case DCCP_NO_NUMBER: return "a first number that is not below 2^48";
         case DCCP_NO_SUCH_LISTENER: return "no listener is of IPv6, or for so many connections";
+        case DCCP_GAVE_UP: return "a connection was given up";
     }
     return "no status of DCCP";
 }

@@ -1,10 +1,4 @@
 pub mod AsBox
-pub mod Doings
-pub mod Ending
-pub mod Going
+pub mod Hearing
 pub mod ListenerAsBox
-pub mod Placing
-pub mod Refusing
-pub mod Through
 pub mod Ticking
-pub mod Tying

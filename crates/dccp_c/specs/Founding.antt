@@ -4,7 +4,8 @@ use Rattle.dccp_endpoint.specs.declared.config.Config.{Config}
 use Rattle.dccp_listener.specs.declared.config.ListenConfig.{ListenConfig}
 use Rattle.dccp_c.specs.Accepting.{as_server}
 use Rattle.dccp_c.specs.Making.{configured_by, first_four}
-use Rattle.dccp_c.specs.Serving.{Served, serving_begins}
+use Rattle.dccp_server.specs.Rooms.{Ruled, ruled_begins}
+use Rattle.dccp_server.specs.Rules.{usual_rules}
 use Rattle.dccp_c.specs.declared.making.Settings.{Settings}
 use Rattle.dccp_c.specs.declared.making.Wish.{Wish}
 
@@ -24,14 +25,14 @@ listening_by s wishes most =
     if s.is_v6 then Err 18 else if most == 0 then Err 18 else if nat_lt 1024 most then Err 18
     else listening_from s most (configured_by (as_server s) wishes)
 
--- the listener that was made, where the code says so
-abbrev pub founded_from : Bool → Result ListenConfig ℕ → Option Served
-founded_from true (Ok config) = Some (serving_begins config)
+-- the server that was made, which goes by the usual rules, where the code says so
+abbrev pub founded_from : Bool → Result ListenConfig ℕ → Option Ruled
+founded_from true (Ok config) = Some (ruled_begins config usual_rules)
 founded_from true (Err code) = None
 founded_from false _ = None
 
 -- what the handle holds once making was answered by this code
-abbrev pub founded_of : ℕ → Result ListenConfig ℕ → Option Served
+abbrev pub founded_of : ℕ → Result ListenConfig ℕ → Option Ruled
 founded_of code config = founded_from (code == 0) config
 
 -- The code of making: that of the refusal, or else 0, or 2 where memory is wanting.

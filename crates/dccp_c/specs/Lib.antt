@@ -1,7 +1,6 @@
 pub mod Accepting
 pub mod Codes
 pub mod Doing
-pub mod Ending
 pub mod Founding
 pub mod Framing
 pub mod Keeping
@@ -10,7 +9,6 @@ pub mod Listening
 pub mod Making
 pub mod Outcomes
 pub mod Seeing
-pub mod Serving
 pub mod Stepping
 pub mod Telling
 pub mod Ticking

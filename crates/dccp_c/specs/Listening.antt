@@ -1,17 +1,27 @@
 -- What C finds once it has called a listener (own).
-use Rattle.std.specs.Prelude.{◌≡◌, ◌⊎◌, ℕ, ◌==◌, ◌^◌, nat_lt, List, [], Option, Some, None, Result, Ok, Err, if◌then◌else◌, slice_get}
+use Rattle.std.specs.Prelude.{◌≡◌, ◌⊎◌, ℕ, ◌==◌, ◌^◌, nat_lt, List, [], Option, Some, None, is_some, Result, Ok, Err, if◌then◌else◌, slice_get}
 use Rattle.std.specs.Map.{keys_of}
 use Rattle.std.specs.Option.{option_map}
-use Rattle.dccp_listener.specs.Chain.{Deed, Arrives, Calls, Fires}
+use Rattle.dccp_listener.specs.Chain.{Calls, FlowCall}
 use Rattle.dccp_listener.specs.Listens.{listens}
-use Rattle.dccp_listener.specs.Peers.{end_of_peer}
-use Rattle.dccp_listener.specs.Runs.{CallTold, Stepped, WasBusy, HadNoMemory}
+use Rattle.dccp_listener.specs.Peers.{FlowEnd, end_of_peer}
+use Rattle.dccp_listener.specs.Runs.{CallTold, Stepped, WasBusy, HadNoMemory, told_of}
+use Rattle.dccp_listener.specs.declared.calls.Heard.{Heard}
+use Rattle.seq_circle.specs.declared.memory.NoMemory.{NoMemory}
+use Rattle.dccp_server.specs.Lives.{life_of}
+use Rattle.dccp_server.specs.Rooms.{Room, Ruled, comes, duty_done, duty_frame, duty_in, forgets, left_without_memory, duty_peer, room_does, room_waits}
+use Rattle.dccp_server.specs.declared.duty.Duty.{Duty}
+use Rattle.dccp_server.specs.declared.duty.Duty.TheVariants.{Ring, GiveUp}
+use Rattle.dccp_server.specs.declared.life.Life.{Life}
+use Rattle.dccp_server.specs.declared.rules.Rules.{Rules}
+use Rattle.dccp_c.specs.declared.flow_rules.FlowRules.{FlowRules}
+use Rattle.dccp_c.specs.declared.flow_rules.FlowLife.{FlowLife}
 use Rattle.dccp_listener.specs.declared.peer.Peer.{Peer}
-use Rattle.dccp_states.specs.declared.calls.Timer.{Timer}
 use Rattle.world_events.specs.declared.event.Refusal.{Refusal}
 use Rattle.world_events.specs.declared.event.Refusal.TheVariants as refusal
 use Rattle.world_events.specs.declared.event.Seen.{Seen}
 use Rattle.world_events.specs.declared.event.Seen.TheVariants as seen
+use Rattle.dccp_packets.specs.Outgoing.{Outgoing}
 use Rattle.dccp_c.specs.Framing.{Handed, handed_of, nothing_handed}
 use Rattle.dccp_c.specs.Outcomes.{told_outcome}
 use Rattle.dccp_c.specs.declared.told.Told.{Told}
@@ -19,15 +29,14 @@ use Rattle.dccp_c.specs.Codes.{timer_code}
 use Rattle.dccp_c.specs.Doing.{never}
 use Rattle.dccp_c.specs.KeepingListener.{InnerListener}
 use Rattle.dccp_c.specs.Seeing.{seen as seen_end}
-use Rattle.dccp_c.specs.Serving.{Served, WantsMemory, deed_served, first_due_flow, least_wait, served}
 use Rattle.dccp_c.specs.Telling.{is_short}
 use Rattle.dccp_c.specs.declared.peer.PeerAddress.{PeerAddress}
 use Rattle.dccp_c.specs.declared.readers.View.{View}
 
--- the listener that a handle holds, if any, without the place for its frame
-abbrev pub served_in : Option InnerListener → Option Served
+-- the server that a handle holds, if any, without the place for its frame
+abbrev pub served_in : Option InnerListener → Option Ruled
 served_in None = None
-served_in (Some held) = Some (served held.listener held.timers.entries)
+served_in (Some held) = Some held.server
 
 -- whom C names by an address and a port
 abbrev pub peer_named : PeerAddress → Peer
@@ -67,65 +76,137 @@ abbrev pub listen_told : CallTold → Told → Told
 listen_told (Stepped (Some (seen.Received outcome))) old = told_outcome outcome
 listen_told _ old = old
 
--- The deed that a datagram is; a first number that is none is refused by 17, and a datagram that is too long by 5.
-abbrev pub deed_of_datagram : ℕ → List ℕ → Result Deed ℕ
-deed_of_datagram first bytes = if nat_lt first (2 ^ 48) then (if is_short bytes then Ok (Arrives first bytes) else Err 5) else Err 17
-
--- Nothing has happened: the listener is as it was, and no frame is left.
-abbrev pub IsUnserved : Option Served → Option Served → Handed → Type 0
+-- Nothing has happened: the server is as it was, and no frame is left.
+abbrev pub IsUnserved : Option Ruled → Option Ruled → Handed → Type 0
 IsUnserved before after frame = (after ≡ before) × (frame ≡ nothing_handed)
 
--- The deed of a peer was done: these are the listener, the frame for the peer and the code.
-abbrev pub IsServed : ℕ → Served → Option Served → Peer → Deed → Handed → ℕ → Type 0
-IsServed now s after peer deed frame code =
-    (after ≡ Some (deed_served now s peer deed)) × (frame ≡ handed_of (listens s.listening peer deed).frame)
-    × (code ≡ listen_code (listens s.listening peer deed).told)
+-- the server with this in its room
+abbrev pub with_room : Ruled → Room → Ruled
+with_room s room = record s { room = room }
 
--- What a call comes to: it is done, or nothing happens and the code says why: that of the refusal, 1 where there is no
--- listener, or 2 where memory is wanting for the deed.
-abbrev pub Serves : ℕ → Option Served → Option Served → Peer → Result Deed ℕ → Handed → ℕ → Type 0
-Serves now before after peer (Err refused) frame code = IsUnserved before after frame × (code ≡ refused)
-Serves now None after peer (Ok deed) frame code = IsUnserved None after frame × (code ≡ 1)
-Serves now (Some s) after peer (Ok deed) frame code =
-    (IsUnserved (Some s) after frame × WantsMemory s peer deed × (code ≡ 2)) ⊎ IsServed now s after peer deed frame code
+-- What a call of a peer's end comes to: it is done, or there is no listener, and the code is 1.
+abbrev pub Serves : ℕ → Option Ruled → Option Ruled → Peer → FlowCall → Handed → ℕ → Type 0
+Serves now None after peer call frame code = IsUnserved None after frame × (code ≡ 1)
+Serves now (Some s) after peer call frame code =
+    (after ≡ Some (with_room s (room_does now s.room peer (Calls call))))
+    × (frame ≡ handed_of (listens s.room.served.listening peer (Calls call)).frame)
+    × (code ≡ listen_code (listens s.room.served.listening peer (Calls call)).told)
 
--- What C is told of a datagram; where the call was not done, or for want of memory, by 2, what it had stays.
-abbrev pub TellsC : Option Served → Peer → Result Deed ℕ → ℕ → Told → Told → Type 0
-TellsC held peer (Err refused) code old new = new ≡ old
-TellsC None peer (Ok deed) code old new = new ≡ old
-TellsC (Some s) peer (Ok deed) code old new = new ≡ (if code == 2 then old else listen_told (listens s.listening peer deed).told old)
+-- What a datagram comes to where there is a server: what comes of it there; or no memory was found.
+abbrev pub ServerHears : ℕ → Ruled → Ruled → Peer → ℕ → List ℕ → Option Outgoing → Option Peer → Result Heard NoMemory → Type 0
+ServerHears now s after peer first bytes frame evicted (Ok it) =
+    (after ≡ with_room s (comes now s.rules s.half s.room peer first bytes).room) × (frame ≡ (comes now s.rules s.half s.room peer first bytes).frame)
+    × (evicted ≡ (comes now s.rules s.half s.room peer first bytes).evicted)
+    × (told_of (Ok it) ≡ (comes now s.rules s.half s.room peer first bytes).told)
+ServerHears now s after peer first bytes frame evicted (Err _) = after ≡ with_room s (left_without_memory now s.room peer first bytes evicted)
 
--- the first peer of which a timer has run out, and its timer, where there is a listener
-abbrev pub due_in : ℕ → Option Served → Option (Peer × Timer)
-due_in now None = None
-due_in now (Some s) = first_due_flow now s.timers
+-- Why a datagram is not heard at all: a first number that is none, by 17, or its length, by 5.
+abbrev pub datagram_refusal : ℕ → List ℕ → Option ℕ
+datagram_refusal first bytes = if nat_lt first (2 ^ 48) then (if is_short bytes then None else Some 5) else Some 17
 
--- What a tick comes to: the timer is told, and its peer named, or nothing happens: 1 where there is no listener, 12
--- where no timer has run out. It takes no memory.
-abbrev pub Ticks : ℕ → Option Served → Option Served → Option (Peer × Timer) → Handed → PeerAddress → PeerAddress → ℕ → Type 0
-Ticks now None after due frame old new code = IsUnserved None after frame × (new ≡ old) × (code ≡ 1)
-Ticks now (Some s) after None frame old new code = IsUnserved (Some s) after frame × (new ≡ old) × (code ≡ 12)
-Ticks now (Some s) after (Some due) frame old new code =
-    (after ≡ Some (deed_served now s due.0 (Calls (Fires due.1)))) × (frame ≡ handed_of (listens s.listening due.0 (Calls (Fires due.1))).frame)
-    × (new ≡ address_of due.0) × (code ≡ 0)
+-- The same for C: nothing happens where it is refused by that code, or where there is no listener, by 1; where no memory
+-- was found, by 2, no frame is left. What C had to be told stays where no end has answered.
+abbrev pub HearsDatagram : ℕ → Option Ruled → Option Ruled → Peer → ℕ → List ℕ → Option ℕ → Handed → Option Peer → ℕ → Told → Told → Type 0
+HearsDatagram now before after peer first bytes (Some refused) left evicted code old new = IsUnserved before after left × (code ≡ refused) × (new ≡ old)
+HearsDatagram now None after peer first bytes None left evicted code old new = IsUnserved None after left × (code ≡ 1) × (new ≡ old)
+HearsDatagram now (Some s) after peer first bytes None left evicted code old new =
+    ((after ≡ Some (with_room s (left_without_memory now s.room peer first bytes evicted))) × (left ≡ nothing_handed) × (code ≡ 2) × (new ≡ old))
+    ⊎ ((after ≡ Some (with_room s (comes now s.rules s.half s.room peer first bytes).room))
+    × (left ≡ handed_of (comes now s.rules s.half s.room peer first bytes).frame)
+    × (evicted ≡ (comes now s.rules s.half s.room peer first bytes).evicted)
+    × (code ≡ listen_code (comes now s.rules s.half s.room peer first bytes).told)
+    × (new ≡ listen_told (comes now s.rules s.half s.room peer first bytes).told old))
 
--- how long it is until a timer of a listener runs out, if any does
-abbrev pub listener_waits : ℕ → Option Served → ℕ
+-- the code of what there was to do: 12 where there was nothing, 19 where a flow was given up
+abbrev pub duty_code : Option Duty → ℕ
+duty_code None = 12
+duty_code (Some (Ring peer timer)) = 0
+duty_code (Some (GiveUp peer)) = 19
+
+-- how C finds its peer
+abbrev pub duty_address : Option Duty → PeerAddress → PeerAddress
+duty_address None old = old
+duty_address (Some duty) old = address_of (duty_peer duty)
+
+-- What a tick comes to: what there is to do first is done, and its peer named, or nothing happens: 1 where there is no
+-- listener, 12 where there is nothing to do. It takes no memory.
+abbrev pub Ticks : ℕ → Option Ruled → Option Ruled → Handed → PeerAddress → PeerAddress → ℕ → Type 0
+Ticks now None after left old new code = IsUnserved None after left × (new ≡ old) × (code ≡ 1)
+Ticks now (Some s) after left old new code =
+    (after ≡ Some (with_room s (duty_done now s.room (duty_in now s.rules s.half s.room))))
+    × (left ≡ handed_of (duty_frame s.room (duty_in now s.rules s.half s.room)))
+    × (new ≡ duty_address (duty_in now s.rules s.half s.room) old) × (code ≡ duty_code (duty_in now s.rules s.half s.room))
+
+-- What forgetting a peer's flow comes to: it goes, and nothing is sent; 15 where there is none, 1 where there is no
+-- listener.
+abbrev pub Forgets : ℕ → Option Ruled → Option Ruled → Peer → ℕ → Type 0
+Forgets now None after peer code = (after ≡ None) × (code ≡ 1)
+Forgets now (Some s) after peer code =
+    (after ≡ Some (with_room s (forgets now s.room peer)))
+    × (code ≡ (if is_some (end_of_peer s.room.served.listening.flows peer) then 0 else 15))
+
+-- how long it is until a timer of a listener runs out or a flow is given up, if any does
+abbrev pub listener_waits : ℕ → Option Ruled → ℕ
 listener_waits now None = never
-listener_waits now (Some s) = least_wait now never s.timers
+listener_waits now (Some s) = room_waits now s.rules s.half s.room
 
 -- what is read of the end of a peer, where there is a listener and it has one
-abbrev pub flow_in : Option Served → Peer → Option View
+abbrev pub flow_in : Option Ruled → Peer → Option View
 flow_in None peer = None
-flow_in (Some s) peer = option_map seen_end (end_of_peer s.listening.flows peer)
+flow_in (Some s) peer = option_map seen_end (end_of_peer s.room.served.listening.flows peer)
 
 -- the peer at a place among those that have a flow, in their order
-abbrev pub peer_in : Option Served → ℕ → Option PeerAddress
+abbrev pub peer_in : Option Ruled → ℕ → Option PeerAddress
 peer_in None place = None
-peer_in (Some s) place = option_map address_of (slice_get (keys_of s.listening.flows) place)
+peer_in (Some s) place = option_map address_of (slice_get (keys_of s.room.served.listening.flows) place)
 
 -- the code of reading a flow, or of naming its peer: 1 where there is no listener, 15 where there is no flow
-abbrev pub flow_code : {Read : Type 0} → Option Served → Option Read → ℕ
+abbrev pub flow_code : {Read : Type 0} → Option Ruled → Option Read → ℕ
 flow_code None found = 1
 flow_code (Some s) None = 15
 flow_code (Some s) (Some it) = 0
+
+-- whose flow made room for the last datagram
+abbrev pub evicted_in : Option InnerListener → Option Peer
+evicted_in None = None
+evicted_in (Some held) = held.evicted
+
+-- a wait of C's: 2^64 - 1 is for ever
+abbrev pub wait_of : ℕ → Option ℕ
+wait_of wait = if wait == never then None else Some wait
+
+-- the rules that C gives
+abbrev pub rules_of : FlowRules → Rules
+rules_of it =
+    record {
+      makes_room = it.makes_room;
+      ends_old_flows = it.ends_old_flows;
+      respond = wait_of it.respond;
+      crowded = wait_of it.crowded;
+      closing = wait_of it.closing;
+      idle = wait_of it.idle;
+    }
+
+-- the server once it goes by these rules
+abbrev pub ruled_by : Rules → Option Ruled → Option Ruled
+ruled_by rules None = None
+ruled_by rules (Some s) = Some (record s { rules = rules })
+
+-- what C may know of a peer's flow beside its end, where it has one
+abbrev pub known_of : Life → FlowLife
+known_of life = record { since = life.since; taken = life.taken }
+
+-- its life, where there is a flow
+abbrev pub life_if : Option FlowEnd → Life → Option Life
+life_if None life = None
+life_if (Some e) life = Some life
+
+-- the same where there is a server, and the peer a flow
+abbrev pub life_in : Option Ruled → Peer → Option FlowLife
+life_in None peer = None
+life_in (Some s) peer = option_map known_of (life_if (end_of_peer s.room.served.listening.flows peer) (life_of s.room.lives peer))
+
+-- the code of a call that only wants a listener
+abbrev pub made_code : Option Ruled → ℕ
+made_code None = 1
+made_code (Some s) = 0

@@ -64,6 +64,9 @@ pub const NO_NUMBER: u32 = 17;
 /// No listener is of IPv6, or of so many flows.
 pub const NO_SUCH_LISTENER: u32 = 18;
 
+/// A tick has given a flow up.
+pub const GAVE_UP: u32 = 19;
+
 pub(crate) fn open_code(answer: &Result<(), OpenFault>) -> u32
     ensures { result ≡ open_code answer.now }
 {

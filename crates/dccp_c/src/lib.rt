@@ -1,10 +1,9 @@
 //! DCCP for programs in C (own; the ends are RFC 4340's): a static library, whose functions `include/dccp.h` declares,
-//! over `Endpoint<Kinds>` with the timers of a session, and over `Listener` with those of its flows.
+//! over `Endpoint<Kinds>` with the timers of a session, and over `Server`, a listener with those of its flows.
 //!
 //! C holds an [`End`] or a [`ListenerHandle`], which points to an end or a listener with its timers and the
 //! place where it leaves its frame. Each function does one step and answers by a code of [`codes`](crate::codes); its
-//! contract is that step: of an end the step of `Session`, and of a listener what `listens` of dccp_listener computes,
-//! with the timers of the peer's flow. None requires anything of its caller but what the types say: pointers to what
+//! contract is that step: of an end the step of `Session`, and of a listener what dccp_server has for it. None requires anything of its caller but what the types say: pointers to what
 //! they name, `bool`s that are 0 or 1, and one call at a time for a handle. What may be wrong in a value is answered by
 //! a code, and a handle that holds nothing by `NOT_MADE`.
 //!
@@ -19,6 +18,7 @@ mod calls;
 mod codes;
 mod due;
 mod end;
+mod flow_rules;
 mod founding;
 mod frame;
 mod held;
@@ -36,11 +36,9 @@ mod told;
 mod version;
 
 pub use crate::end::End;
+pub use crate::flow_rules::{FlowLife, FlowRules};
 pub use crate::frame::Frame;
-pub use crate::laws::{
-    calls_are_a_run, only_strangers_want_memory, refused_calls_change_nothing, ticks_are_a_tick,
-    ticks_of_a_listener_end,
-};
+pub use crate::laws::ticks_are_a_tick;
 pub use crate::listener::ListenerHandle;
 pub use crate::making::{Settings, Wish};
 pub use crate::peer::PeerAddress;

@@ -1,24 +1,32 @@
 //! The functions of a listener that C calls: each does one deed of a peer with the listener that its handle holds.
-ghost use Rattle.std.specs.Prelude.{◌≡◌, ◌≢◌, None, Ok, unwrap_or};
+ghost use Rattle.std.specs.Prelude.{◌≡◌, ◌≢◌, ◌≤◌, None, Ok, is_some, length, slice_get, unwrap_or};
 ghost use Rattle.dccp_listener.specs.Calls.{seen_if};
-ghost use Rattle.dccp_listener.specs.Chain.{Calls, Sends, Closes, Aborts, call_of};
+ghost use Rattle.dccp_listener.specs.Chain.{Sends, Closes, Aborts, call_of};
 ghost use Rattle.dccp_listener.specs.Runs.{Stepped, told_of};
+ghost use Rattle.std.specs.Option.{option_map};
 ghost use Rattle.dccp_c.specs.Framing.{handed_in};
 ghost use Rattle.dccp_c.specs.Founding.{FoundsCode, founded_of, listening_by};
-ghost use Rattle.dccp_c.specs.Listening.{Serves, TellsC, Ticks, deed_of_datagram, due_in, flow_code, flow_in, listen_code, listen_told, listener_waits, peer_in, peer_named, refusal_code, seen_code, served_in};
+ghost use Rattle.std.specs.Map.{keys_of};
+ghost use Rattle.dccp_listener.specs.Peers.{end_of_peer};
+ghost use Rattle.dccp_server.specs.Lives.{life_of};
+ghost use Rattle.dccp_c.specs.Seeing.{seen as seen_end};
+ghost use Rattle.dccp_c.specs.Listening.{ServerHears, Forgets, HearsDatagram, Serves, Ticks, address_of, datagram_refusal, duty_address, duty_code, evicted_in, flow_code, flow_in, known_of, life_if, life_in, listen_code, listen_told, listener_waits, made_code, peer_in, peer_named, refusal_code, ruled_by, rules_of, seen_code, served_in};
 
 use crate::codes::{
-    BAD_LIST, BUSY, DONE, NO_FLOW, NO_MEMORY, NO_NUMBER, NOT_FRESH, NOT_LIVE, NOT_MADE,
+    BAD_LIST, BUSY, DONE, GAVE_UP, NO_FLOW, NO_MEMORY, NO_NUMBER, NOT_FRESH, NOT_LIVE, NOT_MADE,
     NOT_NEGOTIATED, NOT_OPEN, NOT_OURS, NOTHING_DUE, TOO_LONG, WINDOW_FULL, timer_code,
 };
+use crate::flow_rules::{known_of, rules_of};
 use crate::founding::listening_by;
 use crate::frame::Frame;
 use crate::peer::{address_of, peer_named};
-use crate::serving::{Serving, due_flow, least_wait};
+use crate::readers::seen;
+use crate::serving::Serving;
 use crate::told::{Told, tell};
-use crate::{ListenerHandle, PeerAddress, Settings, View, Wish};
-use dccp_endpoint::{MOST_FRAME_BYTES, NoMemory, Seq48};
+use crate::{FlowLife, FlowRules, ListenerHandle, PeerAddress, Settings, View, Wish};
+use dccp_endpoint::{MOST_FRAME_BYTES, NoMemory, Outbox, Seq48};
 use dccp_listener::{Act, Heard, NoFlow, Peer, Refusal, Seen};
+use dccp_server::{Duty, Rules, Server};
 use std::alloc::Global;
 
 fn refusal_code(refusal: Refusal) -> u32
@@ -71,6 +79,26 @@ fn tell_heard(heard: &Heard, told: &mut Told) -> u32
     }
 }
 
+// What is read of a peer's end, if it has one.
+fn view_of(server: &Server, peer: Peer) -> Option<View>
+    ensures { result ≡ option_map seen_end (end_of_peer server.now.room.served.listening.flows peer) }
+{
+    match server.flow(peer) {
+        Some(end) => Some(seen(end)),
+        None => None,
+    }
+}
+
+// The peer at this place among those that have a flow.
+fn address_at(server: &Server, place: u16) -> Option<PeerAddress>
+    ensures { result ≡ option_map address_of (slice_get (keys_of server.now.room.served.listening.flows) place) }
+{
+    match server.peer(place) {
+        Some(peer) => Some(address_of(peer)),
+        None => None,
+    }
+}
+
 /// Makes a listener, in place of what the handle held, which is freed first. It serves the own address and port of the
 /// settings, by IPv4, and the Service Code; at most `most` flows stand at a time, 1 to 1,024. Refused as `dccp_make`
 /// is, and with NO_SUCH_LISTENER for IPv6 and for another `most`; then it holds nothing.
@@ -90,7 +118,13 @@ pub extern "C" fn dccp_listener_make(
         Ok(config) => config,
         Err(code) => return code,
     };
-    match Serving::new(alloc, config) {
+    let server = Server::new(alloc, config, Rules::usual());
+    let serving = Serving {
+        server,
+        out: Outbox::new(),
+        evicted: None,
+    };
+    match Box::new(alloc, serving) {
         Ok(serving) => {
             listener.put(serving);
             DONE
@@ -107,9 +141,27 @@ pub extern "C" fn dccp_listener_free(listener: &mut ListenerHandle, alloc: Globa
     listener.clear(alloc);
 }
 
-/// `Listener::arrive`, and the timers of the peer's flow go on. BUSY where it answers Busy. NO_NUMBER where the first
-/// number is none and TOO_LONG where the datagram is; then nothing changes, nor with NO_MEMORY or NOT_MADE. C is told
-/// of the datagram where the answer is DONE alone.
+// A datagram that is short enough, at a server.
+fn hear(
+    serving: &mut Serving,
+    peer: Peer,
+    iss: Seq48,
+    datagram: &[u8],
+    now: u64,
+) -> Result<Heard, NoMemory>
+    requires { length datagram.now ≤ 2044 }
+    ensures { ServerHears now serving.old.server serving.new.server peer iss datagram.now serving.new.out serving.new.evicted result }
+{
+    let arrival = serving
+        .server
+        .arrive(peer, iss, datagram, now, &mut serving.out);
+    serving.evicted = arrival.evicted;
+    arrival.heard
+}
+
+/// `Server::arrive`: `Listener::arrive`, and the rules. BUSY where it answers Busy. NO_NUMBER where the first number is
+/// none and TOO_LONG where the datagram is; then nothing changes, nor with NOT_MADE. With NO_MEMORY nothing changes but
+/// that a flow may have made room. C is told of the datagram where the answer is DONE alone.
 #[unsafe(no_mangle)]
 pub extern "C" fn dccp_listener_arrive(
     listener: &mut ListenerHandle,
@@ -121,8 +173,7 @@ pub extern "C" fn dccp_listener_arrive(
     frame: &mut Frame,
     told: &mut Told,
 ) -> u32
-    ensures serves { Serves now (served_in listener.old.kept.value) (served_in listener.new.kept.value) (peer_named peer.now) (deed_of_datagram first_number datagram.now) (handed_in frame.new) result }
-    ensures told { TellsC (served_in listener.old.kept.value) (peer_named peer.now) (deed_of_datagram first_number datagram.now) result told.old told.new }
+    ensures { HearsDatagram now (served_in listener.old.kept.value) (served_in listener.new.kept.value) (peer_named peer.now) first_number datagram.now (datagram_refusal first_number datagram.now) (handed_in frame.new) (evicted_in listener.new.kept.value) result told.old told.new }
 {
     frame.clear();
     let Some(iss) = Seq48::new(first_number) else {
@@ -134,7 +185,7 @@ pub extern "C" fn dccp_listener_arrive(
     let Some(mut serving) = listener.take(alloc) else {
         return NOT_MADE;
     };
-    match serving.arrive(peer_named(peer), iss, datagram, now) {
+    match hear(&mut serving, peer_named(peer), iss, datagram, now) {
         Ok(heard) => {
             frame.fill(&serving.out);
             listener.put(serving);
@@ -147,6 +198,31 @@ pub extern "C" fn dccp_listener_arrive(
     }
 }
 
+/// Whose flow made room for the last datagram. Answers DONE, NOT_MADE, or NO_FLOW where none did.
+#[unsafe(no_mangle)]
+pub extern "C" fn dccp_listener_evicted(
+    listener: &mut ListenerHandle,
+    alloc: Global,
+    peer: &mut PeerAddress,
+) -> u32
+    ensures listener { listener.new.kept.value ≡ listener.old.kept.value }
+    ensures peer { peer.new ≡ unwrap_or (option_map address_of (evicted_in listener.old.kept.value)) peer.old }
+    ensures code { result ≡ flow_code (served_in listener.old.kept.value) (evicted_in listener.old.kept.value) }
+{
+    let Some(serving) = listener.take(alloc) else {
+        return NOT_MADE;
+    };
+    let found = serving.evicted;
+    listener.put(serving);
+    match found {
+        Some(found) => {
+            *peer = address_of(found);
+            DONE
+        }
+        None => NO_FLOW,
+    }
+}
+
 // A call of a peer's end.
 fn call(
     listener: &mut ListenerHandle,
@@ -156,24 +232,16 @@ fn call(
     now: u64,
     frame: &mut Frame,
 ) -> u32
-    ensures { Serves now (served_in listener.old.kept.value) (served_in listener.new.kept.value) peer (Ok (Calls (call_of act.entry))) (handed_in frame.new) result }
+    ensures { Serves now (served_in listener.old.kept.value) (served_in listener.new.kept.value) peer (call_of act.entry) (handed_in frame.new) result }
 {
     frame.clear();
     let Some(mut serving) = listener.take(alloc) else {
         return NOT_MADE;
     };
-    match serving.act(peer, act, now) {
-        Ok(answer) => {
-            frame.fill(&serving.out);
-            listener.put(serving);
-            call_code(&answer)
-        }
-        // Whatever was called before, this does not come: `only_strangers_want_memory`.
-        Err(NoMemory) => {
-            listener.put(serving);
-            NO_MEMORY
-        }
-    }
+    let answer = serving.server.act(peer, act, now, &mut serving.out);
+    frame.fill(&serving.out);
+    listener.put(serving);
+    call_code(&answer)
 }
 
 /// `Listener::act` with `Act::Send`. Answers DONE, NOT_MADE, NO_FLOW, NOT_OPEN, TOO_LONG, NOT_NEGOTIATED or
@@ -187,7 +255,7 @@ pub extern "C" fn dccp_listener_send(
     now: u64,
     frame: &mut Frame,
 ) -> u32
-    ensures { Serves now (served_in listener.old.kept.value) (served_in listener.new.kept.value) (peer_named peer.now) (Ok (Calls (Sends payload.now))) (handed_in frame.new) result }
+    ensures { Serves now (served_in listener.old.kept.value) (served_in listener.new.kept.value) (peer_named peer.now) (Sends payload.now) (handed_in frame.new) result }
 {
     call(
         listener,
@@ -208,7 +276,7 @@ pub extern "C" fn dccp_listener_close(
     now: u64,
     frame: &mut Frame,
 ) -> u32
-    ensures { Serves now (served_in listener.old.kept.value) (served_in listener.new.kept.value) (peer_named peer.now) (Ok (Calls Closes)) (handed_in frame.new) result }
+    ensures { Serves now (served_in listener.old.kept.value) (served_in listener.new.kept.value) (peer_named peer.now) Closes (handed_in frame.new) result }
 {
     call(listener, alloc, peer_named(peer), Act::Close, now, frame)
 }
@@ -222,13 +290,33 @@ pub extern "C" fn dccp_listener_abort(
     now: u64,
     frame: &mut Frame,
 ) -> u32
-    ensures { Serves now (served_in listener.old.kept.value) (served_in listener.new.kept.value) (peer_named peer.now) (Ok (Calls Aborts)) (handed_in frame.new) result }
+    ensures { Serves now (served_in listener.old.kept.value) (served_in listener.new.kept.value) (peer_named peer.now) Aborts (handed_in frame.new) result }
 {
     call(listener, alloc, peer_named(peer), Act::Abort, now, frame)
 }
 
-/// Tells a flow the first of its timers that has run out, and C whose it is. Answers DONE, NOT_MADE, or NOTHING_DUE
-/// where none has.
+fn duty_code(duty: Option<Duty>) -> u32
+    ensures { result ≡ duty_code duty }
+{
+    match duty {
+        None => NOTHING_DUE,
+        Some(Duty::Ring(_, _)) => DONE,
+        Some(Duty::GiveUp(_)) => GAVE_UP,
+    }
+}
+
+fn duty_address(duty: Option<Duty>, old: PeerAddress) -> PeerAddress
+    ensures { result ≡ duty_address duty old }
+{
+    match duty {
+        None => old,
+        Some(Duty::Ring(peer, _) | Duty::GiveUp(peer)) => address_of(peer),
+    }
+}
+
+/// Tells a flow the first of its timers that has run out; or, where none has, gives up a flow that has stood or been
+/// silent for too long, by aborting it. C is told whose it is. Answers DONE, GAVE_UP, NOT_MADE, or NOTHING_DUE where
+/// there is nothing to do.
 #[unsafe(no_mangle)]
 pub extern "C" fn dccp_listener_tick(
     listener: &mut ListenerHandle,
@@ -237,26 +325,17 @@ pub extern "C" fn dccp_listener_tick(
     peer: &mut PeerAddress,
     frame: &mut Frame,
 ) -> u32
-    ensures { Ticks now (served_in listener.old.kept.value) (served_in listener.new.kept.value) (due_in now (served_in listener.old.kept.value)) (handed_in frame.new) peer.old peer.new result }
+    ensures { Ticks now (served_in listener.old.kept.value) (served_in listener.new.kept.value) (handed_in frame.new) peer.old peer.new result }
 {
     frame.clear();
     let Some(mut serving) = listener.take(alloc) else {
         return NOT_MADE;
     };
-    let Some((whose, timer)) = due_flow(&serving.timers, now) else {
-        listener.put(serving);
-        return NOTHING_DUE;
-    };
-    match serving.act(whose, Act::Timer(timer), now) {
-        Ok(_) => {
-            *peer = address_of(whose);
-            frame.fill(&serving.out);
-            listener.put(serving);
-            DONE
-        }
-        // Who has timers has a place for them.
-        Err(NoMemory) => unreachable!(),
-    }
+    let duty = serving.server.tick(now, &mut serving.out);
+    *peer = duty_address(duty, *peer);
+    frame.fill(&serving.out);
+    listener.put(serving);
+    duty_code(duty)
 }
 
 /// How many milliseconds it is until `dccp_listener_tick` has something to do; 2^64 - 1 where no timer runs.
@@ -272,7 +351,7 @@ pub extern "C" fn dccp_listener_until_first(
     let Some(serving) = listener.take(alloc) else {
         return u64::MAX;
     };
-    let left = least_wait(&serving.timers, now);
+    let left = serving.server.until_first(now);
     listener.put(serving);
     left
 }
@@ -292,7 +371,7 @@ pub extern "C" fn dccp_listener_look(
     let Some(serving) = listener.take(alloc) else {
         return NOT_MADE;
     };
-    let found = serving.look(peer_named(peer));
+    let found = view_of(&serving.server, peer_named(peer));
     listener.put(serving);
     match found {
         Some(found) => {
@@ -319,11 +398,90 @@ pub extern "C" fn dccp_listener_peer(
     let Some(serving) = listener.take(alloc) else {
         return NOT_MADE;
     };
-    let found = serving.peer(place);
+    let found = address_at(&serving.server, place);
     listener.put(serving);
     match found {
         Some(found) => {
             *peer = found;
+            DONE
+        }
+        None => NO_FLOW,
+    }
+}
+
+fn has_flow(server: &Server, peer: Peer) -> bool
+    ensures { result ≡ is_some (end_of_peer server.now.room.served.listening.flows peer) }
+{
+    server.flow(peer).is_some()
+}
+
+/// A peer's flow goes at once, whatever its phase, and nothing is sent. Answers DONE, NOT_MADE or NO_FLOW.
+#[unsafe(no_mangle)]
+pub extern "C" fn dccp_listener_forget(
+    listener: &mut ListenerHandle,
+    alloc: Global,
+    peer: &PeerAddress,
+    now: u64,
+) -> u32
+    ensures { Forgets now (served_in listener.old.kept.value) (served_in listener.new.kept.value) (peer_named peer.now) result }
+{
+    let Some(mut serving) = listener.take(alloc) else {
+        return NOT_MADE;
+    };
+    let peer = peer_named(peer);
+    let had = has_flow(&serving.server, peer);
+    serving.server.forget(peer, now, &mut serving.out);
+    listener.put(serving);
+    if had { DONE } else { NO_FLOW }
+}
+
+/// The listener goes by these rules from now on. Answers DONE or NOT_MADE.
+#[unsafe(no_mangle)]
+pub extern "C" fn dccp_listener_rules(
+    listener: &mut ListenerHandle,
+    alloc: Global,
+    rules: &FlowRules,
+) -> u32
+    ensures listener { served_in listener.new.kept.value ≡ ruled_by (rules_of rules.now) (served_in listener.old.kept.value) }
+    ensures code { result ≡ made_code (served_in listener.old.kept.value) }
+{
+    let Some(mut serving) = listener.take(alloc) else {
+        return NOT_MADE;
+    };
+    serving.server.set_rules(rules_of(rules));
+    listener.put(serving);
+    DONE
+}
+
+fn life_of(server: &Server, peer: Peer) -> Option<FlowLife>
+    ensures { result ≡ option_map known_of (life_if (end_of_peer server.now.room.served.listening.flows peer) (life_of server.now.room.lives peer)) }
+{
+    match server.flow(peer) {
+        Some(_) => Some(known_of(&server.life(peer))),
+        None => None,
+    }
+}
+
+/// Since when a peer's flow stands where it does, and when it last took a packet. Answers DONE, NOT_MADE or NO_FLOW.
+#[unsafe(no_mangle)]
+pub extern "C" fn dccp_listener_life(
+    listener: &mut ListenerHandle,
+    alloc: Global,
+    peer: &PeerAddress,
+    life: &mut FlowLife,
+) -> u32
+    ensures listener { listener.new.kept.value ≡ listener.old.kept.value }
+    ensures life { life.new ≡ unwrap_or (life_in (served_in listener.old.kept.value) (peer_named peer.now)) life.old }
+    ensures code { result ≡ flow_code (served_in listener.old.kept.value) (life_in (served_in listener.old.kept.value) (peer_named peer.now)) }
+{
+    let Some(serving) = listener.take(alloc) else {
+        return NOT_MADE;
+    };
+    let found = life_of(&serving.server, peer_named(peer));
+    listener.put(serving);
+    match found {
+        Some(found) => {
+            *life = found;
             DONE
         }
         None => NO_FLOW,

@@ -1,22 +1,18 @@
-//! A server of many peers, over `Listener`.
+//! A server of many peers, over `Server`.
 
 use crate::client::{Client, SERVER_ADDRESS, SERVER_PORT, SERVICE};
 use crate::wire::Wire;
 use arrayvec::ArrayVec;
-use dccp_endpoint::{Lists, MOST_FRAME_BYTES, Outbox, Outcome, Seq48, Timer};
-use dccp_listener::{Act, Heard, ListenConfig, Listener, Peer};
-use dccp_uses::{
-    Alarms, Condition, Network, arranged, has_run_out, is_delivery, rung, with_delivery,
-    with_progress,
-};
+use dccp_endpoint::{Lists, MOST_FRAME_BYTES, Outbox, Outcome, Seq48};
+use dccp_listener::{Heard, ListenConfig, Peer};
+use dccp_server::{Rules, Server};
+use dccp_uses::Network;
 use std::alloc::Global;
-use std::collections::BTreeMap;
 
-/// A server with all its peers and their timers, and what came of them.
+/// A server with all its peers, and what came of them.
 #[derive(Drop)]
 pub(crate) struct ServerOfMany {
-    listener: Listener,
-    alarms: BTreeMap<Peer, Alarms>,
+    server: Server,
     out: Outbox,
     pub(crate) got: Vec<u8>,
 }
@@ -34,8 +30,7 @@ impl ServerOfMany {
             most: 1,
         };
         ServerOfMany {
-            listener: Listener::new(alloc, config),
-            alarms: BTreeMap::new(alloc),
+            server: Server::new(alloc, config, Rules::usual()),
             out: Outbox::new(),
             got: Vec::new(alloc),
         }
@@ -47,16 +42,14 @@ impl ServerOfMany {
             return Some(());
         }
         let first = Seq48::new(2_000)?;
-        let in_flight = self.in_flight(peer);
-        let heard = self.listener.arrive(peer, first, datagram, &mut self.out);
+        let arrival = self
+            .server
+            .arrive(peer, first, datagram, now, &mut self.out);
         self.send(network);
-        let Ok(Heard::Flow(outcome)) = heard else {
+        let Ok(Heard::Flow(outcome)) = arrival.heard else {
             // One flow too many, of which the peer was told; or no memory, and the datagram counts as lost.
             return Some(());
         };
-        let progress = self.in_flight(peer) < in_flight;
-        let alarms = with_progress(&self.alarms_of(peer), progress);
-        self.arrange(peer, &with_delivery(&alarms, is_delivery(&outcome)), now);
         self.take(&outcome, datagram)
     }
 
@@ -68,49 +61,6 @@ impl ServerOfMany {
             } => self.got.extend_from_slice(datagram.get(first..past)?).ok(),
             _ => Some(()),
         }
-    }
-
-    fn in_flight(&self, peer: Peer) -> u32 {
-        match self.listener.flow(peer) {
-            Some(end) => end.in_flight(),
-            None => 0,
-        }
-    }
-
-    fn alarms_of(&self, peer: Peer) -> Alarms {
-        match self.alarms.get(&peer) {
-            Some(alarms) => *alarms,
-            None => Alarms::none(),
-        }
-    }
-
-    // The timers of the peer run from now on as its end needs them, and go with it. Where memory runs out, they stop.
-    fn arrange(&mut self, peer: Peer, alarms: &Alarms, now: u64) {
-        let Some(end) = self.listener.flow(peer) else {
-            let _ = self.alarms.remove(&peer);
-            return;
-        };
-        let _ = self
-            .alarms
-            .insert(peer, arranged(alarms, &Condition::of(end), now));
-    }
-
-    // The peer's end is told of the timer, if that has run out.
-    fn ring(&mut self, peer: Peer, timer: Timer, now: u64, network: &mut Wire) {
-        let alarms = self.alarms_of(peer);
-        if has_run_out(alarms.of(timer), now) {
-            let _ = self.listener.act(peer, Act::Timer(timer), &mut self.out);
-            self.send(network);
-            self.arrange(peer, &rung(&alarms, timer, now), now);
-        }
-    }
-
-    fn tick(&mut self, peer: Peer, now: u64, network: &mut Wire) {
-        self.ring(peer, Timer::Ack, now, network);
-        self.ring(peer, Timer::Negotiate, now, network);
-        self.ring(peer, Timer::Rto, now, network);
-        self.ring(peer, Timer::Close, now, network);
-        self.ring(peer, Timer::TimeWait, now, network);
     }
 
     // What a call has left in the box goes to the peer of the call.
@@ -132,8 +82,23 @@ impl ServerOfMany {
     fn turn(&mut self, client: &mut Client, now: u64) -> Option<()> {
         self.hear(client, now)?;
         client.turn(now);
-        self.tick(client.peer, now, &mut client.to_client);
         Some(())
+    }
+}
+
+// Does all that there is to do at this time. A frame goes to the peer of the duty, which a real server sends it to.
+fn tick(server: &mut ServerOfMany, first: &mut Client, second: &mut Client, now: u64) {
+    // Six timers for each of two peers, and two flows that may be given up.
+    for _ in 0..14 {
+        let Some(duty) = server.server.tick(now, &mut server.out) else {
+            return;
+        };
+        let client = if duty.peer() == first.peer {
+            &mut *first
+        } else {
+            &mut *second
+        };
+        server.send(&mut client.to_client);
     }
 }
 
@@ -145,6 +110,7 @@ fn exchange(server: &mut ServerOfMany, first: &mut Client, second: &mut Client) 
         let now = turn * 10;
         server.turn(first, now)?;
         server.turn(second, now)?;
+        tick(server, first, second, now);
         if first.ended.is_some() {
             return second.ended;
         }

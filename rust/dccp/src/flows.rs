@@ -117,7 +117,7 @@ impl Flows {
         self.call(|it, frame| unsafe { sys::dccp_listener_abort(it, &peer, now, frame) })
     }
 
-    /// Tells the first timer that has run out, and whose it is; the status is `DONE` where one has.
+    /// Tells the first timer that has run out, and whose it is, by `DONE`; or gives a flow up, by `GAVE_UP`.
     pub fn tick(&mut self, now: u64) -> (u32, SocketAddrV4, &[u8]) {
         let mut peer = sys::PeerAddress::default();
         // SAFETY: as the head of this module says.
@@ -147,5 +147,33 @@ impl Flows {
         // SAFETY: as the head of this module says.
         let status = unsafe { sys::dccp_listener_peer(&mut self.handle, place, &mut peer) };
         (status == sys::DONE).then(|| peer_of(&peer))
+    }
+
+    /// Whose flow made room for the last datagram.
+    pub fn evicted(&mut self) -> Option<SocketAddrV4> {
+        let mut peer = sys::PeerAddress::default();
+        // SAFETY: as the head of this module says.
+        let status = unsafe { sys::dccp_listener_evicted(&mut self.handle, &mut peer) };
+        (status == sys::DONE).then(|| peer_of(&peer))
+    }
+
+    pub fn forget(&mut self, peer: SocketAddrV4, now: u64) -> u32 {
+        let peer = address_of(peer);
+        // SAFETY: as the head of this module says.
+        unsafe { sys::dccp_listener_forget(&mut self.handle, &peer, now) }
+    }
+
+    /// The listener goes by these rules from now on.
+    pub fn rules(&mut self, rules: &sys::FlowRules) -> u32 {
+        // SAFETY: as the head of this module says.
+        unsafe { sys::dccp_listener_rules(&mut self.handle, rules) }
+    }
+
+    /// What is known of a peer's flow beside its end, if it has one.
+    pub fn life(&mut self, peer: SocketAddrV4) -> Option<sys::FlowLife> {
+        let (peer, mut life) = (address_of(peer), sys::FlowLife::default());
+        // SAFETY: as the head of this module says.
+        let status = unsafe { sys::dccp_listener_life(&mut self.handle, &peer, &mut life) };
+        (status == sys::DONE).then_some(life)
     }
 }

@@ -49,16 +49,18 @@ mod flows;
 mod listener;
 mod names;
 pub mod net;
+mod rules;
 mod sys;
 
 pub use crate::config::Config;
 pub use crate::connection::{Accepted, Connection, Event, Transmit};
 pub use crate::endpoint::Endpoint;
-pub use crate::listener::Listener;
+pub use crate::listener::{Cause, Change, Listener};
 pub use crate::names::{
     AbortError, ArriveError, CloseError, Feature, FlowError, Held, ListenError, MakeError, Numbers,
     OpenError, Phase, Place, PreferError, SendError, Timer,
 };
+pub use crate::rules::FlowRules;
 
 /// The most data of one packet.
 pub const MOST_DATA_BYTES: usize = sys::MOST_DATA_BYTES;

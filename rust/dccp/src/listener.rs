@@ -1,10 +1,43 @@
 //! A server of many peers by one value of the library.
 
 use crate::flows::Flows;
-use crate::{ArriveError, Config, Event, FlowError, ListenError, Phase, Transmit, sys};
-use std::collections::VecDeque;
+use crate::{ArriveError, Config, Event, FlowError, FlowRules, ListenError, Phase, Transmit, sys};
+use std::collections::{BTreeMap, VecDeque};
 use std::net::SocketAddrV4;
 use std::time::{Duration, Instant};
+
+/// What became of a connection, which [`Listener::poll_change`] tells.
+#[derive(Clone, Copy, Debug, PartialEq, Eq)]
+#[non_exhaustive]
+pub enum Change {
+    /// The handshake is complete: the peer has shown that it is where it says.
+    Opened,
+    /// The connection is over.
+    Ended {
+        /// Why.
+        cause: Cause,
+        /// The number that [`Listener::set_user`] wrote beside it.
+        user: u64,
+    },
+}
+
+/// Why a connection is over.
+#[derive(Clone, Copy, Debug, PartialEq, Eq)]
+#[non_exhaustive]
+pub enum Cause {
+    /// The peer has closed or aborted it.
+    Peer,
+    /// The owner has closed, aborted or forgotten it.
+    Own,
+    /// The peer was silent, or did not go on with the handshake or the closing, for as long as the rules let it.
+    Silent,
+    /// It made room for another.
+    Evicted,
+    /// The peer has begun anew from its port.
+    Anew,
+    /// The end has answered a packet with a Reset.
+    Fault,
+}
 
 /// A server of many peers over one socket of IPv4, at most 1,024 at a time, whose connections the library keeps. Each peer is answered
 /// just as a server of its own would answer it, whatever the others send (`docs/LIBRARY.md`); what they may do is to take all places.
@@ -13,7 +46,8 @@ use std::time::{Duration, Instant};
 /// After each call, [`poll_accept`](Listener::poll_accept), [`poll_transmit`](Listener::poll_transmit) and
 /// [`poll_event`](Listener::poll_event) are asked until they have nothing more: what waits there has no bound.
 /// [`handle_timeout`](Listener::handle_timeout) is called once [`poll_timeout`](Listener::poll_timeout) has gone by. A connection that is
-/// closed goes by itself. A peer that has fallen silent keeps its place until it is aborted, which is left to the owner.
+/// closed goes by itself. By its [`FlowRules`] a peer that has fallen silent is given up, a Request at a full table may end a connection that
+/// only waits, and a peer that begins anew from its port is served anew; [`poll_change`](Listener::poll_change) tells of it.
 ///
 /// ```
 /// use dccp::{ArriveError, Config, Connection, Event, Feature, Listener, Place};
@@ -56,6 +90,9 @@ use std::time::{Duration, Instant};
 #[derive(Debug)]
 pub struct Listener {
     flows: Flows,
+    changes: VecDeque<(SocketAddrV4, Change)>,
+    /// The owner's numbers, which outlive a flow until its end is told.
+    users: BTreeMap<SocketAddrV4, u64>,
     /// The flows' time is counted in milliseconds from the first call that has one.
     begun: Option<Instant>,
     /// The time of the last call.
@@ -72,6 +109,8 @@ impl Listener {
         ListenError::answer(flows.make(config.settings(), config.wishes(), most))?;
         Ok(Listener {
             flows,
+            changes: VecDeque::new(),
+            users: BTreeMap::new(),
             begun: None,
             time: 0,
             accepted: VecDeque::new(),
@@ -109,6 +148,7 @@ impl Listener {
             _ => None,
         };
         self.events.extend(event.map(|it| (peer, it)));
+        self.tell_changes(peer, was, is, &told);
         ArriveError::answer(status)
     }
 
@@ -144,18 +184,25 @@ impl Listener {
         let time = self.time(now);
         let (status, frame) = self.flows.abort(peer, time);
         queue(&mut self.frames, peer, frame, false);
-        FlowError::answer(status)
+        FlowError::answer(status)?;
+        self.end(peer, Cause::Own);
+        Ok(())
     }
 
-    /// Tells each timer of each connection that has run out. Calling it early does nothing.
+    /// Tells each timer of each connection that has run out, and gives up those that have stood or been silent for too long. Calling it
+    /// early does nothing.
     pub fn handle_timeout(&mut self, now: Instant) {
         let time = self.time(now);
         loop {
             let (status, peer, frame) = self.flows.tick(time);
-            if status != sys::DONE {
-                break;
+            match status {
+                sys::DONE => queue(&mut self.frames, peer, frame, false),
+                sys::GAVE_UP => {
+                    queue(&mut self.frames, peer, frame, false);
+                    self.end(peer, Cause::Silent);
+                }
+                _ => break,
             }
-            queue(&mut self.frames, peer, frame, false);
         }
     }
 
@@ -192,6 +239,115 @@ impl Listener {
         (0..).map_while(|place| self.flows.peer(place)).collect()
     }
 
+    /// The next that became of a connection, and of which peer's.
+    pub fn poll_change(&mut self) -> Option<(SocketAddrV4, Change)> {
+        self.changes.pop_front()
+    }
+
+    /// Goes by these rules from now on.
+    ///
+    /// ```
+    /// use dccp::{Config, FlowRules, Listener};
+    /// use std::time::Duration;
+    ///
+    /// let mut server = Listener::new(&Config::listener("192.0.2.2:5001".parse()?, 42), 1_024)?;
+    /// let mut rules = FlowRules::default();
+    /// rules.idle = Some(Duration::from_secs(30));
+    /// server.set_rules(rules);
+    /// # Ok::<(), Box<dyn std::error::Error>>(())
+    /// ```
+    pub fn set_rules(&mut self, rules: FlowRules) {
+        self.flows.rules(&rules.for_c());
+    }
+
+    /// Ends the connection to a peer at once, whatever its phase, also in TIMEWAIT, and sends nothing. Refused where there is none.
+    ///
+    /// ```
+    /// use dccp::{Config, FlowError, Listener};
+    /// use std::time::Instant;
+    ///
+    /// let mut server = Listener::new(&Config::listener("192.0.2.2:5001".parse()?, 42), 1_024)?;
+    /// assert_eq!(server.forget("192.0.2.1:40000".parse()?, Instant::now()), Err(FlowError::NoFlow));
+    /// # Ok::<(), Box<dyn std::error::Error>>(())
+    /// ```
+    pub fn forget(&mut self, peer: SocketAddrV4, now: Instant) -> Result<(), FlowError> {
+        let time = self.time(now);
+        let was = self.phase(peer);
+        FlowError::answer(self.flows.forget(peer, time))?;
+        if was.is_some_and(lives) {
+            self.end(peer, Cause::Own);
+        }
+        Ok(())
+    }
+
+    /// The number that was written beside the connection to a peer, 0 at first; None where there is none.
+    pub fn user(&mut self, peer: SocketAddrV4) -> Option<u64> {
+        let is_there = self.phase(peer).is_some();
+        is_there.then(|| self.users.get(&peer).copied().unwrap_or(0))
+    }
+
+    /// Writes a number beside the connection to a peer, which goes with it. Refused where there is none.
+    ///
+    /// ```
+    /// use dccp::{Config, FlowError, Listener};
+    ///
+    /// let mut server = Listener::new(&Config::listener("192.0.2.2:5001".parse()?, 42), 1_024)?;
+    /// assert_eq!(server.set_user("192.0.2.1:40000".parse()?, 7), Err(FlowError::NoFlow));
+    /// assert_eq!(server.user("192.0.2.1:40000".parse()?), None);
+    /// # Ok::<(), Box<dyn std::error::Error>>(())
+    /// ```
+    pub fn set_user(&mut self, peer: SocketAddrV4, user: u64) -> Result<(), FlowError> {
+        if self.phase(peer).is_none() {
+            return Err(FlowError::NoFlow);
+        }
+        self.users.insert(peer, user);
+        Ok(())
+    }
+
+    /// How long the end of a peer has taken no packet; None where there is no connection. What was dropped, or answered with a Sync, is no
+    /// sign of life.
+    pub fn silence(&mut self, peer: SocketAddrV4, now: Instant) -> Option<Duration> {
+        let time = self.time(now);
+        let life = self.flows.life(peer)?;
+        Some(Duration::from_millis(time.saturating_sub(life.taken)))
+    }
+
+    /// How many data packets to a peer may be in flight; None where there is no connection.
+    pub fn window(&mut self, peer: SocketAddrV4) -> Option<u32> {
+        self.flows.look(peer).map(|it| it.window)
+    }
+
+    /// How many data packets to a peer are in flight; None where there is no connection.
+    pub fn in_flight(&mut self, peer: SocketAddrV4) -> Option<u32> {
+        self.flows.look(peer).map(|it| it.in_flight)
+    }
+
+    /// Tells what a datagram made of its peer's connection, and of the one that made room for it.
+    fn tell_changes(
+        &mut self,
+        peer: SocketAddrV4,
+        was: Option<Phase>,
+        is: Option<Phase>,
+        told: &sys::Told,
+    ) {
+        if was != Some(Phase::Open) && is == Some(Phase::Open) {
+            self.changes.push_back((peer, Change::Opened));
+        }
+        if let Some(evicted) = self.flows.evicted() {
+            self.end(evicted, Cause::Evicted);
+        }
+        if was.is_some_and(lives) && !is.is_some_and(lives) {
+            self.end(peer, cause_of(was, told));
+        }
+    }
+
+    /// The connection to a peer is over, and its number goes with it.
+    fn end(&mut self, peer: SocketAddrV4, cause: Cause) {
+        let user = self.users.remove(&peer).unwrap_or(0);
+        self.changes
+            .push_back((peer, Change::Ended { cause, user }));
+    }
+
     /// The time as the flows count it.
     fn time(&mut self, now: Instant) -> u64 {
         let begun = *self.begun.get_or_insert(now);
@@ -210,5 +366,24 @@ fn queue(
     if !frame.is_empty() {
         let bytes = frame.to_vec();
         frames.push_back((peer, Transmit { bytes, is_answer }));
+    }
+}
+
+/// Whether a connection in this phase is not over.
+fn lives(phase: Phase) -> bool {
+    !matches!(phase, Phase::Closed | Phase::Listen | Phase::TimeWait)
+}
+
+/// Why a datagram has ended a connection that was in this phase. Reset Code 1 is an orderly close (RFC 4340, section 5.6).
+fn cause_of(was: Option<Phase>, told: &sys::Told) -> Cause {
+    match (told.kind, was) {
+        (sys::TOLD_SYNCED, _) => Cause::Anew,
+        (sys::TOLD_WAS_RESET | sys::TOLD_SENT_RESET, Some(Phase::CloseReq | Phase::Closing))
+            if told.code == 1 =>
+        {
+            Cause::Own
+        }
+        (sys::TOLD_SENT_RESET, _) if told.code != 1 => Cause::Fault,
+        _ => Cause::Peer,
     }
 }

@@ -86,6 +86,23 @@ pub struct FeatureState {
     pub stand: u32,
 }
 
+#[repr(C)]
+pub struct FlowRules {
+    pub respond: u64,
+    pub crowded: u64,
+    pub closing: u64,
+    pub idle: u64,
+    pub makes_room: bool,
+    pub ends_old_flows: bool,
+}
+
+#[repr(C)]
+#[derive(Default)]
+pub struct FlowLife {
+    pub since: u64,
+    pub taken: u64,
+}
+
 pub const MOST_FRAME_BYTES: usize = 2044;
 pub const MOST_DATA_BYTES: usize = 1024;
 pub const NEVER: u64 = u64::MAX;
@@ -105,6 +122,7 @@ pub const BUSY: u32 = 14;
 pub const NO_FLOW: u32 = 15;
 pub const NO_NUMBER: u32 = 17;
 pub const NO_SUCH_LISTENER: u32 = 18;
+pub const GAVE_UP: u32 = 19;
 
 pub const TOLD_DATA: u32 = 1;
 pub const TOLD_SYNCED: u32 = 3;
@@ -225,5 +243,17 @@ unsafe extern "C" {
         listener: *mut ListenerHandle,
         place: u16,
         peer: *mut PeerAddress,
+    ) -> u32;
+    pub fn dccp_listener_evicted(listener: *mut ListenerHandle, peer: *mut PeerAddress) -> u32;
+    pub fn dccp_listener_forget(
+        listener: *mut ListenerHandle,
+        peer: *const PeerAddress,
+        now: u64,
+    ) -> u32;
+    pub fn dccp_listener_rules(listener: *mut ListenerHandle, rules: *const FlowRules) -> u32;
+    pub fn dccp_listener_life(
+        listener: *mut ListenerHandle,
+        peer: *const PeerAddress,
+        life: *mut FlowLife,
     ) -> u32;
 }

@@ -1,0 +1,30 @@
+-- What a server makes of a datagram, as C's own definitions have it.
+use Rattle.std.proofs.Common.{◌≡◌, ap, ◌∙◌, ℕ, List, Bool, Option, Result, Ok, Err}
+use Rattle.dccp_packets.specs.Outgoing.{Outgoing}
+use Rattle.dccp_listener.specs.declared.calls.Heard.{Heard}
+use Rattle.dccp_listener.specs.declared.peer.Peer.{Peer}
+use Rattle.seq_circle.specs.declared.memory.NoMemory.{NoMemory}
+use Rattle.dccp_server.specs.Rooms.{Coming, HasArrived, Room, Ruled, comes, left_without_memory}
+use Rattle.dccp_server.specs.declared.rules.Rules.{Rules}
+use Rattle.dccp_c.specs.Listening.{ServerHears, with_room}
+
+abbrev ruled : Room → Rules → ℕ → Ruled
+ruled room rules half = record { room = room; rules = rules; half = half }
+
+-- a server whose rules stay has another room
+moved : (s after : Ruled) (room : Room) → after.room ≡ room → after.rules ≡ s.rules → after.half ≡ s.half → after ≡ with_room s room
+moved s after room room-is rules-are half-is =
+    ap (λ (x : Room). ruled x after.rules after.half) room-is ∙ ap (λ (x : Rules). ruled room x after.half) rules-are
+    ∙ ap (λ (x : ℕ). ruled room s.rules x) half-is
+
+pub server_heard : (now : ℕ) (s after : Ruled) (peer : Peer) (first : ℕ) (bytes : List ℕ) (frame : Option Outgoing) (result : Result Heard NoMemory)
+    (evicted : Option Peer) (anew : Bool) → HasArrived now s.rules s.half s.room after.room peer first bytes frame result evicted anew
+    → after.rules ≡ s.rules → after.half ≡ s.half → ServerHears now s after peer first bytes frame evicted result
+server_heard now s after peer first bytes frame (Ok it) evicted anew is rules-are half-is = (
+  moved s after (comes now s.rules s.half s.room peer first bytes).room (ap (λ (x : Coming). x.room) is) rules-are half-is,
+  ap (λ (x : Coming). x.frame) is,
+  ap (λ (x : Coming). x.evicted) is,
+  ap (λ (x : Coming). x.told) is,
+)
+server_heard now s after peer first bytes frame (Err fault) evicted anew is rules-are half-is =
+    moved s after (left_without_memory now s.room peer first bytes evicted) is.0 rules-are half-is

@@ -1,5 +1,0 @@
-use Rattle.dccp_c.proofs.Through.{run_through}
-use Rattle.dccp_c.proofs.laws.calls_are_a_run.Goals as goal
-
-pub returns : goal.returns
-returns c = run_through

@@ -1,0 +1,61 @@
+//! The rules that C gives a listener, and what it may know of a flow beside its end.
+ghost use Rattle.std.specs.Prelude.{◌≡◌};
+ghost use Rattle.dccp_c.specs.Listening.{known_of, rules_of, wait_of};
+
+use dccp_server::{Life, Rules};
+
+/// By which rules a listener makes room and gives flows up. Waits are in milliseconds; 2^64 - 1 is for ever.
+#[repr(C)]
+#[derive(Clone, Copy)]
+pub struct FlowRules {
+    /// How long a flow may stand in RESPOND.
+    pub respond: u64,
+    /// The same where more than half of the table is in RESPOND.
+    pub crowded: u64,
+    /// How long a flow may stand in CLOSEREQ and in CLOSING.
+    pub closing: u64,
+    /// How long a flow in OPEN may take no packet.
+    pub idle: u64,
+    /// Whether a Request at a full table ends a flow that may leave.
+    pub makes_room: bool,
+    /// Whether a peer that begins anew from its port ends its old flow.
+    pub ends_old_flows: bool,
+}
+
+/// What C may know of a flow beside its end. Times are those of its calls.
+#[repr(C)]
+#[derive(Clone, Copy)]
+pub struct FlowLife {
+    /// Since when its connection stands where it does.
+    pub since: u64,
+    /// When its end last took a packet.
+    pub taken: u64,
+}
+
+fn wait_of(wait: u64) -> Option<u64>
+    ensures { result ≡ wait_of wait }
+{
+    if wait == u64::MAX { None } else { Some(wait) }
+}
+
+pub(crate) fn rules_of(given: &FlowRules) -> Rules
+    ensures { result ≡ rules_of given.now }
+{
+    Rules {
+        makes_room: given.makes_room,
+        ends_old_flows: given.ends_old_flows,
+        respond: wait_of(given.respond),
+        crowded: wait_of(given.crowded),
+        closing: wait_of(given.closing),
+        idle: wait_of(given.idle),
+    }
+}
+
+pub(crate) fn known_of(life: &Life) -> FlowLife
+    ensures { result ≡ known_of life.now }
+{
+    FlowLife {
+        since: life.since,
+        taken: life.taken,
+    }
+}

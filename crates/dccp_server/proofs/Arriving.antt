@@ -1,0 +1,119 @@
+-- What comes of a datagram, put together from what each step of hearing it did.
+use Rattle.std.proofs.Common.{◌≡◌, refl, sym, ap, ◌∙◌, subst, ℕ, List, Bool, true, false, if◌then◌else◌, Option, Some, None, IfOk, Result, Ok, Err, OnOk, OnErr}
+use Rattle.dccp_packets.specs.Outgoing.{Outgoing}
+use Rattle.dccp_listener.specs.Chain.{Arrives}
+use Rattle.dccp_listener.specs.Listens.{listens}
+use Rattle.dccp_listener.specs.Runs.{CallTold, Stepped, WasBusy, told_of}
+use Rattle.dccp_listener.specs.declared.calls.Heard.{Heard}
+use Rattle.dccp_listener.specs.declared.calls.Heard.TheVariants as heard
+use Rattle.dccp_listener.specs.declared.peer.Peer.{Peer}
+use Rattle.dccp_states.specs.declared.outcome.Outcome.{Outcome}
+use Rattle.seq_circle.specs.declared.memory.NoMemory.{NoMemory}
+use Rattle.world_events.specs.declared.event.Seen.TheVariants.{Received}
+use Rattle.dccp_server.specs.Lives.{life_of, signs_in}
+use Rattle.dccp_server.specs.Rooms.{Coming, HasArrived, IsJudged, IsRoomMade, Room, begun_anew, comes_by, forgets, heard_plainly, left_without_memory, room_does, room_made, who_leaves}
+use Rattle.dccp_server.specs.Rules.{begins_anew, has_more_half_open, makes_way}
+use Rattle.dccp_server.specs.declared.life.Life.{Life}
+use Rattle.dccp_server.specs.declared.life.Signs.{Signs}
+use Rattle.dccp_server.specs.declared.rules.Rules.{Rules}
+
+abbrev coming : Room → Option Outgoing → CallTold → Option Peer → Bool → Coming
+coming room frame told evicted anew = record { room = room; frame = frame; told = told; evicted = evicted; anew = anew }
+
+same-coming : (r s : Room) (f g : Option Outgoing) (t u : CallTold) (evicted : Option Peer) (anew : Bool) → r ≡ s → f ≡ g → t ≡ u
+    → coming r f t evicted anew ≡ coming s g u evicted anew
+same-coming r s f g t u evicted anew same-room same-frame same-told =
+    ap (λ (x : Room). coming x f t evicted anew) same-room ∙ ap (λ (x : Option Outgoing). coming s x t evicted anew) same-frame
+    ∙ ap (λ (x : CallTold). coming s g x evicted anew) same-told
+
+-- where the listener was busy, and a flow may have left
+pub made_if : (now : ℕ) (busy mid after : Room) (peer : Peer) (iss : ℕ) (bytes : List ℕ) (leaving : Peer) (left frame : Option Outgoing)
+    (result : Result Heard NoMemory) → mid ≡ forgets now busy leaving → OnOk result (after ≡ room_does now mid peer (Arrives iss bytes))
+    → OnOk result (frame ≡ (listens mid.served.listening peer (Arrives iss bytes)).frame)
+    → IfOk result (λ it. told_of (Ok it) ≡ (listens mid.served.listening peer (Arrives iss bytes)).told) → OnErr result (after ≡ mid)
+    → IsRoomMade now busy after peer iss bytes (Some leaving) left frame result
+made_if now busy mid after peer iss bytes leaving left frame (Ok it) gone does sent told same = (
+  does ∙ ap (λ (r : Room). room_does now r peer (Arrives iss bytes)) gone,
+  sent ∙ ap (λ (r : Room). (listens r.served.listening peer (Arrives iss bytes)).frame) gone,
+  told ∙ ap (λ (r : Room). (listens r.served.listening peer (Arrives iss bytes)).told) gone,
+)
+made_if now busy mid after peer iss bytes leaving left frame (Err fault) gone does sent told same = same ∙ gone
+
+module _ (now : ℕ) (rules : Rules) (half : ℕ) (r : Room) (peer : Peer) (iss : ℕ) (bytes : List ℕ) where
+  abbrev first : Room
+  first = room_does now r peer (Arrives iss bytes)
+
+  abbrev plain : Coming
+  plain = heard_plainly now r peer iss bytes None
+
+  abbrev told-first : CallTold
+  told-first = (listens r.served.listening peer (Arrives iss bytes)).told
+
+  abbrev frame-first : Option Outgoing
+  frame-first = (listens r.served.listening peer (Arrives iss bytes)).frame
+
+  made-by : (after : Room) (frame : Option Outgoing) (it : Heard) (leaving : Option Peer) → WasBusy ≡ told-first
+      → IsRoomMade now first after peer iss bytes leaving frame-first frame (Ok it)
+      → coming after frame (told_of (Ok it)) leaving false ≡ room_made now first peer iss bytes leaving plain
+  made-by after frame it None busy is =
+      same-coming after first frame frame-first (told_of (Ok it)) told-first None false is.0 is.1
+      (ap (λ (x : Result Heard NoMemory). told_of x) is.2 ∙ busy)
+  made-by after frame it (Some leaving) busy is =
+      let gone : Room = forgets now first leaving in
+      same-coming after (room_does now gone peer (Arrives iss bytes)) frame (listens gone.served.listening peer (Arrives iss bytes)).frame
+      (told_of (Ok it)) (listens gone.served.listening peer (Arrives iss bytes)).told (Some leaving) false is.0 is.1 is.2
+
+  made-so : (after : Room) (frame : Option Outgoing) (result : Result Heard NoMemory) (leaving : Option Peer) → WasBusy ≡ told-first
+      → leaving ≡ who_leaves now rules half first → IsRoomMade now first after peer iss bytes leaving frame-first frame result
+      → HasArrived now rules half r after peer iss bytes frame result leaving false
+  made-so after frame (Ok it) leaving busy leaves-so is =
+      made-by after frame it leaving busy is
+      ∙ ap (λ (x : Option Peer). room_made now first peer iss bytes x plain) leaves-so
+      ∙ ap (λ (t : CallTold). comes_by now rules half r peer iss bytes plain t) busy
+  made-so after frame (Err fault) None busy leaves-so is = cc is.2
+  made-so after frame (Err fault) (Some leaving) busy leaves-so is = (is, refl)
+
+  pub arrived_busy : (between after : Room) (left frame : Option Outgoing) (result : Result Heard NoMemory) (leaving : Option Peer)
+      → between ≡ first → left ≡ frame-first → WasBusy ≡ told-first
+      → leaving ≡ makes_way rules (has_more_half_open half between.lives) now between.lives
+      → IsRoomMade now between after peer iss bytes leaving left frame result
+      → HasArrived now rules half r after peer iss bytes frame result leaving false
+  arrived_busy between after left frame result leaving does sent busy leaves-so is =
+      made-so after frame result leaving busy
+      (leaves-so ∙ ap (λ (x : Room). makes_way rules (has_more_half_open half x.lives) now x.lives) does)
+      (subst (λ (x : Room). IsRoomMade now x after peer iss bytes leaving frame-first frame result) does
+      (subst (λ (f : Option Outgoing). IsRoomMade now between after peer iss bytes leaving f frame result) sent is))
+
+  -- where an end answered, and its peer may have begun anew
+  anew-by : (after : Room) (frame : Option Outgoing) (told : CallTold) (anew : Bool) → told ≡ told-first
+      → after ≡ (if anew then forgets now first peer else first) → frame ≡ (if anew then None else frame-first)
+      → coming after frame told None anew ≡ begun_anew now peer plain anew
+  anew-by after frame told true same-told does sent =
+      same-coming after (forgets now first peer) frame None told told-first None true does sent same-told
+  anew-by after frame told false same-told does sent = same-coming after first frame frame-first told told-first None false does sent same-told
+
+  pub arrived_flow : (between after : Room) (left frame : Option Outgoing) (outcome : Outcome) (life : Life) (signs : Signs) (anew : Bool)
+      → between ≡ first → left ≡ frame-first → Stepped (Some (Received outcome)) ≡ told-first → life ≡ life_of r.lives peer → signs ≡ signs_in outcome
+      → anew ≡ begins_anew rules life bytes signs → after ≡ (if anew then forgets now between peer else between)
+      → frame ≡ (if anew then None else left)
+      → HasArrived now rules half r after peer iss bytes frame (Ok (heard.Flow outcome)) None anew
+  arrived_flow between after left frame outcome life signs anew does sent told life-is signs-are anew-is after-is frame-is =
+      anew-by after frame (Stepped (Some (Received outcome))) anew told
+      (after-is ∙ ap (λ (x : Room). if anew then forgets now x peer else x) does)
+      (frame-is ∙ ap (λ (f : Option Outgoing). if anew then None else f) sent)
+      ∙ ap (λ (b : Bool). begun_anew now peer plain b)
+      (anew-is ∙ ap (λ (x : Life). begins_anew rules x bytes signs) life-is ∙ ap (λ (x : Signs). begins_anew rules (life_of r.lives peer) bytes x) signs-are)
+      ∙ ap (λ (t : CallTold). comes_by now rules half r peer iss bytes plain t) told
+
+  -- so it is with what the rules made of it
+  pub arrived_so : (between after : Room) (left frame : Option Outgoing) (life : Life) (it : Heard) (result : Result Heard NoMemory) (evicted : Option Peer)
+      (anew : Bool) → between ≡ first → left ≡ frame-first → told_of (Ok it) ≡ told-first → life ≡ life_of r.lives peer
+      → IsJudged now rules half life between after peer iss bytes it left frame result evicted anew
+      → HasArrived now rules half r after peer iss bytes frame result evicted anew
+  arrived_so between after left frame life heard.Busy result evicted anew does sent told life-is is =
+      subst (λ (b : Bool). HasArrived now rules half r after peer iss bytes frame result evicted b) (sym is.2)
+      (arrived_busy between after left frame result evicted does sent told is.0 is.1)
+  arrived_so between after left frame life (heard.Flow outcome) result evicted anew does sent told life-is is =
+      subst (λ (x : Result Heard NoMemory). HasArrived now rules half r after peer iss bytes frame x evicted anew) (sym is.4)
+      (subst (λ (x : Option Peer). HasArrived now rules half r after peer iss bytes frame (Ok (heard.Flow outcome)) x anew) (sym is.3)
+      (arrived_flow between after left frame outcome life (signs_in outcome) anew does sent told life-is refl is.0 is.1 is.2))

@@ -1,0 +1,10 @@
+pub mod Arriving
+pub mod Doings
+pub mod Ending
+pub mod Going
+pub mod Judging
+pub mod Living
+pub mod Placing
+pub mod Refusing
+pub mod Through
+pub mod Tying

@@ -1,0 +1,39 @@
+use Rattle.std.proofs.Common.{◌≡◌, refl, ap, ◌∙◌}
+use Rattle.dccp_listener.specs.Chain.{Arrives}
+use Rattle.dccp_server.specs.Lives.{Lives, signs_of}
+use Rattle.dccp_server.specs.Rooms.{as_room}
+use Rattle.dccp_server.specs.Serving.{Served}
+use Rattle.dccp_server.proofs.Living.{has_life, living_then, living_same, room_placed}
+use Rattle.dccp_server.proofs.Placing.{taken_back}
+use Rattle.dccp_server.proofs.room.hear.Goals as goal
+
+pub go_on-requires : goal.go_on-requires
+go_on-requires c = has_life _ c.place_for.new.kept.entries c.args.peer c.in_ok-had.ensures.there
+
+pub returns-in-Ok-clause-after : goal.returns-in-Ok-clause-after
+returns-in-Ok-clause-after c =
+    room_placed _ c.args.now c.in_ok-had.had c.args.timed.now c.arrive.new.self c.args.lives.now.entries c.place_for.new.kept.entries
+    c.go_on.new.lives.entries c.args.peer (Arrives c.args.iss c.args.bytes.now) c.signs_heard-signs.result c.life_of-life.result c.in_ok-had.ensures.placed
+    c.in-Ok.ensures.after c.go_on.ensures (c.signs_heard-signs.ensures ∙ ap signs_of c.in-Ok.ensures.told) c.life_of-life.ensures
+
+pub returns-in-Ok-clause-living : goal.returns-in-Ok-clause-living
+returns-in-Ok-clause-living c =
+    living_then c.args.now _ _ c.args.peer (Arrives c.args.iss c.args.bytes.now)
+    (room_placed _ c.args.now c.in_ok-had.had c.args.timed.now c.arrive.new.self c.args.lives.now.entries c.place_for.new.kept.entries
+    c.go_on.new.lives.entries c.args.peer (Arrives c.args.iss c.args.bytes.now) c.signs_heard-signs.result c.life_of-life.result c.in_ok-had.ensures.placed
+    c.in-Ok.ensures.after c.go_on.ensures (c.signs_heard-signs.ensures ∙ ap signs_of c.in-Ok.ensures.told) c.life_of-life.ensures)
+    c.requires.living
+
+pub returns-in-Err-clause-unchanged : goal.returns-in-Err-clause-unchanged
+returns-in-Err-clause-unchanged c =
+    ap (λ (s : Served). as_room s c.take_back.new.kept.entries) c.in-Err.ensures.unchanged
+    ∙ ap (λ (l : Lives). as_room c.args.timed.now l)
+    (c.take_back.ensures ∙ taken_back _ c.in_ok-had.had c.args.lives.now.entries c.place_for.new.kept.entries c.args.peer c.in_ok-had.ensures.placed)
+
+pub returns-in-Err-clause-living : goal.returns-in-Err-clause-living
+returns-in-Err-clause-living c =
+    living_same _ _
+    (ap (λ (s : Served). as_room s c.take_back.new.kept.entries) c.in-Err.ensures.unchanged
+    ∙ ap (λ (l : Lives). as_room c.args.timed.now l)
+    (c.take_back.ensures ∙ taken_back _ c.in_ok-had.had c.args.lives.now.entries c.place_for.new.kept.entries c.args.peer c.in_ok-had.ensures.placed))
+    c.requires.living

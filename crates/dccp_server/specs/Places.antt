@@ -1,0 +1,16 @@
+-- What is kept of each peer that has a flow, in the order of the peers (own).
+use Rattle.std.specs.Prelude.{◌≡◌, Bool, true, false, List, Option, Some, None, IsSome}
+use Rattle.std.specs.BTreeMap.{insert_entry}
+use Rattle.std.specs.Map.{lookup, remove_entry}
+use Rattle.dccp_listener.specs.Peers.{FlowEnd, is_peer, peer_cmp}
+use Rattle.dccp_listener.specs.declared.peer.Peer.{Peer}
+
+-- what is kept of a peer is this of its end, and goes with it
+abbrev pub kept_then : {V : Type 0} → List (Peer × V) → Peer → (FlowEnd → V) → Option FlowEnd → List (Peer × V)
+kept_then kept peer value None = remove_entry (is_peer peer) kept
+kept_then kept peer value (Some e) = insert_entry peer_cmp kept peer (value e)
+
+-- the peer has a place, and had one before, or gets one with this in it
+abbrev pub IsPlaced : {V : Type 0} → V → Bool → List (Peer × V) → List (Peer × V) → Peer → Type 0
+IsPlaced fresh true before after peer = IsSome (lookup (is_peer peer) before) × (after ≡ before)
+IsPlaced fresh false before after peer = (lookup (is_peer peer) before ≡ None) × (after ≡ insert_entry peer_cmp before peer fresh)

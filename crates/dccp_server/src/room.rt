@@ -1,0 +1,222 @@
+//! What is done with a listener, the timers and the lives of its flows.
+ghost use Rattle.std.specs.Prelude.{◌≡◌, ◌≤◌, None, Some, Ok, IfOk, OnOk, OnErr, length, if◌then◌else◌};
+ghost use Rattle.dccp_listener.specs.Calls.{seen_if};
+ghost use Rattle.dccp_listener.specs.Chain.{Arrives, Calls, call_of};
+ghost use Rattle.dccp_listener.specs.Listens.{listens};
+ghost use Rattle.dccp_listener.specs.Runs.{Stepped, told_of};
+ghost use Rattle.dccp_server.specs.Rooms.{HasArrived, IsJudged, IsLiving, IsRoomMade, forgets, room_does, as_room};
+ghost use Rattle.dccp_server.specs.Rules.{has_more_half_open, makes_way};
+
+use crate::life::{Life, signs_answered, signs_heard, signs_in};
+use crate::lives::{go_on, life_of};
+use crate::places::{place_for, take_back};
+use crate::rules::{Rules, begins_anew, has_more_half_open, makes_way};
+use crate::timed_listener::TimedListener;
+use dccp_endpoint::{NoMemory, Outbox, Seq48, Timer};
+use dccp_listener::{Act, Heard, NoFlow, Peer, Seen};
+use std::collections::BTreeMap;
+
+/// What came of a datagram (own).
+#[derive(Clone, Copy, Debug, PartialEq, Eq)]
+pub struct Arrival {
+    /// What became of it; NoMemory where it would have opened a flow and no memory was to be had.
+    pub heard: Result<Heard, NoMemory>,
+    /// The peer whose flow made room for it.
+    pub evicted: Option<Peer>,
+    /// Whether the flow that the peer had was ended, since the peer has begun anew.
+    pub anew: bool,
+}
+
+/// A datagram of a peer is heard, without any rule.
+pub(crate) fn hear(
+    timed: &mut TimedListener,
+    lives: &mut BTreeMap<Peer, Life>,
+    peer: Peer,
+    iss: Seq48,
+    bytes: &[u8],
+    now: u64,
+    out: &mut Outbox,
+) -> Result<Heard, NoMemory>
+    requires short { length bytes.now ≤ 2044 }
+    requires living { IsLiving (as_room timed.old lives.old.entries) }
+    ensures after { OnOk result (as_room timed.new lives.new.entries ≡ room_does now (as_room timed.old lives.old.entries) peer (Arrives iss bytes.now)) }
+    ensures sent { OnOk result (out.new ≡ (listens timed.old.listening peer (Arrives iss bytes.now)).frame) }
+    ensures told { IfOk result (λ heard. told_of (Ok heard) ≡ (listens timed.old.listening peer (Arrives iss bytes.now)).told) }
+    ensures living { IsLiving (as_room timed.new lives.new.entries) }
+    ensures unchanged { OnErr result (as_room timed.new lives.new.entries ≡ as_room timed.old lives.old.entries) }
+{
+    let life = life_of(lives, peer);
+    let had = place_for(lives, peer, Life::none())?;
+    match timed.arrive(peer, iss, bytes, now, out) {
+        Ok(heard) => {
+            let signs = signs_heard(&heard);
+            go_on(timed, lives, peer, &life, signs, now);
+            Ok(heard)
+        }
+        Err(fault) => {
+            take_back(lives, peer, had);
+            Err(fault)
+        }
+    }
+}
+
+/// The owner calls a peer's end, of which each that stands has a life.
+pub(crate) fn ask(
+    timed: &mut TimedListener,
+    lives: &mut BTreeMap<Peer, Life>,
+    peer: Peer,
+    act: Act<'_>,
+    now: u64,
+    out: &mut Outbox,
+) -> Result<Seen, NoFlow>
+    requires { IsLiving (as_room timed.old lives.old.entries) }
+    ensures living { IsLiving (as_room timed.new lives.new.entries) }
+    ensures after { as_room timed.new lives.new.entries ≡ room_does now (as_room timed.old lives.old.entries) peer (Calls (call_of act.entry)) }
+    ensures sent { out.new ≡ (listens timed.old.listening peer (Calls (call_of act.entry))).frame }
+    ensures told { Stepped (seen_if result) ≡ (listens timed.old.listening peer (Calls (call_of act.entry))).told }
+{
+    let life = life_of(lives, peer);
+    let answer = timed.act(peer, act, now, out);
+    let signs = signs_answered(&answer);
+    go_on(timed, lives, peer, &life, signs, now);
+    answer
+}
+
+/// A peer's flow is forgotten, and nothing is sent.
+pub(crate) fn forget(
+    timed: &mut TimedListener,
+    lives: &mut BTreeMap<Peer, Life>,
+    peer: Peer,
+    now: u64,
+    out: &mut Outbox,
+)
+    requires { IsLiving (as_room timed.old lives.old.entries) }
+    ensures living { IsLiving (as_room timed.new lives.new.entries) }
+    ensures after { as_room timed.new lives.new.entries ≡ forgets now (as_room timed.old lives.old.entries) peer }
+    ensures sent { out.new ≡ None }
+{
+    let _ = ask(timed, lives, peer, Act::Abort, now, out);
+    let _ = ask(timed, lives, peer, Act::Timer(Timer::TimeWait), now, out);
+    out.clear();
+}
+
+// A datagram that found the listener busy: this flow leaves, and it is heard once more.
+fn make_room(
+    timed: &mut TimedListener,
+    lives: &mut BTreeMap<Peer, Life>,
+    leaving: Peer,
+    peer: Peer,
+    iss: Seq48,
+    bytes: &[u8],
+    now: u64,
+    out: &mut Outbox,
+) -> Result<Heard, NoMemory>
+    requires short { length bytes.now ≤ 2044 }
+    requires living { IsLiving (as_room timed.old lives.old.entries) }
+    ensures living { IsLiving (as_room timed.new lives.new.entries) }
+    ensures made { IsRoomMade now (as_room timed.old lives.old.entries) (as_room timed.new lives.new.entries) peer iss bytes.now (Some leaving) out.old out.new result }
+{
+    forget(timed, lives, leaving, now, out);
+    hear(timed, lives, peer, iss, bytes, now, out)
+}
+
+// A peer that has begun anew loses its old flow, and the Sync is not sent.
+fn begin_anew(
+    timed: &mut TimedListener,
+    lives: &mut BTreeMap<Peer, Life>,
+    anew: bool,
+    peer: Peer,
+    now: u64,
+    out: &mut Outbox,
+)
+    requires { IsLiving (as_room timed.old lives.old.entries) }
+    ensures living { IsLiving (as_room timed.new lives.new.entries) }
+    ensures room { as_room timed.new lives.new.entries ≡ (if anew then forgets now (as_room timed.old lives.old.entries) peer else as_room timed.old lives.old.entries) }
+    ensures frame { out.new ≡ (if anew then None else out.old) }
+{
+    if anew {
+        forget(timed, lives, peer, now, out);
+    }
+}
+
+// Who makes room.
+fn who_leaves(rules: &Rules, half: u16, lives: &BTreeMap<Peer, Life>, now: u64) -> Option<Peer>
+    ensures { result ≡ makes_way rules.now (has_more_half_open half lives.now.entries) now lives.now.entries }
+{
+    let crowded = has_more_half_open(lives, half);
+    makes_way(rules, crowded, lives, now)
+}
+
+// A datagram that was heard is judged by the rules.
+fn judge(
+    timed: &mut TimedListener,
+    lives: &mut BTreeMap<Peer, Life>,
+    rules: &Rules,
+    half: u16,
+    life: &Life,
+    heard: Heard,
+    peer: Peer,
+    iss: Seq48,
+    bytes: &[u8],
+    now: u64,
+    out: &mut Outbox,
+) -> Arrival
+    requires short { length bytes.now ≤ 2044 }
+    requires living { IsLiving (as_room timed.old lives.old.entries) }
+    ensures living { IsLiving (as_room timed.new lives.new.entries) }
+    ensures judged { IsJudged now rules.now half life.now (as_room timed.old lives.old.entries) (as_room timed.new lives.new.entries) peer iss bytes.now heard out.old out.new result.heard result.evicted result.anew }
+{
+    match heard {
+        Heard::Busy => match who_leaves(rules, half, lives, now) {
+            Some(leaving) => Arrival {
+                heard: make_room(timed, lives, leaving, peer, iss, bytes, now, out),
+                evicted: Some(leaving),
+                anew: false,
+            },
+            None => Arrival {
+                heard: Ok(Heard::Busy),
+                evicted: None,
+                anew: false,
+            },
+        },
+        Heard::Flow(outcome) => {
+            let anew = begins_anew(rules, life, bytes, signs_in(&outcome));
+            begin_anew(timed, lives, anew, peer, now, out);
+            Arrival {
+                heard: Ok(Heard::Flow(outcome)),
+                evicted: None,
+                anew,
+            }
+        }
+    }
+}
+
+/// A datagram of a peer, by these rules.
+pub(crate) fn arrive(
+    timed: &mut TimedListener,
+    lives: &mut BTreeMap<Peer, Life>,
+    rules: &Rules,
+    half: u16,
+    peer: Peer,
+    iss: Seq48,
+    bytes: &[u8],
+    now: u64,
+    out: &mut Outbox,
+) -> Arrival
+    requires short { length bytes.now ≤ 2044 }
+    requires living { IsLiving (as_room timed.old lives.old.entries) }
+    ensures living { IsLiving (as_room timed.new lives.new.entries) }
+    ensures arrived { HasArrived now rules.now half (as_room timed.old lives.old.entries) (as_room timed.new lives.new.entries) peer iss bytes.now out.new result.heard result.evicted result.anew }
+{
+    let life = life_of(lives, peer);
+    match hear(timed, lives, peer, iss, bytes, now, out) {
+        Ok(heard) => judge(
+            timed, lives, rules, half, &life, heard, peer, iss, bytes, now, out,
+        ),
+        Err(fault) => Arrival {
+            heard: Err(fault),
+            evicted: None,
+            anew: false,
+        },
+    }
+}

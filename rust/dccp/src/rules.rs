@@ -1,0 +1,68 @@
+//! By which rules a listener makes room and gives connections up.
+
+use crate::sys;
+use std::time::Duration;
+
+/// By which rules a [`Listener`](crate::Listener) makes room and gives connections up; None is for ever. The default is what a listener
+/// that was just made goes by.
+#[derive(Clone, Copy, Debug, PartialEq, Eq)]
+#[non_exhaustive]
+pub struct FlowRules {
+    /// How long a connection may stand in RESPOND: four minutes (RFC 4340, section 8.1.3).
+    pub respond: Option<Duration>,
+    /// The same where more than half of the table is in RESPOND: ten seconds (own).
+    pub crowded: Option<Duration>,
+    /// How long one may stand in CLOSEREQ and in CLOSING: 64 seconds (own).
+    pub closing: Option<Duration>,
+    /// How long one in OPEN may take no packet: two minutes (own).
+    pub idle: Option<Duration>,
+    /// Whether a Request at a full table ends the connection longest in TIMEWAIT, or else the one longest in RESPOND over its time.
+    pub makes_room: bool,
+    /// Whether a peer that begins anew from its port ends its old connection.
+    pub ends_old_flows: bool,
+}
+
+impl Default for FlowRules {
+    fn default() -> FlowRules {
+        FlowRules {
+            respond: Some(Duration::from_secs(240)),
+            crowded: Some(Duration::from_secs(10)),
+            closing: Some(Duration::from_secs(64)),
+            idle: Some(Duration::from_secs(120)),
+            makes_room: true,
+            ends_old_flows: true,
+        }
+    }
+}
+
+impl FlowRules {
+    /// No rule: all is left to the owner.
+    pub fn none() -> FlowRules {
+        FlowRules {
+            respond: None,
+            crowded: None,
+            closing: None,
+            idle: None,
+            makes_room: false,
+            ends_old_flows: false,
+        }
+    }
+
+    pub(crate) fn for_c(self) -> sys::FlowRules {
+        sys::FlowRules {
+            respond: wait(self.respond),
+            crowded: wait(self.crowded),
+            closing: wait(self.closing),
+            idle: wait(self.idle),
+            makes_room: self.makes_room,
+            ends_old_flows: self.ends_old_flows,
+        }
+    }
+}
+
+/// In milliseconds; a wait that is longer than those can say is for ever.
+fn wait(given: Option<Duration>) -> u64 {
+    given.map_or(sys::NEVER, |it| {
+        u64::try_from(it.as_millis()).unwrap_or(sys::NEVER)
+    })
+}
