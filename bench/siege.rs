@@ -1,0 +1,192 @@
+//! A siege in counted time: real clients of a server of 1,024 places, and beside them hostile datagrams of strangers who do not see what
+//! goes between others. It prints figures, and ends with 1 where one is past its bound.
+
+use dccp::{Change, Config, Connection, Feature, Listener, Phase, Place};
+use std::collections::BTreeMap;
+use std::error::Error;
+use std::net::{Ipv4Addr, SocketAddrV4};
+use std::process::ExitCode;
+use std::time::{Duration, Instant};
+
+const PLACES: u16 = 1_024;
+const CLIENTS: usize = 200;
+const SERVICE: u32 = 42;
+const STEP: Duration = Duration::from_millis(10);
+const LENGTH: Duration = Duration::from_secs(20);
+/// How many hostile datagrams come in a step.
+const HOSTILE: usize = 200;
+/// When a client may begin, at the latest.
+const BEGINS_WITHIN_STEPS: u64 = 1_000;
+const CONNECTS_WITHIN: Duration = Duration::from_secs(5);
+
+fn here() -> SocketAddrV4 {
+    SocketAddrV4::new(Ipv4Addr::new(192, 0, 2, 200), 5_001)
+}
+
+/// Numbers that are drawn: a linear congruence, of which the upper half is taken.
+struct Numbers(u64);
+
+impl Numbers {
+    fn next(&mut self) -> u64 {
+        self.0 = self.0.wrapping_mul(6_364_136_223_846_793_005).wrapping_add(1_442_695_040_888_963_407);
+        self.0 >> 32
+    }
+
+    fn below(&mut self, bound: u64) -> u64 {
+        self.next() % bound
+    }
+}
+
+/// A client that speaks ten times a second.
+struct Client {
+    own: SocketAddrV4,
+    end: Connection,
+    begins: Instant,
+    is_begun: bool,
+    opened: Option<Instant>,
+    is_lost: bool,
+}
+
+/// The Internet checksum over the pseudo-header of IPv4 and the packet (RFC 4340, section 9.1; RFC 1071).
+fn seal(packet: &mut [u8], from: SocketAddrV4) {
+    packet[6..8].fill(0);
+    let length = packet.len() as u16;
+    let mut bytes = Vec::with_capacity(packet.len() + 12);
+    bytes.extend(from.ip().octets());
+    bytes.extend(here().ip().octets());
+    bytes.extend([0, 33]);
+    bytes.extend(length.to_be_bytes());
+    bytes.extend(&*packet);
+    let sum: u32 = bytes.chunks(2).map(|it| u32::from(it[0]) << 8 | u32::from(*it.get(1).unwrap_or(&0))).sum();
+    let folded = (sum & 0xffff) + (sum >> 16);
+    let folded = (folded & 0xffff) + (folded >> 16);
+    packet[6..8].copy_from_slice(&(!(folded as u16)).to_be_bytes());
+}
+
+/// A packet with a long number (RFC 4340, section 5.1): its type, and what stands behind the number.
+fn packet(from: SocketAddrV4, kind: u8, number: u64, rest: &[u8]) -> Vec<u8> {
+    let mut it = Vec::new();
+    it.extend(from.port().to_be_bytes());
+    it.extend(here().port().to_be_bytes());
+    it.extend([((16 + rest.len()) / 4) as u8, 0, 0, 0, kind << 1 | 1, 0]);
+    it.extend(&number.to_be_bytes()[2..]);
+    it.extend(rest);
+    seal(&mut it, from);
+    it
+}
+
+/// What stands behind the number where a packet acknowledges one (section 5.1).
+fn acknowledging(number: u64) -> Vec<u8> {
+    let mut it = vec![0, 0];
+    it.extend(&number.to_be_bytes()[2..]);
+    it
+}
+
+/// A hostile datagram, and in whose name it comes: of a stranger or of a client.
+fn hostile(numbers: &mut Numbers, clients: &[Client]) -> (SocketAddrV4, Vec<u8>) {
+    let stranger = SocketAddrV4::new(Ipv4Addr::from(0x0a00_0000 | numbers.below(1 << 24) as u32), 1_024 + numbers.below(60_000) as u16);
+    let client = clients[numbers.below(CLIENTS as u64) as usize].own;
+    let (number, other) = (numbers.next() << 16 | numbers.below(1 << 16), numbers.next() << 16);
+    let whose = if numbers.below(2) == 0 { stranger } else { client };
+    let bytes = match numbers.below(5) {
+        0 => packet(stranger, 0, number, &SERVICE.to_be_bytes()),
+        // In a client's name: a Request with another first number.
+        1 => packet(whose, 0, number, &SERVICE.to_be_bytes()),
+        2 => packet(whose, 7, number, &[acknowledging(other), vec![4, 0, 0, 0]].concat()),
+        3 => packet(whose, 8, number, &acknowledging(other)),
+        _ => (0..numbers.below(64)).map(|_| numbers.next() as u8).collect(),
+    };
+    let from = u16::from_be_bytes([*bytes.first().unwrap_or(&0), *bytes.get(1).unwrap_or(&0)]);
+    let whose = if from == stranger.port() { stranger } else { whose };
+    (whose, bytes)
+}
+
+/// What the siege came to.
+#[derive(Default)]
+struct Figures {
+    slowest: Duration,
+    not_connected: usize,
+    lost: usize,
+    answers: usize,
+    sent: usize,
+    evicted: usize,
+    most_flows: usize,
+}
+
+fn client_of(place: usize, numbers: &mut Numbers, now: Instant) -> Result<Client, Box<dyn Error>> {
+    let own = SocketAddrV4::new(Ipv4Addr::new(198, 51, 100, place as u8), 40_000);
+    let config = Config::client(own.into(), here().into(), SERVICE, numbers.next() << 8);
+    let end = Connection::new(&config.offer(Feature::SendAckVector, Place::Here, &[1]))?;
+    let begins = now + STEP * numbers.below(BEGINS_WITHIN_STEPS) as u32;
+    Ok(Client { own, end, begins, is_begun: false, opened: None, is_lost: false })
+}
+
+fn besiege() -> Result<Figures, Box<dyn Error>> {
+    let begun = Instant::now();
+    let mut now = begun;
+    let mut numbers = Numbers(20_261_130);
+    let mut server = Listener::new(&Config::listener(here(), SERVICE), PLACES)?;
+    let mut clients = (1..=CLIENTS).map(|place| client_of(place, &mut numbers, now)).collect::<Result<Vec<_>, _>>()?;
+    let places: BTreeMap<SocketAddrV4, usize> = clients.iter().enumerate().map(|(place, it)| (it.own, place)).collect();
+    let mut figures = Figures::default();
+    for step in 0_u64.. {
+        if LENGTH < now - begun {
+            break;
+        }
+        for _ in 0..HOSTILE {
+            let (whose, bytes) = hostile(&mut numbers, &clients);
+            let first = numbers.next() << 8;
+            let _ = server.handle_datagram(whose, first, &bytes, now);
+        }
+        for (place, client) in clients.iter_mut().enumerate() {
+            if !client.is_begun && client.begins <= now {
+                client.is_begun = true;
+                client.end.open(now)?;
+            }
+            if client.end.phase() == Phase::Open && (step + place as u64) % 10 == 0 {
+                let _ = client.end.send(b"voice", now);
+            }
+            client.end.handle_timeout(now);
+            while let Some(frame) = client.end.poll_transmit() {
+                let first = numbers.next() << 8;
+                let _ = server.handle_datagram(client.own, first, &frame.bytes, now);
+            }
+        }
+        server.handle_timeout(now);
+        while let Some((whose, frame)) = server.poll_transmit() {
+            figures.sent += 1;
+            figures.answers += usize::from(frame.is_answer);
+            if let Some(place) = places.get(&whose) {
+                clients[*place].end.handle_datagram(&frame.bytes, now);
+            }
+        }
+        while server.poll_event().is_some() {}
+        while server.poll_accept().is_some() {}
+        while let Some((_, change)) = server.poll_change() {
+            if let Change::Ended { cause: dccp::Cause::Evicted, .. } = change {
+                figures.evicted += 1;
+            }
+        }
+        for client in &mut clients {
+            if client.end.phase() == Phase::Open && client.opened.is_none() {
+                client.opened = Some(now);
+                figures.slowest = figures.slowest.max(now - client.begins);
+            }
+            let has_gone = client.opened.is_some() && (client.end.phase() != Phase::Open || server.phase(client.own).is_none());
+            client.is_lost |= has_gone;
+        }
+        figures.most_flows = figures.most_flows.max(server.peers().len());
+        now += STEP;
+    }
+    figures.not_connected = clients.iter().filter(|it| it.opened.is_none()).count();
+    figures.lost = clients.iter().filter(|it| it.is_lost).count();
+    Ok(figures)
+}
+
+fn main() -> Result<ExitCode, Box<dyn Error>> {
+    let it = besiege()?;
+    println!("clients {CLIENTS}, not connected {}, lost {}, slowest {:?}", it.not_connected, it.lost, it.slowest);
+    println!("frames {}, of them answers {}; flows at most {}, evicted {}", it.sent, it.answers, it.most_flows, it.evicted);
+    let holds = it.not_connected == 0 && it.lost == 0 && it.slowest <= CONNECTS_WITHIN && it.most_flows <= usize::from(PLACES);
+    Ok(ExitCode::from(u8::from(!holds)))
+}
