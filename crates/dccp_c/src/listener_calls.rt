@@ -1,7 +1,8 @@
 //! The functions of a listener that C calls: each does one deed of a peer with the listener that its handle holds.
 ghost use Rattle.std.specs.Prelude.{◌≡◌, ◌≢◌, ◌≤◌, None, Ok, is_some, length, slice_get, unwrap_or};
 ghost use Rattle.dccp_listener.specs.Calls.{seen_if};
-ghost use Rattle.dccp_listener.specs.Chain.{Sends, Closes, Aborts, call_of};
+ghost use Rattle.dccp_listener.specs.Chain.{Calls, Sends, Closes, Aborts, call_of};
+ghost use Rattle.dccp_listener.specs.Listens.{listens};
 ghost use Rattle.dccp_listener.specs.Runs.{Stepped, told_of};
 ghost use Rattle.std.specs.Option.{option_map};
 ghost use Rattle.dccp_c.specs.Framing.{handed_in};
@@ -9,8 +10,9 @@ ghost use Rattle.dccp_c.specs.Founding.{FoundsCode, founded_of, listening_by};
 ghost use Rattle.std.specs.Map.{keys_of};
 ghost use Rattle.dccp_listener.specs.Peers.{end_of_peer};
 ghost use Rattle.dccp_server.specs.Lives.{life_of};
+ghost use Rattle.dccp_server.specs.Rooms.{duty_done, duty_frame, duty_in, forgets, room_does};
 ghost use Rattle.dccp_c.specs.Seeing.{seen as seen_end};
-ghost use Rattle.dccp_c.specs.Listening.{ServerHears, Forgets, HearsDatagram, Serves, Ticks, address_of, datagram_refusal, duty_address, duty_code, evicted_in, flow_code, flow_in, known_of, life_if, life_in, listen_code, listen_told, listener_waits, made_code, peer_in, peer_named, refusal_code, ruled_by, rules_of, seen_code, served_in};
+ghost use Rattle.dccp_c.specs.Listening.{ServerHears, Forgets, HearsDatagram, Serves, Ticks, address_of, datagram_refusal, duty_address, duty_code, evicted_in, flow_code, flow_in, known_of, life_if, life_in, listen_code, listen_told, listener_waits, made_code, peer_in, peer_named, refusal_code, ruled_by, rules_of, seen_code, served_in, with_room};
 
 use crate::codes::{
     BAD_LIST, BUSY, DONE, GAVE_UP, NO_FLOW, NO_MEMORY, NO_NUMBER, NOT_FRESH, NOT_LIVE, NOT_MADE,
@@ -223,6 +225,15 @@ pub extern "C" fn dccp_listener_evicted(
     }
 }
 
+// A call of a peer's end, at a server.
+fn ask(serving: &mut Serving, peer: Peer, act: Act<'_>, now: u64) -> Result<Seen, NoFlow>
+    ensures after { serving.new.server ≡ with_room serving.old.server (room_does now serving.old.server.room peer (Calls (call_of act.entry))) }
+    ensures sent { serving.new.out ≡ (listens serving.old.server.room.served.listening peer (Calls (call_of act.entry))).frame }
+    ensures told { Stepped (seen_if result) ≡ (listens serving.old.server.room.served.listening peer (Calls (call_of act.entry))).told }
+{
+    serving.server.act(peer, act, now, &mut serving.out)
+}
+
 // A call of a peer's end.
 fn call(
     listener: &mut ListenerHandle,
@@ -238,7 +249,7 @@ fn call(
     let Some(mut serving) = listener.take(alloc) else {
         return NOT_MADE;
     };
-    let answer = serving.server.act(peer, act, now, &mut serving.out);
+    let answer = ask(&mut serving, peer, act, now);
     frame.fill(&serving.out);
     listener.put(serving);
     call_code(&answer)
@@ -314,6 +325,15 @@ fn duty_address(duty: Option<Duty>, old: PeerAddress) -> PeerAddress
     }
 }
 
+// A tick of a server.
+fn do_duty(serving: &mut Serving, now: u64) -> Option<Duty>
+    ensures duty { result ≡ duty_in now serving.old.server.rules serving.old.server.half serving.old.server.room }
+    ensures after { serving.new.server ≡ with_room serving.old.server (duty_done now serving.old.server.room result) }
+    ensures sent { serving.new.out ≡ duty_frame serving.old.server.room result }
+{
+    serving.server.tick(now, &mut serving.out)
+}
+
 /// Tells a flow the first of its timers that has run out; or, where none has, gives up a flow that has stood or been
 /// silent for too long, by aborting it. C is told whose it is. Answers DONE, GAVE_UP, NOT_MADE, or NOTHING_DUE where
 /// there is nothing to do.
@@ -331,7 +351,7 @@ pub extern "C" fn dccp_listener_tick(
     let Some(mut serving) = listener.take(alloc) else {
         return NOT_MADE;
     };
-    let duty = serving.server.tick(now, &mut serving.out);
+    let duty = do_duty(&mut serving, now);
     *peer = duty_address(duty, *peer);
     frame.fill(&serving.out);
     listener.put(serving);
@@ -409,6 +429,13 @@ pub extern "C" fn dccp_listener_peer(
     }
 }
 
+// A server forgets a peer's flow.
+fn let_go(serving: &mut Serving, peer: Peer, now: u64)
+    ensures { serving.new.server ≡ with_room serving.old.server (forgets now serving.old.server.room peer) }
+{
+    serving.server.forget(peer, now, &mut serving.out);
+}
+
 fn has_flow(server: &Server, peer: Peer) -> bool
     ensures { result ≡ is_some (end_of_peer server.now.room.served.listening.flows peer) }
 {
@@ -430,7 +457,7 @@ pub extern "C" fn dccp_listener_forget(
     };
     let peer = peer_named(peer);
     let had = has_flow(&serving.server, peer);
-    serving.server.forget(peer, now, &mut serving.out);
+    let_go(&mut serving, peer, now);
     listener.put(serving);
     if had { DONE } else { NO_FLOW }
 }
