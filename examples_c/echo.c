@@ -2,7 +2,7 @@
  *
  *     echo PORT
  *
- * The client of talk.c may speak to it. One that is silent for eight minutes is given up. It runs until it is stopped. */
+ * The client of talk.c may speak to it. One that is silent for two minutes is given up, by the listener. It runs until it is stopped. */
 #include <arpa/inet.h>
 #include <poll.h>
 #include <stdio.h>
@@ -17,22 +17,11 @@
 /* MOST_HEARD: how many datagrams are heard before the timers are looked at again. */
 enum { MOST_PEERS = 64, SERVICE = 42, ANSWERS_A_SECOND = 20, MOST_HEARD = 64 };
 
-/* How many milliseconds a silent peer is waited for: eight minutes, the least for a handshake (RFC 4340, section 8.1.3). */
-enum { SILENCE = 480000 };
-
-/* A peer that has a flow, and when something came of it last. */
-struct guest {
-    bool is_there;
-    uint64_t heard;
-    dccp_peer peer;
-};
-
 struct server {
     int socket;
     unsigned answers;
     uint64_t second; /* in which answers are counted */
     dccp_listener listener;
-    struct guest guests[MOST_PEERS];
 };
 
 static void fail(const char *what) {
@@ -70,21 +59,6 @@ static bool may_answer(struct server *server, uint32_t status, const dccp_told *
     return server->answers++ < ANSWERS_A_SECOND;
 }
 
-/* Notes that something came of a peer that has a flow, and else frees its place: so there is a place for each flow. */
-static void note(struct server *server, const dccp_peer *peer) {
-    struct guest *place = NULL;
-    dccp_view view;
-    bool has_flow = dccp_listener_look(&server->listener, peer, &view) == DCCP_OK;
-    for (struct guest *it = server->guests; it != server->guests + MOST_PEERS; it++) {
-        if (it->is_there && it->peer.port == peer->port && memcmp(it->peer.address, peer->address, 4) == 0) {
-            place = it;
-            break;
-        }
-        if (!it->is_there && has_flow) place = it;
-    }
-    if (place != NULL) *place = (struct guest){.is_there = has_flow, .heard = now(), .peer = *peer};
-}
-
 /* Hears one datagram, if one has come. Where data came, they go back. */
 static bool hear(struct server *server) {
     uint8_t bytes[DCCP_MOST_FRAME_BYTES + 1];
@@ -98,30 +72,17 @@ static bool hear(struct server *server) {
     memcpy(peer.address, &from.sin_addr, 4);
     uint32_t status = dccp_listener_arrive(&server->listener, &peer, first_number(), bytes, (size_t)length, now(), &frame, &told);
     if (may_answer(server, status, &told)) hand_over(server, &peer, &frame);
-    note(server, &peer);
     if (told.kind != DCCP_TOLD_DATA) return true;
     if (dccp_listener_send(&server->listener, &peer, bytes + told.first, told.past - told.first, now(), &frame) == DCCP_OK)
         hand_over(server, &peer, &frame);
     return true;
 }
 
-/* Gives a peer up that is silent for too long: else Requests from forged addresses would take all places for good. */
-static void give_up(struct server *server, struct guest *guest) {
-    dccp_frame frame;
-    dccp_view view;
-    bool is_silent = SILENCE < now() - guest->heard;
-    if (is_silent && dccp_listener_abort(&server->listener, &guest->peer, now(), &frame) == DCCP_OK)
-        hand_over(server, &guest->peer, &frame);
-    guest->is_there = dccp_listener_look(&server->listener, &guest->peer, &view) == DCCP_OK;
-}
-
 /* Does what the time has come for, at all peers, and answers how long the server may sleep. */
 static int tick(struct server *server) {
     dccp_frame frame;
     dccp_peer peer;
-    while (dccp_listener_tick(&server->listener, now(), &peer, &frame) == DCCP_OK) hand_over(server, &peer, &frame);
-    for (struct guest *it = server->guests; it != server->guests + MOST_PEERS; it++)
-        if (it->is_there) give_up(server, it);
+    while (dccp_listener_tick(&server->listener, now(), &peer, &frame) != DCCP_NOTHING_DUE) hand_over(server, &peer, &frame);
     uint64_t left = dccp_listener_until_first(&server->listener, now());
     return left < 1000 ? (int)left : 1000;
 }

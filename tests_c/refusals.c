@@ -534,8 +534,8 @@ static void refusals_of_a_flow(void) {
     same("blocks behind free", 0, held);
 }
 
-/* Each allocation that a flow takes is refused in turn: then there is none, nothing is left, and nothing is kept but the first block of the
- * timers' map, which is allocated first. */
+/* Each allocation that a flow takes is refused in turn: then there is none, nothing is left, and nothing is kept but the first blocks of two
+ * maps, those of lives and of timers, which are allocated first. */
 static void memory_of_a_flow(void) {
     dccp_frame datagram = request(client.service), frame;
     dccp_view view;
@@ -551,7 +551,7 @@ static void memory_of_a_flow(void) {
         if (is_reached) {
             same("its frame", 0, frame.length);
             same("the flow", DCCP_NO_FLOW, dccp_listener_look(&listener, &guest, &view));
-            same("blocks that are kept", before + (at > 1), held);
+            same("blocks that are kept", before + (at > 1) + (at > 2), held);
         }
         dccp_listener_free(&listener);
         same("blocks behind free", 0, held);

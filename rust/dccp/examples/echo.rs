@@ -2,10 +2,10 @@
 //!
 //!     cargo run --example echo -- PORT
 //!
-//! The client of `talk`, in Rust or in C, may speak to it. One that is silent for eight minutes is given up. It runs until it is
-//! stopped.
+//! The client of `talk`, in Rust or in C, may speak to it. One that is silent for two minutes is given up, by the listener. It runs until
+//! it is stopped.
 
-use dccp::{ArriveError, Config, Event, Listener, MOST_FRAME_BYTES};
+use dccp::{ArriveError, Change, Config, Event, Listener, MOST_FRAME_BYTES};
 use std::collections::{BTreeMap, VecDeque};
 use std::env;
 use std::error::Error;
@@ -18,8 +18,6 @@ const SERVICE: u32 = 42;
 const MOST_PEERS: u16 = 1_000;
 /// What is kept for a peer while its window is full; what is more is dropped.
 const MOST_WAITING: usize = 64;
-/// How long a silent peer is waited for: eight minutes, the least for a handshake (RFC 4340, section 8.1.3).
-const SILENCE: Duration = Duration::from_secs(480);
 const ANSWERS_A_SECOND: u32 = 20;
 
 /// A number that nobody can guess, for the first packet (RFC 4340, section 7.2).
@@ -63,59 +61,39 @@ impl Answers {
     }
 }
 
-/// What is kept of a peer whose connection has not ended.
-struct Peer {
-    /// When something came last.
-    heard: Instant,
-    /// The data that wait for room in its window.
-    waiting: VecDeque<Vec<u8>>,
-}
+/// The data of each peer that wait for room in its window.
+type Waiting = BTreeMap<SocketAddrV4, VecDeque<Vec<u8>>>;
 
-type Peers = BTreeMap<SocketAddrV4, Peer>;
-
-/// Takes what the server tells: who is new, what data came, and who has gone.
-fn take_news(server: &mut Listener, peers: &mut Peers, now: Instant) {
-    while let Some(address) = server.poll_accept() {
-        let (heard, waiting) = (now, VecDeque::new());
-        peers.insert(address, Peer { heard, waiting });
+/// Takes what the server tells: who has come, who has gone, and what data came. A peer that has only asked may be forged: it counts once it
+/// has opened its connection.
+fn take_news(server: &mut Listener, waiting: &mut Waiting) {
+    while server.poll_accept().is_some() {}
+    while let Some((address, change)) = server.poll_change() {
+        match change {
+            Change::Opened => drop(waiting.insert(address, VecDeque::new())),
+            Change::Ended { .. } => drop(waiting.remove(&address)),
+            _ => {}
+        }
     }
     while let Some((address, event)) = server.poll_event() {
-        match event {
-            Event::Data(data) => {
-                if let Some(peer) = peers.get_mut(&address)
-                    && peer.waiting.len() < MOST_WAITING
-                {
-                    peer.waiting.push_back(data);
-                }
-            }
-            Event::Ended { .. } => drop(peers.remove(&address)),
-            _ => {}
+        if let (Event::Data(data), Some(queue)) = (event, waiting.get_mut(&address))
+            && queue.len() < MOST_WAITING
+        {
+            queue.push_back(data);
         }
     }
 }
 
 /// Sends back what the window of each peer has room for.
-fn send_back(server: &mut Listener, peers: &mut Peers, now: Instant) {
-    for (address, peer) in peers {
-        while let Some(data) = peer.waiting.front() {
+fn send_back(server: &mut Listener, waiting: &mut Waiting, now: Instant) {
+    for (address, queue) in waiting {
+        while let Some(data) = queue.front() {
             match server.send(*address, data, now) {
-                Ok(()) => drop(peer.waiting.pop_front()),
+                Ok(()) => drop(queue.pop_front()),
                 Err(_) => break,
             }
         }
     }
-}
-
-/// Gives up the peers that are silent for too long: else Requests from forged addresses would take all places for good.
-fn give_up(server: &mut Listener, peers: &mut Peers, now: Instant) {
-    peers.retain(|address, peer| {
-        let is_silent = SILENCE < now.saturating_duration_since(peer.heard);
-        if is_silent {
-            // Where it is refused, the connection has gone by itself.
-            let _ = server.abort(*address, now);
-        }
-        !is_silent
-    });
 }
 
 /// Sends each frame to its peer. One that the socket does not take is lost.
@@ -133,7 +111,7 @@ fn main() -> Result<(), Box<dyn Error>> {
     let socket = UdpSocket::bind(own)?;
     let mut random = File::open("/dev/urandom")?;
     let mut server = Listener::new(&Config::listener(own, SERVICE), MOST_PEERS)?;
-    let (mut room, mut peers) = ([0; MOST_FRAME_BYTES + 1], Peers::new());
+    let (mut room, mut waiting) = ([0; MOST_FRAME_BYTES + 1], Waiting::new());
     let mut answers = Answers {
         second: Instant::now(),
         count: 0,
@@ -151,14 +129,10 @@ fn main() -> Result<(), Box<dyn Error>> {
                 Ok(()) | Err(ArriveError::Busy) => {}
                 Err(fault) => eprintln!("echo: {address}: {fault}"),
             }
-            if let Some(peer) = peers.get_mut(&address) {
-                peer.heard = now;
-            }
         }
         server.handle_timeout(now);
-        take_news(&mut server, &mut peers, now);
-        send_back(&mut server, &mut peers, now);
-        give_up(&mut server, &mut peers, now);
+        take_news(&mut server, &mut waiting);
+        send_back(&mut server, &mut waiting, now);
         hand_over(&mut server, &socket, &mut answers);
     }
 }
