@@ -4,7 +4,7 @@ use crate::wire::Wire;
 use ccid_two::Kinds;
 use dccp_endpoint::{Config, Ports, Pseudo, Seq48};
 use dccp_listener::Peer;
-use dccp_uses::{News, Session};
+use dccp_uses::{News, Pace, Session, widened};
 use std::alloc::Global;
 
 /// The Service Code that it asks for.
@@ -43,8 +43,9 @@ impl Client {
             own: peer.port,
             peer: SERVER_PORT,
         };
-        let config = Config::client(addresses, ports, SERVICE, Seq48::new(1_000)?);
-        let connection = Session::new(alloc, config, Kinds::new(alloc).ok()?).ok()?;
+        let config = widened(Config::client(addresses, ports, SERVICE, Seq48::new(1_000)?));
+        let congestion = Kinds::new(alloc).ok()?;
+        let connection = Session::new(alloc, config, congestion, Pace::usual()).ok()?;
         Some(Client {
             peer,
             connection,

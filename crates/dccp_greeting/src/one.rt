@@ -5,7 +5,7 @@ use crate::wire::Wire;
 use ccid_two::Kinds;
 use dccp_endpoint::{Config, Ports, Pseudo, Seq48};
 use dccp_listener::Peer;
-use dccp_uses::{News, Session, accept};
+use dccp_uses::{News, Pace, Session, accept, widened};
 use std::alloc::Global;
 
 /// A server with at most one connection, and what came over it.
@@ -28,7 +28,7 @@ fn config_for(peer: Peer) -> Option<Config> {
         peer: peer.port,
     };
     let first = Seq48::new(2_000)?;
-    Some(Config::server(addresses, ports, SERVICE, first))
+    Some(widened(Config::server(addresses, ports, SERVICE, first)))
 }
 
 impl ServerOfOne {
@@ -44,7 +44,16 @@ impl ServerOfOne {
     fn meet(&mut self, peer: Peer, datagram: &[u8], now: u64, network: &mut Wire) -> Option<()> {
         let config = config_for(peer)?;
         let congestion = Kinds::new(self.alloc).ok()?;
-        self.connection = accept(self.alloc, config, congestion, datagram, now, network).ok()?;
+        self.connection = accept(
+            self.alloc,
+            config,
+            congestion,
+            Pace::usual(),
+            datagram,
+            now,
+            network,
+        )
+        .ok()?;
         Some(())
     }
 

@@ -10,7 +10,9 @@ use Rattle.dccp_endpoint.specs.Outcomes.{HasCause, IsTaken}
 use Rattle.dccp_endpoint.specs.Reporting.{delivered_if}
 use Rattle.dccp_states.specs.declared.outcome.Outcome.{Outcome}
 use Rattle.dccp_states.specs.declared.outcome.Outcome.TheVariants.{Took, Dropped, Synced, WasReset, SentReset}
+use Rattle.std.specs.Prelude.{IfSome}
 use Rattle.dccp_uses.specs.Session.{has_closed, news_of}
+use Rattle.dccp_uses.specs.Sessions.{news_if}
 use Rattle.dccp_uses.specs.declared.news.News.{News}
 use Rattle.dccp_uses.specs.declared.news.News.TheVariants as news
 
@@ -82,6 +84,13 @@ ended-short : (ended : Bool) (code : ℕ) → (if ended then news.Ended code els
 ended-short true code is = cc is
 ended-short false code is = cc is
 
+-- Where a datagram was heard or left out, the same.
+pub news_inside : (e : EndState) (bytes : List ℕ) (outcome : Option Outcome) (was now : Phase) (first past : ℕ)
+    → IfSome outcome (λ (o : Outcome). HasCause e bytes o)
+    → news_if outcome was now ≡ news.Data first past → (first ≤ past) × (past ≤ length bytes)
+news_inside e bytes (Some outcome) was now first past cause is = news_within e bytes outcome was now first past cause is
+news_inside e bytes None was now first past cause is = cc is
+
 -- No outcome says that the bytes were too long.
 pub never_too_long : (outcome : Outcome) (was now : Phase) → news_of outcome was now ≡ news.TooLong → ⊥
 never_too_long (Took (Some place)) was now is = cc is
@@ -90,3 +99,8 @@ never_too_long (Dropped why) was now is = cc is
 never_too_long (Synced number) was now is = cc is
 never_too_long (WasReset code) was now is = cc is
 never_too_long (SentReset code detail) was now is = ended-short (has_closed was now) code is
+
+-- nor does a datagram that was left out
+pub never_said_long : (outcome : Option Outcome) (was now : Phase) → news_if outcome was now ≡ news.TooLong → ⊥
+never_said_long (Some outcome) was now is = never_too_long outcome was now is
+never_said_long None was now is = cc is

@@ -2,3 +2,8 @@ pub mod Delivering
 pub mod Ringing
 pub mod Soonest
 pub mod Accepting
+pub mod Dues
+pub mod OneInput
+mod RowsPath
+pub mod Obeying
+pub mod Told

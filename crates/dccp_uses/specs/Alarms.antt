@@ -1,12 +1,15 @@
 -- When the timers of an end run out (RFC 4340, sections 3.4, 6.6.3, 8.1.1, 8.1.5 and 8.3; RFC 4341, section 5, which
 -- leads to RFC 2988). Times are in milliseconds. Where the standard leaves a wait open it is own.
-use Rattle.std.specs.Prelude.{ℕ, ◌≤◌, ◌-◌, ◌*◌, ◌==◌, ◌&&◌, if◌then◌else◌, max, min, Bool, true, false, Option, Some, None}
+use Rattle.std.specs.Prelude.{ℕ, ◌≤◌, ◌-◌, ◌==◌, ◌&&◌, if◌then◌else◌, max, min, nat_le, Bool, true, false, Option, Some, None}
 use Rattle.dccp_endpoint.specs.Calling.{applies_in}
 use Rattle.dccp_states.specs.declared.calls.Timer.{Timer}
 use Rattle.dccp_states.specs.declared.calls.Timer.TheVariants as timers
 use Rattle.dccp_uses.specs.declared.alarms.Alarm.{Alarm}
 use Rattle.dccp_uses.specs.declared.alarms.Alarms.{Alarms}
 use Rattle.dccp_uses.specs.declared.alarms.Condition.{Condition}
+use Rattle.dccp_uses.specs.declared.waits.Waits.{Waits}
+use Rattle.path_rules.specs.Waits.{wait_after}
+use Rattle.path_rules.specs.declared.waits.Wait.{Wait}
 
 -- how long an alarm has still to wait; at 0 it has run out
 abbrev pub time_left : Alarm → ℕ → ℕ
@@ -35,31 +38,44 @@ with_alarm alarms timers.Rto alarm = record alarms { rto = alarm }
 with_alarm alarms timers.Close alarm = record alarms { close = alarm }
 with_alarm alarms timers.TimeWait alarm = record alarms { time_wait = alarm }
 
--- A timer's first wait: a second for an answer to the Request (section 8.1.1), for a Confirm (own) and for a report
--- (RFC 4341, section 5); 200 for an Ack (section 8.1.5); two round trips of 200 for the answer to a Close (sections 3.4
--- and 8.3); two lifetimes of a segment, of two minutes each, in TIMEWAIT (sections 3.4 and 8.3).
-abbrev pub first_wait : Timer → ℕ
-first_wait timers.Request = 1000
-first_wait timers.Ack = 200
-first_wait timers.Negotiate = 1000
-first_wait timers.Rto = 1000
-first_wait timers.Close = 400
-first_wait timers.TimeWait = 240000
+-- The waits of an end that knows nothing of its path. At first: a second for an answer to the Request (section 8.1.1),
+-- for a Confirm (own) and for a report (RFC 4341, section 5); 200 for an Ack (section 8.1.5); two round trips of 200 for
+-- the answer to a Close (sections 3.4 and 8.3); two lifetimes of a segment, of two minutes each, in TIMEWAIT (sections
+-- 3.4 and 8.3). At most 64 seconds (sections 6.6.3, 8.1.1 and 8.3; RFC 2988, sections 2.5 and 5.5).
+abbrev pub classic_waits : Waits
+classic_waits =
+    record {
+      request = record { first = 1000; most = 64000 };
+      ack = record { first = 200; most = 64000 };
+      negotiate = record { first = 1000; most = 64000 };
+      rto = record { first = 1000; most = 64000 };
+      close = record { first = 400; most = 64000 };
+      time_wait = record { first = 240000; most = 64000 };
+    }
+
+-- the wait of a timer
+abbrev pub timer_wait : Waits → Timer → Wait
+timer_wait waits timers.Request = waits.request
+timer_wait waits timers.Ack = waits.ack
+timer_wait waits timers.Negotiate = waits.negotiate
+timer_wait waits timers.Rto = waits.rto
+timer_wait waits timers.Close = waits.close
+timer_wait waits timers.TimeWait = waits.time_wait
 
 -- none of the six timers runs, and the timer rto has not run out since something was acknowledged
 abbrev pub no_alarms : Alarms
 no_alarms =
-    record { request = None; ack = None; negotiate = None; rto = None; close = None; time_wait = None; rto_wait = first_wait timers.Rto }
+    record { request = None; ack = None; negotiate = None; rto = None; close = None; time_wait = None; rto_wait = classic_waits.rto.first }
 
--- each wait is twice the one before, up to 64 seconds (sections 6.6.3, 8.1.1 and 8.3; RFC 2988, sections 2.5 and 5.5)
-abbrev pub next_wait : ℕ → ℕ
-next_wait wait = max 1 (2 * min wait 32000)
+-- each wait is twice the one before, within what its timer waits, and a millisecond at least
+abbrev pub next_wait : Wait → ℕ → ℕ
+next_wait kind wait = max 1 (wait_after kind wait)
 
 -- The wait with which a timer begins: its first, but that of the timer rto stays as long as its timeouts have made it,
 -- and is never below its first (RFC 2988, sections 2.4 and 5.5).
-abbrev pub starting_wait : Alarms → Timer → ℕ
-starting_wait alarms timers.Rto = max (first_wait timers.Rto) alarms.rto_wait
-starting_wait alarms timer = first_wait timer
+abbrev pub starting_wait_by : Waits → Alarms → Timer → ℕ
+starting_wait_by waits alarms timers.Rto = max (max 1 waits.rto.first) alarms.rto_wait
+starting_wait_by waits alarms timer = max 1 (timer_wait waits timer).first
 
 -- A timer runs where the end would do something when it runs out; the timer negotiate runs also where no row asks.
 abbrev pub runs_in : Timer → Condition → Bool
@@ -73,48 +89,69 @@ alarm_after true (Some alarm) wait now = Some alarm
 alarm_after true None wait now = Some (record { since = now; wait = wait })
 
 -- the alarm of a timer as this condition needs it: it goes on, begins, or is none
-abbrev pub arranged_alarm : Alarms → Timer → Condition → ℕ → Option Alarm
-arranged_alarm alarms timer c now = alarm_after (runs_in timer c) (alarm_of alarms timer) (starting_wait alarms timer) now
+abbrev pub arranged_alarm_by : Waits → Alarms → Timer → Condition → ℕ → Option Alarm
+arranged_alarm_by waits alarms timer c now = alarm_after (runs_in timer c) (alarm_of alarms timer) (starting_wait_by waits alarms timer) now
 
 -- the alarms of an end in this condition
-abbrev pub arranged : Alarms → Condition → ℕ → Alarms
-arranged alarms c now =
+abbrev pub arranged_by : Waits → Alarms → Condition → ℕ → Alarms
+arranged_by waits alarms c now =
     record {
-      request = arranged_alarm alarms timers.Request c now;
-      ack = arranged_alarm alarms timers.Ack c now;
-      negotiate = arranged_alarm alarms timers.Negotiate c now;
-      rto = arranged_alarm alarms timers.Rto c now;
-      close = arranged_alarm alarms timers.Close c now;
-      time_wait = arranged_alarm alarms timers.TimeWait c now;
+      request = arranged_alarm_by waits alarms timers.Request c now;
+      ack = arranged_alarm_by waits alarms timers.Ack c now;
+      negotiate = arranged_alarm_by waits alarms timers.Negotiate c now;
+      rto = arranged_alarm_by waits alarms timers.Rto c now;
+      close = arranged_alarm_by waits alarms timers.Close c now;
+      time_wait = arranged_alarm_by waits alarms timers.TimeWait c now;
       rto_wait = alarms.rto_wait;
     }
 
 -- a timer that has run out waits longer the next time
-abbrev pub set_back : Option Alarm → ℕ → Option Alarm
-set_back None now = None
-set_back (Some alarm) now = Some (record { since = now; wait = next_wait alarm.wait })
+abbrev pub set_back : Wait → Option Alarm → ℕ → Option Alarm
+set_back kind None now = None
+set_back kind (Some alarm) now = Some (record { since = now; wait = next_wait kind alarm.wait })
 
 -- The alarms once a timer has run out: it is set back, and the timer rto then also begins with twice its wait, even
 -- where nothing is in flight any more (RFC 4341, section 5; RFC 2988, section 5.5).
-abbrev pub rung : Alarms → Timer → ℕ → Alarms
-rung alarms timers.Rto now = record alarms { rto = set_back alarms.rto now; rto_wait = next_wait alarms.rto_wait }
-rung alarms timer now = with_alarm alarms timer (set_back (alarm_of alarms timer) now)
+abbrev pub rung_by : Waits → Alarms → Timer → ℕ → Alarms
+rung_by waits alarms timers.Rto now =
+    record alarms { rto = set_back waits.rto alarms.rto now; rto_wait = next_wait waits.rto alarms.rto_wait }
+rung_by waits alarms timer now = with_alarm alarms timer (set_back (timer_wait waits timer) (alarm_of alarms timer) now)
 
--- an alarm that is set back already begins anew, and one in its first wait goes on
+-- an alarm that is set back already begins anew, and one that waits no longer than at first goes on
 abbrev pub first_again : Option Alarm → ℕ → Option Alarm
 first_again None wait = None
-first_again (Some alarm) wait = if alarm.wait == wait then Some alarm else None
+first_again (Some alarm) wait = if nat_le alarm.wait wait then Some alarm else None
 
 -- Where a packet that arrived took something out of flight, the timer rto begins anew, with its first wait (RFC 4341,
 -- section 5; RFC 2988, section 5.3).
-abbrev pub with_progress : Alarms → Bool → Alarms
-with_progress alarms true = record alarms { rto = None; rto_wait = first_wait timers.Rto }
-with_progress alarms false = alarms
+abbrev pub progressed_by : Waits → Alarms → Bool → Alarms
+progressed_by waits alarms true = record alarms { rto = None; rto_wait = waits.rto.first }
+progressed_by waits alarms false = alarms
 
 -- Where data were delivered, an Ack goes out no later than after the first wait of its timer.
+abbrev pub ack_hurried_by : Waits → Alarms → Bool → Alarms
+ack_hurried_by waits alarms true = record alarms { ack = first_again alarms.ack waits.ack.first }
+ack_hurried_by waits alarms false = alarms
+
+-- the alarm of a timer with the waits of an end that knows nothing of its path
+abbrev pub arranged_alarm : Alarms → Timer → Condition → ℕ → Option Alarm
+arranged_alarm alarms timer c now = arranged_alarm_by classic_waits alarms timer c now
+
+-- all alarms, with these waits
+abbrev pub arranged : Alarms → Condition → ℕ → Alarms
+arranged alarms c now = arranged_by classic_waits alarms c now
+
+-- once a timer has run out, with these waits
+abbrev pub rung : Alarms → Timer → ℕ → Alarms
+rung alarms timer now = rung_by classic_waits alarms timer now
+
+-- where something came out of flight, with these waits
+abbrev pub with_progress : Alarms → Bool → Alarms
+with_progress alarms progress = progressed_by classic_waits alarms progress
+
+-- where data were delivered, with these waits
 abbrev pub with_delivery : Alarms → Bool → Alarms
-with_delivery alarms true = record alarms { ack = first_again alarms.ack (first_wait timers.Ack) }
-with_delivery alarms false = alarms
+with_delivery alarms delivered = ack_hurried_by classic_waits alarms delivered
 
 -- the sooner of two waits
 abbrev pub sooner : Option ℕ → Option Alarm → ℕ → Option ℕ

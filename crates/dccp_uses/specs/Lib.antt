@@ -4,3 +4,9 @@ pub mod Handing
 pub mod Session
 pub mod OneAtATime
 pub mod Listening
+pub mod Path
+pub mod Rules
+pub mod Timed
+pub mod Sessions
+pub mod Syncs
+pub mod Inputs

@@ -13,7 +13,6 @@ use Rattle.dccp_states.specs.declared.outcome.Outcome.TheVariants.{Took, Dropped
 use Rattle.dccp_states.specs.declared.phase.Phase.{Phase}
 use Rattle.dccp_states.specs.declared.phase.Phase.TheVariants as phases
 use Rattle.dccp_uses.specs.Alarms.{alarm_of, arranged, has_run_out, no_alarms, rung, with_delivery, with_progress}
-use Rattle.dccp_uses.specs.Handing.{Hands}
 use Rattle.dccp_uses.specs.declared.alarms.Alarms.{Alarms}
 use Rattle.dccp_uses.specs.declared.alarms.Condition.{Condition}
 use Rattle.dccp_uses.specs.declared.news.News.{News}
@@ -29,13 +28,6 @@ pub record SessionStep (C Answer : Type 0) : Type 0 where
   pub session : SessionState C
   pub frame : Option Outgoing
   pub answer : Answer
-
--- The session did that step: the frame that its end made was handed to the network.
-pub record Does {C N Answer : Type 0} (sends : N → List ℕ → N → Type 0) (step : SessionStep C Answer) (new : SessionState C) (before after : N)
-    (answer : Answer) : Type 0 where
-  pub session_is : new ≡ step.session
-  pub handed : Hands sends before step.frame after
-  pub answer_is : answer ≡ step.answer
 
 -- an end that has sent and received nothing, for which no timer runs
 abbrev pub session_begins : {C : Type 0} → Control C → Config → C → SessionState C

@@ -1,8 +1,10 @@
 //! When each timer of an end runs out. The times are those of whoever owns the end, in milliseconds from any beginning.
 ghost use Rattle.std.specs.Prelude.{◌≡◌};
-ghost use Rattle.dccp_uses.specs.Alarms.{alarm_after, alarm_of, arranged, arranged_alarm, first_again, first_wait, has_run_out, time_left, next_wait, no_alarms, rung, runs_in, set_back, sooner, starting_wait, with_delivery, with_progress};
+ghost use Rattle.dccp_uses.specs.Alarms.{alarm_after, alarm_of, arranged, arranged_by, arranged_alarm_by, ack_hurried_by, first_again, has_run_out, time_left, next_wait, no_alarms, progressed_by, rung, rung_by, runs_in, set_back, sooner, starting_wait_by, with_delivery, with_progress};
 
-use dccp_endpoint::{Congestion, Endpoint, Phase, Timer};
+use crate::Waits;
+use dccp_endpoint::{Congestion, Endpoint, Phase, Timer, applies_in};
+use path_rules::Wait;
 
 /// A timer that runs: since when, and for how long.
 #[derive(Clone, Copy, Debug, PartialEq, Eq)]
@@ -80,7 +82,7 @@ impl Alarms {
             rto: None,
             close: None,
             time_wait: None,
-            rto_wait: first_wait(Timer::Rto),
+            rto_wait: 1_000,
         }
     }
 
@@ -113,7 +115,7 @@ impl Alarms {
 }
 
 // The sooner of two waits.
-fn sooner(left: Option<u64>, alarm: Option<Alarm>, now: u64) -> Option<u64>
+pub(crate) fn sooner(left: Option<u64>, alarm: Option<Alarm>, now: u64) -> Option<u64>
     ensures { result ≡ sooner left alarm now }
 {
     match (left, alarm) {
@@ -133,34 +135,21 @@ pub fn has_run_out(alarm: Option<Alarm>, now: u64) -> bool
     }
 }
 
-// A timer's first wait.
-fn first_wait(timer: Timer) -> u64
-    ensures { result ≡ first_wait timer }
+// How long a timer waits after this wait, a millisecond at least.
+fn next_wait(kind: &Wait, wait: u64) -> u64
+    ensures { result ≡ next_wait kind.now wait }
 {
-    match timer {
-        Timer::Request => 1_000,
-        Timer::Ack => 200,
-        Timer::Negotiate => 1_000,
-        Timer::Rto => 1_000,
-        Timer::Close => 400,
-        Timer::TimeWait => 240_000,
-    }
+    kind.after(wait).max(1)
 }
 
-// Twice as long, up to 64 seconds.
-fn next_wait(wait: u64) -> u64
-    ensures { result ≡ next_wait wait }
+// The wait with which a timer begins, a millisecond at least.
+pub(crate) fn starting_wait(waits: &Waits, alarms: &Alarms, timer: Timer) -> u64
+    ensures { result ≡ starting_wait_by waits.now alarms.now timer }
 {
-    (2 * wait.min(32_000)).max(1)
-}
-
-// The wait with which a timer begins.
-fn starting_wait(alarms: &Alarms, timer: Timer) -> u64
-    ensures { result ≡ starting_wait alarms.now timer }
-{
+    let first = waits.of(timer).first.max(1);
     match timer {
-        Timer::Rto => first_wait(timer).max(alarms.rto_wait),
-        _ => first_wait(timer),
+        Timer::Rto => first.max(alarms.rto_wait),
+        Timer::Request | Timer::Ack | Timer::Negotiate | Timer::Close | Timer::TimeWait => first,
     }
 }
 
@@ -168,17 +157,14 @@ fn starting_wait(alarms: &Alarms, timer: Timer) -> u64
 fn runs_in(timer: Timer, condition: &Condition) -> bool
     ensures { result ≡ runs_in timer condition.now }
 {
-    match (timer, condition.phase) {
-        (Timer::Request, Phase::Request) => true,
-        (Timer::Ack | Timer::Negotiate, Phase::PartOpen | Phase::Open) => true,
-        (Timer::Rto, Phase::Open) => condition.in_flight,
-        (Timer::Close, Phase::CloseReq | Phase::Closing) => true,
-        (Timer::TimeWait, Phase::TimeWait) => true,
-        _ => false,
+    let applies = applies_in(timer, condition.phase);
+    match timer {
+        Timer::Rto => applies && condition.in_flight,
+        Timer::Request | Timer::Ack | Timer::Negotiate | Timer::Close | Timer::TimeWait => applies,
     }
 }
 
-fn alarm_after(runs: bool, old: Option<Alarm>, wait: u64, now: u64) -> Option<Alarm>
+pub(crate) fn alarm_after(runs: bool, old: Option<Alarm>, wait: u64, now: u64) -> Option<Alarm>
     ensures { result ≡ alarm_after runs old wait now }
 {
     if !runs {
@@ -187,52 +173,65 @@ fn alarm_after(runs: bool, old: Option<Alarm>, wait: u64, now: u64) -> Option<Al
     Some(old.unwrap_or(Alarm { since: now, wait }))
 }
 
-fn arranged_alarm(alarms: &Alarms, timer: Timer, condition: &Condition, now: u64) -> Option<Alarm>
-    ensures { result ≡ arranged_alarm alarms.now timer condition.now now }
+fn arranged_alarm(
+    waits: &Waits,
+    alarms: &Alarms,
+    timer: Timer,
+    condition: &Condition,
+    now: u64,
+) -> Option<Alarm>
+    ensures { result ≡ arranged_alarm_by waits.now alarms.now timer condition.now now }
 {
     alarm_after(
         runs_in(timer, condition),
         alarms.of(timer),
-        starting_wait(alarms, timer),
+        starting_wait(waits, alarms, timer),
         now,
     )
 }
 
-/// The timers as they run from `now` on for an end in this condition (own): after each call of the end, and behind
-/// `rung`, `with_progress` and `with_delivery` where one of these has its place.
-pub fn arranged(alarms: &Alarms, condition: &Condition, now: u64) -> Alarms
-    ensures { result ≡ arranged alarms.now condition.now now }
+/// The timers as they run from `now` on for an end in this condition (own), with these waits: after each call of the
+/// end, and after `rung_by`, `progressed_by` and `delivered_by` where one of these has its place.
+pub fn arranged_by(waits: &Waits, alarms: &Alarms, condition: &Condition, now: u64) -> Alarms
+    ensures { result ≡ arranged_by waits.now alarms.now condition.now now }
 {
     Alarms {
-        request: arranged_alarm(alarms, Timer::Request, condition, now),
-        ack: arranged_alarm(alarms, Timer::Ack, condition, now),
-        negotiate: arranged_alarm(alarms, Timer::Negotiate, condition, now),
-        rto: arranged_alarm(alarms, Timer::Rto, condition, now),
-        close: arranged_alarm(alarms, Timer::Close, condition, now),
-        time_wait: arranged_alarm(alarms, Timer::TimeWait, condition, now),
+        request: arranged_alarm(waits, alarms, Timer::Request, condition, now),
+        ack: arranged_alarm(waits, alarms, Timer::Ack, condition, now),
+        negotiate: arranged_alarm(waits, alarms, Timer::Negotiate, condition, now),
+        rto: arranged_alarm(waits, alarms, Timer::Rto, condition, now),
+        close: arranged_alarm(waits, alarms, Timer::Close, condition, now),
+        time_wait: arranged_alarm(waits, alarms, Timer::TimeWait, condition, now),
         rto_wait: alarms.rto_wait,
     }
 }
 
+/// The same with the waits of `Waits::classic`.
+pub fn arranged(alarms: &Alarms, condition: &Condition, now: u64) -> Alarms
+    ensures { result ≡ arranged alarms.now condition.now now }
+{
+    arranged_by(&Waits::classic(), alarms, condition, now)
+}
+
 // The alarm of a timer that has run out: it waits longer the next time.
-fn set_back(alarm: Option<Alarm>, now: u64) -> Option<Alarm>
-    ensures { result ≡ set_back alarm now }
+fn set_back(kind: &Wait, alarm: Option<Alarm>, now: u64) -> Option<Alarm>
+    ensures { result ≡ set_back kind.now alarm now }
 {
     match alarm {
         Some(alarm) => Some(Alarm {
             since: now,
-            wait: next_wait(alarm.wait),
+            wait: next_wait(kind, alarm.wait),
         }),
         None => None,
     }
 }
 
 /// The timers once this one has run out at `now`, in milliseconds, and its call was made of the end (own): it waits
-/// twice as long the next time, up to 64 seconds. The timer rto also begins with a longer wait from then on.
-pub fn rung(alarms: &Alarms, timer: Timer, now: u64) -> Alarms
-    ensures { result ≡ rung alarms.now timer now }
+/// twice as long the next time, up to its longest wait. The timer rto also begins with a longer wait from then on.
+pub fn rung_by(waits: &Waits, alarms: &Alarms, timer: Timer, now: u64) -> Alarms
+    ensures { result ≡ rung_by waits.now alarms.now timer now }
 {
-    let again = set_back(alarms.of(timer), now);
+    let again = set_back(&waits.of(timer), alarms.of(timer), now);
     let mut alarms = *alarms;
     match timer {
         Timer::Request => alarms.request = again,
@@ -240,7 +239,7 @@ pub fn rung(alarms: &Alarms, timer: Timer, now: u64) -> Alarms
         Timer::Negotiate => alarms.negotiate = again,
         Timer::Rto => {
             alarms.rto = again;
-            alarms.rto_wait = next_wait(alarms.rto_wait);
+            alarms.rto_wait = next_wait(&waits.rto, alarms.rto_wait);
         }
         Timer::Close => alarms.close = again,
         Timer::TimeWait => alarms.time_wait = again,
@@ -248,36 +247,57 @@ pub fn rung(alarms: &Alarms, timer: Timer, now: u64) -> Alarms
     alarms
 }
 
-// The alarm, if it is in its first wait.
+/// The same with the waits of `Waits::classic`.
+pub fn rung(alarms: &Alarms, timer: Timer, now: u64) -> Alarms
+    ensures { result ≡ rung alarms.now timer now }
+{
+    rung_by(&Waits::classic(), alarms, timer, now)
+}
+
+// The alarm, if it waits no longer than its first wait.
 fn first_again(alarm: Option<Alarm>, wait: u64) -> Option<Alarm>
     ensures { result ≡ first_again alarm wait }
 {
     match alarm {
-        Some(alarm) if alarm.wait == wait => Some(alarm),
-        _ => None,
+        Some(alarm) if alarm.wait <= wait => Some(alarm),
+        Some(_) | None => None,
     }
 }
 
 /// The timers where a packet that arrived took something out of flight, or not (own): the timer rto begins anew, with
 /// its first wait.
-pub fn with_progress(alarms: &Alarms, progress: bool) -> Alarms
-    ensures { result ≡ with_progress alarms.now progress }
+pub fn progressed_by(waits: &Waits, alarms: &Alarms, progress: bool) -> Alarms
+    ensures { result ≡ progressed_by waits.now alarms.now progress }
 {
     let mut alarms = *alarms;
     if progress {
         alarms.rto = None;
-        alarms.rto_wait = first_wait(Timer::Rto);
+        alarms.rto_wait = waits.rto.first;
     }
     alarms
 }
 
+/// The same with the waits of `Waits::classic`.
+pub fn with_progress(alarms: &Alarms, progress: bool) -> Alarms
+    ensures { result ≡ with_progress alarms.now progress }
+{
+    progressed_by(&Waits::classic(), alarms, progress)
+}
+
 /// The timers where data were delivered, or not (own): an Ack goes out no later than after its timer's first wait.
-pub fn with_delivery(alarms: &Alarms, delivered: bool) -> Alarms
-    ensures { result ≡ with_delivery alarms.now delivered }
+pub fn ack_hurried_by(waits: &Waits, alarms: &Alarms, delivered: bool) -> Alarms
+    ensures { result ≡ ack_hurried_by waits.now alarms.now delivered }
 {
     let mut alarms = *alarms;
     if delivered {
-        alarms.ack = first_again(alarms.ack, first_wait(Timer::Ack));
+        alarms.ack = first_again(alarms.ack, waits.ack.first);
     }
     alarms
+}
+
+/// The same with the waits of `Waits::classic`.
+pub fn with_delivery(alarms: &Alarms, delivered: bool) -> Alarms
+    ensures { result ≡ with_delivery alarms.now delivered }
+{
+    ack_hurried_by(&Waits::classic(), alarms, delivered)
 }

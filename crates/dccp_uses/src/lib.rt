@@ -12,18 +12,36 @@
 
 mod additive_window;
 mod alarms;
+mod laws;
 mod listening;
 mod network;
 mod news;
+mod offers;
 mod one_at_a_time;
+mod pace;
+mod path;
+mod rule;
 mod session;
+mod sight;
+mod syncs;
+mod timed_end;
+mod waits;
 
 pub use crate::additive_window::AdditiveWindow;
 pub use crate::alarms::{
-    Alarm, Alarms, Condition, arranged, has_run_out, rung, with_delivery, with_progress,
+    Alarm, Alarms, Condition, ack_hurried_by, arranged, arranged_by, has_run_out, progressed_by,
+    rung, rung_by, with_delivery, with_progress,
 };
+pub use crate::laws::rules_are_inputs;
 pub use crate::listening::accept;
 pub use crate::network::Network;
 pub use crate::news::{News, is_delivery};
+pub use crate::offers::widened;
 pub use crate::one_at_a_time::OneAtATime;
+pub use crate::pace::Pace;
+pub use crate::path::{Path, Timed};
+pub use crate::rule::Rule;
 pub use crate::session::Session;
+pub use crate::sight::Sight;
+pub use crate::timed_end::{Due, TimedEnd};
+pub use crate::waits::Waits;

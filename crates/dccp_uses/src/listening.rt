@@ -3,7 +3,7 @@ ghost use Rattle.std.specs.Prelude.{◌≡◌, IfOk, IsTrue};
 ghost use Rattle.dccp_uses.specs.Listening.{Accepts};
 ghost use Rattle.dccp_uses.specs.Session.{is_listening};
 
-use crate::{Network, Session};
+use crate::{Network, Pace, Session};
 use dccp_endpoint::{Config, Congestion, NoMemory, Phase};
 use std::alloc::Global;
 
@@ -25,14 +25,15 @@ pub fn accept<C: Congestion + Drop, N: Network>(
     alloc: Global,
     config: Config,
     congestion: C,
+    pace: Pace,
     datagram: &[u8],
     now: u64,
     network: &mut N,
 ) -> Result<Option<Session<C>>, NoMemory>
     requires { IsTrue (C.control.is_known 2) }
-    ensures { IfOk result (λ made. Accepts N.sends C.control now config congestion datagram.now network.old network.new made) }
+    ensures { IfOk result (λ made. Accepts N.sends C.control now config congestion pace datagram.now network.old network.new made) }
 {
-    let mut session = Session::new(alloc, config, congestion)?;
+    let mut session = Session::new(alloc, config, congestion, pace)?;
     let _news = session.arrived(datagram, now, network);
     if is_listening(session.end().phase()) {
         return Ok(None);

@@ -1,6 +1,8 @@
 //! What the owner of a session is told of a datagram.
 ghost use Rattle.std.specs.Prelude.{◌≡◌};
 ghost use Rattle.dccp_uses.specs.Session.{has_closed, is_closed, is_delivery, news_of};
+ghost use Rattle.dccp_uses.specs.Sessions.{news_if};
+ghost use Rattle.dccp_uses.specs.Timed.{is_taken};
 
 use dccp_endpoint::{Outcome, Phase};
 
@@ -32,7 +34,7 @@ fn has_closed(was: Phase, is: Phase) -> bool
 }
 
 // What an outcome means, by the phases before and after it.
-pub(crate) fn news_of(outcome: &Outcome, was: Phase, is: Phase) -> News
+fn news_of(outcome: &Outcome, was: Phase, is: Phase) -> News
     ensures { result ≡ news_of outcome.now was is }
 {
     match *outcome {
@@ -52,12 +54,35 @@ pub(crate) fn news_of(outcome: &Outcome, was: Phase, is: Phase) -> News
     }
 }
 
+// What a datagram means that was heard, or left out.
+pub(crate) fn news_if(outcome: Option<Outcome>, was: Phase, is: Phase) -> News
+    ensures { result ≡ news_if outcome was is }
+{
+    match outcome {
+        Some(outcome) => news_of(&outcome, was, is),
+        None => News::Quiet,
+    }
+}
+
 /// Whether the outcome brought data.
 pub fn is_delivery(outcome: &Outcome) -> bool
     ensures { result ≡ is_delivery outcome.now }
 {
     match *outcome {
         Outcome::Took { delivered } => delivered.is_some(),
+        Outcome::Dropped(_)
+        | Outcome::Synced(_)
+        | Outcome::WasReset(_)
+        | Outcome::SentReset { .. } => false,
+    }
+}
+
+/// Whether the packet was taken.
+pub fn is_taken(outcome: &Outcome) -> bool
+    ensures { result ≡ is_taken outcome.now }
+{
+    match *outcome {
+        Outcome::Took { .. } => true,
         Outcome::Dropped(_)
         | Outcome::Synced(_)
         | Outcome::WasReset(_)

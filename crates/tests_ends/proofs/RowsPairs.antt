@@ -15,7 +15,10 @@ use Rattle.dccp_states.specs.declared.phase.Phase.{Phase}
 use Rattle.dccp_states.specs.declared.phase.Phase.TheVariants as phase
 use Rattle.dccp_states.specs.declared.phase.Role.TheVariants.{Client, Server}
 use Rattle.dccp_uses.specs.Alarms.{alarm_of, has_run_out, until_first}
-use Rattle.dccp_uses.specs.Session.{SessionState, SessionStep, SessionSteps, accepted_session, calls, every_timer, hears, rings_each, session_begins}
+use Rattle.dccp_uses.specs.Path.{classic_pace}
+use Rattle.dccp_uses.specs.Session.{every_timer}
+use Rattle.dccp_uses.specs.Sessions.{TimedSteps, rings_each_due, session_accepted, session_hears}
+use Rattle.dccp_uses.specs.Timed.{TimedState, TimedStep, every_due, timed_begins, timed_closes, timed_opens, timed_sends}
 use Rattle.dccp_uses.specs.declared.alarms.Alarm.{Alarm}
 use Rattle.dccp_uses.specs.declared.alarms.Alarms.{Alarms}
 use Rattle.dccp_uses.specs.declared.news.News.{News}
@@ -26,8 +29,8 @@ use Rattle.dccp_uses.specs.declared.news.News.TheVariants as news
 pub record Pair (C : Type 0) : Type 0 where
   pub now : ℕ
   pub service : ℕ
-  pub client : SessionState C
-  pub server : Option (SessionState Both)
+  pub client : TimedState C
+  pub server : Option (TimedState Both)
   pub to_server : List (List ℕ)
   pub to_client : List (List ℕ)
   pub client_ended : Option ℕ
@@ -44,11 +47,11 @@ onto_all wire [] = wire
 onto_all wire (frame ∷ rest) = onto_all (onto wire frame) rest
 
 -- the pair after a step of either session
-abbrev pub client_did : {C Answer : Type 0} → Pair C → SessionStep C Answer → Pair C
-client_did p step = record p { client = step.session; to_server = onto p.to_server step.frame }
+abbrev pub client_did : {C Answer : Type 0} → Pair C → TimedStep C Answer → Pair C
+client_did p step = record p { client = step.timed; to_server = onto p.to_server step.frame }
 
-abbrev pub server_did : {C Answer : Type 0} → Pair C → SessionStep Both Answer → Pair C
-server_did p step = record p { server = Some step.session; to_client = onto p.to_client step.frame }
+abbrev pub server_did : {C Answer : Type 0} → Pair C → TimedStep Both Answer → Pair C
+server_did p step = record p { server = Some step.timed; to_client = onto p.to_client step.frame }
 
 -- what the owners do with news of a datagram
 abbrev pub told_at_client : {C : Type 0} → Pair C → News → Pair C
@@ -64,27 +67,27 @@ told_at_server p datagram (news.Ended code) = record p { server_ended = Some cod
 told_at_server p datagram news.TooLong = p
 
 -- a datagram at the server: it belongs to the connection, or may open one
-abbrev pub stranger_told : {C : Type 0} → Pair C → SessionStep Both News → Pair C
-stranger_told p step = record p { server = accepted_session step; to_client = onto p.to_client step.frame }
+abbrev pub stranger_told : {C : Type 0} → Pair C → TimedStep Both News → Pair C
+stranger_told p step = record p { server = session_accepted step; to_client = onto p.to_client step.frame }
 
-abbrev pub server_told : {C : Type 0} → Pair C → List ℕ → SessionStep Both News → Pair C
+abbrev pub server_told : {C : Type 0} → Pair C → List ℕ → TimedStep Both News → Pair C
 server_told p datagram step = told_at_server (server_did p step) datagram step.answer
 
-abbrev pub serves : {C : Type 0} → Pair C → Option (SessionState Both) → List ℕ → Pair C
+abbrev pub serves : {C : Type 0} → Pair C → Option (TimedState Both) → List ℕ → Pair C
 serves p None datagram =
-    stranger_told p (hears kinds_control p.now (session_begins kinds_control (record (usual Server) { service = p.service }) at_first) datagram)
-serves p (Some s) datagram = server_told p datagram (hears kinds_control p.now s datagram)
+    stranger_told p (session_hears kinds_control p.now (timed_begins kinds_control (record (usual Server) { service = p.service }) at_first classic_pace) datagram)
+serves p (Some s) datagram = server_told p datagram (session_hears kinds_control p.now s datagram)
 
 -- the first frame of a wire, if any, arrives
 abbrev pub server_takes : {C : Type 0} → Pair C → List (List ℕ) → Pair C
 server_takes p [] = p
 server_takes p (datagram ∷ rest) = serves (record p { to_server = rest }) p.server datagram
 
-abbrev pub client_told : {C : Type 0} → Pair C → SessionStep C News → Pair C
+abbrev pub client_told : {C : Type 0} → Pair C → TimedStep C News → Pair C
 client_told p step = told_at_client (client_did p step) step.answer
 
 abbrev pub client_hears : {C : Type 0} → Control C → Pair C → List ℕ → Pair C
-client_hears control p datagram = client_told p (hears control p.now p.client datagram)
+client_hears control p datagram = client_told p (session_hears control p.now p.client datagram)
 
 abbrev pub client_takes : {C : Type 0} → Control C → Pair C → List (List ℕ) → Pair C
 client_takes control p [] = p
@@ -95,24 +98,24 @@ abbrev pub is_due : ℕ → Alarms → Bool
 is_due now alarms = list_any (λ timer. has_run_out (alarm_of alarms timer) now) every_timer
 
 -- The timers of both get the time. Where none has run out nothing comes of it.
-abbrev pub client_rang : {C : Type 0} → Pair C → SessionSteps C → Pair C
-client_rang p steps = record p { client = steps.session; to_server = onto_all p.to_server steps.frames }
+abbrev pub client_rang : {C : Type 0} → Pair C → TimedSteps C → Pair C
+client_rang p steps = record p { client = steps.timed; to_server = onto_all p.to_server steps.frames }
 
 abbrev pub client_ticks_if : {C : Type 0} → Bool → Control C → Pair C → Pair C
 client_ticks_if false control p = p
-client_ticks_if true control p = client_rang p (rings_each control p.now p.client every_timer)
+client_ticks_if true control p = client_rang p (rings_each_due control p.now p.client every_due)
 
 abbrev pub client_ticks : {C : Type 0} → Control C → Pair C → Pair C
 client_ticks control p = client_ticks_if (is_due p.now p.client.alarms) control p
 
-abbrev pub server_rang : {C : Type 0} → Pair C → SessionSteps Both → Pair C
-server_rang p steps = record p { server = Some steps.session; to_client = onto_all p.to_client steps.frames }
+abbrev pub server_rang : {C : Type 0} → Pair C → TimedSteps Both → Pair C
+server_rang p steps = record p { server = Some steps.timed; to_client = onto_all p.to_client steps.frames }
 
-abbrev pub server_ticks_if : {C : Type 0} → Bool → Pair C → SessionState Both → Pair C
+abbrev pub server_ticks_if : {C : Type 0} → Bool → Pair C → TimedState Both → Pair C
 server_ticks_if false p s = p
-server_ticks_if true p s = server_rang p (rings_each kinds_control p.now s every_timer)
+server_ticks_if true p s = server_rang p (rings_each_due kinds_control p.now s every_due)
 
-abbrev pub server_ticks_in : {C : Type 0} → Pair C → Option (SessionState Both) → Pair C
+abbrev pub server_ticks_in : {C : Type 0} → Pair C → Option (TimedState Both) → Pair C
 server_ticks_in p None = p
 server_ticks_in p (Some s) = server_ticks_if (is_due p.now s.alarms) p s
 
@@ -139,7 +142,7 @@ turns control zero p = p
 turns control (suc count) p = turns control count (passes control p 50)
 
 -- the phase of the server
-abbrev pub serving : Option (SessionState Both) → Phase
+abbrev pub serving : Option (TimedState Both) → Phase
 serving None = phase.Listen
 serving (Some s) = s.end.state.phase
 
@@ -148,7 +151,7 @@ abbrev pub wait_in : Option Alarm → Option ℕ
 wait_in None = None
 wait_in (Some alarm) = Some alarm.wait
 
-abbrev pub wait_of : Option (SessionState Both) → Timer → Option ℕ
+abbrev pub wait_of : Option (TimedState Both) → Timer → Option ℕ
 wait_of None timer = None
 wait_of (Some s) timer = wait_in (alarm_of s.alarms timer)
 
@@ -157,17 +160,16 @@ abbrev pub loses : {C : Type 0} → Pair C → Pair C
 loses p = record p { to_server = [] }
 
 -- the client sends data, and the server closes
-abbrev pub client_sends : {C : Type 0} → Control C → Pair C → List ℕ → SessionStep C (Result (Unit {0}) SendFault)
+abbrev pub client_sends : {C : Type 0} → Control C → Pair C → List ℕ → TimedStep C (Result (Unit {0}) SendFault)
 client_sends control p payload =
-    calls control p.now p.client
-    (with_control control p.client.end.congestion (sends_soon p.client.end.state payload (may_send control p.client.end.congestion)))
+    timed_sends control p.now p.client payload
 
 abbrev pub sends : {C : Type 0} → Control C → Pair C → List ℕ → Pair C
 sends control p payload = client_did p (client_sends control p payload)
 
-abbrev pub server_closes_in : {C : Type 0} → Pair C → Option (SessionState Both) → Pair C
+abbrev pub server_closes_in : {C : Type 0} → Pair C → Option (TimedState Both) → Pair C
 server_closes_in p None = p
-server_closes_in p (Some s) = server_did p (calls kinds_control p.now s (with_control kinds_control s.end.congestion (closes s.end.state)))
+server_closes_in p (Some s) = server_did p (timed_closes kinds_control p.now s)
 
 abbrev pub server_closes : {C : Type 0} → Pair C → Pair C
 server_closes p = server_closes_in p p.server
@@ -178,7 +180,7 @@ room control p = window_of control p.client.end.congestion - in_flight_of contro
 
 abbrev pub client_asks : {C : Type 0} → Control C → Pair C → Pair C
 client_asks control p =
-    client_did p (calls control p.now p.client (with_control control p.client.end.congestion (opens p.client.end.state)))
+    client_did p (timed_opens control p.now p.client)
 
 -- a client of this congestion control asks a server of this service
 abbrev pub asking : {C : Type 0} → Control C → C → ℕ → Pair C
@@ -187,7 +189,7 @@ asking control congestion service =
     (record {
       now = 5000;
       service = service;
-      client = session_begins control (usual Client) congestion;
+      client = timed_begins control (usual Client) congestion classic_pace;
       server = None;
       to_server = [];
       to_client = [];

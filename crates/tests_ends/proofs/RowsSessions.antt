@@ -13,7 +13,7 @@ use Rattle.dccp_states.specs.declared.calls.Timer.TheVariants as timers
 use Rattle.dccp_states.specs.declared.phase.Phase.TheVariants as phase
 use Rattle.dccp_uses.specs.Alarms.{next_wait, until_first}
 use Rattle.dccp_uses.specs.OneAtATime.{one_at_a_time}
-use Rattle.dccp_uses.specs.Session.{hears}
+use Rattle.dccp_uses.specs.Sessions.{session_hears}
 use Rattle.dccp_uses.specs.declared.news.News.TheVariants as news
 use Rattle.tests_ends.proofs.RowsPairs.{Pair, Say, ServerCloses, Lose, Turns, Pass, Wait, AtPhases, AtGot, AtFirst, AtLeft, AtCodes, AtRoom, AtServer, AtClientsTimer, AtServersTimer, Answers, PhasesAre, Got, FirstIs, LeftIs, CodesAre, RoomIs, IsServed, WaitIs, asking, client_hears, told}
 
@@ -77,8 +77,8 @@ abbrev zeros : ℕ → List ℕ
 zeros count = replicate count 0
 
 a_long_datagram_changes_nothing :
-    ((hears kinds_control 5000 asked.client (zeros 2045)).answer ≡ news.TooLong)
-    × ((hears kinds_control 5000 asked.client (zeros 2044)).answer ≡ news.Quiet)
+    ((session_hears kinds_control 5000 asked.client (zeros 2045)).answer ≡ news.TooLong)
+    × ((session_hears kinds_control 5000 asked.client (zeros 2044)).answer ≡ news.Quiet)
     × (told kinds_control (client_hears kinds_control asked (zeros 2044)) (AtFirst ∷ []) ≡ FirstIs 1 (Some 1000) ∷ [])
 unfolding receives opens framed until_first
 a_long_datagram_changes_nothing = (refl, refl, refl)
@@ -122,5 +122,6 @@ unfolding receives opens closes prefers fires sends_payload sends_early framed u
 one_packet_at_a_time = refl
 
 -- it stands in for CCID 2 alone; and a wait is never nothing
-own_kind_and_least_wait : (by_ones.is_known 2 ≡ true) × (by_ones.is_known 3 ≡ false) × (next_wait 0 ≡ 1) × (next_wait 1 ≡ 2)
+own_kind_and_least_wait : (by_ones.is_known 2 ≡ true) × (by_ones.is_known 3 ≡ false) × (next_wait (record { first = 0; most = 64000 }) 0 ≡ 1)
+    × (next_wait (record { first = 0; most = 64000 }) 1 ≡ 2)
 own_kind_and_least_wait = (refl, refl, refl, refl)

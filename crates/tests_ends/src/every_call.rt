@@ -4,7 +4,7 @@ use ccid_two::Kinds;
 use data_dropped::DropReport;
 use dccp_endpoint::{Config, Congestion, Endpoint, Frame, Ports, Pseudo, Role, Seq48, feed};
 use dccp_options::{AckReport, options};
-use dccp_uses::{AdditiveWindow, Network, OneAtATime, Session};
+use dccp_uses::{AdditiveWindow, Network, OneAtATime, Pace, Session};
 use std::alloc::Global;
 
 // A Request of the usual client.
@@ -68,7 +68,7 @@ fn opens_and_aborts(session: &mut Session<OneAtATime>) -> bool {
 
 fn is_aborted(alloc: Global) -> Option<bool> {
     let congestion = OneAtATime::new(alloc).ok()?;
-    let mut session = Session::new(alloc, client()?, congestion).ok()?;
+    let mut session = Session::new(alloc, client()?, congestion, Pace::classic()).ok()?;
     Some(opens_and_aborts(&mut session))
 }
 

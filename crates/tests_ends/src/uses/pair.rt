@@ -3,7 +3,7 @@
 use crate::uses::wire::Wire;
 use ccid_two::Kinds;
 use dccp_endpoint::{Config, Feature, Held, Phase, Place, Role, SendFault, Timer};
-use dccp_uses::{Alarms, News, Session, accept};
+use dccp_uses::{Alarms, News, Pace, Session, accept};
 use std::alloc::Global;
 
 // How many milliseconds a turn takes.
@@ -33,6 +33,7 @@ fn accepted(alloc: Global, datagram: &[u8], now: u64, wire: &mut Wire) -> Option
         alloc,
         Config::usual(Role::Server),
         congestion,
+        Pace::classic(),
         datagram,
         now,
         wire,

@@ -6,7 +6,7 @@
 use crate::uses::pair::Pair;
 use ccid_two::Kinds;
 use dccp_endpoint::{Config, Feature, Held, Phase, Role, Stand, Timer};
-use dccp_uses::Session;
+use dccp_uses::{Pace, Session};
 use std::alloc::Global;
 
 #[derive(Clone, Copy)]
@@ -103,7 +103,12 @@ fn is_true(alloc: Global, seed: u64, story: Story) -> bool {
     let Ok(congestion) = Kinds::new(alloc) else {
         return false;
     };
-    match Session::new(alloc, Config::usual(Role::Client), congestion) {
+    match Session::new(
+        alloc,
+        Config::usual(Role::Client),
+        congestion,
+        Pace::classic(),
+    ) {
         Ok(client) => holds(&mut Pair::new(alloc, client, seed), story),
         Err(_) => false,
     }

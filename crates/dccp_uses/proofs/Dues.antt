@@ -1,0 +1,230 @@
+-- What is due of an end, one after another.
+use Rattle.std.proofs.Common.{◌≡◌, refl, sym, ap, ◌∙◌, subst, ℕ, ◌≤◌, ◌-◌, ◌==◌, max, List, [], ◌∷◌, Bool, true, false, if◌then◌else◌, Option, Some, None, arith}
+use Rattle.congestion_trait.specs.Control.{Control}
+use Rattle.dccp_packets.specs.Outgoing.{Outgoing}
+use Rattle.dccp_endpoint.specs.Calling.{fires}
+use Rattle.dccp_endpoint.specs.Controlled.{End, has_in_flight, with_control}
+use Rattle.dccp_states.specs.declared.calls.Timer.{Timer}
+use Rattle.dccp_states.specs.declared.calls.Timer.TheVariants as timers
+use Rattle.dccp_uses.specs.Alarms.{alarm_of, arranged_by, has_run_out, rung_by, set_back, starting_wait_by}
+use Rattle.dccp_uses.specs.Handing.{Hands, HandsAll}
+use Rattle.dccp_uses.specs.Path.{path_waits, rules_alarm, sight_of}
+use Rattle.dccp_uses.specs.Rules.{alarms_by_rule, due_rule, path_by_rule, rule_does}
+use Rattle.dccp_uses.specs.Sessions.{Does, NoneIsDue, rings_due, rings_each_due, stands_still}
+use Rattle.dccp_uses.specs.Timed.{TimedState, TimedStep, due_alarm, due_told, every_due, timers_go_on, ruled_condition, timed_fires}
+use Rattle.dccp_uses.specs.Path.{arranged_rules, rules_left, told_timer}
+use Rattle.dccp_uses.specs.declared.alarms.Alarm.{Alarm}
+use Rattle.dccp_uses.specs.declared.alarms.Alarms.{Alarms}
+use Rattle.dccp_uses.specs.declared.path.Path.{Path}
+use Rattle.dccp_uses.specs.declared.rule.Rule.{Rule}
+use Rattle.dccp_uses.specs.declared.rule.Rule.TheVariants as rule
+use Rattle.dccp_uses.specs.declared.timed_end.Due.{Due}
+use Rattle.dccp_uses.specs.declared.timed_end.Due.TheVariants as due
+use Rattle.dccp_uses.specs.declared.waits.Waits.{Waits}
+use Rattle.dccp_uses.proofs.Ringing.{arranged_stays, back_runs, fresh_runs, told_stays}
+
+-- a timer that was told, or another one: what has not run out stays so
+told-keeps : (waits : Waits) (alarms : Alarms) (told timer : Timer) (now : ℕ) → has_run_out (alarm_of alarms timer) now ≡ false
+    → has_run_out (alarm_of (rung_by waits alarms told now) timer) now ≡ false
+told-keeps waits alarms timers.Request timers.Request now quiet = back_runs waits.request alarms.request now
+told-keeps waits alarms timers.Request timers.Ack now quiet = quiet
+told-keeps waits alarms timers.Request timers.Negotiate now quiet = quiet
+told-keeps waits alarms timers.Request timers.Rto now quiet = quiet
+told-keeps waits alarms timers.Request timers.Close now quiet = quiet
+told-keeps waits alarms timers.Request timers.TimeWait now quiet = quiet
+told-keeps waits alarms timers.Ack timers.Request now quiet = quiet
+told-keeps waits alarms timers.Ack timers.Ack now quiet = back_runs waits.ack alarms.ack now
+told-keeps waits alarms timers.Ack timers.Negotiate now quiet = quiet
+told-keeps waits alarms timers.Ack timers.Rto now quiet = quiet
+told-keeps waits alarms timers.Ack timers.Close now quiet = quiet
+told-keeps waits alarms timers.Ack timers.TimeWait now quiet = quiet
+told-keeps waits alarms timers.Negotiate timers.Request now quiet = quiet
+told-keeps waits alarms timers.Negotiate timers.Ack now quiet = quiet
+told-keeps waits alarms timers.Negotiate timers.Negotiate now quiet = back_runs waits.negotiate alarms.negotiate now
+told-keeps waits alarms timers.Negotiate timers.Rto now quiet = quiet
+told-keeps waits alarms timers.Negotiate timers.Close now quiet = quiet
+told-keeps waits alarms timers.Negotiate timers.TimeWait now quiet = quiet
+told-keeps waits alarms timers.Rto timers.Request now quiet = quiet
+told-keeps waits alarms timers.Rto timers.Ack now quiet = quiet
+told-keeps waits alarms timers.Rto timers.Negotiate now quiet = quiet
+told-keeps waits alarms timers.Rto timers.Rto now quiet = back_runs waits.rto alarms.rto now
+told-keeps waits alarms timers.Rto timers.Close now quiet = quiet
+told-keeps waits alarms timers.Rto timers.TimeWait now quiet = quiet
+told-keeps waits alarms timers.Close timers.Request now quiet = quiet
+told-keeps waits alarms timers.Close timers.Ack now quiet = quiet
+told-keeps waits alarms timers.Close timers.Negotiate now quiet = quiet
+told-keeps waits alarms timers.Close timers.Rto now quiet = quiet
+told-keeps waits alarms timers.Close timers.Close now quiet = back_runs waits.close alarms.close now
+told-keeps waits alarms timers.Close timers.TimeWait now quiet = quiet
+told-keeps waits alarms timers.TimeWait timers.Request now quiet = quiet
+told-keeps waits alarms timers.TimeWait timers.Ack now quiet = quiet
+told-keeps waits alarms timers.TimeWait timers.Negotiate now quiet = quiet
+told-keeps waits alarms timers.TimeWait timers.Rto now quiet = quiet
+told-keeps waits alarms timers.TimeWait timers.Close now quiet = quiet
+told-keeps waits alarms timers.TimeWait timers.TimeWait now quiet = back_runs waits.time_wait alarms.time_wait now
+
+-- a wish has negotiate begin anew
+wish-keeps : (alarms : Alarms) (timer : Timer) (now : ℕ) → has_run_out (alarm_of alarms timer) now ≡ false
+    → has_run_out (alarm_of (record alarms { negotiate = None }) timer) now ≡ false
+wish-keeps alarms timers.Request now quiet = quiet
+wish-keeps alarms timers.Ack now quiet = quiet
+wish-keeps alarms timers.Negotiate now quiet = refl
+wish-keeps alarms timers.Rto now quiet = quiet
+wish-keeps alarms timers.Close now quiet = quiet
+wish-keeps alarms timers.TimeWait now quiet = quiet
+
+rule-keeps : (waits : Waits) (alarms : Alarms) (it : Rule) (timer : Timer) (now : ℕ) → has_run_out (alarm_of alarms timer) now ≡ false
+    → has_run_out (alarm_of (alarms_by_rule waits alarms it now) timer) now ≡ false
+rule-keeps waits alarms rule.Nothing timer now quiet = quiet
+rule-keeps waits alarms rule.GiveUp timer now quiet = quiet
+rule-keeps waits alarms rule.TimeOut timer now quiet = told-keeps waits alarms timers.Rto timer now quiet
+rule-keeps waits alarms rule.Probe timer now quiet = wish-keeps alarms timer now quiet
+rule-keeps waits alarms rule.Ask timer now quiet = wish-keeps alarms timer now quiet
+rule-keeps waits alarms rule.Ratio timer now quiet = wish-keeps alarms timer now quiet
+
+-- no rule is due in the millisecond in which one was
+rules-rest : (left : Option ℕ) (now : ℕ) → has_run_out (rules_alarm left 1 now) now ≡ false
+rules-rest None now = refl
+rules-rest (Some left) now = fresh_runs now (max left 1) (omega arith)
+
+module _ {C : Type 0} (control : Control C) (now : ℕ) where
+  -- where the timers go on, one that has not run out stays so
+  goes-quiet : (least : ℕ) (alarms : Alarms) (path : Path) (end : End C) (timer : Timer) → has_run_out (alarm_of alarms timer) now ≡ false
+      → has_run_out (alarm_of (timers_go_on control now least alarms path end).alarms timer) now ≡ false
+  goes-quiet least alarms path end timer quiet =
+      arranged_stays (path_waits path) alarms timer (ruled_condition path (sight_of control end)) now quiet
+
+  told-itself : (s : TimedState C) (it : Due) → has_run_out (due_alarm (due_told control now s it).timed it) now ≡ false
+  told-itself s (due.Timer timer) =
+      let step = with_control control s.end.congestion (fires s.end.state timer (has_in_flight control s.end.congestion)) in
+      goes-quiet 0 (rung_by (path_waits s.path) s.alarms timer now) (told_timer s.path timer (sight_of control step.after) now) step.after timer
+      (told_stays (path_waits s.path) s.alarms timer now)
+  told-itself s due.Rules =
+      let it = due_rule s.path now in
+      let step = rule_does control s.end it s.path.aim in
+      let path = path_by_rule s.path it (sight_of control step.after) now in
+      let wait = starting_wait_by (path_waits path) (alarms_by_rule (path_waits s.path) s.alarms it now) timers.Rto in
+      rules-rest (rules_left (arranged_rules path wait (sight_of control step.after) now) now) now
+
+  told-another : (s : TimedState C) (it : Due) (timer : Timer) → has_run_out (alarm_of s.alarms timer) now ≡ false
+      → has_run_out (alarm_of (due_told control now s it).timed.alarms timer) now ≡ false
+  told-another s (due.Timer told) timer quiet =
+      let step = with_control control s.end.congestion (fires s.end.state told (has_in_flight control s.end.congestion)) in
+      goes-quiet 0 (rung_by (path_waits s.path) s.alarms told now) (told_timer s.path told (sight_of control step.after) now) step.after timer
+      (told-keeps (path_waits s.path) s.alarms told timer now quiet)
+  told-another s due.Rules timer quiet =
+      let it = due_rule s.path now in
+      let step = rule_does control s.end it s.path.aim in
+      goes-quiet 1 (alarms_by_rule (path_waits s.path) s.alarms it now) (path_by_rule s.path it (sight_of control step.after) now) step.after timer
+      (rule-keeps (path_waits s.path) s.alarms it timer now quiet)
+
+  abbrev rung-if : TimedState C → Due → Bool → TimedStep C Bool
+  rung-if s it is = if is then due_told control now s it else stands_still s
+
+  itself-by : (s : TimedState C) (it : Due) (is : Bool) → has_run_out (due_alarm s it) now ≡ is
+      → has_run_out (due_alarm (rung-if s it is).timed it) now ≡ false
+  itself-by s it true same = told-itself s it
+  itself-by s it false same = same
+
+  pub rung_rests : (s : TimedState C) (it : Due) → has_run_out (due_alarm (rings_due control now s it).timed it) now ≡ false
+  rung_rests s it = itself-by s it (has_run_out (due_alarm s it) now) refl
+
+  another-by : (s : TimedState C) (it : Due) (timer : Timer) (is : Bool) → has_run_out (alarm_of s.alarms timer) now ≡ false
+      → has_run_out (alarm_of (rung-if s it is).timed.alarms timer) now ≡ false
+  another-by s it timer true quiet = told-another s it timer quiet
+  another-by s it timer false quiet = quiet
+
+  pub other_rests : (s : TimedState C) (it : Due) (timer : Timer) → has_run_out (alarm_of s.alarms timer) now ≡ false
+      → has_run_out (alarm_of (rings_due control now s it).timed.alarms timer) now ≡ false
+  other_rests s it timer quiet = another-by s it timer (has_run_out (due_alarm s it) now) quiet
+
+  through : (list : List Due) (s : TimedState C) (timer : Timer) → has_run_out (alarm_of s.alarms timer) now ≡ false
+      → has_run_out (alarm_of (rings_each_due control now s list).timed.alarms timer) now ≡ false
+  through [] s timer quiet = quiet
+  through (it ∷ rest) s timer quiet = through rest (rings_due control now s it).timed timer (other_rests s it timer quiet)
+
+  abbrev once : TimedState C → Due → TimedState C
+  once s it = (rings_due control now s it).timed
+
+  -- Once each was looked at, none is due.
+  pub nothing_left : (s : TimedState C) → NoneIsDue now (rings_each_due control now s every_due).timed
+  nothing_left s it =
+      let a = once s (due.Timer timers.Request) in
+      let b = once a (due.Timer timers.Ack) in
+      let c = once b (due.Timer timers.Negotiate) in
+      let d = once c (due.Timer timers.Rto) in
+      let e = once d (due.Timer timers.Close) in
+      let f = once e (due.Timer timers.TimeWait) in
+      let P : Due → Type 0 = λ (x : Due). has_run_out (due_alarm (once f due.Rules) x) now ≡ false in
+      let by-timer : (timer : Timer) → P (due.Timer timer) = λ timer.
+      elim timer as (λ (t : Timer). P (due.Timer t)) [
+        | timers.Request ↦ through (due.Timer timers.Ack ∷ due.Timer timers.Negotiate ∷ due.Timer timers.Rto ∷ due.Timer timers.Close ∷ due.Timer timers.TimeWait ∷ due.Rules ∷ []) a timers.Request (rung_rests s (due.Timer timers.Request))
+        | timers.Ack ↦ through (due.Timer timers.Negotiate ∷ due.Timer timers.Rto ∷ due.Timer timers.Close ∷ due.Timer timers.TimeWait ∷ due.Rules ∷ []) b timers.Ack (rung_rests a (due.Timer timers.Ack))
+        | timers.Negotiate ↦ through (due.Timer timers.Rto ∷ due.Timer timers.Close ∷ due.Timer timers.TimeWait ∷ due.Rules ∷ []) c timers.Negotiate (rung_rests b (due.Timer timers.Negotiate))
+        | timers.Rto ↦ through (due.Timer timers.Close ∷ due.Timer timers.TimeWait ∷ due.Rules ∷ []) d timers.Rto (rung_rests c (due.Timer timers.Rto))
+        | timers.Close ↦ through (due.Timer timers.TimeWait ∷ due.Rules ∷ []) e timers.Close (rung_rests d (due.Timer timers.Close))
+        | timers.TimeWait ↦ through (due.Rules ∷ []) f timers.TimeWait (rung_rests e (due.Timer timers.TimeWait))
+      ]
+      in
+      elim it as P [
+        | due.Timer timer ↦ by-timer timer
+        | due.Rules ↦ rung_rests f due.Rules
+      ]
+
+-- what a run of several leaves
+pub record RingsEachDue {C N : Type 0} (sends : N → List ℕ → N → Type 0) (control : Control C) (now : ℕ) (list : List Due) (s new : TimedState C)
+    (before after : N) : Type 0 where
+  pub session_is : new ≡ (rings_each_due control now s list).timed
+  pub handed : HandsAll sends before (rings_each_due control now s list).frames after
+
+module _ {C N : Type 0} (sends : N → List ℕ → N → Type 0) (control : Control C) (now : ℕ) where
+  pub rung_none : (s : TimedState C) (network : N) → RingsEachDue sends control now [] s s network network
+  rung_none s network = record { session_is = refl; handed = refl }
+
+  -- one, and then the others
+  pub rung_first : (it : Due) (rest : List Due) (s between new : TimedState C) (before middle after : N) (answer : Bool)
+      → Does sends (rings_due control now s it) between before middle answer → RingsEachDue sends control now rest between new middle after
+      → RingsEachDue sends control now (it ∷ rest) s new before after
+  rung_first it rest s between new before middle after answer first others =
+      let P : TimedState C → Type 0 = λ (x : TimedState C). RingsEachDue sends control now rest x new middle after in
+      let next : RingsEachDue sends control now rest (rings_due control now s it).timed new middle after = subst P first.session_is others in
+      record { session_is = next.session_is; handed = (middle, first.handed, next.handed) }
+
+  -- all of them
+  pub rung_all : (s0 s1 s2 s3 s4 s5 s6 s7 : TimedState C) (n0 n1 n2 n3 n4 n5 n6 n7 : N) (a1 a2 a3 a4 a5 a6 a7 : Bool)
+      → Does sends (rings_due control now s0 (due.Timer timers.Request)) s1 n0 n1 a1
+      → Does sends (rings_due control now s1 (due.Timer timers.Ack)) s2 n1 n2 a2
+      → Does sends (rings_due control now s2 (due.Timer timers.Negotiate)) s3 n2 n3 a3
+      → Does sends (rings_due control now s3 (due.Timer timers.Rto)) s4 n3 n4 a4
+      → Does sends (rings_due control now s4 (due.Timer timers.Close)) s5 n4 n5 a5
+      → Does sends (rings_due control now s5 (due.Timer timers.TimeWait)) s6 n5 n6 a6
+      → Does sends (rings_due control now s6 due.Rules) s7 n6 n7 a7
+      → RingsEachDue sends control now every_due s0 s7 n0 n7
+  rung_all s0 s1 s2 s3 s4 s5 s6 s7 n0 n1 n2 n3 n4 n5 n6 n7 a1 a2 a3 a4 a5 a6 a7 d1 d2 d3 d4 d5 d6 d7 =
+      let r6 = rung_first due.Rules [] s6 s7 s7 n6 n7 n7 a7 d7 (rung_none s7 n7) in
+      let r5 = rung_first (due.Timer timers.TimeWait) (due.Rules ∷ []) s5 s6 s7 n5 n6 n7 a6 d6 r6 in
+      let r4 = rung_first (due.Timer timers.Close) (due.Timer timers.TimeWait ∷ due.Rules ∷ []) s4 s5 s7 n4 n5 n7 a5 d5 r5 in
+      let r3 = rung_first (due.Timer timers.Rto) (due.Timer timers.Close ∷ due.Timer timers.TimeWait ∷ due.Rules ∷ []) s3 s4 s7 n3 n4 n7 a4 d4 r4 in
+      let r2 = rung_first (due.Timer timers.Negotiate) (due.Timer timers.Rto ∷ due.Timer timers.Close ∷ due.Timer timers.TimeWait ∷ due.Rules ∷ []) s2 s3 s7 n2 n3 n7 a3 d3 r3 in
+      let r1 = rung_first (due.Timer timers.Ack) (due.Timer timers.Negotiate ∷ due.Timer timers.Rto ∷ due.Timer timers.Close ∷ due.Timer timers.TimeWait ∷ due.Rules ∷ []) s1 s2 s7 n1 n2 n7 a2 d2 r2 in
+      rung_first (due.Timer timers.Request) (due.Timer timers.Ack ∷ due.Timer timers.Negotiate ∷ due.Timer timers.Rto ∷ due.Timer timers.Close ∷ due.Timer timers.TimeWait ∷ due.Rules ∷ []) s0 s1 s7 n0 n1 n7 a1 d1 r1
+
+  by-due : (s new : TimedState C) (it : Due) (n n' : N) (answer : Bool) (is : Bool) → is ≡ true
+      → Does sends (due_told control now s it) new n n' answer
+      → Does sends (if is then due_told control now s it else stands_still s) new n n' answer
+  by-due s new it n n' answer true is does = does
+  by-due s new it n n' answer false is does = cc is
+
+  -- one that is due, told by hand
+  pub rung_does : (s new : TimedState C) (it : Due) (n n' : N) (out : Option Outgoing) (answer : Bool)
+      → has_run_out (due_alarm s it) now ≡ true
+      → record { timed = new; frame = out; answer = answer } ≡ due_told control now s it
+      → Hands sends n out n'
+      → Does sends (rings_due control now s it) new n n' answer
+  rung_does s new it n n' out answer due is hands =
+      by-due s new it n n' answer (has_run_out (due_alarm s it) now) due
+      (record {
+        session_is = ap (λ (x : TimedStep C Bool). x.timed) is;
+        handed = subst (λ (f : Option Outgoing). Hands sends n f n') (ap (λ (x : TimedStep C Bool). x.frame) is) hands;
+        answer_is = ap (λ (x : TimedStep C Bool). x.answer) is;
+      })

@@ -1,0 +1,71 @@
+-- An end with its timers over a network (own).
+use Rattle.std.specs.Prelude.{◌≡◌, nat_le, ℕ, Bool, true, false, List, [], ◌∷◌, length, Option, Some, None, if◌then◌else◌}
+use Rattle.congestion_trait.specs.Control.{Control}
+use Rattle.dccp_packets.specs.Outgoing.{Outgoing}
+use Rattle.dccp_states.specs.declared.outcome.Outcome.{Outcome}
+use Rattle.dccp_states.specs.declared.phase.Phase.{Phase}
+use Rattle.dccp_uses.specs.Alarms.{has_run_out}
+use Rattle.dccp_uses.specs.Handing.{Hands}
+use Rattle.dccp_uses.specs.Session.{is_listening, news_of}
+use Rattle.dccp_uses.specs.Timed.{TimedState, TimedStep, due_alarm, due_told, timed_takes}
+use Rattle.dccp_uses.specs.declared.news.News.{News}
+use Rattle.dccp_uses.specs.declared.news.News.TheVariants as news
+use Rattle.dccp_uses.specs.declared.timed_end.Due.{Due}
+
+-- The session did that step: the frame that its end made was handed to the network.
+pub record Does {C N Answer : Type 0} (sends : N → List ℕ → N → Type 0) (step : TimedStep C Answer) (new : TimedState C) (before after : N)
+    (answer : Answer) : Type 0 where
+  pub session_is : new ≡ step.timed
+  pub handed : Hands sends before step.frame after
+  pub answer_is : answer ≡ step.answer
+
+-- what a datagram means to the owner: one that was left out means nothing
+abbrev pub news_if : Option Outcome → Phase → Phase → News
+news_if None was is = news.Quiet
+news_if (Some outcome) was is = news_of outcome was is
+
+-- the owner is told the news of a step that took bytes which arrived
+abbrev pub tells_news_of : {C : Type 0} → TimedState C → TimedStep C (Option Outcome) → TimedStep C News
+tells_news_of s step =
+    record { timed = step.timed; frame = step.frame; answer = news_if step.answer s.end.state.phase step.timed.end.state.phase }
+
+-- A datagram arrives. One that is longer than an end takes changes nothing.
+abbrev pub session_hears : {C : Type 0} → Control C → ℕ → TimedState C → List ℕ → TimedStep C News
+session_hears control now s bytes =
+    if nat_le (length bytes) 2044 then tells_news_of s (timed_takes control now s bytes)
+    else record { timed = s; frame = None; answer = news.TooLong }
+
+-- nothing happens
+abbrev pub stands_still : {C : Type 0} → TimedState C → TimedStep C Bool
+stands_still s = record { timed = s; frame = None; answer = false }
+
+-- the end is told what is due, where it is
+abbrev pub rings_due : {C : Type 0} → Control C → ℕ → TimedState C → Due → TimedStep C Bool
+rings_due control now s due = if has_run_out (due_alarm s due) now then due_told control now s due else stands_still s
+
+-- a session after several steps, and their frames
+pub record TimedSteps (C : Type 0) : Type 0 where
+  pub timed : TimedState C
+  pub frames : List (Option Outgoing)
+
+-- a step in front of those that come after it, with its frame as the first
+abbrev pub ring_first : {C : Type 0} → TimedStep C Bool → TimedSteps C → TimedSteps C
+ring_first step rest = record { timed = rest.timed; frames = step.frame ∷ rest.frames }
+
+-- each that is due, one after another
+abbrev pub rings_each_due : {C : Type 0} → Control C → ℕ → TimedState C → List Due → TimedSteps C
+rings_each_due control now s [] = record { timed = s; frames = [] }
+rings_each_due control now s (it ∷ rest) = ring_first (rings_due control now s it) (rings_each_due control now (rings_due control now s it).timed rest)
+
+-- nothing is due
+abbrev pub NoneIsDue : {C : Type 0} → ℕ → TimedState C → Type 0
+NoneIsDue now s = (it : Due) → has_run_out (due_alarm s it) now ≡ false
+
+-- the session of an end that has left LISTEN
+abbrev pub unless_it_listens : {C : Type 0} → TimedState C → Bool → Option (TimedState C)
+unless_it_listens s true = None
+unless_it_listens s false = Some s
+
+-- the session that a first datagram has made, where its end has left LISTEN
+abbrev pub session_accepted : {C : Type 0} → TimedStep C News → Option (TimedState C)
+session_accepted step = unless_it_listens step.timed (is_listening step.timed.end.state.phase)

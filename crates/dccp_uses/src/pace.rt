@@ -1,0 +1,50 @@
+//! Which rules of a path an end's owner follows.
+ghost use Rattle.std.specs.Prelude.{◌≡◌};
+ghost use Rattle.dccp_uses.specs.Path.{classic_pace, usual_pace};
+
+/// Which rules of a path an end's owner follows (own; the rules are those of path_rules).
+#[derive(Clone, Copy, Debug, PartialEq, Eq)]
+pub struct Pace {
+    /// The round trip is measured, and the timers rto, negotiate and close wait by it.
+    pub measures: bool,
+    /// Acks go out after 50 milliseconds, at once where data show a hole, and each 20 seconds at least.
+    pub acks_soon: bool,
+    /// The Ack Ratio of this end follows its window.
+    pub moves_ratio: bool,
+    /// With a window of 16 or more the peer is asked for a sign of life before what is in flight is taken for lost.
+    pub probes: bool,
+    /// Datagrams that would be answered by a Sync are left out where there were too many.
+    pub limits_syncs: bool,
+    /// An end that hears nothing asks its peer, and is given up.
+    pub gives_up: bool,
+}
+
+impl Pace {
+    /// All of them.
+    pub fn usual() -> Pace
+        ensures { result ≡ usual_pace }
+    {
+        Pace {
+            measures: true,
+            acks_soon: true,
+            moves_ratio: true,
+            probes: true,
+            limits_syncs: true,
+            gives_up: true,
+        }
+    }
+
+    /// None of them: the timers wait as `Waits::classic` says, and what else the rules do is left to the owner.
+    pub fn classic() -> Pace
+        ensures { result ≡ classic_pace }
+    {
+        Pace {
+            measures: false,
+            acks_soon: false,
+            moves_ratio: false,
+            probes: false,
+            limits_syncs: false,
+            gives_up: false,
+        }
+    }
+}

@@ -1,0 +1,118 @@
+//! Which datagrams an end does not hear, since it has sent too many Syncs.
+ghost use Rattle.std.specs.Prelude.{◌≡◌};
+ghost use Rattle.validity_windows.specs.Windows.{InRange};
+ghost use Rattle.dccp_uses.specs.Syncs.{admitted, admitted_by, is_synchronized, sync_bucketed, unanswered, wanted_number, wants_sync};
+
+use crate::Path;
+use dccp_endpoint::{Congestion, Endpoint, Marks, Phase, Seq48};
+use dccp_packets::{Kind, Number, decode};
+use path_rules::{far_syncs, is_near_greatest, near_syncs};
+use validity_windows::Verdict;
+
+/// Whether a datagram is heard, and what is kept of the path then.
+#[derive(Clone, Copy, Debug, PartialEq, Eq)]
+pub struct Admission {
+    /// Whether it is heard.
+    pub heard: bool,
+    /// The path, with what is left of the limits.
+    pub path: Path,
+}
+
+// The phases in which both ends know each other's numbers.
+fn is_synchronized(phase: Phase) -> bool
+    ensures { result ≡ is_synchronized phase }
+{
+    matches!(
+        phase,
+        Phase::PartOpen | Phase::Open | Phase::CloseReq | Phase::Closing
+    )
+}
+
+// Whether a packet of this type with these numbers would be answered by a Sync.
+fn wants_sync(marks: &Marks, kind: &Kind, number: Seq48) -> bool
+    requires { InRange marks.now }
+    ensures { result ≡ wants_sync marks.now kind.now number }
+{
+    match marks.check(kind.packet_type(), number, kind.ack()) {
+        Verdict::SyncFor(_) => true,
+        Verdict::Valid | Verdict::Drop => false,
+    }
+}
+
+// The number of a packet that would be answered by a Sync, if it would.
+fn unanswered(marks: &Marks, kind: &Kind, number: Number) -> Option<Seq48>
+    requires { InRange marks.now }
+    ensures { result ≡ unanswered marks.now kind.now number }
+{
+    match number {
+        Number::Long(number) if wants_sync(marks, kind, number) => Some(number),
+        Number::Long(_) | Number::Short(_) => None,
+    }
+}
+
+// The number of a datagram that would be answered by a Sync, if it would.
+fn wanted_number(marks: &Marks, datagram: &[u8]) -> Option<Seq48>
+    requires { InRange marks.now }
+    ensures { result ≡ wanted_number marks.now datagram.now }
+{
+    match decode(datagram) {
+        Ok(packet) => unanswered(marks, &packet.header.kind, packet.header.number),
+        Err(_) => None,
+    }
+}
+
+// A token for a Sync is taken, if there is one.
+fn sync_bucketed(path: &Path, near: bool, now: u64) -> Admission
+    ensures { result ≡ sync_bucketed path.now near now }
+{
+    if near {
+        let taking = path.near.take(&near_syncs(), now);
+        let mut path = *path;
+        path.near = taking.bucket;
+        return Admission {
+            heard: taking.granted,
+            path,
+        };
+    }
+    let taking = path.far.take(&far_syncs(), now);
+    let mut path = *path;
+    path.far = taking.bucket;
+    Admission {
+        heard: taking.granted,
+        path,
+    }
+}
+
+fn admitted_by(path: &Path, number: Option<Seq48>, gsr: Seq48, now: u64) -> Admission
+    ensures { result ≡ admitted_by path.now number gsr now }
+{
+    match number {
+        Some(number) => sync_bucketed(path, is_near_greatest(number, gsr), now),
+        None => Admission {
+            heard: true,
+            path: *path,
+        },
+    }
+}
+
+/// Whether a datagram is heard: one that its numbers would have answered by a Sync is heard where there is a token for
+/// that (own; RFC 4340, section 7.5.4, limits the Syncs). Whether its checksum and ports are right is not looked at: such
+/// a one is dropped in any case.
+pub(crate) fn admit<C: Congestion>(
+    end: &Endpoint<C>,
+    path: &Path,
+    datagram: &[u8],
+    now: u64,
+) -> Admission
+    ensures { result ≡ admitted end.now.state path.now datagram.now now }
+{
+    if !path.pace.limits_syncs || !is_synchronized(end.phase()) {
+        return Admission {
+            heard: true,
+            path: *path,
+        };
+    }
+    let marks = end.marks();
+    let number = wanted_number(&marks, datagram);
+    admitted_by(path, number, marks.gsr, now)
+}

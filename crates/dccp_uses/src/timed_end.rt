@@ -1,0 +1,365 @@
+//! An end with its timers and the rules of its path, for whoever carries its frames.
+ghost use Rattle.std.specs.Prelude.{◌≡◌, not, is_some};
+ghost use Rattle.dccp_uses.specs.Timed.{acks_now, is_hole, ruled_condition};
+
+use crate::alarms::{
+    Alarm, Alarms, Condition, ack_hurried_by, arranged_by, has_run_out, progressed_by, rung_by,
+    sooner, starting_wait,
+};
+use crate::news::{is_delivery, is_taken};
+use crate::path::{
+    arranged_path, data_timed, handshake_timed, is_probing, path_heard, told_timer, with_flight,
+};
+use crate::rule::{alarms_by_rule, due_rule, obey, path_by_rule};
+use crate::syncs::admit;
+use crate::{Pace, Path, Rule, Sight};
+use dccp_endpoint::{
+    AbortFault, CloseFault, Config, Congestion, Endpoint, Feature, NoMemory, OpenFault, Outbox,
+    Outcome, Place, PreferFault, SendFault, Timer,
+};
+use std::alloc::Global;
+use std::marker::Model;
+
+/// What is due of an end: a timer of its own has run out, or a rule of its path has something to do.
+#[derive(Clone, Copy, Debug, PartialEq, Eq)]
+pub enum Due {
+    /// This timer has run out.
+    Timer(Timer),
+    /// A rule has something to do.
+    Rules,
+}
+
+/// An end with its timers and the rules of its path. Its calls are those of `Endpoint`, with the time, in milliseconds
+/// from any beginning: each leaves a frame in the Outbox, or none. `tell` goes through what is `due`; it has to be asked
+/// after every other call, and again once `until_first` has gone by.
+#[derive(Drop)]
+pub struct TimedEnd<C> {
+    end: Endpoint<C>,
+    alarms: Alarms,
+    path: Path,
+}
+
+impl<C> Model for TimedEnd<C> {
+    ghost use Rattle.dccp_uses.specs.Timed.{TimedState};
+
+    ghost Value = { TimedState C };
+
+    ghost view = { λ s. record { end = s.end; alarms = s.alarms; path = s.path } };
+}
+
+// The timer rto stands still while its question goes first.
+fn ruled_condition(path: &Path, sight: &Sight) -> Condition
+    ensures { result ≡ ruled_condition path.now sight.now }
+{
+    Condition {
+        phase: sight.phase,
+        in_flight: 0 < sight.in_flight && !is_probing(path, sight),
+    }
+}
+
+// Whether data came that show a hole, and nothing went out that tells of it.
+fn is_hole(path: &Path, old: &Sight, new: &Sight, delivered: bool, silent: bool) -> bool
+    ensures { result ≡ is_hole path.now old.now new.now delivered silent }
+{
+    path.pace.acks_soon && delivered && silent && 1 < old.gsr.distance(new.gsr)
+}
+
+// An Ack goes out at once.
+fn acks_now(alarms: &Alarms, hole: bool, now: u64) -> Alarms
+    ensures { result ≡ acks_now alarms.now hole now }
+{
+    let mut alarms = *alarms;
+    if hole {
+        alarms.ack = Some(Alarm {
+            since: now,
+            wait: 0,
+        });
+    }
+    alarms
+}
+
+fn is_silent(out: &Outbox) -> bool
+    ensures { result ≡ not (is_some out.now) }
+{
+    out.frame().is_none()
+}
+
+impl<C: Congestion + Drop> TimedEnd<C> {
+    ghost use Rattle.std.specs.Prelude.{◌≡◌, IfOk, IsTrue};
+    ghost use Rattle.dccp_uses.specs.Timed.{timed_begins};
+
+    /// An end that has sent and received nothing, under these rules. The congestion control has to know CCID 2.
+    pub fn new(
+        alloc: Global,
+        config: Config,
+        congestion: C,
+        pace: Pace,
+    ) -> Result<TimedEnd<C>, NoMemory>
+        requires { IsTrue (C.control.is_known 2) }
+        ensures { IfOk result (λ s. s ≡ timed_begins C.control config congestion pace) }
+    {
+        let end = Endpoint::new(alloc, config, congestion)?;
+        Ok(TimedEnd {
+            end,
+            alarms: Alarms::none(),
+            path: Path::new(pace),
+        })
+    }
+}
+
+impl<C: Congestion> TimedEnd<C> {
+    ghost use Rattle.std.specs.Prelude.{◌≡◌, ◌≤◌, IfSome, OnErr, None, length};
+    ghost use Rattle.dccp_endpoint.specs.Outcomes.{HasCause};
+    ghost use Rattle.dccp_states.specs.declared.calls.Timer.TheVariants as timers;
+    ghost use Rattle.dccp_uses.specs.Alarms.{has_run_out, starting_wait_by};
+    ghost use Rattle.dccp_uses.specs.Path.{path_waits};
+    ghost use Rattle.dccp_uses.specs.Timed.{due_alarm, due_told, every_due, first_due_of, first_wait_left, timers_go_on, obeys, timed_aborts, timed_closes, timed_fires, timed_hears, timed_opens, timed_prefers, timed_sends, timed_takes, tells_rules};
+
+    /// The end, to be read.
+    pub fn end(&self) -> &Endpoint<C>
+        ensures { result.now ≡ self.now.end }
+    {
+        &self.end
+    }
+
+    /// The timers that run.
+    pub fn alarms(&self) -> Alarms
+        ensures { result ≡ self.now.alarms }
+    {
+        self.alarms
+    }
+
+    /// What is kept of its path.
+    pub fn path(&self) -> Path
+        ensures { result ≡ self.now.path }
+    {
+        self.path
+    }
+
+    /// How long a report is waited for from now on, in milliseconds (RFC 6298).
+    pub fn timeout(&self) -> u64
+        ensures { result ≡ starting_wait_by (path_waits self.now.path) self.now.alarms timers.Rto }
+    {
+        starting_wait(&self.path.waits(), &self.alarms, Timer::Rto)
+    }
+
+    // The timers and the rules go on from these, no rule before `least` milliseconds have gone by.
+    fn go_on(&mut self, alarms: &Alarms, path: &Path, least: u64, now: u64)
+        ensures { self.new ≡ timers_go_on C.control now least alarms.now path.now self.old.end }
+    {
+        let sight = Sight::of(&self.end);
+        let waits = path.waits();
+        let wait = starting_wait(&waits, alarms, Timer::Rto);
+        self.path = arranged_path(path, wait, &sight, least, now);
+        let condition = ruled_condition(path, &sight);
+        self.alarms = arranged_by(&waits, alarms, &condition, now);
+    }
+
+    /// A client asks for its service, once. Refused as `Endpoint::open` is; then nothing has changed and there is no
+    /// frame.
+    pub fn open(&mut self, now: u64, out: &mut Outbox) -> Result<(), OpenFault>
+        ensures step { record { timed = self.new; frame = out.new; answer = result } ≡ timed_opens C.control now self.old }
+        ensures refused { OnErr result (self.new ≡ self.old) }
+        ensures sends_nothing { OnErr result (out.new ≡ None) }
+    {
+        self.end.open(out)?;
+        let path = handshake_timed(&self.path, self.end.marks().gss, now);
+        let alarms = self.alarms;
+        self.go_on(&alarms, &path, 0, now);
+        Ok(())
+    }
+
+    /// Sends data, at most 1,024 bytes. Refused as `Endpoint::send_soon` is; then nothing has changed and there is no
+    /// frame.
+    pub fn send(&mut self, payload: &[u8], now: u64, out: &mut Outbox) -> Result<(), SendFault>
+        ensures step { record { timed = self.new; frame = out.new; answer = result } ≡ timed_sends C.control now self.old payload.now }
+        ensures refused { OnErr result (self.new ≡ self.old) }
+        ensures sends_nothing { OnErr result (out.new ≡ None) }
+    {
+        self.end.send_soon(payload, out)?;
+        let path = data_timed(&self.path, self.end.marks().gss, now);
+        let path = with_flight(&path, self.end.in_flight(), now);
+        let alarms = self.alarms;
+        self.go_on(&alarms, &path, 0, now);
+        Ok(())
+    }
+
+    /// Asks for these values of a feature, best first. Refused as `Endpoint::prefer` is; then nothing has changed and
+    /// there is no frame.
+    pub fn prefer(
+        &mut self,
+        feature: Feature,
+        place: Place,
+        values: &[u64],
+        now: u64,
+        out: &mut Outbox,
+    ) -> Result<(), PreferFault>
+        ensures step { record { timed = self.new; frame = out.new; answer = result } ≡ timed_prefers C.control now self.old feature place values.now }
+        ensures refused { OnErr result (self.new ≡ self.old) }
+        ensures sends_nothing { OnErr result (out.new ≡ None) }
+    {
+        self.end.prefer(feature, place, values, out)?;
+        let path = self.path;
+        let mut alarms = self.alarms;
+        alarms.negotiate = None;
+        self.go_on(&alarms, &path, 0, now);
+        Ok(())
+    }
+
+    /// Ends the connection in order. Refused as `Endpoint::close` is; then nothing has changed and there is no frame.
+    pub fn close(&mut self, now: u64, out: &mut Outbox) -> Result<(), CloseFault>
+        ensures step { record { timed = self.new; frame = out.new; answer = result } ≡ timed_closes C.control now self.old }
+        ensures refused { OnErr result (self.new ≡ self.old) }
+        ensures sends_nothing { OnErr result (out.new ≡ None) }
+    {
+        self.end.close(out)?;
+        let mut path = self.path;
+        path.give_up = None;
+        let alarms = self.alarms;
+        self.go_on(&alarms, &path, 0, now);
+        Ok(())
+    }
+
+    /// Gives the connection up. Refused as `Endpoint::abort` is; then nothing has changed and there is no frame.
+    pub fn abort(&mut self, now: u64, out: &mut Outbox) -> Result<(), AbortFault>
+        ensures step { record { timed = self.new; frame = out.new; answer = result } ≡ timed_aborts C.control now self.old }
+        ensures refused { OnErr result (self.new ≡ self.old) }
+        ensures sends_nothing { OnErr result (out.new ≡ None) }
+    {
+        self.end.abort(out)?;
+        let path = self.path;
+        let alarms = self.alarms;
+        self.go_on(&alarms, &path, 0, now);
+        Ok(())
+    }
+
+    /// Takes a datagram of at most 2,044 bytes from the peer. None where it is left out, since it would be answered by
+    /// one Sync too many: then nothing but that limit has changed.
+    pub fn receive(&mut self, datagram: &[u8], now: u64, out: &mut Outbox) -> Option<Outcome>
+        requires { length datagram.now ≤ 2044 }
+        ensures step { record { timed = self.new; frame = out.new; answer = result } ≡ timed_takes C.control now self.old datagram.now }
+        ensures cause { IfSome result (λ outcome. HasCause self.old.end.state datagram.now outcome) }
+    {
+        let admission = admit(&self.end, &self.path, datagram, now);
+        self.path = admission.path;
+        if !admission.heard {
+            out.clear();
+            return None;
+        }
+        Some(self.hear(datagram, now, out))
+    }
+
+    // The end hears a datagram.
+    fn hear(&mut self, datagram: &[u8], now: u64, out: &mut Outbox) -> Outcome
+        requires { length datagram.now ≤ 2044 }
+        ensures step { record { timed = self.new; frame = out.new; answer = result } ≡ timed_hears C.control now self.old datagram.now }
+        ensures cause { HasCause self.old.end.state datagram.now result }
+    {
+        let old = Sight::of(&self.end);
+        let outcome = self.end.receive(datagram, out);
+        let new = Sight::of(&self.end);
+        let delivered = is_delivery(&outcome);
+        let hole = is_hole(&self.path, &old, &new, delivered, is_silent(out));
+        let path = path_heard(&self.path, &old, &new, is_taken(&outcome), now);
+        let waits = path.waits();
+        let alarms = progressed_by(&waits, &self.alarms, new.in_flight < old.in_flight);
+        let alarms = ack_hurried_by(&waits, &alarms, delivered);
+        let alarms = acks_now(&alarms, hole, now);
+        self.go_on(&alarms, &path, 0, now);
+        outcome
+    }
+
+    /// A timer has run out, whoever keeps it. False where it has nothing to do.
+    pub fn timer(&mut self, timer: Timer, now: u64, out: &mut Outbox) -> bool
+        ensures { record { timed = self.new; frame = out.new; answer = result } ≡ timed_fires C.control now self.old timer }
+    {
+        let waits = self.path.waits();
+        let alarms = rung_by(&waits, &self.alarms, timer, now);
+        let applies = self.end.timer(timer, out);
+        let path = told_timer(&self.path, timer, &Sight::of(&self.end), now);
+        self.go_on(&alarms, &path, 0, now);
+        applies
+    }
+
+    // The first rule that is due has its end do something. False where none has.
+    fn obey_rules(&mut self, now: u64, out: &mut Outbox) -> bool
+        ensures { record { timed = self.new; frame = out.new; answer = result } ≡ tells_rules C.control now self.old }
+    {
+        let rule = due_rule(&self.path, now);
+        self.obey_rule(rule, now, out)
+    }
+
+    // This rule has its end do something.
+    fn obey_rule(&mut self, rule: Rule, now: u64, out: &mut Outbox) -> bool
+        ensures { record { timed = self.new; frame = out.new; answer = result } ≡ obeys C.control now self.old rule }
+    {
+        let waits = self.path.waits();
+        let alarms = alarms_by_rule(&waits, &self.alarms, rule, now);
+        let did = obey(&mut self.end, rule, self.path.aim, out);
+        let path = path_by_rule(&self.path, rule, &Sight::of(&self.end), now);
+        self.go_on(&alarms, &path, 1, now);
+        did
+    }
+
+    /// The alarm of what may be due.
+    pub fn alarm(&self, due: Due) -> Option<Alarm>
+        ensures { result ≡ due_alarm self.now due }
+    {
+        match due {
+            Due::Timer(timer) => self.alarms.of(timer),
+            Due::Rules => self.path.rules,
+        }
+    }
+
+    /// Whether it is due at this time.
+    pub fn is_due(&self, due: Due, now: u64) -> bool
+        ensures { result ≡ has_run_out (due_alarm self.now due) now }
+    {
+        has_run_out(self.alarm(due), now)
+    }
+
+    /// Tells the end what is due: a timer, or what a rule has it do. Whether the end had something to do.
+    pub fn tell(&mut self, due: Due, now: u64, out: &mut Outbox) -> bool
+        ensures { record { timed = self.new; frame = out.new; answer = result } ≡ due_told C.control now self.old due }
+    {
+        match due {
+            Due::Timer(timer) => self.timer(timer, now, out),
+            Due::Rules => self.obey_rules(now, out),
+        }
+    }
+
+    /// How many milliseconds it is until something is due, or None where nothing will be.
+    pub fn until_first(&self, now: u64) -> Option<u64>
+        ensures { result ≡ first_wait_left self.now now }
+    {
+        sooner(self.alarms.until_first(now), self.path.rules, now)
+    }
+
+    /// The first that is due, in the order in which a session tells them: the six timers, and then the rules.
+    pub fn due(&self, now: u64) -> Option<Due>
+        ensures { result ≡ first_due_of self.now now every_due }
+    {
+        if self.is_due(Due::Timer(Timer::Request), now) {
+            return Some(Due::Timer(Timer::Request));
+        }
+        if self.is_due(Due::Timer(Timer::Ack), now) {
+            return Some(Due::Timer(Timer::Ack));
+        }
+        if self.is_due(Due::Timer(Timer::Negotiate), now) {
+            return Some(Due::Timer(Timer::Negotiate));
+        }
+        if self.is_due(Due::Timer(Timer::Rto), now) {
+            return Some(Due::Timer(Timer::Rto));
+        }
+        if self.is_due(Due::Timer(Timer::Close), now) {
+            return Some(Due::Timer(Timer::Close));
+        }
+        if self.is_due(Due::Timer(Timer::TimeWait), now) {
+            return Some(Due::Timer(Timer::TimeWait));
+        }
+        if self.is_due(Due::Rules, now) {
+            return Some(Due::Rules);
+        }
+        None
+    }
+}
