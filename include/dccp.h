@@ -135,7 +135,8 @@ typedef enum dccp_cause {
     DCCP_CAUSE_OTHER_PORTS = 8,      /* its ports are not those of the connection */
     DCCP_CAUSE_STRAY_RESET = 9,      /* a Reset of no connection */
     DCCP_CAUSE_SHORT_OFF = 10,       /* short numbers, which are not negotiated */
-    DCCP_CAUSE_BAD_SYNC = 11         /* a Sync or SyncAck whose numbers are not valid */
+    DCCP_CAUSE_BAD_SYNC = 11,        /* a Sync or SyncAck whose numbers are not valid */
+    DCCP_CAUSE_LIMIT = 12            /* one Sync too many would answer it: it was left out, and the end did not hear it */
 } dccp_cause;
 
 /* A handle: one end, or none. */
@@ -203,6 +204,14 @@ typedef struct dccp_settings {
     bool is_server;
     bool is_v6;
     bool is_plain;            /* takes away the usual offers, so that only those among the wishes are made */
+    /* What an end does for its path, unless one of these is true; a listener's flows do none of it. */
+    bool without_wide_window;   /* asks for no Sequence Window of 10,000 of its own, which it does else where it makes the usual offers */
+    bool without_round_trip;    /* the timers wait as where nothing is known of the path, else by the round trip that is measured */
+    bool without_soon_acks;     /* Acks wait for 200 ms and up to 64 s, else for 50 ms and up to 20 s, and not where data show a hole */
+    bool without_ack_ratio;     /* the Ack Ratio of its data stays, else it follows the window */
+    bool without_probes;        /* a timeout is told at once, else with a window of 16 or more the peer is asked for a sign of life first */
+    bool without_limits;        /* each datagram is heard that would be answered by a Sync, else 20 a second near the peer's numbers, and one far from them */
+    bool without_giving_up;     /* it waits for a silent peer for ever, else some minutes */
 } dccp_settings;
 
 /* What an end wishes for a feature when the connection begins, in place of what is usual. */
@@ -247,6 +256,14 @@ typedef struct dccp_view {
     uint32_t window;
     uint32_t in_flight;
 } dccp_view;
+
+/* What an end has measured of its path, with the times of its own calls: the round trip and its variance in microseconds (RFC 6298's SRTT
+ * and RTTVAR), 0 before there was a sample, and how many milliseconds a report is waited for (RTO). */
+typedef struct dccp_round_trip {
+    uint64_t timeout;
+    uint32_t smoothed;
+    uint32_t variance;
+} dccp_round_trip;
 
 /* What an end holds for a feature. */
 typedef struct dccp_feature_state {
@@ -314,8 +331,8 @@ dccp_status dccp_abort(dccp_end *end, uint64_t now, dccp_frame *frame);
 dccp_status dccp_prefer(dccp_end *end, uint32_t feature, bool at_peer, const uint64_t *values, size_t count, uint64_t now,
                         dccp_frame *frame);
 
-/* Tells the end the first of its timers that has run out. DCCP_OK, also where that leaves no frame: call it again, at most six times at one
- * time, until it answers DCCP_NOTHING_DUE, where none has run out; DCCP_NOT_MADE. */
+/* Tells the end the first of its timers that has run out, or else what it has to do for its path. DCCP_OK, also where that leaves no frame:
+ * call it again, at most seven times at one time, until it answers DCCP_NOTHING_DUE, where nothing is due; DCCP_NOT_MADE. */
 dccp_status dccp_tick(dccp_end *end, uint64_t now, dccp_frame *frame);
 
 /* How many milliseconds it is until dccp_tick has something to do; DCCP_NEVER where no timer runs, or there is no end. Ask again after every
@@ -339,6 +356,11 @@ dccp_status dccp_receive(dccp_end *end, const uint8_t *datagram, size_t length, 
  *     DCCP_OK
  *     DCCP_NOT_MADE  `view` is as it was */
 dccp_status dccp_look(dccp_end *end, dccp_view *view);
+
+/* Reads what an end has measured of its path.
+ *     DCCP_OK
+ *     DCCP_NOT_MADE  `trip` is as it was */
+dccp_status dccp_look_path(dccp_end *end, dccp_round_trip *trip);
 
 /* Reads what an end holds for a feature.
  *     DCCP_OK

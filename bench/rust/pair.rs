@@ -28,6 +28,13 @@ pub fn server_settings(peer: [u8; 4]) -> Settings {
         is_server: true,
         is_v6: false,
         is_plain: false,
+        without_wide_window: true,
+        without_round_trip: true,
+        without_soon_acks: true,
+        without_ack_ratio: true,
+        without_probes: true,
+        without_limits: true,
+        without_giving_up: true,
     }
 }
 
@@ -42,6 +49,13 @@ fn client_settings() -> Settings {
         is_server: false,
         is_v6: false,
         is_plain: false,
+        without_wide_window: true,
+        without_round_trip: true,
+        without_soon_acks: true,
+        without_ack_ratio: true,
+        without_probes: true,
+        without_limits: true,
+        without_giving_up: true,
     }
 }
 

@@ -1,46 +1,39 @@
 -- What C finds once it has called an end (own; the steps are the end's).
 use Rattle.std.specs.Prelude.{ℕ, ◌^◌, ◌-◌, Bool, true, false, List, [], ◌∷◌, Option, Some, None, unwrap_or, if◌then◌else◌}
 use Rattle.ccid_two.specs.Kinds.{Both}
-use Rattle.dccp_uses.specs.Alarms.{alarm_of, has_run_out, until_first}
-use Rattle.dccp_uses.specs.Session.{SessionStep, every_timer}
-use Rattle.dccp_uses.specs.declared.alarms.Alarms.{Alarms}
-use Rattle.dccp_states.specs.declared.calls.Timer.{Timer}
+use Rattle.dccp_uses.specs.Timed.{TimedStep, every_due, first_due_of, first_wait_left}
+use Rattle.dccp_uses.specs.declared.timed_end.Due.{Due}
 use Rattle.dccp_c.specs.Framing.{Handed, handed_of, nothing_handed}
 use Rattle.dccp_c.specs.Keeping.{Inner}
-use Rattle.dccp_c.specs.Stepping.{CDoing, CEnd, c_fires, with_alarms}
+use Rattle.dccp_c.specs.Stepping.{CDoing, CEnd, c_told}
 
--- of several timers the first that has run out
-abbrev pub first_due : Alarms → ℕ → List Timer → Option Timer
-first_due alarms now [] = None
-first_due alarms now (timer ∷ rest) = if has_run_out (alarm_of alarms timer) now then Some timer else first_due alarms now rest
+-- what is due is told, and the answer is true; where nothing is, nothing happens
+abbrev pub c_tells : ℕ → CEnd → Option Due → TimedStep Both Bool
+c_tells now s None = record { timed = s; frame = None; answer = false }
+c_tells now s (Some it) = record { timed = (c_told it now s).timed; frame = (c_told it now s).frame; answer = true }
 
--- a timer that has run out is told, and the answer is true; where there is none, nothing happens
-abbrev pub c_tells : ℕ → CEnd → Option Timer → SessionStep Both Bool
-c_tells now s None = record { session = s; frame = None; answer = false }
-c_tells now s (Some timer) = record { session = (c_fires timer now s).session; frame = (c_fires timer now s).frame; answer = true }
-
--- the first of the six timers that has run out is told
+-- the first of the six timers and the rules that is due is told
 abbrev pub c_ticks : ℕ → CDoing Bool
-c_ticks now s = c_tells now s (first_due s.alarms now every_timer)
+c_ticks now s = c_tells now s (first_due_of s now every_due)
 
 -- no time at all: 2^64 - 1
 abbrev pub never : ℕ
 never = 2 ^ 64 - 1
 
--- how long it is until a timer of an end runs out, if any does
+-- how long it is until something of an end is due, if anything will be
 abbrev pub c_waits : ℕ → Option CEnd → ℕ
 c_waits now None = never
-c_waits now (Some s) = unwrap_or (until_first s.alarms now) never
+c_waits now (Some s) = unwrap_or (first_wait_left s now) never
 
 -- the end that a handle holds, if any, without the place for its frame
 abbrev pub end_in : Option Inner → Option CEnd
 end_in None = None
-end_in (Some held) = Some (with_alarms held.end held.alarms)
+end_in (Some held) = Some held.timed
 
 -- The end after a call; where there is none, there is none after it.
 abbrev pub kept_after : {Answer : Type 0} → CDoing Answer → Option CEnd → Option CEnd
 kept_after doing None = None
-kept_after doing (Some s) = Some (doing s).session
+kept_after doing (Some s) = Some (doing s).timed
 
 -- The frame that a call hands out: the step's, or none where there is no end.
 abbrev pub frame_after : {Answer : Type 0} → CDoing Answer → Option CEnd → Handed

@@ -1,9 +1,11 @@
 -- What an end of C's is made from (own; the configuration is that of an end).
-use Rattle.std.specs.Prelude.{◌≡◌, ◌⊎◌, ℕ, ◌^◌, nat_lt, ◌==◌, Bool, true, false, not, List, [], ◌∷◌, take, Option, Some, None, Result, Ok, Err, if◌then◌else◌}
+use Rattle.std.specs.Prelude.{◌≡◌, ◌⊎◌, ℕ, ◌^◌, nat_lt, ◌==◌, Bool, true, false, not, ◌||◌, List, [], ◌∷◌, take, Option, Some, None, Result, Ok, Err, if◌then◌else◌}
 use Rattle.ccid_two.specs.Kinds.{at_first, kinds_control}
 use Rattle.dccp_endpoint.specs.Configured.{configured}
 use Rattle.dccp_endpoint.specs.declared.config.Config.{Config}
-use Rattle.dccp_uses.specs.Session.{session_begins}
+use Rattle.dccp_uses.specs.Timed.{timed_begins}
+use Rattle.dccp_uses.specs.Path.{widened}
+use Rattle.dccp_uses.specs.declared.pace.Pace.{Pace}
 use Rattle.dccp_states.specs.declared.phase.Role.{Role}
 use Rattle.dccp_states.specs.declared.phase.Role.TheVariants.{Client, Server}
 use Rattle.dccp_sum.specs.declared.pseudo_header.Pseudo.{Pseudo}
@@ -41,9 +43,26 @@ abbrev pub unless_plain : Bool → Config → Config
 unless_plain true config = record config { lists = without_offers config.lists }
 unless_plain false config = config
 
+-- with the wide Sequence Window, unless it is not wished or nothing is offered
+abbrev pub unless_narrow : Bool → Config → Config
+unless_narrow true config = config
+unless_narrow false config = widened config
+
+-- the rules of its path that the end follows
+abbrev pub pace_by : Settings → Pace
+pace_by s =
+    record {
+      measures = not s.without_round_trip;
+      acks_soon = not s.without_soon_acks;
+      moves_ratio = not s.without_ack_ratio;
+      probes = not s.without_probes;
+      limits_syncs = not s.without_limits;
+      gives_up = not s.without_giving_up;
+    }
+
 -- The configuration without wishes; there is none where the first number is not below 2^48.
 abbrev pub config_by : Settings → Option Config
-config_by s = if nat_lt s.first_number (2 ^ 48) then Some (unless_plain s.is_plain (usual_of_settings s)) else None
+config_by s = if nat_lt s.first_number (2 ^ 48) then Some (unless_narrow (s.is_plain || s.without_wide_window) (unless_plain s.is_plain (usual_of_settings s))) else None
 
 -- the wish is offered too, if so wished; one that an end may not offer is refused by 9
 abbrev pub offered_so : Wish → Feature → Place → Config → Result Config ℕ
@@ -92,14 +111,14 @@ abbrev pub configured_by : Settings → List Wish → Result Config ℕ
 configured_by s wishes = wished_from (config_by s) wishes
 
 -- The end that was made: a new one where the code says so, else none.
-abbrev pub made_from : Bool → Result Config ℕ → Option CEnd
-made_from true (Ok config) = Some (session_begins kinds_control config at_first)
-made_from true (Err code) = None
-made_from false _ = None
+abbrev pub made_from : Bool → Pace → Result Config ℕ → Option CEnd
+made_from true pace (Ok config) = Some (timed_begins kinds_control config at_first pace)
+made_from true pace (Err code) = None
+made_from false pace _ = None
 
 -- what the handle holds once making was answered by this code
-abbrev pub made_of : ℕ → Result Config ℕ → Option CEnd
-made_of code config = made_from (code == 0) config
+abbrev pub made_of : ℕ → Pace → Result Config ℕ → Option CEnd
+made_of code pace config = made_from (code == 0) pace config
 
 -- The code of making: that of the refusal, or else 0, or 2 where memory is wanting.
 abbrev pub MakesCode : Result Config ℕ → ℕ → Type 0

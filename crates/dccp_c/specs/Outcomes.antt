@@ -1,5 +1,5 @@
 -- How C is told of an outcome (own).
-use Rattle.std.specs.Prelude.{ℕ, [], ◌∷◌, Some, None}
+use Rattle.std.specs.Prelude.{ℕ, [], ◌∷◌, Option, Some, None}
 use Rattle.dccp_packets.specs.declared.reading.Malformed.TheVariants as malformed
 use Rattle.dccp_sum.specs.declared.packet_sum.SumFault.TheVariants as sum
 use Rattle.dccp_states.specs.declared.outcome.Outcome.{Outcome}
@@ -34,3 +34,8 @@ told_outcome (Dropped cause) = record told_quiet { kind = 2; cause = cause_code 
 told_outcome (Synced number) = record told_quiet { kind = 3; number = number }
 told_outcome (WasReset code) = record told_quiet { kind = 4; code = code }
 told_outcome (SentReset code detail) = record told_quiet { kind = 5; code = code; detail = detail }
+
+-- a datagram that was left out is told as one that was dropped, for the cause 12
+abbrev pub told_heard : Option Outcome → Told
+told_heard None = record told_quiet { kind = 2; cause = 12 }
+told_heard (Some outcome) = told_outcome outcome

@@ -6,8 +6,13 @@ use Rattle.dccp_endpoint.specs.End.{held_of, marked_of}
 use Rattle.feature_lists.specs.declared.features.Feature.{Feature}
 use Rattle.feature_lists.specs.declared.features.Place.{Place}
 use Rattle.dccp_c.specs.Codes.{phase_code, stand_code}
+use Rattle.dccp_states.specs.declared.calls.Timer.TheVariants as timers
+use Rattle.dccp_uses.specs.Alarms.{starting_wait_by}
+use Rattle.dccp_uses.specs.Path.{path_waits}
+use Rattle.path_rules.specs.declared.round_trip.RoundTrip.{RoundTrip}
 use Rattle.dccp_c.specs.Stepping.{CEnd}
 use Rattle.dccp_c.specs.declared.readers.FeatureState.{FeatureState}
+use Rattle.dccp_c.specs.declared.readers.RoundTripView.{RoundTripView}
 use Rattle.dccp_c.specs.declared.readers.View.{View}
 
 -- the numbers of an end, its phase and its window
@@ -28,6 +33,20 @@ seen e =
 -- what it holds for a feature, and where the negotiation of it stands
 abbrev pub seen_feature : Feature → Place → End Both → FeatureState
 seen_feature feature place e = record { value = (held_of e.state feature place).value; stand = stand_code (held_of e.state feature place).stand }
+
+-- what was measured of its path, and the timeout with which the timer rto would begin
+abbrev pub trip_seen : Option RoundTrip → ℕ → RoundTripView
+trip_seen None timeout = record { timeout = timeout; smoothed = 0; variance = 0 }
+trip_seen (Some trip) timeout = record { timeout = timeout; smoothed = trip.smoothed; variance = trip.variance }
+
+-- of an end with its timers
+abbrev pub seen_path : CEnd → RoundTripView
+seen_path s = trip_seen s.path.round_trip (starting_wait_by (path_waits s.path) s.alarms timers.Rto)
+
+-- the same where there is an end
+abbrev pub path_after : Option CEnd → RoundTripView → RoundTripView
+path_after None old = old
+path_after (Some s) old = seen_path s
 
 -- What C finds behind a reading: what was read, or what stood there where there is no end.
 abbrev pub seen_after : {Seen : Type 0} → (End Both → Seen) → Option CEnd → Seen → Seen

@@ -1,7 +1,7 @@
 -- What C is told of a datagram that it hands to an end (own).
 use Rattle.std.specs.Prelude.{ℕ, nat_le, Bool, List, length, Option, Some, None, if◌then◌else◌}
 use Rattle.dccp_c.specs.Framing.{Handed, nothing_handed}
-use Rattle.dccp_c.specs.Outcomes.{told_outcome}
+use Rattle.dccp_c.specs.Outcomes.{told_heard}
 use Rattle.dccp_c.specs.declared.told.Told.{Told}
 use Rattle.dccp_c.specs.Doing.{kept_after, code_after, frame_after}
 use Rattle.dccp_c.specs.Stepping.{CEnd, c_receives}
@@ -9,7 +9,7 @@ use Rattle.dccp_c.specs.Stepping.{CEnd, c_receives}
 -- What C is told behind a datagram; where there is no end, what it had stays.
 abbrev pub told_after : List ℕ → ℕ → Option CEnd → Told → Told
 told_after bytes now None old = old
-told_after bytes now (Some s) old = told_outcome (c_receives bytes now s).answer
+told_after bytes now (Some s) old = told_heard (c_receives bytes now s).answer
 
 -- bytes that a packet of such an end may have: at most 2,044
 abbrev pub is_short : List ℕ → Bool

@@ -5,8 +5,8 @@ ghost use Rattle.dccp_c.specs.Framing.{handed_in};
 ghost use Rattle.dccp_c.specs.Codes.{abort_code, close_code, open_code, place_by, send_code, timer_code, timer_coded, wish_code};
 ghost use Rattle.dccp_c.specs.Accepting.{AcceptsCode, accepted_end, as_server, accept_step, step_frame, step_told};
 ghost use Rattle.dccp_c.specs.Doing.{c_ticks, c_waits, code_after, code_if_known, end_if_known, end_in, frame_after, frame_if_known, kept_after};
-ghost use Rattle.dccp_c.specs.Making.{MakesCode, configured_by, made_of};
-ghost use Rattle.dccp_c.specs.Seeing.{feature_after, feature_code, look_code, seen_after, seen};
+ghost use Rattle.dccp_c.specs.Making.{MakesCode, configured_by, made_of, pace_by};
+ghost use Rattle.dccp_c.specs.Seeing.{path_after, feature_after, feature_code, look_code, seen_after, seen};
 ghost use Rattle.dccp_c.specs.Stepping.{c_aborts, c_closes, c_fires, c_opens, c_prefers, c_sends};
 ghost use Rattle.dccp_c.specs.Telling.{hear_code, hear_frame, hear_told, hears_if_short};
 
@@ -15,15 +15,17 @@ use crate::codes::{
     abort_code, close_code, feature_of, open_code, place_of, send_code, timer_code, timer_of,
     wish_code,
 };
-use crate::due::first_due;
 use crate::end::End;
 use crate::frame::Frame;
-use crate::making::{as_server, configured_by};
-use crate::readers::{seen, seen_feature};
-use crate::steps::{abort, close, fire, is_listening, new_end, open, prefer, receive, send};
-use crate::told::{Told, tell};
-use crate::{FeatureState, Settings, View, Wish};
+use crate::making::{as_server, configured_by, pace_by};
+use crate::readers::{seen, seen_feature, seen_path};
+use crate::steps::{
+    abort, close, fire, is_listening, new_end, open, prefer, receive, send, tell_due,
+};
+use crate::told::{Told, tell_heard};
+use crate::{FeatureState, RoundTripView, Settings, View, Wish};
 use dccp_endpoint::{Config, MOST_FRAME_BYTES};
+use dccp_uses::Pace;
 use std::alloc::Global;
 
 /// Makes an end, in place of what the handle held, which is freed first. Refused as `Config::set` refuses a wish,
@@ -35,7 +37,7 @@ pub extern "C" fn dccp_make(
     settings: &Settings,
     wishes: &[Wish],
 ) -> u32
-    ensures end { end_in end.new.kept.value ≡ made_of result (configured_by settings.now wishes.now) }
+    ensures end { end_in end.new.kept.value ≡ made_of result (pace_by settings.now) (configured_by settings.now wishes.now) }
     ensures code { MakesCode (configured_by settings.now wishes.now) result }
 {
     end.clear(alloc);
@@ -43,7 +45,7 @@ pub extern "C" fn dccp_make(
         Ok(config) => config,
         Err(code) => return code,
     };
-    match new_end(alloc, config) {
+    match new_end(alloc, config, pace_by(settings)) {
         Ok(held) => {
             end.put(held);
             DONE
@@ -66,13 +68,16 @@ pub extern "C" fn dccp_accept(
     frame: &mut Frame,
     told: &mut Told,
 ) -> u32
-    ensures end { end_in end.new.kept.value ≡ accepted_end datagram.now now result (configured_by (as_server settings.now) wishes.now) }
-    ensures frame { handed_in frame.new ≡ step_frame (accept_step datagram.now now result (configured_by (as_server settings.now) wishes.now)) }
-    ensures told { told.new ≡ step_told (accept_step datagram.now now result (configured_by (as_server settings.now) wishes.now)) told.old }
-    ensures code { AcceptsCode datagram.now now (configured_by (as_server settings.now) wishes.now) result }
+    ensures end { end_in end.new.kept.value ≡ accepted_end datagram.now now (pace_by settings.now) result (configured_by (as_server settings.now) wishes.now) }
+    ensures frame { handed_in frame.new ≡ step_frame (accept_step datagram.now now (pace_by settings.now) result (configured_by (as_server settings.now) wishes.now)) }
+    ensures told { told.new ≡ step_told (accept_step datagram.now now (pace_by settings.now) result (configured_by (as_server settings.now) wishes.now)) told.old }
+    ensures code { AcceptsCode datagram.now now (pace_by settings.now) (configured_by (as_server settings.now) wishes.now) result }
 {
     match configured_by(&as_server(settings), wishes) {
-        Ok(config) => accept(end, alloc, config, datagram, now, frame, told),
+        Ok(config) => {
+            let pace = pace_by(settings);
+            accept(end, alloc, config, pace, datagram, now, frame, told)
+        }
         Err(code) => {
             end.clear(alloc);
             frame.clear();
@@ -86,25 +91,26 @@ fn accept(
     end: &mut End,
     alloc: Global,
     config: Config,
+    pace: Pace,
     datagram: &[u8],
     now: u64,
     frame: &mut Frame,
     told: &mut Told,
 ) -> u32
-    ensures end { end_in end.new.kept.value ≡ accepted_end datagram.now now result (Ok config) }
-    ensures frame { handed_in frame.new ≡ step_frame (accept_step datagram.now now result (Ok config)) }
-    ensures told { told.new ≡ step_told (accept_step datagram.now now result (Ok config)) told.old }
-    ensures code { AcceptsCode datagram.now now (Ok config) result }
+    ensures end { end_in end.new.kept.value ≡ accepted_end datagram.now now pace result (Ok config) }
+    ensures frame { handed_in frame.new ≡ step_frame (accept_step datagram.now now pace result (Ok config)) }
+    ensures told { told.new ≡ step_told (accept_step datagram.now now pace result (Ok config)) told.old }
+    ensures code { AcceptsCode datagram.now now pace (Ok config) result }
 {
     end.clear(alloc);
     frame.clear();
     if MOST_FRAME_BYTES < datagram.len() {
         return TOO_LONG;
     }
-    let Ok(mut held) = new_end(alloc, config) else {
+    let Ok(mut held) = new_end(alloc, config, pace) else {
         return NO_MEMORY;
     };
-    tell(&receive(&mut held, datagram, now), told);
+    tell_heard(receive(&mut held, datagram, now), told);
     frame.fill(&held.out);
     if is_listening(&held) {
         return NO_CONNECTION;
@@ -250,7 +256,7 @@ pub extern "C" fn dccp_timer(
     timer_code(applies)
 }
 
-/// Tells the first timer that has run out. NOTHING_DUE where none has.
+/// Tells the first timer that has run out, or else what the rules of the path have to do. NOTHING_DUE where nothing is.
 #[unsafe(no_mangle)]
 pub extern "C" fn dccp_tick(end: &mut End, alloc: Global, now: u64, frame: &mut Frame) -> u32
     ensures end { end_in end.new.kept.value ≡ kept_after (c_ticks now) (end_in end.old.kept.value) }
@@ -261,11 +267,11 @@ pub extern "C" fn dccp_tick(end: &mut End, alloc: Global, now: u64, frame: &mut 
     let Some(mut held) = end.take(alloc) else {
         return NOT_MADE;
     };
-    let Some(timer) = first_due(&held.alarms, now) else {
+    let Some(due) = held.timed.due(now) else {
         end.put(held);
         return NOTHING_DUE;
     };
-    let _ = fire(&mut held, timer, now);
+    let _ = tell_due(&mut held, due, now);
     frame.fill(&held.out);
     end.put(held);
     DONE
@@ -280,7 +286,7 @@ pub extern "C" fn dccp_until_first(end: &mut End, alloc: Global, now: u64) -> u6
     let Some(held) = end.take(alloc) else {
         return u64::MAX;
     };
-    let left = held.alarms.until_first(now);
+    let left = held.timed.until_first(now);
     end.put(held);
     left.unwrap_or(u64::MAX)
 }
@@ -309,7 +315,7 @@ pub extern "C" fn dccp_receive(
         return NOT_MADE;
     };
     let outcome = receive(&mut held, datagram, now);
-    tell(&outcome, told);
+    tell_heard(outcome, told);
     frame.fill(&held.out);
     end.put(held);
     DONE
@@ -325,7 +331,22 @@ pub extern "C" fn dccp_look(end: &mut End, alloc: Global, view: &mut View) -> u3
     let Some(held) = end.take(alloc) else {
         return NOT_MADE;
     };
-    *view = seen(&held.end);
+    *view = seen(held.timed.end());
+    end.put(held);
+    DONE
+}
+
+/// What an end has measured of its path.
+#[unsafe(no_mangle)]
+pub extern "C" fn dccp_look_path(end: &mut End, alloc: Global, trip: &mut RoundTripView) -> u32
+    ensures end { end.new.kept.value ≡ end.old.kept.value }
+    ensures trip { trip.new ≡ path_after (end_in end.old.kept.value) trip.old }
+    ensures code { result ≡ look_code (end_in end.old.kept.value) }
+{
+    let Some(held) = end.take(alloc) else {
+        return NOT_MADE;
+    };
+    *trip = seen_path(&held.timed);
     end.put(held);
     DONE
 }
@@ -349,7 +370,7 @@ pub extern "C" fn dccp_feature(
     let Some(held) = end.take(alloc) else {
         return NOT_MADE;
     };
-    *state = seen_feature(&held.end, feature, place_of(at_peer));
+    *state = seen_feature(held.timed.end(), feature, place_of(at_peer));
     end.put(held);
     DONE
 }

@@ -16,7 +16,6 @@
 
 mod calls;
 mod codes;
-mod due;
 mod end;
 mod flow_rules;
 mod founding;
@@ -42,5 +41,5 @@ pub use crate::laws::ticks_are_a_tick;
 pub use crate::listener::ListenerHandle;
 pub use crate::making::{Settings, Wish};
 pub use crate::peer::PeerAddress;
-pub use crate::readers::{FeatureState, View};
+pub use crate::readers::{FeatureState, RoundTripView, View};
 pub use crate::told::Told;

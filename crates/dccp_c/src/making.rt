@@ -2,10 +2,11 @@
 ghost use Rattle.std.specs.Prelude.{◌≡◌};
 ghost use Rattle.feature_lists.specs.Wishes.{wish_of};
 ghost use Rattle.dccp_c.specs.Accepting.{as_server};
-ghost use Rattle.dccp_c.specs.Making.{configured_by, first_four, pseudo_of, config_by, offered_so, wished, wished_all, wished_list, wished_so};
+ghost use Rattle.dccp_c.specs.Making.{configured_by, first_four, pace_by, pseudo_of, config_by, offered_so, unless_narrow, wished, wished_all, wished_list, wished_so};
 
 use crate::codes::{BAD_LIST, NO_FEATURE, NO_NUMBER, NOT_OURS, feature_of, place_of, wish_code};
 use dccp_endpoint::{Config, Feature, Place, Ports, Pseudo, Seq48};
+use dccp_uses::{Pace, widened};
 
 /// Whose end it is, and between which addresses and ports.
 #[repr(C)]
@@ -29,6 +30,21 @@ pub struct Settings {
     pub is_v6: bool,
     /// Whether it offers no feature but those among the wishes, else the usual ones too.
     pub is_plain: bool,
+    /// Whether it keeps the Sequence Window of 100, else it asks for 10,000, where it makes offers.
+    pub without_wide_window: bool,
+    /// Whether the timers wait as long as where nothing is known of the path, else by the round trip.
+    pub without_round_trip: bool,
+    /// Whether Acks wait for 200 milliseconds and up to 64 seconds, else for 50 and up to 20 seconds, and not where data
+    /// show a hole.
+    pub without_soon_acks: bool,
+    /// Whether the Ack Ratio of its data stays, else it follows the window.
+    pub without_ack_ratio: bool,
+    /// Whether what is in flight is taken for lost at once, else the peer is asked before where the window is large.
+    pub without_probes: bool,
+    /// Whether each datagram is heard that would be answered by a Sync, else a few of them.
+    pub without_limits: bool,
+    /// Whether the end waits for a silent peer for ever, else some minutes.
+    pub without_giving_up: bool,
 }
 
 /// What an end wishes for a feature from the start on.
@@ -89,7 +105,27 @@ fn settled(settings: &Settings) -> Option<Config>
     if settings.is_plain {
         config.plain();
     }
-    Some(config)
+    Some(unless_narrow(settings.is_plain || settings.without_wide_window, config))
+}
+
+fn unless_narrow(narrow: bool, config: Config) -> Config
+    ensures { result ≡ unless_narrow narrow config }
+{
+    if narrow { config } else { widened(config) }
+}
+
+/// The rules of its path that an end of these settings follows.
+pub(crate) fn pace_by(settings: &Settings) -> Pace
+    ensures { result ≡ pace_by settings.now }
+{
+    Pace {
+        measures: !settings.without_round_trip,
+        acks_soon: !settings.without_soon_acks,
+        moves_ratio: !settings.without_ack_ratio,
+        probes: !settings.without_probes,
+        limits_syncs: !settings.without_limits,
+        gives_up: !settings.without_giving_up,
+    }
 }
 
 // The configuration with this offered, if it is.

@@ -1,10 +1,12 @@
 //! What C may read of an end.
 ghost use Rattle.std.specs.Prelude.{◌≡◌};
-ghost use Rattle.dccp_c.specs.Seeing.{seen, seen_feature};
+ghost use Rattle.dccp_c.specs.Seeing.{seen, seen_feature, seen_path, trip_seen};
 
 use crate::codes::{phase_code, stand_code};
 use ccid_two::Kinds;
 use dccp_endpoint::{Endpoint, Feature, Place};
+use dccp_uses::TimedEnd;
+use path_rules::RoundTrip;
 
 /// An end as C may read it.
 #[repr(C)]
@@ -28,6 +30,18 @@ pub struct View {
     pub window: u32,
     /// How many data packets are in flight.
     pub in_flight: u32,
+}
+
+/// What an end has measured of its path.
+#[repr(C)]
+#[derive(Clone, Copy)]
+pub struct RoundTripView {
+    /// How long a report is waited for, in milliseconds.
+    pub timeout: u64,
+    /// The round trip, in microseconds; 0 before a sample.
+    pub smoothed: u32,
+    /// Its variance, in microseconds; 0 before a sample.
+    pub variance: u32,
 }
 
 /// What an end holds for a feature.
@@ -65,4 +79,27 @@ pub(crate) fn seen_feature(end: &Endpoint<Kinds>, feature: Feature, place: Place
         value: held.value,
         stand: stand_code(held.stand),
     }
+}
+
+fn trip_seen(trip: Option<RoundTrip>, timeout: u64) -> RoundTripView
+    ensures { result ≡ trip_seen trip timeout }
+{
+    match trip {
+        Some(trip) => RoundTripView {
+            timeout,
+            smoothed: trip.smoothed,
+            variance: trip.variance,
+        },
+        None => RoundTripView {
+            timeout,
+            smoothed: 0,
+            variance: 0,
+        },
+    }
+}
+
+pub(crate) fn seen_path(timed: &TimedEnd<Kinds>) -> RoundTripView
+    ensures { result ≡ seen_path timed.now }
+{
+    trip_seen(timed.path().round_trip, timed.timeout())
 }

@@ -1,6 +1,6 @@
 //! What C is told of a datagram.
 ghost use Rattle.std.specs.Prelude.{◌≡◌, None};
-ghost use Rattle.dccp_c.specs.Outcomes.{cause_code, told_outcome};
+ghost use Rattle.dccp_c.specs.Outcomes.{cause_code, told_heard, told_outcome};
 ghost use Rattle.dccp_states.specs.declared.outcome.Outcome.TheVariants.{Took};
 
 use dccp_endpoint::{Malformed, Outcome, SumFault, Why};
@@ -100,4 +100,25 @@ pub fn tell(outcome: &Outcome, told: &mut Told)
     ensures { told.new ≡ told_outcome outcome.now }
 {
     *told = told_of(outcome);
+}
+
+// Of a datagram that was heard, or left out.
+fn told_heard(outcome: Option<Outcome>) -> Told
+    ensures { result ≡ told_heard outcome }
+{
+    match outcome {
+        Some(outcome) => told_of(&outcome),
+        None => Told {
+            kind: 2,
+            cause: 12,
+            ..quiet()
+        },
+    }
+}
+
+/// Tells C of a datagram that was heard, or left out.
+pub fn tell_heard(outcome: Option<Outcome>, told: &mut Told)
+    ensures { told.new ≡ told_heard outcome }
+{
+    *told = told_heard(outcome);
 }

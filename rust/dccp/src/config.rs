@@ -46,6 +46,13 @@ impl Config {
             is_server,
             is_v6,
             is_plain: false,
+            without_wide_window: false,
+            without_round_trip: false,
+            without_soon_acks: false,
+            without_ack_ratio: false,
+            without_probes: false,
+            without_limits: false,
+            without_giving_up: false,
         };
         Config {
             settings,
@@ -57,6 +64,28 @@ impl Config {
     pub fn plain(mut self) -> Config {
         self.settings.is_plain = true;
         self
+    }
+
+    /// Does not follow this rule of the path. The ends of a listener follow none.
+    pub fn without(mut self, rule: PathRule) -> Config {
+        let settings = &mut self.settings;
+        match rule {
+            PathRule::WideWindow => settings.without_wide_window = true,
+            PathRule::RoundTrip => settings.without_round_trip = true,
+            PathRule::SoonAcks => settings.without_soon_acks = true,
+            PathRule::AckRatio => settings.without_ack_ratio = true,
+            PathRule::Probes => settings.without_probes = true,
+            PathRule::Limits => settings.without_limits = true,
+            PathRule::GivingUp => settings.without_giving_up = true,
+        }
+        self
+    }
+
+    /// Follows no rule of the path: the timers wait as RFC 4340 has it, and limits and silence are the caller's.
+    pub fn classic(self) -> Config {
+        PathRule::ALL
+            .into_iter()
+            .fold(self, |config, rule| config.without(rule))
     }
 
     /// Wishes these values for a feature, best first, and answers the peer's wishes by them.
@@ -107,6 +136,38 @@ impl Config {
     pub(crate) fn wishes(&self) -> &[sys::Wish] {
         &self.wishes
     }
+}
+
+/// What an end does for its path, unless it is told not to ([`Config::without`]).
+#[derive(Clone, Copy, Debug, PartialEq, Eq)]
+pub enum PathRule {
+    /// It asks for a Sequence Window of 10,000.
+    WideWindow,
+    /// It measures the round trip, and its timers wait by that.
+    RoundTrip,
+    /// Its Acks go out after 50 milliseconds, at once where data show a hole, and each 20 seconds at least.
+    SoonAcks,
+    /// The Ack Ratio of its data follows its window.
+    AckRatio,
+    /// It asks its peer for a sign of life before it takes a large window for lost.
+    Probes,
+    /// It does not hear datagrams that would bring too many Syncs.
+    Limits,
+    /// It asks a silent peer, and gives it up.
+    GivingUp,
+}
+
+impl PathRule {
+    /// All of them.
+    pub const ALL: [PathRule; 7] = [
+        PathRule::WideWindow,
+        PathRule::RoundTrip,
+        PathRule::SoonAcks,
+        PathRule::AckRatio,
+        PathRule::Probes,
+        PathRule::Limits,
+        PathRule::GivingUp,
+    ];
 }
 
 /// An address in network order; of IPv4 the first four bytes, or the mapped address where the other is of IPv6.

@@ -19,6 +19,17 @@ pub struct Transmit {
     pub is_answer: bool,
 }
 
+/// What an end has measured of its path (RFC 6298).
+#[derive(Clone, Copy, Debug, PartialEq, Eq)]
+pub struct RoundTrip {
+    /// The round trip; zero before there was a sample.
+    pub smoothed: Duration,
+    /// Its variance; zero before there was a sample.
+    pub variance: Duration,
+    /// How long a report is waited for.
+    pub timeout: Duration,
+}
+
 /// What the owner of a connection is told.
 #[derive(Clone, Debug, PartialEq, Eq)]
 #[non_exhaustive]
@@ -393,6 +404,16 @@ impl Connection {
             greatest_acknowledged: self.view.gar,
             first_received: self.view.isr,
             greatest_received: self.view.gsr,
+        }
+    }
+
+    /// What was measured of the path.
+    pub fn round_trip(&mut self) -> RoundTrip {
+        let trip = self.end.round_trip();
+        RoundTrip {
+            smoothed: Duration::from_micros(trip.smoothed.into()),
+            variance: Duration::from_micros(trip.variance.into()),
+            timeout: Duration::from_millis(trip.timeout),
         }
     }
 

@@ -155,6 +155,13 @@ impl End {
         view
     }
 
+    pub fn round_trip(&mut self) -> sys::RoundTripView {
+        let mut trip = sys::RoundTripView::default();
+        // SAFETY: as the head of this module says. Of an end that is made the status is `DONE`.
+        unsafe { sys::dccp_look_path(&mut self.handle, &mut trip) };
+        trip
+    }
+
     pub fn feature(&mut self, feature: u32, at_peer: bool) -> sys::FeatureState {
         let mut state = sys::FeatureState::default();
         // SAFETY: as the head of this module says. Of an end that is made, and a feature that is one, the status is `DONE`.

@@ -52,8 +52,8 @@ pub mod net;
 mod rules;
 mod sys;
 
-pub use crate::config::Config;
-pub use crate::connection::{Accepted, Connection, Event, Transmit};
+pub use crate::config::{Config, PathRule};
+pub use crate::connection::{Accepted, Connection, Event, RoundTrip, Transmit};
 pub use crate::endpoint::Endpoint;
 pub use crate::listener::{Cause, Change, Listener};
 pub use crate::names::{

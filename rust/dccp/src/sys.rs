@@ -33,6 +33,13 @@ pub struct Settings {
     pub is_server: bool,
     pub is_v6: bool,
     pub is_plain: bool,
+    pub without_wide_window: bool,
+    pub without_round_trip: bool,
+    pub without_soon_acks: bool,
+    pub without_ack_ratio: bool,
+    pub without_probes: bool,
+    pub without_limits: bool,
+    pub without_giving_up: bool,
 }
 
 #[repr(C)]
@@ -77,6 +84,14 @@ pub struct View {
     pub phase: u32,
     pub window: u32,
     pub in_flight: u32,
+}
+
+#[repr(C)]
+#[derive(Default)]
+pub struct RoundTripView {
+    pub timeout: u64,
+    pub smoothed: u32,
+    pub variance: u32,
 }
 
 #[repr(C)]
@@ -183,6 +198,7 @@ unsafe extern "C" {
         told: *mut Told,
     ) -> u32;
     pub fn dccp_look(end: *mut End, view: *mut View) -> u32;
+    pub fn dccp_look_path(end: *mut End, trip: *mut RoundTripView) -> u32;
     pub fn dccp_feature(
         end: *mut End,
         feature: u32,
