@@ -181,6 +181,7 @@ impl<'a> Own<'a> {
                     }
                 }
                 Event::Ended { code } => self.counts.ended = Some(code),
+                _ => {}
             }
         }
         self.counts.was_open |= connection.phase() == Phase::Open;
@@ -202,7 +203,7 @@ impl<'a> Own<'a> {
                 }
             }
             Accepted::Answer(answer) => self.wire.send(&answer.bytes)?,
-            Accepted::Nothing => {}
+            _ => {}
         }
         Ok(())
     }
