@@ -89,7 +89,8 @@ pub fn server(
             Manner::Reference => Box::new(Owner::accepted(*connection, now)),
         }),
         Accepted::Answer(answer) => Made::Answer(answer.bytes),
-        Accepted::Nothing => Made::Nothing,
+        // It is no Request, or something that the crate may have later.
+        _ => Made::Nothing,
     }
 }
 

@@ -285,7 +285,8 @@ impl Owner {
                 let question = (self.taken + SILENCE).max(self.questioned + QUESTION_WAIT);
                 Some(question.min(self.taken + SILENCE_LIMIT))
             }
-            Phase::Closed | Phase::Listen | Phase::TimeWait => None,
+            // CLOSED, LISTEN and TIMEWAIT, and what the crate may have later.
+            _ => None,
         }
     }
 

@@ -88,6 +88,7 @@ pub enum Timer {
 
 /// The numbers of a connection's packets (RFC 4340, section 7.1), each below 2^48.
 #[derive(Clone, Copy, Debug, PartialEq, Eq)]
+#[non_exhaustive]
 pub struct Numbers {
     /// ISS: of the first packet that this end sends.
     pub first_sent: u64,
