@@ -62,7 +62,14 @@ fn plan(role: Role) -> Plan {
 }
 
 /// A transfer both ways, our end in this role, which closes.
-fn transfer(name: &'static str, role: Role, addresses: Addresses, loss: u64, size: usize, packets: u32) -> Case {
+fn transfer(
+    name: &'static str,
+    role: Role,
+    addresses: Addresses,
+    loss: u64,
+    size: usize,
+    packets: u32,
+) -> Case {
     let family = match addresses {
         Addresses::V4 => "4",
         Addresses::V6 => "6",
@@ -75,15 +82,28 @@ fn transfer(name: &'static str, role: Role, addresses: Addresses, loss: u64, siz
         name,
         addresses,
         loss,
-        plan: Plan { size, send: packets, expect: packets, ..plan(role) },
-        kernel: Some(format!("{end} family {family} send {packets} size {size} wait 58 close peer")),
+        plan: Plan {
+            size,
+            send: packets,
+            expect: packets,
+            ..plan(role)
+        },
+        kernel: Some(format!(
+            "{end} family {family} send {packets} size {size} wait 58 close peer"
+        )),
         patience: Duration::from_secs(70),
         verdict: carried,
     }
 }
 
 /// The same over IPv4 without loss, whose words and plan a case changes.
-fn clean(name: &'static str, role: Role, packets: u32, words: &str, change: impl FnOnce(&mut Plan)) -> Case {
+fn clean(
+    name: &'static str,
+    role: Role,
+    packets: u32,
+    words: &str,
+    change: impl FnOnce(&mut Plan),
+) -> Case {
     let mut case = transfer(name, role, Addresses::V4, 0, 100, packets);
     change(&mut case.plan);
     case.kernel = case.kernel.map(|it| format!("{it} {words}"));
@@ -111,15 +131,29 @@ fn unless(holds: bool, fault: impl FnOnce() -> String) -> Option<String> {
 
 /// Each packet with data that the wire carried was taken once and whole at the other end, and the connection was open.
 fn all_was_taken(outcome: &Outcome) -> Vec<String> {
-    let Outcome { own, kernel, sent, came } = outcome;
+    let Outcome {
+        own,
+        kernel,
+        sent,
+        came,
+    } = outcome;
     let ours = sent.data - sent.lost_data;
     let theirs = came.data - came.lost_data;
     [
         unless(own.was_open, || "our end was never OPEN".to_string()),
-        unless(own.received == theirs, || format!("our end took {} of {theirs}", own.received)),
-        unless(kernel.received == ours, || format!("the kernel took {} of {ours}", kernel.received)),
-        unless(own.sent == sent.data, || format!("{} of ours went out, not {}", sent.data, own.sent)),
-        unless(own.repeated + own.strange + kernel.repeated + kernel.strange == 0, || "data were repeated or altered".to_string()),
+        unless(own.received == theirs, || {
+            format!("our end took {} of {theirs}", own.received)
+        }),
+        unless(kernel.received == ours, || {
+            format!("the kernel took {} of {ours}", kernel.received)
+        }),
+        unless(own.sent == sent.data, || {
+            format!("{} of ours went out, not {}", sent.data, own.sent)
+        }),
+        unless(
+            own.repeated + own.strange + kernel.repeated + kernel.strange == 0,
+            || "data were repeated or altered".to_string(),
+        ),
     ]
     .into_iter()
     .flatten()
@@ -130,12 +164,24 @@ fn all_was_taken(outcome: &Outcome) -> Vec<String> {
 fn carried(case: &Case, outcome: &Outcome) -> Vec<String> {
     let mut faults = all_was_taken(outcome);
     if case.loss == 0 {
-        faults.extend(unless(outcome.own.sent == case.plan.send, || format!("our end sent {}", outcome.own.sent)));
-        faults.extend(unless(outcome.kernel.sent == case.plan.expect, || format!("the kernel sent {}", outcome.kernel.sent)));
-        faults.extend(unless(outcome.own.ended == Some(1), || format!("our end ended by {:?}", outcome.own.ended)));
-        faults.extend(unless(outcome.kernel.end == "closed" || outcome.kernel.end == "own", || format!("the kernel's ended by {}", outcome.kernel.end)));
+        faults.extend(unless(outcome.own.sent == case.plan.send, || {
+            format!("our end sent {}", outcome.own.sent)
+        }));
+        faults.extend(unless(outcome.kernel.sent == case.plan.expect, || {
+            format!("the kernel sent {}", outcome.kernel.sent)
+        }));
+        faults.extend(unless(outcome.own.ended == Some(1), || {
+            format!("our end ended by {:?}", outcome.own.ended)
+        }));
+        faults.extend(unless(
+            outcome.kernel.end == "closed" || outcome.kernel.end == "own",
+            || format!("the kernel's ended by {}", outcome.kernel.end),
+        ));
     } else {
-        faults.extend(unless(outcome.own.sent >= 100 && outcome.kernel.sent >= 100, || "fewer than 100 packets went".to_string()));
+        faults.extend(unless(
+            outcome.own.sent >= 100 && outcome.kernel.sent >= 100,
+            || "fewer than 100 packets went".to_string(),
+        ));
     }
     faults
 }
@@ -143,7 +189,9 @@ fn carried(case: &Case, outcome: &Outcome) -> Vec<String> {
 /// The first wish of our end is settled at this value.
 fn settled(outcome: &Outcome, place: usize, value: u64) -> Option<String> {
     let held = outcome.own.features.get(place).copied();
-    unless(held == Some((value, true)), || format!("the feature is {held:?}, not {value}"))
+    unless(held == Some((value, true)), || {
+        format!("the feature is {held:?}, not {value}")
+    })
 }
 
 fn carried_and_wished(case: &Case, outcome: &Outcome) -> Vec<String> {
@@ -158,7 +206,9 @@ fn carried_and_wished(case: &Case, outcome: &Outcome) -> Vec<String> {
 fn carried_and_unanswered(case: &Case, outcome: &Outcome) -> Vec<String> {
     let mut faults = carried(case, outcome);
     let held = outcome.own.features.first().copied();
-    faults.extend(unless(held == Some((2, false)), || format!("the feature is {held:?}")));
+    faults.extend(unless(held == Some((2, false)), || {
+        format!("the feature is {held:?}")
+    }));
     faults
 }
 
@@ -171,30 +221,50 @@ fn short_is_refused(case: &Case, outcome: &Outcome) -> Vec<String> {
 
 fn aborted_by_us(_: &Case, outcome: &Outcome) -> Vec<String> {
     let mut faults = all_was_taken(outcome);
-    faults.extend(unless(outcome.sent.reset == Some(2), || format!("our Reset is {:?}", outcome.sent.reset)));
-    faults.extend(unless(matches!(outcome.kernel.end.as_str(), "fault" | "closed"), || format!("the kernel's end: {}", outcome.kernel.end)));
+    faults.extend(unless(outcome.sent.reset == Some(2), || {
+        format!("our Reset is {:?}", outcome.sent.reset)
+    }));
+    faults.extend(unless(
+        matches!(outcome.kernel.end.as_str(), "fault" | "closed"),
+        || format!("the kernel's end: {}", outcome.kernel.end),
+    ));
     faults
 }
 
 fn aborted_by_the_kernel(_: &Case, outcome: &Outcome) -> Vec<String> {
     let mut faults = all_was_taken(outcome);
-    faults.extend(unless(outcome.came.reset.is_some() && outcome.own.ended == outcome.came.reset, || {
-        format!("its Reset is {:?}, our end ended by {:?}", outcome.came.reset, outcome.own.ended)
-    }));
+    faults.extend(unless(
+        outcome.came.reset.is_some() && outcome.own.ended == outcome.came.reset,
+        || {
+            format!(
+                "its Reset is {:?}, our end ended by {:?}",
+                outcome.came.reset, outcome.own.ended
+            )
+        },
+    ));
     faults
 }
 
 /// The kernel answers our Request by a Reset of code 3: nobody serves the port.
 fn nobody_serves_there(_: &Case, outcome: &Outcome) -> Vec<String> {
     let ended = outcome.own.ended;
-    unless(ended == Some(3) && !outcome.own.was_open, || format!("our end ended by {ended:?}")).into_iter().collect()
+    unless(ended == Some(3) && !outcome.own.was_open, || {
+        format!("our end ended by {ended:?}")
+    })
+    .into_iter()
+    .collect()
 }
 
 /// A Reset with this code of ours ends the kernel's attempt.
 fn turned_away(outcome: &Outcome, code: u8) -> Vec<String> {
     [
-        unless(outcome.sent.reset == Some(code), || format!("our Reset is {:?}", outcome.sent.reset)),
-        unless(outcome.kernel.received + outcome.kernel.sent == 0 && outcome.kernel.end != "time", || format!("the kernel's end: {}", outcome.kernel.end)),
+        unless(outcome.sent.reset == Some(code), || {
+            format!("our Reset is {:?}", outcome.sent.reset)
+        }),
+        unless(
+            outcome.kernel.received + outcome.kernel.sent == 0 && outcome.kernel.end != "time",
+            || format!("the kernel's end: {}", outcome.kernel.end),
+        ),
     ]
     .into_iter()
     .flatten()
@@ -207,32 +277,49 @@ fn other_service_here(_: &Case, outcome: &Outcome) -> Vec<String> {
 
 fn other_service_there(_: &Case, outcome: &Outcome) -> Vec<String> {
     let ended = outcome.own.ended;
-    unless(ended == Some(8) && !outcome.own.was_open, || format!("our end ended by {ended:?}")).into_iter().collect()
+    unless(ended == Some(8) && !outcome.own.was_open, || {
+        format!("our end ended by {ended:?}")
+    })
+    .into_iter()
+    .collect()
 }
 
 /// CCID 3 alone shares nothing with our lists: one end or the other ends the connection.
 fn nothing_shared(_: &Case, outcome: &Outcome) -> Vec<String> {
     let resets = (outcome.sent.reset, outcome.came.reset);
-    unless(resets.0.is_some() || resets.1.is_some(), || "no Reset ended it".to_string()).into_iter().collect()
+    unless(resets.0.is_some() || resets.1.is_some(), || {
+        "no Reset ended it".to_string()
+    })
+    .into_iter()
+    .collect()
 }
 
 /// Without our offer, the packets of a client of Linux with several CCIDs stay where its first window ends.
 fn stays_at_its_first_window(_: &Case, outcome: &Outcome) -> Vec<String> {
     let mut faults = all_was_taken(outcome);
-    faults.extend(unless(outcome.kernel.sent < 20, || format!("the kernel sent {}", outcome.kernel.sent)));
+    faults.extend(unless(outcome.kernel.sent < 20, || {
+        format!("the kernel sent {}", outcome.kernel.sent)
+    }));
     faults
 }
 
 /// Our end refuses the features that the kernel insists on for CCID 3, of which it knows none: a Reset of code 6.
 fn insisted_on(_: &Case, outcome: &Outcome) -> Vec<String> {
-    unless(outcome.sent.reset == Some(6), || format!("our Reset is {:?}", outcome.sent.reset)).into_iter().collect()
+    unless(outcome.sent.reset == Some(6), || {
+        format!("our Reset is {:?}", outcome.sent.reset)
+    })
+    .into_iter()
+    .collect()
 }
 
 /// The kernel's old end answers each Request by a Sync, and takes no Reset of ours: it stands until it gives up.
 fn met_by_its_old_end(_: &Case, outcome: &Outcome) -> Vec<String> {
     [
         unless(!outcome.own.was_open, || "our end was OPEN".to_string()),
-        unless(outcome.came.syncs > 0 && outcome.sent.reset == Some(4), || format!("{} Syncs came", outcome.came.syncs)),
+        unless(
+            outcome.came.syncs > 0 && outcome.sent.reset == Some(4),
+            || format!("{} Syncs came", outcome.came.syncs),
+        ),
     ]
     .into_iter()
     .flatten()
@@ -241,7 +328,11 @@ fn met_by_its_old_end(_: &Case, outcome: &Outcome) -> Vec<String> {
 
 /// Our end vanished; what of its successor's connection came is asked by the next case.
 fn left(_: &Case, outcome: &Outcome) -> Vec<String> {
-    unless(outcome.own.was_open, || "our end was never OPEN".to_string()).into_iter().collect()
+    unless(outcome.own.was_open, || {
+        "our end was never OPEN".to_string()
+    })
+    .into_iter()
+    .collect()
 }
 
 pub fn every() -> Vec<Case> {
@@ -249,7 +340,11 @@ pub fn every() -> Vec<Case> {
     use Role::{Client, Server};
     vec![
         brief("brief-as-client", Client, "server 5001"),
-        brief("brief-as-server", Server, "client 10.9.0.1 5001 port 40000 ccid 2"),
+        brief(
+            "brief-as-server",
+            Server,
+            "client 10.9.0.1 5001 port 40000 ccid 2",
+        ),
         transfer("client", Client, V4, 0, 100, 2_000),
         transfer("server", Server, V4, 0, 100, 2_000),
         transfer("client-5%", Client, V4, 5, 100, 2_000),
@@ -264,71 +359,200 @@ pub fn every() -> Vec<Case> {
         transfer("server-ipv6", Server, V6, 0, 100, 500),
         transfer("client-ipv6-5%", Client, V6, 5, 100, 500),
         clean("kernel-speaks-last", Client, 200, "first peer", |_| {}),
-        clean("we-speak-last", Server, 200, "", |plan| plan.peer_first = true),
+        clean("we-speak-last", Server, 200, "", |plan| {
+            plan.peer_first = true
+        }),
         clean("we-speak-first", Client, 200, "first peer", |_| {}),
-        clean("kernel-closes-as-client", Server, 100, "receive 100 close own", |plan| plan.end = End::Waits),
-        clean("kernel-closes-as-server", Client, 100, "receive 100 close own", |plan| plan.end = End::Waits),
-        Case { verdict: aborted_by_us, ..clean("we-abort-as-client", Client, 100, "", |plan| plan.end = End::Aborts) },
-        Case { verdict: aborted_by_us, ..clean("we-abort-as-server", Server, 100, "", |plan| plan.end = End::Aborts) },
-        Case { verdict: aborted_by_the_kernel, ..clean("kernel-aborts-as-client", Server, 100, "receive 100 close abort", |plan| plan.end = End::Waits) },
-        Case { verdict: aborted_by_the_kernel, ..clean("kernel-aborts-as-server", Client, 100, "receive 100 close abort", |plan| plan.end = End::Waits) },
+        clean(
+            "kernel-closes-as-client",
+            Server,
+            100,
+            "receive 100 close own",
+            |plan| plan.end = End::Waits,
+        ),
+        clean(
+            "kernel-closes-as-server",
+            Client,
+            100,
+            "receive 100 close own",
+            |plan| plan.end = End::Waits,
+        ),
         Case {
-            verdict: carried_and_wished,
-            ..clean("sequence-window-while-open", Client, 500, "", |plan| plan.prefers = vec![(Feature::SequenceWindow, Place::Here, vec![5_000])])
+            verdict: aborted_by_us,
+            ..clean("we-abort-as-client", Client, 100, "", |plan| {
+                plan.end = End::Aborts
+            })
+        },
+        Case {
+            verdict: aborted_by_us,
+            ..clean("we-abort-as-server", Server, 100, "", |plan| {
+                plan.end = End::Aborts
+            })
+        },
+        Case {
+            verdict: aborted_by_the_kernel,
+            ..clean(
+                "kernel-aborts-as-client",
+                Server,
+                100,
+                "receive 100 close abort",
+                |plan| plan.end = End::Waits,
+            )
+        },
+        Case {
+            verdict: aborted_by_the_kernel,
+            ..clean(
+                "kernel-aborts-as-server",
+                Client,
+                100,
+                "receive 100 close abort",
+                |plan| plan.end = End::Waits,
+            )
         },
         Case {
             verdict: carried_and_wished,
-            ..clean("ack-ratio-while-open", Client, 500, "", |plan| plan.prefers = vec![(Feature::AckRatio, Place::Here, vec![4])])
+            ..clean("sequence-window-while-open", Client, 500, "", |plan| {
+                plan.prefers = vec![(Feature::SequenceWindow, Place::Here, vec![5_000])]
+            })
         },
         Case {
             verdict: carried_and_wished,
-            ..clean("sequence-window-as-server", Server, 500, "", |plan| plan.prefers = vec![(Feature::SequenceWindow, Place::Here, vec![5_000])])
+            ..clean("ack-ratio-while-open", Client, 500, "", |plan| {
+                plan.prefers = vec![(Feature::AckRatio, Place::Here, vec![4])]
+            })
+        },
+        Case {
+            verdict: carried_and_wished,
+            ..clean("sequence-window-as-server", Server, 500, "", |plan| {
+                plan.prefers = vec![(Feature::SequenceWindow, Place::Here, vec![5_000])]
+            })
         },
         Case {
             verdict: carried_and_unanswered,
-            ..clean("ccid-while-open", Client, 200, "", |plan| plan.prefers = vec![(Feature::Ccid, Place::Here, vec![2])])
+            ..clean("ccid-while-open", Client, 200, "", |plan| {
+                plan.prefers = vec![(Feature::Ccid, Place::Here, vec![2])]
+            })
         },
         Case {
             verdict: stays_at_its_first_window,
-            ..clean("kernel-asks-for-no-vectors", Server, 200, "wait 8", |plan| {
-                plan.offers.truncate(1);
-                plan.limit = Duration::from_secs(8);
-            })
+            ..clean(
+                "kernel-asks-for-no-vectors",
+                Server,
+                200,
+                "wait 8",
+                |plan| {
+                    plan.offers.truncate(1);
+                    plan.limit = Duration::from_secs(8);
+                },
+            )
         },
-        clean("kernel-knows-ccid-2-alone", Server, 200, "ccid 2", |plan| plan.offers.truncate(1)),
-        Case { verdict: insisted_on, ..clean("kernel-offers-ccid-3-first", Client, 10, "ccid 3,2 wait 4", |plan| plan.limit = Duration::from_secs(5)) },
-        clean("we-ask-for-ccid-2-of-3-and-2", Client, 200, "ccid 3,2", |plan| {
-            plan.offers.extend([(Feature::Ccid, Place::Here, vec![2]), (Feature::Ccid, Place::There, vec![2])]);
+        clean("kernel-knows-ccid-2-alone", Server, 200, "ccid 2", |plan| {
+            plan.offers.truncate(1)
         }),
-        clean("kernel-offers-ccid-3-first-as-client", Server, 200, "ccid 3,2", |_| {}),
-        Case { verdict: nothing_shared, ..clean("kernel-offers-ccid-3-alone", Client, 10, "ccid 3 wait 5", |plan| plan.limit = Duration::from_secs(6)) },
+        Case {
+            verdict: insisted_on,
+            ..clean(
+                "kernel-offers-ccid-3-first",
+                Client,
+                10,
+                "ccid 3,2 wait 4",
+                |plan| plan.limit = Duration::from_secs(5),
+            )
+        },
+        clean(
+            "we-ask-for-ccid-2-of-3-and-2",
+            Client,
+            200,
+            "ccid 3,2",
+            |plan| {
+                plan.offers.extend([
+                    (Feature::Ccid, Place::Here, vec![2]),
+                    (Feature::Ccid, Place::There, vec![2]),
+                ]);
+            },
+        ),
+        clean(
+            "kernel-offers-ccid-3-first-as-client",
+            Server,
+            200,
+            "ccid 3,2",
+            |_| {},
+        ),
+        Case {
+            verdict: nothing_shared,
+            ..clean(
+                "kernel-offers-ccid-3-alone",
+                Client,
+                10,
+                "ccid 3 wait 5",
+                |plan| plan.limit = Duration::from_secs(6),
+            )
+        },
         Case {
             verdict: short_is_refused,
-            ..clean("short-numbers-are-refused", Client, 200, "", |plan| plan.offers = vec![(Feature::ShortSeqnos, Place::Here, vec![1, 0])])
+            ..clean("short-numbers-are-refused", Client, 200, "", |plan| {
+                plan.offers = vec![(Feature::ShortSeqnos, Place::Here, vec![1, 0])]
+            })
         },
         Case {
             verdict: nobody_serves_there,
             kernel: None,
-            ..clean("nobody-serves-there", Client, 10, "", |plan| plan.limit = Duration::from_secs(5))
+            ..clean("nobody-serves-there", Client, 10, "", |plan| {
+                plan.limit = Duration::from_secs(5)
+            })
         },
         Case {
             verdict: other_service_there,
-            ..clean("other-service-there", Client, 10, "service 43 wait 4", |plan| plan.limit = Duration::from_secs(5))
+            ..clean(
+                "other-service-there",
+                Client,
+                10,
+                "service 43 wait 4",
+                |plan| plan.limit = Duration::from_secs(5),
+            )
         },
         Case {
             verdict: other_service_here,
-            ..clean("other-service-here", Server, 10, "service 43 wait 4", |plan| plan.limit = Duration::from_secs(5))
+            ..clean(
+                "other-service-here",
+                Server,
+                10,
+                "service 43 wait 4",
+                |plan| plan.limit = Duration::from_secs(5),
+            )
         },
-        Case { verdict: left, ..clean("we-vanish", Client, 50, "wait 6", |plan| (plan.end, plan.limit) = (End::Vanishes, Duration::from_secs(20))) },
         Case {
-            verdict: met_by_its_old_end,
-            ..clean("we-come-again-from-that-port", Client, 200, "wait 6", |plan| {
-                plan.first = 1 << 44;
-                plan.limit = Duration::from_secs(6);
+            verdict: left,
+            ..clean("we-vanish", Client, 50, "wait 6", |plan| {
+                (plan.end, plan.limit) = (End::Vanishes, Duration::from_secs(20))
             })
         },
+        Case {
+            verdict: met_by_its_old_end,
+            ..clean(
+                "we-come-again-from-that-port",
+                Client,
+                200,
+                "wait 6",
+                |plan| {
+                    plan.first = 1 << 44;
+                    plan.limit = Duration::from_secs(6);
+                },
+            )
+        },
         clean("we-come-again", Client, 200, "", |plan| plan.port = 40_001),
-        Case { verdict: left, ..clean("the-kernel-restarts", Server, 50, "wait 3 close abort", |plan| plan.limit = Duration::from_secs(10)) },
-        clean("the-kernel-comes-again", Server, 200, "", |plan| plan.first = 1 << 44),
+        Case {
+            verdict: left,
+            ..clean(
+                "the-kernel-restarts",
+                Server,
+                50,
+                "wait 3 close abort",
+                |plan| plan.limit = Duration::from_secs(10),
+            )
+        },
+        clean("the-kernel-comes-again", Server, 200, "", |plan| {
+            plan.first = 1 << 44
+        }),
     ]
 }

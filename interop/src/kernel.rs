@@ -41,7 +41,11 @@ impl Kernel {
         });
         let kernel = Kernel { words, lines };
         let ready = kernel.line_with("ready", Duration::from_secs(120))?;
-        let version = ready.split_whitespace().nth(1).unwrap_or_default().to_string();
+        let version = ready
+            .split_whitespace()
+            .nth(1)
+            .unwrap_or_default()
+            .to_string();
         Ok((kernel, version))
     }
 
@@ -51,7 +55,10 @@ impl Kernel {
         loop {
             let left = end.saturating_duration_since(Instant::now());
             let line = self.lines.recv_timeout(left).map_err(|_| {
-                io::Error::new(io::ErrorKind::TimedOut, format!("the machine does not say {front}"))
+                io::Error::new(
+                    io::ErrorKind::TimedOut,
+                    format!("the machine does not say {front}"),
+                )
             })?;
             if line.starts_with(front) {
                 return Ok(line);
@@ -66,7 +73,8 @@ impl Kernel {
     }
 
     pub fn wait_for_listening(&self) -> io::Result<()> {
-        self.line_with("listening", Duration::from_secs(20)).map(drop)
+        self.line_with("listening", Duration::from_secs(20))
+            .map(drop)
     }
 
     /// What the helper has told by now, if it is done.
@@ -80,9 +88,10 @@ impl Kernel {
         let mut told = told;
         while told.is_none() {
             let left = end.saturating_duration_since(Instant::now());
-            let line = self.lines.recv_timeout(left).map_err(|_| {
-                io::Error::new(io::ErrorKind::TimedOut, "the helper does not end")
-            })?;
+            let line = self
+                .lines
+                .recv_timeout(left)
+                .map_err(|_| io::Error::new(io::ErrorKind::TimedOut, "the helper does not end"))?;
             told = Told::of(&line);
         }
         self.line_with("done", Duration::from_secs(10))?;

@@ -24,7 +24,12 @@ struct Row {
     faults: Vec<String>,
 }
 
-fn played(case: &Case, wire: &mut Wire, kernel: &mut Kernel, folder: &Path) -> Result<Outcome, Box<dyn Error>> {
+fn played(
+    case: &Case,
+    wire: &mut Wire,
+    kernel: &mut Kernel,
+    folder: &Path,
+) -> Result<Outcome, Box<dyn Error>> {
     let capture = folder.join("captures").join(format!("{}.pcap", case.name));
     wire.begin(&capture, case.addresses, case.loss)?;
     let mut told = None;
@@ -42,7 +47,11 @@ fn played(case: &Case, wire: &mut Wire, kernel: &mut Kernel, folder: &Path) -> R
         }
         told.is_some()
     })?;
-    let kernel_told = if has_kernel { kernel.wait(told, case.patience)? } else { Default::default() };
+    let kernel_told = if has_kernel {
+        kernel.wait(told, case.patience)?
+    } else {
+        Default::default()
+    };
     wire.end()?;
     Ok(Outcome {
         own: counts,
@@ -59,14 +68,22 @@ fn row(case: &Case, wire: &mut Wire, kernel: &mut Kernel, folder: &Path) -> Row 
         Ok(outcome) => (case.verdict)(case, outcome),
         Err(fault) => vec![fault.clone()],
     };
-    Row { name: case.name, seconds: begun.elapsed().as_secs_f64(), outcome, faults }
+    Row {
+        name: case.name,
+        seconds: begun.elapsed().as_secs_f64(),
+        outcome,
+        faults,
+    }
 }
 
 fn print(row: &Row) {
     let (ours, theirs, end) = row.outcome.as_ref().map_or_else(
         |_| ("-".to_string(), "-".to_string(), "-".to_string()),
         |it| {
-            let code = it.own.ended.map_or("-".to_string(), |code| code.to_string());
+            let code = it
+                .own
+                .ended
+                .map_or("-".to_string(), |code| code.to_string());
             (
                 format!("{} / {}", it.own.sent, it.kernel.received),
                 format!("{} / {}", it.kernel.sent, it.own.received),
@@ -74,22 +91,36 @@ fn print(row: &Row) {
             )
         },
     );
-    let verdict = if row.faults.is_empty() { "passed".to_string() } else { format!("FAILED: {}", row.faults.join("; ")) };
-    println!("| {} | {ours} | {theirs} | {end} | {:.1} | {verdict} |", row.name, row.seconds);
+    let verdict = if row.faults.is_empty() {
+        "passed".to_string()
+    } else {
+        format!("FAILED: {}", row.faults.join("; "))
+    };
+    println!(
+        "| {} | {ours} | {theirs} | {end} | {:.1} | {verdict} |",
+        row.name, row.seconds
+    );
 }
 
 fn run() -> Result<bool, Box<dyn Error>> {
     let words: Vec<String> = std::env::args().skip(1).collect();
-    let (folder, only) = words.split_first().ok_or("usage: interop FOLDER [CASE..]")?;
+    let (folder, only) = words
+        .split_first()
+        .ok_or("usage: interop FOLDER [CASE..]")?;
     let folder = Path::new(folder);
     let mut wire = Wire::over(&folder.join("packets"))?;
     let (mut kernel, version) = Kernel::over(&folder.join("words"))?;
     println!("Linux {version}");
     println!();
-    println!("| Case | Ours: sent / taken | The kernel's: sent / taken | Ends: our code, the kernel's | Seconds | |");
+    println!(
+        "| Case | Ours: sent / taken | The kernel's: sent / taken | Ends: our code, the kernel's | Seconds | |"
+    );
     println!("|---|---|---|---|---|---|");
     let every = cases::every();
-    let chosen: Vec<&Case> = every.iter().filter(|it| only.is_empty() || only.iter().any(|name| it.name.contains(name.as_str()))).collect();
+    let chosen: Vec<&Case> = every
+        .iter()
+        .filter(|it| only.is_empty() || only.iter().any(|name| it.name.contains(name.as_str())))
+        .collect();
     if chosen.is_empty() {
         return Err("no case has such a name".into());
     }

@@ -84,10 +84,25 @@ impl<'a> Own<'a> {
     pub fn new(plan: &'a Plan, wire: &'a mut Wire) -> Result<Own<'a>, Box<dyn std::error::Error>> {
         let (here, there) = (wire.addresses().own(), wire.addresses().kernel());
         let config = match plan.role {
-            Role::Client => Config::client((here, plan.port).into(), (there, PORT).into(), plan.service, plan.first),
-            Role::Server => Config::server((here, PORT).into(), (there, 0).into(), plan.service, plan.first),
+            Role::Client => Config::client(
+                (here, plan.port).into(),
+                (there, PORT).into(),
+                plan.service,
+                plan.first,
+            ),
+            Role::Server => Config::server(
+                (here, PORT).into(),
+                (there, 0).into(),
+                plan.service,
+                plan.first,
+            ),
         };
-        let config = plan.offers.iter().fold(config, |config, (feature, place, values)| config.offer(*feature, *place, values));
+        let config = plan
+            .offers
+            .iter()
+            .fold(config, |config, (feature, place, values)| {
+                config.offer(*feature, *place, values)
+            });
         let mut own = Own {
             plan,
             wire,
@@ -107,7 +122,10 @@ impl<'a> Own<'a> {
     }
 
     /// Plays until the connection has ended, or the limit has gone by. `is_over` tells whether the kernel's side is done.
-    pub fn play(mut self, mut is_over: impl FnMut() -> bool) -> Result<Counts, Box<dyn std::error::Error>> {
+    pub fn play(
+        mut self,
+        mut is_over: impl FnMut() -> bool,
+    ) -> Result<Counts, Box<dyn std::error::Error>> {
         let limit = Instant::now() + self.plan.limit;
         let mut over_since = None;
         while Instant::now() < limit {
@@ -124,7 +142,9 @@ impl<'a> Own<'a> {
                 }
             }
             let due = self.connection.as_ref().and_then(Connection::poll_timeout);
-            let wait = due.map_or(Duration::from_millis(5), |it| it.saturating_duration_since(Instant::now()));
+            let wait = due.map_or(Duration::from_millis(5), |it| {
+                it.saturating_duration_since(Instant::now())
+            });
             let mut next = self.wire.receive(wait.min(Duration::from_millis(5)))?;
             // All that has come is heard before a timer is told.
             while let Some(packet) = next {
@@ -140,7 +160,13 @@ impl<'a> Own<'a> {
     }
 
     fn finish(mut self) -> Result<Counts, Box<dyn std::error::Error>> {
-        let asked: Vec<_> = self.plan.prefers.iter().chain(&self.plan.offers).map(|it| (it.0, it.1)).collect();
+        let asked: Vec<_> = self
+            .plan
+            .prefers
+            .iter()
+            .chain(&self.plan.offers)
+            .map(|it| (it.0, it.1))
+            .collect();
         if let Some(connection) = &mut self.connection {
             self.counts.features = asked
                 .iter()
@@ -194,13 +220,22 @@ impl<'a> Own<'a> {
             return Ok(());
         };
         let (here, there) = (self.wire.addresses().own(), self.wire.addresses().kernel());
-        let config = Config::server((here, PORT).into(), (there, port).into(), self.plan.service, self.plan.first);
-        self.config = self.plan.offers.iter().fold(config, |config, (feature, place, values)| config.offer(*feature, *place, values));
+        let config = Config::server(
+            (here, PORT).into(),
+            (there, port).into(),
+            self.plan.service,
+            self.plan.first,
+        );
+        self.config = self
+            .plan
+            .offers
+            .iter()
+            .fold(config, |config, (feature, place, values)| {
+                config.offer(*feature, *place, values)
+            });
         match Connection::accept(&self.config, packet, now)? {
-            Accepted::Connection(connection) => {
-                if connection.phase() != Phase::Closed {
-                    self.connection = Some(*connection);
-                }
+            Accepted::Connection(connection) if connection.phase() != Phase::Closed => {
+                self.connection = Some(*connection);
             }
             Accepted::Answer(answer) => self.wire.send(&answer.bytes)?,
             _ => {}
@@ -214,7 +249,10 @@ impl<'a> Own<'a> {
         let Some(connection) = &mut self.connection else {
             return;
         };
-        if !self.has_preferred && connection.phase() == Phase::Open && self.counts.received.max(self.counts.sent) >= 10.min(self.plan.send) {
+        if !self.has_preferred
+            && connection.phase() == Phase::Open
+            && self.counts.received.max(self.counts.sent) >= 10.min(self.plan.send)
+        {
             self.has_preferred = true;
             for (feature, place, values) in &self.plan.prefers {
                 // A refusal shows by the feature that is read at the end.
@@ -223,13 +261,16 @@ impl<'a> Own<'a> {
         }
         if !self.plan.peer_first || self.counts.received > 0 {
             while self.counts.sent < self.plan.send
-                && connection.send(&payload(self.counts.sent, self.plan.size), now).is_ok()
+                && connection
+                    .send(&payload(self.counts.sent, self.plan.size), now)
+                    .is_ok()
             {
                 self.counts.sent += 1;
                 self.moved = now;
             }
         }
-        let is_quiet = self.moved.elapsed() > Duration::from_secs(if connection.in_flight() == 0 { 1 } else { 4 });
+        let is_quiet = self.moved.elapsed()
+            > Duration::from_secs(if connection.in_flight() == 0 { 1 } else { 4 });
         let is_done = self.counts.sent == self.plan.send && all_came && is_quiet;
         if !is_done || connection.phase() != Phase::Open {
             return;

@@ -161,7 +161,9 @@ impl Wire {
         let Some(file) = &mut self.capture else {
             return Ok(());
         };
-        let now = SystemTime::now().duration_since(UNIX_EPOCH).unwrap_or_default();
+        let now = SystemTime::now()
+            .duration_since(UNIX_EPOCH)
+            .unwrap_or_default();
         let length = datagram.len() as u32;
         for it in [now.as_secs() as u32, now.subsec_micros(), length, length] {
             file.write_all(&it.to_le_bytes())?;
@@ -191,10 +193,15 @@ fn count(passed: &mut Passed, packet: &[u8], is_lost: bool) {
 
 fn in_ipv4(packet: &[u8]) -> Vec<u8> {
     let length = (20 + packet.len()) as u16;
-    let mut bytes = vec![0x45, 0, 0, 0, 0, 0, 0x40, 0, 64, DCCP, 0, 0, 10, 9, 0, 1, 10, 9, 0, 2];
+    let mut bytes = vec![
+        0x45, 0, 0, 0, 0, 0, 0x40, 0, 64, DCCP, 0, 0, 10, 9, 0, 1, 10, 9, 0, 2,
+    ];
     bytes[2..4].copy_from_slice(&length.to_be_bytes());
     // RFC 1071.
-    let sum: u32 = bytes.chunks(2).map(|it| u32::from(it[0]) << 8 | u32::from(it[1])).sum();
+    let sum: u32 = bytes
+        .chunks(2)
+        .map(|it| u32::from(it[0]) << 8 | u32::from(it[1]))
+        .sum();
     let sum = (sum >> 16) + (sum & 0xffff);
     let sum = !((sum >> 16) + sum) as u16;
     bytes[10..12].copy_from_slice(&sum.to_be_bytes());
@@ -203,7 +210,8 @@ fn in_ipv4(packet: &[u8]) -> Vec<u8> {
 }
 
 fn in_ipv6(packet: &[u8]) -> Vec<u8> {
-    let (IpAddr::V6(own), IpAddr::V6(kernel)) = (Addresses::V6.own(), Addresses::V6.kernel()) else {
+    let (IpAddr::V6(own), IpAddr::V6(kernel)) = (Addresses::V6.own(), Addresses::V6.kernel())
+    else {
         unreachable!("both are of IPv6")
     };
     let mut bytes = vec![0x60, 0, 0, 0];
