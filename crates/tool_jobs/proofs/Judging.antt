@@ -43,8 +43,10 @@ module _ (old : Play) (text new : List ℕ) (after : Controlled Both) where
         (subst (λ (v : Verdict Scene Play). Judges run_job v text new (led_on old after) (Ok tt)) (sym says)
         (judged-ok (event_shown number (world_of old) event) shown))
 
-    pub judged-else : (next : Play) (error : LineError) → ShowsEvent (event_shown number (world_of old) event) text new after (Err error)
+    pub judged-else : (next : Play) (w : Controlled Both) → w ≡ world_of old → (error : LineError) → ShowsEvent (event_shown number w event) text new after (Err error)
         → Judges run_job (says_event old number event) text new next (Err error)
-    judged-else next error shown =
+    judged-else next w is error shown =
+        let here : ShowsEvent (event_shown number (world_of old) event) text new after (Err error) =
+        subst (λ (world : Controlled Both). ShowsEvent (event_shown number world event) text new after (Err error)) is shown in
         subst (λ (v : Verdict Scene Play). Judges run_job v text new next (Err error)) (sym says)
-        (judged-not next error (event_shown number (world_of old) event) shown)
+        (judged-not next error (event_shown number (world_of old) event) here)

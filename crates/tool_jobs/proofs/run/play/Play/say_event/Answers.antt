@@ -1,12 +1,14 @@
 -- Behind an event each side has sent one frame more at most, and its line was judged as it was shown.
-use Rattle.std.proofs.Common.{rules, ◌≡◌, ◌<◌, subst, Some, Ok, Err}
-use Rattle.tool_jobs.specs.Transcript.{SentFew, ShowsEvent, event_shown, world_of}
+use Rattle.std.proofs.Common.{rules, ◌≡◌, ◌<◌, sym, subst, Some, Result, Ok, Err}
+use Rattle.tool_jobs.specs.Transcript.{SentFew, ShowsEvent, event_shown, run_job, says_event, world_of}
+use Rattle.tool_jobs.specs.declared.run.play.Play.{Play}
 use Rattle.tool_jobs.proofs.Judging.{judged-else, judged-then}
 use Rattle.tool_jobs.proofs.Room.{few-at, shown-few, playable-behind}
 use Rattle.two_ends.specs.Controlled.{Controlled}
 use Rattle.ccid_two.specs.Kinds.{Both}
 use Rattle.tool_jobs.proofs.run.play.Play.say_event.Goals as goal
-use Rattle.tool_text.specs.Jobs.{most_events}
+use Rattle.tool_text.specs.Jobs.{Judges, most_events}
+use Rattle.tool_text.specs.declared.lines.error.LineError.{LineError}
 
 pub returns-clause-playable : goal.returns-clause-playable
 returns-clause-playable c =
@@ -33,11 +35,13 @@ returns-clause-verdict c =
 pub returns-in_err-show_event-clause-verdict : goal.returns-in_err-show_event-clause-verdict
 returns-in_err-show_event-clause-verdict c =
     let old = c.args.self.now in
+    let next : Play = record c.make_world.new.self { world = Some c.show_event.new.world } in
+    let error : LineError = c.in_err-show_event.field-0.0 in
     let here : c.in-Some.world ≡ world_of old = search rules in
     let few : old.events < most_events = search rules in
-    judged-else old c.args.text.now.items c.show_event.new.text.items c.show_event.new.world c.args.number c.args.event.now few _ c.in_err-show_event.error
-    (subst
-    (λ (w : Controlled Both).
-    ShowsEvent (event_shown c.args.number w c.args.event.now) c.args.text.now.items c.show_event.new.text.items c.show_event.new.world
-    (Err c.in_err-show_event.error))
-    here c.in_err-show_event.ensures)
+    let answer : c.from_residual-in_err-show_event.result ≡ Err error = search rules in
+    subst
+    (λ (r : Result (Unit {0}) LineError). Judges run_job (says_event old c.args.number c.args.event.now) c.args.text.now.items c.show_event.new.text.items next r)
+    (sym answer)
+    (judged-else old c.args.text.now.items c.show_event.new.text.items c.show_event.new.world c.args.number c.args.event.now few next c.in-Some.world here error
+    c.in_err-show_event.ensures)
