@@ -93,28 +93,30 @@ module _ (now : ℕ) where
       in
       rests (suc more) s none ∙ sym (left-alone s due.Rules is)
 
-  mutual
-    -- So many ticks as there are left to be looked at, or more, tell each that is due.
-    all-told : (more : ℕ) (passed rest : List Timer) (s : CEnd) → onto passed (dues rest) ≡ every_due → AreQuiet passed s
-        → ticked now (ticks-for rest more) s ≡ (rings_each_due kinds_control now s (dues rest)).timed
-    all-told more passed [] s all quiet = last-by more passed s all quiet (has_run_out (due_alarm s due.Rules) now) refl
-    all-told more passed (timer ∷ rest) s all quiet =
-        told-by more passed timer rest s all quiet (has_run_out (due_alarm s (due.Timer timer)) now) refl
+  -- one that is looked at, and then the others
+  told-by : (more : ℕ) (passed : List Timer) (timer : Timer) (rest : List Timer) (s : CEnd) → onto passed (due.Timer timer ∷ dues rest) ≡ every_due
+      → AreQuiet passed s
+      → ((n : ℕ) (t : CEnd) → AreQuiet (timer ∷ passed) t → ticked now (ticks-for rest n) t ≡ (rings_each_due kinds_control now t (dues rest)).timed)
+      → (is : Bool) → has_run_out (due_alarm s (due.Timer timer)) now ≡ is
+      → ticked now (suc (ticks-for rest more)) s ≡ (rings_each_due kinds_control now (once s (due.Timer timer)) (dues rest)).timed
+  told-by more passed timer rest s all quiet later true is =
+      let first : first_due_of s now every_due ≡ Some (due.Timer timer) =
+      ap (first_due_of s now) (sym all) ∙ passes-all passed (due.Timer timer ∷ dues rest) s quiet ∙ stops s (due.Timer timer) (dues rest) is
+      in
+      ap (ticked now (ticks-for rest more)) (tells-it s (due.Timer timer) first is)
+      ∙ later more (once s (due.Timer timer)) (rung_rests kinds_control now s (due.Timer timer), still-quiet passed s (due.Timer timer) quiet)
+  told-by more passed timer rest s all quiet later false is =
+      ap (λ (n : ℕ). ticked now n s) (sym (one-more rest more))
+      ∙ later (suc more) s (is, quiet)
+      ∙ ap (λ (x : CEnd). (rings_each_due kinds_control now x (dues rest)).timed) (sym (left-alone s (due.Timer timer) is))
 
-    told-by : (more : ℕ) (passed : List Timer) (timer : Timer) (rest : List Timer) (s : CEnd) → onto passed (due.Timer timer ∷ dues rest) ≡ every_due
-        → AreQuiet passed s → (is : Bool) → has_run_out (due_alarm s (due.Timer timer)) now ≡ is
-        → ticked now (suc (ticks-for rest more)) s ≡ (rings_each_due kinds_control now (once s (due.Timer timer)) (dues rest)).timed
-    told-by more passed timer rest s all quiet true is =
-        let first : first_due_of s now every_due ≡ Some (due.Timer timer) =
-        ap (first_due_of s now) (sym all) ∙ passes-all passed (due.Timer timer ∷ dues rest) s quiet ∙ stops s (due.Timer timer) (dues rest) is
-        in
-        ap (ticked now (ticks-for rest more)) (tells-it s (due.Timer timer) first is)
-        ∙ all-told more (timer ∷ passed) rest (once s (due.Timer timer)) all
-        (rung_rests kinds_control now s (due.Timer timer), still-quiet passed s (due.Timer timer) quiet)
-    told-by more passed timer rest s all quiet false is =
-        ap (λ (n : ℕ). ticked now n s) (sym (one-more rest more))
-        ∙ all-told (suc more) (timer ∷ passed) rest s all (is, quiet)
-        ∙ ap (λ (x : CEnd). (rings_each_due kinds_control now x (dues rest)).timed) (sym (left-alone s (due.Timer timer) is))
+  -- So many ticks as there are left to be looked at, or more, tell each that is due.
+  all-told : (more : ℕ) (passed rest : List Timer) (s : CEnd) → onto passed (dues rest) ≡ every_due → AreQuiet passed s
+      → ticked now (ticks-for rest more) s ≡ (rings_each_due kinds_control now s (dues rest)).timed
+  all-told more passed [] s all quiet = last-by more passed s all quiet (has_run_out (due_alarm s due.Rules) now) refl
+  all-told more passed (timer ∷ rest) s all quiet =
+      told-by more passed timer rest s all quiet (λ n t q. all-told n (timer ∷ passed) rest t all q)
+      (has_run_out (due_alarm s (due.Timer timer)) now) refl
 
   none-first : (list : List Due) (s : CEnd) → NoneIsDue now s → first_due_of s now list ≡ None
   none-first [] s none = refl
