@@ -13,6 +13,7 @@ pub mod Sealing
 pub mod Tellable
 pub mod AtPlaces
 pub mod PeersRunning
+pub mod PeersTold
 pub mod PeerWords
 pub mod RowsAre
 pub mod EcnRow

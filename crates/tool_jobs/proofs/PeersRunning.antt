@@ -82,6 +82,30 @@ pub every_input_runs : EveryInputIsARun
 unfolding IsStrictlySortedBy
 every_input_runs most input = runs-on (first_serving most) 1 0 (lines_of input) tt
 
+-- the flows stay in order
+ordered-by : (s : Serving) (number given : ℕ) (verdict : Verdict Exchange Serving) (rest : Serving → Gone Exchange Serving)
+    → AreInOrder s.listener.flows → Leads s.listener verdict
+    → ((next : Serving) → AreInOrder next.listener.flows → AreInOrder (rest next).last.listener.flows)
+    → AreInOrder (gone_by s number given verdict rest).last.listener.flows
+ordered-by s number given (Refused fault) rest ordered leads on = ordered
+ordered-by s number given (Accepted None next) rest ordered leads on =
+    on next (subst (λ (l : Listening). AreInOrder l.flows) (sym leads) ordered)
+ordered-by s number given (Accepted (Some x) next) rest ordered leads on =
+    let turn = one-turn x (subst (λ (l : Listening). AreInOrder l.flows) (sym leads.0) ordered) in
+    on next (subst (λ (l : Listening). AreInOrder l.flows) (sym leads.1) turn.1)
+
+ordered-on : (s : Serving) (number given : ℕ) (lines : List (List ℕ)) → AreInOrder s.listener.flows
+    → AreInOrder (gone_from listen_job s number given lines).last.listener.flows
+ordered-on s number given [] ordered = ordered
+ordered-on s number given (line ∷ lines) ordered =
+    ordered-by s number given (by_next listen_job s number (next_in_lines given (line ∷ lines)))
+    (λ next. gone_from listen_job next (number + 1) (given + length line) lines) ordered
+    (next-leads s number (next_in_lines given (line ∷ lines))) (λ next in_order. ordered-on next (number + 1) (given + length line) lines in_order)
+
+pub input-ordered : (most : ℕ) (input : List ℕ) → AreInOrder (listened most input).last.listener.flows
+unfolding IsStrictlySortedBy
+input-ordered most input = ordered-on (first_serving most) 1 0 (lines_of input) tt
+
 pub each_peer_chained : EachPeerOfAnInputHasItsChain
 each_peer_chained most input peer =
     each_has_its_chain (first_listening most) (listened most input).last.listener (turns_of_input most input) (every_input_runs most input) peer

@@ -1,7 +1,7 @@
 -- What a schedule's lines make happen is a run of two ends from their configurations.
 use Rattle.std.proofs.Common.{◌≡◌, refl, sym, ap, ◌∙◌, subst, lit<, ℕ, zero, suc, ◌+◌, ◌<◌, Bool, true, false, if◌then◌else◌, List, [], ◌∷◌, ◌++◌, length, take, Option, Some, None, Result, Ok, Err}
 use Rattle.std.proofs.lemmas.Bool.{ltb-true}
-use Rattle.std.proofs.lemmas.List.Elements.{All-cons, All-nil}
+use Rattle.std.proofs.lemmas.List.Elements.{All-cons, All-head, All-nil, All-tail}
 use Rattle.std.specs.Prelude.{⊤, All, flat_map, is_some, nat_lt, slice_get}
 use Rattle.ccid_two.specs.Kinds.{Both, at_first, kinds_control}
 use Rattle.dccp_endpoint.specs.Drafts.{Fits}
@@ -213,6 +213,17 @@ RunsAreSafe =
 -- between two safe worlds
 abbrev BetweenSafe : Scene → Type 0
 BetweenSafe scene = Safe kinds_control scene.before × Safe kinds_control scene.step.after
+
+-- Where all of them are safe, so are those to which the first events lead.
+pub prefix-safe : (first : Controlled Both) (scenes : List Scene) (last : Controlled Both) → IsRun first scenes last → All BetweenSafe scenes
+    → Safe kinds_control last → (n : ℕ) → Safe kinds_control (plays kinds_control first (take n (scene_events scenes)))
+prefix-safe first [] last run all safe zero = subst (Safe kinds_control) run safe
+prefix-safe first [] last run all safe (suc n) = subst (Safe kinds_control) run safe
+prefix-safe first (here ∷ scenes) last (before, is, rest) all safe zero =
+    subst (Safe kinds_control) before (All-head BetweenSafe here scenes all).0
+prefix-safe first (here ∷ scenes) last (before, is, rest) all safe (suc n) =
+    subst (Safe kinds_control) (one-more first here (take n (scene_events scenes)) is)
+    (prefix-safe here.step.after scenes last rest (All-tail BetweenSafe here scenes all) safe n)
 
 -- The worlds of a run whose first is safe after all events are safe.
 pub run-safe : (first : Controlled Both) (scenes : List Scene) (last : Controlled Both) → IsRun first scenes last

@@ -12,6 +12,7 @@ pub mod Peers
 pub mod Calls
 pub mod Telling
 pub mod Listen
+pub mod PeerLines
 pub mod Forms
 pub mod Play
 pub mod SeenText

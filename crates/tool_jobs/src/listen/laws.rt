@@ -1,17 +1,35 @@
 //! Laws above the definitions.
-ghost use Rattle.std.specs.Prelude.{◌≡◌, ◌↔◌, ℕ, List, None, Some, Ok, Err};
+ghost use Rattle.std.specs.Prelude.{◌≡◌, ◌↔◌, ◌++◌, ℕ, List, None, Some, Ok, Err, false, flat_map, map};
+ghost use Rattle.dccp_io.specs.Lines.{lines_of};
+ghost use Rattle.dccp_listener.specs.Calls.{IsBusy};
+ghost use Rattle.dccp_listener.specs.Chain.{Deed};
+ghost use Rattle.dccp_listener.specs.Listens.{AreInOrder, listens};
+ghost use Rattle.dccp_listener.specs.Peers.{Listening};
+ghost use Rattle.dccp_listener.specs.Runs.{WasBusy};
 ghost use Rattle.dccp_listener.specs.declared.peer.Peer.{Peer};
 ghost use Rattle.tool_text.specs.Lines.{IsIdle, IsSpokenLine, first_fault};
 ghost use Rattle.tool_text.specs.declared.words.faults.LineFault.{LineFault};
 ghost use Rattle.tool_jobs.specs.Calls.{peer_row, read_call};
-ghost use Rattle.tool_jobs.specs.Listen.{EachPeerOfAnInputHasItsChain, EveryInputIsARun};
+ghost use Rattle.tool_jobs.specs.Listen.{EachPeerOfAnInputHasItsChain, EveryInputIsARun, listen_refused, listen_text, listened};
+ghost use Rattle.tool_jobs.specs.PeerLines.{exchange_said, said_by_lines};
+ghost use Rattle.tool_jobs.specs.Telling.{exchange_text, flow_lines};
 ghost use Rattle.tool_jobs.specs.declared.listen.calls.PeerCall.{PeerCall};
 
 /// Of every input, what is written is the run of a listener (`run`), so each peer is answered and sent what a server of
-/// its own would have given it on that peer's lines alone, those left out that found the listener busy (`chains`; own).
+/// its own would have given it on that peer's lines alone, those left out that found the listener busy (`chains`).
+/// Where no line is refused, the text is that of the exchanges, one after another, and of the flows that stand at last
+/// (`text`), in the order of their peers (`ordered`); and the exchanges are of just the lines that say something, in
+/// their order: with the line's number, its peer and what it says (`lines`). Busy is answered exactly where the peer
+/// has no flow and would get one, and as many stand as may (`busy`; own).
 pub fn each_peer_is_answered_by_its_chain()
     ensures run { EveryInputIsARun }
     ensures chains { EachPeerOfAnInputHasItsChain }
+    ensures text { (most : ℕ) (input : List ℕ) → listen_refused most input ≡ false
+        → listen_text most input ≡ flat_map exchange_text (listened most input).deeds ++ flow_lines (listened most input).last.listener.flows }
+    ensures lines { (most : ℕ) (input : List ℕ) → listen_refused most input ≡ false
+        → map exchange_said (listened most input).deeds ≡ said_by_lines 1 0 (lines_of input) }
+    ensures ordered { (most : ℕ) (input : List ℕ) → AreInOrder (listened most input).last.listener.flows }
+    ensures busy { (l : Listening) (peer : Peer) (deed : Deed) → ((listens l peer deed).told ≡ WasBusy) ↔ IsBusy l peer deed }
 {}
 
 /// A line is accepted exactly where it is the words of what it says, parted by one space: a peer in its one spelling,

@@ -4,7 +4,8 @@ ghost use Rattle.ccid_two.specs.Kinds.{kinds_control};
 ghost use Rattle.dccp_io.specs.Lines.{lines_of};
 ghost use Rattle.two_ends.specs.Controlled.{happens_to, plays};
 ghost use Rattle.tool_jobs.specs.Scenes.{Scene, IsRun, scene_events, scene_text};
-ghost use Rattle.tool_jobs.specs.Transcript.{is_refused, performed, transcript, world_at_first, world_of};
+ghost use Rattle.two_ends.specs.Safe.{Safe};
+ghost use Rattle.tool_jobs.specs.Transcript.{SafeThroughout, is_refused, performed, transcript, world_at_first, world_of};
 ghost use Rattle.tool_jobs.specs.Versions.{HaveVectors, vectors_said};
 ghost use Rattle.tool_jobs.specs.WorldLines.{end_lines};
 
@@ -25,6 +26,13 @@ pub fn every_schedule_is_a_run()
     ensures ends { (input : List ℕ) → is_refused input ≡ false
         → transcript input ≡ flat_map scene_text (performed input).deeds
         ++ end_lines (plays kinds_control (world_at_first (performed input)) (scene_events (performed input).deeds)) }
+{}
+
+/// What the clause on safe worlds comes to, by events (own). Where it holds of an input, the first of its accepted
+/// events, however many, lead to a safe world, whether a line behind them is refused or not.
+pub fn the_first_events_lead_to_a_safe_world()
+    ensures { (input : List ℕ) (n : ℕ) → SafeThroughout input
+        → Safe kinds_control (plays kinds_control (world_at_first (performed input)) (take n (scene_events (performed input).deeds))) }
 {}
 
 /// A schedule's world has room for whatever event its next line makes (own): no side has sent more frames than there
