@@ -1,12 +1,15 @@
 -- What a server makes of a datagram, as C's own definitions have it.
-use Rattle.std.proofs.Common.{◌≡◌, ap, ◌∙◌, ℕ, List, Bool, Option, Result, Ok, Err}
+use Rattle.std.proofs.Common.{◌≡◌, ap, ◌∙◌, ℕ, List, Bool, Option, Result, Ok, Err, inr}
 use Rattle.dccp_packets.specs.Outgoing.{Outgoing}
 use Rattle.dccp_listener.specs.declared.calls.Heard.{Heard}
 use Rattle.dccp_listener.specs.declared.peer.Peer.{Peer}
 use Rattle.seq_circle.specs.declared.memory.NoMemory.{NoMemory}
 use Rattle.dccp_server.specs.Rooms.{Coming, HasArrived, Room, Ruled, comes, left_without_memory}
 use Rattle.dccp_server.specs.declared.rules.Rules.{Rules}
-use Rattle.dccp_c.specs.Listening.{ServerHears, with_room}
+use Rattle.dccp_c.specs.Listening.{HearsAtServer, ServerHears, listen_code, listen_told, with_room}
+use Rattle.dccp_c.specs.Framing.{Handed, handed_of}
+use Rattle.dccp_c.specs.declared.told.Told.{Told}
+use Rattle.dccp_listener.specs.Runs.{CallTold, told_of}
 
 abbrev ruled : Room → Rules → ℕ → Ruled
 ruled room rules half = record { room = room; rules = rules; half = half }
@@ -28,3 +31,10 @@ server_heard now s after peer first bytes frame (Ok it) evicted anew is rules-ar
 )
 server_heard now s after peer first bytes frame (Err fault) evicted anew is rules-are half-is =
     moved s after (left_without_memory now s.room peer first bytes evicted) is.0 rules-are half-is
+
+pub heard_for_c : (now : ℕ) (s after : Ruled) (peer : Peer) (first : ℕ) (bytes : List ℕ) (frame : Option Outgoing) (evicted : Option Peer) (it : Heard)
+    (left : Handed) (code : ℕ) (old new : Told) → ServerHears now s after peer first bytes frame evicted (Ok it) → left ≡ handed_of frame
+    → code ≡ listen_code (told_of (Ok it)) → new ≡ listen_told (told_of (Ok it)) old
+    → HearsAtServer now s after peer first bytes left evicted code old new
+heard_for_c now s after peer first bytes frame evicted it left code old new is left-is code-is new-is =
+    inr (is.0, left-is ∙ ap handed_of is.1, is.2, code-is ∙ ap listen_code is.3, new-is ∙ ap (λ (t : CallTold). listen_told t old) is.3)

@@ -100,22 +100,30 @@ ServerHears now s after peer first bytes frame evicted (Ok it) =
     × (told_of (Ok it) ≡ (comes now s.rules s.half s.room peer first bytes).told)
 ServerHears now s after peer first bytes frame evicted (Err _) = after ≡ with_room s (left_without_memory now s.room peer first bytes evicted)
 
--- Why a datagram is not heard at all: a first number that is none, by 17, or its length, by 5.
-abbrev pub datagram_refusal : ℕ → List ℕ → Option ℕ
-datagram_refusal first bytes = if nat_lt first (2 ^ 48) then (if is_short bytes then None else Some 5) else Some 17
-
--- The same for C: nothing happens where it is refused by that code, or where there is no listener, by 1; where no memory
--- was found, by 2, no frame is left. What C had to be told stays where no end has answered.
-abbrev pub HearsDatagram : ℕ → Option Ruled → Option Ruled → Peer → ℕ → List ℕ → Option ℕ → Handed → Option Peer → ℕ → Told → Told → Type 0
-HearsDatagram now before after peer first bytes (Some refused) left evicted code old new = IsUnserved before after left × (code ≡ refused) × (new ≡ old)
-HearsDatagram now None after peer first bytes None left evicted code old new = IsUnserved None after left × (code ≡ 1) × (new ≡ old)
-HearsDatagram now (Some s) after peer first bytes None left evicted code old new =
-    ((after ≡ Some (with_room s (left_without_memory now s.room peer first bytes evicted))) × (left ≡ nothing_handed) × (code ≡ 2) × (new ≡ old))
-    ⊎ ((after ≡ Some (with_room s (comes now s.rules s.half s.room peer first bytes).room))
+-- What a datagram comes to for C where there is a server: where no memory was found, by 2, no frame is left, and what C had
+-- to be told stays; else it has what comes of it there.
+abbrev pub HearsAtServer : ℕ → Ruled → Ruled → Peer → ℕ → List ℕ → Handed → Option Peer → ℕ → Told → Told → Type 0
+HearsAtServer now s after peer first bytes left evicted code old new =
+    ((after ≡ with_room s (left_without_memory now s.room peer first bytes evicted)) × (left ≡ nothing_handed) × (code ≡ 2) × (new ≡ old))
+    ⊎ ((after ≡ with_room s (comes now s.rules s.half s.room peer first bytes).room)
     × (left ≡ handed_of (comes now s.rules s.half s.room peer first bytes).frame)
     × (evicted ≡ (comes now s.rules s.half s.room peer first bytes).evicted)
     × (code ≡ listen_code (comes now s.rules s.half s.room peer first bytes).told)
     × (new ≡ listen_told (comes now s.rules s.half s.room peer first bytes).told old))
+
+-- Why a datagram is not heard at all: a first number that is none, by 17, or its length, by 5.
+abbrev pub datagram_refusal : ℕ → List ℕ → Option ℕ
+datagram_refusal first bytes = if nat_lt first (2 ^ 48) then (if is_short bytes then None else Some 5) else Some 17
+
+-- What a datagram comes to: nothing happens where it is refused by that code, or where there is no listener, by 1; else the
+-- server hears it, and is there after it.
+abbrev pub HearsDatagram : ℕ → Option Ruled → Option Ruled → Peer → ℕ → List ℕ → Option ℕ → Handed → Option Peer → ℕ → Told → Told → Type 0
+HearsDatagram now before after peer first bytes (Some refused) left evicted code old new =
+    IsUnserved before after left × (code ≡ refused) × (new ≡ old)
+HearsDatagram now None after peer first bytes None left evicted code old new = IsUnserved None after left × (code ≡ 1) × (new ≡ old)
+HearsDatagram now (Some s) None peer first bytes None left evicted code old new = ⊥
+HearsDatagram now (Some s) (Some after) peer first bytes None left evicted code old new =
+    HearsAtServer now s after peer first bytes left evicted code old new
 
 -- the code of what there was to do: 12 where there was nothing, 19 where a flow was given up
 abbrev pub duty_code : Option Duty → ℕ

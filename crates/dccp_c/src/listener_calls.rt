@@ -1,5 +1,5 @@
 //! The functions of a listener that C calls: each does one deed of a peer with the listener that its handle holds.
-ghost use Rattle.std.specs.Prelude.{◌≡◌, ◌≢◌, ◌≤◌, None, Ok, is_some, length, slice_get, unwrap_or};
+ghost use Rattle.std.specs.Prelude.{◌≡◌, ◌≢◌, ◌≤◌, None, Ok, if◌then◌else◌, is_some, length, slice_get, unwrap_or};
 ghost use Rattle.dccp_listener.specs.Calls.{seen_if};
 ghost use Rattle.dccp_listener.specs.Chain.{Calls, Sends, Closes, Aborts, call_of};
 ghost use Rattle.dccp_listener.specs.Listens.{listens};
@@ -12,7 +12,7 @@ ghost use Rattle.dccp_listener.specs.Peers.{end_of_peer};
 ghost use Rattle.dccp_server.specs.Lives.{life_of};
 ghost use Rattle.dccp_server.specs.Rooms.{duty_done, duty_frame, duty_in, forgets, room_does};
 ghost use Rattle.dccp_c.specs.Seeing.{seen as seen_end};
-ghost use Rattle.dccp_c.specs.Listening.{ServerHears, Forgets, HearsDatagram, Serves, Ticks, address_of, datagram_refusal, duty_address, duty_code, evicted_in, flow_code, flow_in, known_of, life_if, life_in, listen_code, listen_told, listener_waits, made_code, peer_in, peer_named, refusal_code, ruled_by, rules_of, seen_code, served_in, with_room};
+ghost use Rattle.dccp_c.specs.Listening.{ServerHears, Forgets, HearsAtServer, HearsDatagram, Serves, Ticks, address_of, datagram_refusal, duty_address, duty_code, evicted_in, flow_code, flow_in, known_of, life_if, life_in, listen_code, listen_told, listener_waits, made_code, peer_in, peer_named, refusal_code, ruled_by, rules_of, seen_code, served_in, with_room};
 
 use crate::codes::{
     BAD_LIST, BUSY, DONE, GAVE_UP, NO_FLOW, NO_MEMORY, NO_NUMBER, NOT_FRESH, NOT_LIVE, NOT_MADE,
@@ -161,6 +161,31 @@ fn hear(
     arrival.heard
 }
 
+// The same for C: the frame and what it is told.
+fn serve(
+    serving: &mut Serving,
+    peer: Peer,
+    iss: Seq48,
+    datagram: &[u8],
+    now: u64,
+    frame: &mut Frame,
+    told: &mut Told,
+) -> u32
+    requires { length datagram.now ≤ 2044 }
+    ensures { HearsAtServer now serving.old.server serving.new.server peer iss datagram.now (handed_in frame.new) serving.new.evicted result told.old told.new }
+{
+    match hear(serving, peer, iss, datagram, now) {
+        Ok(heard) => {
+            frame.fill(&serving.out);
+            tell_heard(&heard, told)
+        }
+        Err(NoMemory) => {
+            frame.clear();
+            NO_MEMORY
+        }
+    }
+}
+
 /// `Server::arrive`: `Listener::arrive`, and the rules. BUSY where it answers Busy. NO_NUMBER where the first number is
 /// none and TOO_LONG where the datagram is; then nothing changes, nor with NOT_MADE. With NO_MEMORY nothing changes but
 /// that a flow may have made room. C is told of the datagram where the answer is DONE alone.
@@ -187,17 +212,17 @@ pub extern "C" fn dccp_listener_arrive(
     let Some(mut serving) = listener.take(alloc) else {
         return NOT_MADE;
     };
-    match hear(&mut serving, peer_named(peer), iss, datagram, now) {
-        Ok(heard) => {
-            frame.fill(&serving.out);
-            listener.put(serving);
-            tell_heard(&heard, told)
-        }
-        Err(NoMemory) => {
-            listener.put(serving);
-            NO_MEMORY
-        }
-    }
+    let code = serve(
+        &mut serving,
+        peer_named(peer),
+        iss,
+        datagram,
+        now,
+        frame,
+        told,
+    );
+    listener.put(serving);
+    code
 }
 
 /// Whose flow made room for the last datagram. Answers DONE, NOT_MADE, or NO_FLOW where none did.
@@ -429,6 +454,12 @@ pub extern "C" fn dccp_listener_peer(
     }
 }
 
+fn had_code(had: bool) -> u32
+    ensures { result ≡ (if had then 0 else 15) }
+{
+    if had { DONE } else { NO_FLOW }
+}
+
 // A server forgets a peer's flow.
 fn let_go(serving: &mut Serving, peer: Peer, now: u64)
     ensures { serving.new.server ≡ with_room serving.old.server (forgets now serving.old.server.room peer) }
@@ -459,7 +490,7 @@ pub extern "C" fn dccp_listener_forget(
     let had = has_flow(&serving.server, peer);
     let_go(&mut serving, peer, now);
     listener.put(serving);
-    if had { DONE } else { NO_FLOW }
+    had_code(had)
 }
 
 /// The listener goes by these rules from now on. Answers DONE or NOT_MADE.
