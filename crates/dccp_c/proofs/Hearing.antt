@@ -1,12 +1,12 @@
 -- What a server makes of a datagram, as C's own definitions have it.
-use Rattle.std.proofs.Common.{◌≡◌, ap, ◌∙◌, ℕ, List, Bool, Option, Result, Ok, Err, inr}
+use Rattle.std.proofs.Common.{◌≡◌, sym, ap, ◌∙◌, subst, ℕ, List, Bool, Option, Some, None, Result, Ok, Err, inr}
 use Rattle.dccp_packets.specs.Outgoing.{Outgoing}
 use Rattle.dccp_listener.specs.declared.calls.Heard.{Heard}
 use Rattle.dccp_listener.specs.declared.peer.Peer.{Peer}
 use Rattle.seq_circle.specs.declared.memory.NoMemory.{NoMemory}
 use Rattle.dccp_server.specs.Rooms.{Coming, HasArrived, Room, Ruled, comes, left_without_memory}
 use Rattle.dccp_server.specs.declared.rules.Rules.{Rules}
-use Rattle.dccp_c.specs.Listening.{HearsAtServer, ServerHears, listen_code, listen_told, with_room}
+use Rattle.dccp_c.specs.Listening.{HearsAtServer, HearsDatagram, ServerHears, listen_code, listen_told, with_room}
 use Rattle.dccp_c.specs.Framing.{Handed, handed_of}
 use Rattle.dccp_c.specs.declared.told.Told.{Told}
 use Rattle.dccp_listener.specs.Runs.{CallTold, told_of}
@@ -38,3 +38,16 @@ pub heard_for_c : (now : ℕ) (s after : Ruled) (peer : Peer) (first : ℕ) (byt
     → HearsAtServer now s after peer first bytes left evicted code old new
 heard_for_c now s after peer first bytes frame evicted it left code old new is left-is code-is new-is =
     inr (is.0, left-is ∙ ap handed_of is.1, is.2, code-is ∙ ap listen_code is.3, new-is ∙ ap (λ (t : CallTold). listen_told t old) is.3)
+
+-- and as it is once the server has been taken out of its handle and put back
+pub hears_so : (now : ℕ) (before after : Option Ruled) (s t : Ruled) (peer whose : Peer) (first number : ℕ) (bytes : List ℕ) (refusal : Option ℕ)
+    (left : Handed) (evicted gone : Option Peer) (code : ℕ) (old new : Told) → before ≡ Some s → after ≡ Some t → whose ≡ peer → number ≡ first
+    → evicted ≡ gone → refusal ≡ None → HearsAtServer now s t whose number bytes left gone code old new
+    → HearsDatagram now before after peer first bytes refusal left evicted code old new
+hears_so now before after s t peer whose first number bytes refusal left evicted gone code old new before-is after-is same-peer same-number same-gone heard is =
+    subst (λ (x : Option Ruled). HearsDatagram now x after peer first bytes refusal left evicted code old new) (sym before-is)
+    (subst (λ (x : Option Ruled). HearsDatagram now (Some s) x peer first bytes refusal left evicted code old new) (sym after-is)
+    (subst (λ (x : Option ℕ). HearsDatagram now (Some s) (Some t) peer first bytes x left evicted code old new) (sym heard)
+    (subst (λ (x : Option Peer). HearsAtServer now s t peer first bytes left x code old new) (sym same-gone)
+    (subst (λ (x : ℕ). HearsAtServer now s t peer x bytes left gone code old new) same-number
+    (subst (λ (x : Peer). HearsAtServer now s t x number bytes left gone code old new) same-peer is)))))
