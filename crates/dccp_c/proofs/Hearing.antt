@@ -1,12 +1,13 @@
 -- What a server makes of a datagram, as C's own definitions have it.
-use Rattle.std.proofs.Common.{◌≡◌, sym, ap, ◌∙◌, subst, ℕ, List, Bool, Option, Some, None, Result, Ok, Err, inr}
+use Rattle.std.proofs.Common.{◌≡◌, sym, ap, ◌∙◌, subst, ℕ, List, Bool, Option, Some, None, is_some, if◌then◌else◌, Result, Ok, Err, inr}
 use Rattle.dccp_packets.specs.Outgoing.{Outgoing}
 use Rattle.dccp_listener.specs.declared.calls.Heard.{Heard}
+use Rattle.dccp_listener.specs.Peers.{end_of_peer}
 use Rattle.dccp_listener.specs.declared.peer.Peer.{Peer}
 use Rattle.seq_circle.specs.declared.memory.NoMemory.{NoMemory}
-use Rattle.dccp_server.specs.Rooms.{Coming, HasArrived, Room, Ruled, comes, left_without_memory}
+use Rattle.dccp_server.specs.Rooms.{Coming, HasArrived, Room, Ruled, comes, forgets, left_without_memory}
 use Rattle.dccp_server.specs.declared.rules.Rules.{Rules}
-use Rattle.dccp_c.specs.Listening.{HearsAtServer, HearsDatagram, ServerHears, listen_code, listen_told, with_room}
+use Rattle.dccp_c.specs.Listening.{Forgets, HearsAtServer, HearsDatagram, ServerHears, listen_code, listen_told, with_room}
 use Rattle.dccp_c.specs.Framing.{Handed, handed_of}
 use Rattle.dccp_c.specs.declared.told.Told.{Told}
 use Rattle.dccp_listener.specs.Runs.{CallTold, told_of}
@@ -51,3 +52,14 @@ hears_so now before after s t peer whose first number bytes refusal left evicted
     (subst (λ (x : Option Peer). HearsAtServer now s t peer first bytes left x code old new) (sym same-gone)
     (subst (λ (x : ℕ). HearsAtServer now s t peer x bytes left gone code old new) same-number
     (subst (λ (x : Peer). HearsAtServer now s t x number bytes left gone code old new) same-peer is)))))
+
+-- the same of a flow that is forgotten
+pub forgets_so : (now : ℕ) (before after : Option Ruled) (s t : Ruled) (peer whose : Peer) (had : Bool) (code : ℕ) → before ≡ Some s → after ≡ Some t
+    → whose ≡ peer → t ≡ with_room s (forgets now s.room whose) → had ≡ is_some (end_of_peer s.room.served.listening.flows whose)
+    → code ≡ (if had then 0 else 15) → Forgets now before after peer code
+forgets_so now before after s t peer whose had code before-is after-is same-peer gone had-is code-is =
+    subst (λ (x : Option Ruled). Forgets now x after peer code) (sym before-is) (
+      after-is ∙ ap (λ (x : Ruled). Some x) (gone ∙ ap (λ (p : Peer). with_room s (forgets now s.room p)) same-peer),
+      code-is
+          ∙ ap (λ (b : Bool). if b then 0 else 15) (had-is ∙ ap (λ (p : Peer). is_some (end_of_peer s.room.served.listening.flows p)) same-peer),
+    )
