@@ -16,6 +16,7 @@ TOP = Path(__file__).resolve().parent.parent
 LAUNCHER = TOP / "dccp"
 BRIDGE = TOP / "dccp_bridge"
 PROGRAM = TOP / "crates" / "dccp" / "out" / "dccp"
+BRIDGE_PROGRAM = TOP / "crates" / "dccp_bridge" / "out" / "dccp_bridge"
 EXAMPLES = TOP / "examples"
 sys.path.insert(0, str(TOP / "tools"))
 
@@ -41,6 +42,13 @@ def program():
     """The program itself, for a check that the launcher would stand in the way of. It is built first where it has to be."""
     subprocess.run([LAUNCHER, "run"], stdin=subprocess.DEVNULL, stdout=subprocess.DEVNULL, check=False)
     return PROGRAM
+
+
+@functools.cache
+def bridge_program():
+    """The second program itself, in the same way."""
+    subprocess.run([BRIDGE, "seed", "--seed", "0", "--events", "1"], stdin=subprocess.DEVNULL, stdout=subprocess.DEVNULL, check=False)
+    return BRIDGE_PROGRAM
 
 
 def example(name):
