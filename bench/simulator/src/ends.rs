@@ -12,6 +12,8 @@ use std::time::Instant;
 pub enum Manner {
     /// With the waits that RFC 4340 gives as examples, and no other rule.
     Classic,
+    /// By itself, with no wishes.
+    Usual,
     /// Classic, and by the owner of this program.
     Reference,
 }
@@ -37,17 +39,20 @@ pub fn addresses() -> (SocketAddrV4, SocketAddrV4) {
 /// What an end of this manner is made from; a sender of another congestion control than is usual has its number.
 fn configured(config: Config, manner: Manner, ccid: Option<u64>) -> Config {
     let config = match manner {
-        Manner::Classic => config,
-        Manner::Reference => config.offer(Feature::SequenceWindow, Place::Here, &[OFFERED_WIDTH]),
+        Manner::Classic => config.classic(),
+        Manner::Usual => config,
+        Manner::Reference => {
+            let classic = config.classic();
+            classic.offer(Feature::SequenceWindow, Place::Here, &[OFFERED_WIDTH])
+        }
     };
-    match (ccid, manner) {
-        (None, _) => config,
-        (Some(ccid), Manner::Classic) => config.offer(Feature::Ccid, Place::Here, &[ccid]),
-        (Some(ccid), Manner::Reference) => config.offer(Feature::Ccid, Place::Here, &[ccid]).offer(
-            Feature::AckRatio,
-            Place::Here,
-            &[1],
-        ),
+    let Some(ccid) = ccid else {
+        return config;
+    };
+    let config = config.offer(Feature::Ccid, Place::Here, &[ccid]);
+    match manner {
+        Manner::Classic | Manner::Usual => config,
+        Manner::Reference => config.offer(Feature::AckRatio, Place::Here, &[1]),
     }
 }
 
@@ -67,7 +72,7 @@ pub fn client(
     }
     let connection = Connection::new(&config).expect("the wishes are permitted");
     match manner {
-        Manner::Classic => Box::new(Alone::new(connection)),
+        Manner::Classic | Manner::Usual => Box::new(Alone::new(connection)),
         Manner::Reference => Box::new(Owner::new(connection, now)),
     }
 }
@@ -85,7 +90,7 @@ pub fn server(
     let config = configured(config, manner, ccid);
     match Connection::accept(&config, datagram, now).expect("the wishes are permitted") {
         Accepted::Connection(connection) => Made::End(match manner {
-            Manner::Classic => Box::new(Alone::new(*connection)),
+            Manner::Classic | Manner::Usual => Box::new(Alone::new(*connection)),
             Manner::Reference => Box::new(Owner::accepted(*connection, now)),
         }),
         Accepted::Answer(answer) => Made::Answer(answer.bytes),

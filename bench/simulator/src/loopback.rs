@@ -80,7 +80,7 @@ fn counted(path: &Path, seconds: u64) -> f64 {
         measured: 0..seconds * SECOND,
         forged: 0,
     };
-    let manners = (Manner::Reference, Manner::Reference);
+    let manners = (Manner::Usual, Manner::Usual);
     let delivered = (1..=10).map(|seed| run(&scenario, manners, seed).delivered);
     delivered.sum::<u64>() as f64 / 10.0 / seconds as f64
 }
@@ -193,7 +193,7 @@ fn hear(end: &mut dyn End, socket: &UdpSocket, room: &mut [u8]) -> bool {
 fn send(socket: &UdpSocket, until: Instant) {
     let mut room = [0; 2_048];
     let (first, now) = (Random::new(3).draw() >> 16, Instant::now());
-    let mut client = ends::client(Manner::Reference, None, false, first, now);
+    let mut client = ends::client(Manner::Usual, None, false, first, now);
     client.open(now);
     while Instant::now() < until {
         let has_heard = hear(&mut *client, socket, &mut room);
@@ -216,7 +216,7 @@ fn receive(socket: &UdpSocket, is_over: &AtomicBool, delivered: &AtomicU64) {
         let Some(end) = &mut server else {
             let made = socket.recv(&mut room).map(|length| {
                 let now = Instant::now();
-                ends::server(Manner::Reference, None, first, &room[..length], now)
+                ends::server(Manner::Usual, None, first, &room[..length], now)
             });
             match made {
                 Ok(Made::End(end)) => server = Some(end),

@@ -1,5 +1,5 @@
-//! Paths between two ends of the library, in counted time: what each carries by the rules that an end goes by, beside what it carries in
-//! the classic manner.
+//! Paths between two ends of the library, in counted time: what each carries in the classic manner, by itself with no wishes, and by the
+//! reference, an owner of a classic end that keeps the same rules and was written apart.
 //!
 //! - `rows [NAME..]` prints the table, and ends with 1 where a row misses its figure;
 //! - `loopback` measures two paths over real sockets, and ends with 1 where one is far from the same path in counted time;
@@ -68,10 +68,14 @@ fn manners(row: &Row, manner: Manner) -> Manners {
     }
 }
 
-const COLUMNS: [Manner; 2] = [Manner::Classic, Manner::Reference];
+/// The columns of the table: how its ends are driven.
+const COLUMNS: [Manner; 3] = [Manner::Classic, Manner::Usual, Manner::Reference];
+
+/// The manners that a picture shows.
+const PICTURED: [Manner; 2] = [Manner::Classic, Manner::Usual];
 
 /// Runs all seeds of all rows in all columns, on as many threads as there are processors.
-fn results(rows: &[Row]) -> Vec<[Result; 2]> {
+fn results(rows: &[Row]) -> Vec<[Result; 3]> {
     let jobs: Vec<(usize, usize, u64)> = rows
         .iter()
         .enumerate()
@@ -95,13 +99,13 @@ fn results(rows: &[Row]) -> Vec<[Result; 2]> {
             });
         }
     });
-    let mut results: Vec<[Result; 2]> = Vec::new();
+    let mut results: Vec<[Result; 3]> = Vec::new();
     results.resize_with(rows.len(), || {
         [const {
             Result {
                 outcomes: Vec::new(),
             }
-        }; 2]
+        }; 3]
     });
     for (row, column, outcome) in done.into_inner().expect("no thread has panicked") {
         results[row][column].outcomes.push(outcome);
@@ -120,26 +124,44 @@ fn figures(row: &Row, it: &Result) -> (String, String) {
     }
 }
 
-/// Prints the table; the status is 1 where a row misses a figure.
+/// Prints the table; the status is 1 where a row misses a figure, by itself or by the reference.
 fn table(rows: &[Row]) -> ExitCode {
     let mut misses = Vec::new();
-    println!("{:64} classic            by the rules", "");
     println!(
-        "{:<18} {:<43} {:>8} {:>8} {:>10} {:>8} {:>8} {:>7} {:>9}",
-        "row", "path", "share", "silence", "share", "silence", "timeouts", "Syncs", "back"
+        "{:62} classic              by itself           reference",
+        ""
     );
-    for (row, [classic, ruled]) in rows.iter().zip(results(rows)) {
-        let ((share, silence), (after, quiet)) = (figures(row, &classic), figures(row, &ruled));
-        println!(
-            "{:<18} {:<43} {share:>8} {silence:>8} {after:>10} {quiet:>8} {:>8.1} {:>7.0} {:>9.0}",
-            row.name,
-            row.title,
-            ruled.timeouts(),
-            ruled.syncs(),
-            ruled.frames_back()
+    println!(
+        "{:<18} {:<42} {:>6} {:>8} {:>10} {:>8} {:>8} {:>6} {:>8} {:>10} {:>8}",
+        "row",
+        "path",
+        "share",
+        "silence",
+        "share",
+        "silence",
+        "timeouts",
+        "Syncs",
+        "back",
+        "share",
+        "silence"
+    );
+    for (row, results) in rows.iter().zip(results(rows)) {
+        let [classic, usual, reference] = &results;
+        let (share, silence) = figures(row, classic);
+        print!("{:<18} {:<42} {share:>6} {silence:>8}", row.name, row.title);
+        let (share, silence) = figures(row, usual);
+        print!(
+            " {share:>10} {silence:>8} {:>8.1} {:>6.0} {:>8.0}",
+            usual.timeouts(),
+            usual.syncs(),
+            usual.frames_back()
         );
-        let missed = ruled.misses(row).into_iter();
+        let (share, silence) = figures(row, reference);
+        println!(" {share:>10} {silence:>8}");
+        let missed = usual.misses(row).into_iter();
         misses.extend(missed.map(|it| format!("{}: {it}", row.name)));
+        let missed = reference.misses(row).into_iter();
+        misses.extend(missed.map(|it| format!("{} by the reference: {it}", row.name)));
     }
     for miss in &misses {
         println!("{miss}");
@@ -161,7 +183,7 @@ fn loopback() -> ExitCode {
 /// Writes a picture of the first seed of each row.
 fn pictures(folder: &Path, rows: &[Row]) -> ExitCode {
     for row in rows {
-        let courses = COLUMNS.map(|manner| run(&row.scenario, manners(row, manner), 1).course);
+        let courses = PICTURED.map(|manner| run(&row.scenario, manners(row, manner), 1).course);
         let drawn = picture::draw(row, &courses);
         if let Err(fault) = fs::write(folder.join(format!("{}.svg", row.name)), drawn.to_string()) {
             eprintln!("{}: {fault}", folder.display());

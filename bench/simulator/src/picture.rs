@@ -14,7 +14,7 @@ const GAP: f64 = 44.0;
 /// How many parts of the run have a share of their own.
 const PARTS: u64 = 120;
 
-/// The colours of the classic manner and of the other.
+/// The colours of the classic manner and of an end by itself.
 const COLOURS: [&str; 2] = ["#999999", "#0b63b0"];
 
 /// A row's picture.
@@ -149,7 +149,7 @@ impl Display for Picture<'_> {
         )?;
         for (colour, (name, place)) in COLOURS
             .iter()
-            .zip([("classic", 560.0), ("by the rules", 640.0)])
+            .zip([("classic", 560.0), ("by itself", 640.0)])
         {
             writeln!(
                 f,
