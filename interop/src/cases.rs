@@ -40,7 +40,7 @@ fn offers(role: Role) -> Vec<(Feature, Place, Vec<u64>)> {
     let window = (Feature::SequenceWindow, Place::Here, vec![10_000]);
     match role {
         Role::Client => vec![window],
-        Role::Server => vec![window, (Feature::SendAckVector, Place::Here, vec![1])],
+        Role::Server | Role::Nobody => vec![window, (Feature::SendAckVector, Place::Here, vec![1])],
     }
 }
 
@@ -76,7 +76,7 @@ fn transfer(
     };
     let end = match role {
         Role::Client => "server 5001".to_string(),
-        Role::Server => format!("client {} 5001", addresses.own()),
+        Role::Server | Role::Nobody => format!("client {} 5001", addresses.own()),
     };
     Case {
         name,
@@ -273,6 +273,10 @@ fn turned_away(outcome: &Outcome, code: u8) -> Vec<String> {
 
 fn other_service_here(_: &Case, outcome: &Outcome) -> Vec<String> {
     turned_away(outcome, 8)
+}
+
+fn nobody_serves_here(_: &Case, outcome: &Outcome) -> Vec<String> {
+    turned_away(outcome, 3)
 }
 
 fn other_service_there(_: &Case, outcome: &Outcome) -> Vec<String> {
@@ -498,6 +502,12 @@ pub fn every() -> Vec<Case> {
             verdict: nobody_serves_there,
             kernel: None,
             ..clean("nobody-serves-there", Client, 10, "", |plan| {
+                plan.limit = Duration::from_secs(5)
+            })
+        },
+        Case {
+            verdict: nobody_serves_here,
+            ..clean("nobody-serves-here", Role::Nobody, 10, "wait 4", |plan| {
                 plan.limit = Duration::from_secs(5)
             })
         },

@@ -12,6 +12,8 @@ pub const PORT: u16 = 5001;
 pub enum Role {
     Client,
     Server,
+    /// Our side serves no port: a closed end answers.
+    Nobody,
 }
 
 #[derive(Clone, Copy, Debug, PartialEq, Eq)]
@@ -90,7 +92,7 @@ impl<'a> Own<'a> {
                 plan.service,
                 plan.first,
             ),
-            Role::Server => Config::server(
+            Role::Server | Role::Nobody => Config::server(
                 (here, PORT).into(),
                 (there, 0).into(),
                 plan.service,
@@ -220,6 +222,20 @@ impl<'a> Own<'a> {
             return Ok(());
         };
         let (here, there) = (self.wire.addresses().own(), self.wire.addresses().kernel());
+        if self.plan.role == Role::Nobody {
+            let closed = Config::client(
+                (here, PORT).into(),
+                (there, port).into(),
+                self.plan.service,
+                self.plan.first,
+            );
+            let mut closed = Connection::new(&closed)?;
+            closed.handle_datagram(packet, now);
+            while let Some(frame) = closed.poll_transmit() {
+                self.wire.send(&frame.bytes)?;
+            }
+            return Ok(());
+        }
         let config = Config::server(
             (here, PORT).into(),
             (there, port).into(),
