@@ -16,15 +16,14 @@ const FRAME: Duration = Duration::from_millis(20);
 const JITTER: Duration = Duration::from_millis(60);
 
 /// Speaks and plays for so many packets. It answers how many were played, and the longest silence.
-fn talk(socket: &Socket, packets: u32) -> Result<(u32, Duration), Error> {
+fn talk(socket: &Socket, packets: u32) -> (u32, Duration) {
     let (begun, mut first) = (Instant::now(), None);
     let (mut played, mut last, mut silence) = (0, begun, Duration::ZERO);
     for number in 0..packets {
         let mut packet = [0; 160];
         packet[..4].copy_from_slice(&number.to_be_bytes());
-        match socket.try_send(&packet) {
-            Ok(()) | Err(Error::WouldBlock) => {}
-            Err(fault) => return Err(fault),
+        if let Err(Error::Ended(_)) = socket.try_send(&packet) {
+            break;
         }
         let next = begun + FRAME * (number + 1);
         while let Ok(data) = socket.recv_timeout(next.saturating_duration_since(Instant::now())) {
@@ -36,7 +35,7 @@ fn talk(socket: &Socket, packets: u32) -> Result<(u32, Duration), Error> {
             }
         }
     }
-    Ok((played, silence))
+    (played, silence)
 }
 
 fn main() -> Result<(), Box<dyn std::error::Error>> {
@@ -52,12 +51,9 @@ fn main() -> Result<(), Box<dyn std::error::Error>> {
         _ => options.connect(address, 42)?,
     };
     let packets = 50 * seconds.parse::<u32>()?;
-    let (played, silence) = talk(&socket, packets)?;
-    let share = 100 * played / packets;
-    println!(
-        "{side} played {share} of 100, longest silence {} ms",
-        silence.as_millis()
-    );
+    let (played, silence) = talk(&socket, packets);
+    let (share, silence) = (100 * played / packets, silence.as_millis());
+    println!("{side} played {share} of 100, longest silence {silence} ms");
     socket.close(Duration::from_secs(5))?;
     Ok(())
 }
