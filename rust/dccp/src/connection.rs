@@ -3,7 +3,7 @@
 use crate::end::End;
 use crate::{
     AbortError, CloseError, Config, Feature, Held, MakeError, Numbers, OpenError, Phase, Place,
-    PreferError, SendError, Timer, sys,
+    PreferError, SendError, Statistics, Timer, sys,
 };
 use std::collections::VecDeque;
 use std::time::{Duration, Instant};
@@ -81,9 +81,16 @@ pub struct Connection {
     /// The end's time is counted in milliseconds from the first call that has one.
     begun: Option<Instant>,
     due: Option<Instant>,
-    frames: VecDeque<Transmit>,
+    outgoing: Outgoing,
     events: VecDeque<Event>,
     has_ended: bool,
+}
+
+/// The frames that wait for the peer, and what was counted.
+#[derive(Debug, Default)]
+struct Outgoing {
+    frames: VecDeque<Transmit>,
+    counts: Statistics,
 }
 
 impl Connection {
@@ -109,14 +116,13 @@ impl Connection {
 
     fn of(mut end: End) -> Connection {
         let view = end.look();
-        let (frames, events) = (VecDeque::new(), VecDeque::new());
         Connection {
             end,
             view,
             begun: None,
             due: None,
-            frames,
-            events,
+            outgoing: Outgoing::default(),
+            events: VecDeque::new(),
             has_ended: false,
         }
     }
@@ -141,16 +147,17 @@ impl Connection {
     pub fn accept(config: &Config, datagram: &[u8], now: Instant) -> Result<Accepted, MakeError> {
         let mut end = End::none();
         let (status, frame, told) = end.accept(config.settings(), config.wishes(), datagram, 0);
-        let mut frames = VecDeque::new();
-        queue(&mut frames, (status, frame), is_answer(&told));
+        let mut outgoing = Outgoing::default();
+        queue(&mut outgoing, (status, frame), is_answer(&told));
         match status {
-            sys::TOO_LONG | sys::NO_CONNECTION => Ok(frames
+            sys::TOO_LONG | sys::NO_CONNECTION => Ok(outgoing
+                .frames
                 .pop_front()
                 .map_or(Accepted::Nothing, Accepted::Answer)),
             _ => {
                 MakeError::answer(status)?;
                 let mut connection = Connection::of(end);
-                connection.frames = frames;
+                connection.outgoing = outgoing;
                 connection.hear(&told, datagram, Phase::Listen);
                 connection.called(now);
                 Ok(Accepted::Connection(Box::new(connection)))
@@ -177,7 +184,7 @@ impl Connection {
     /// ```
     pub fn open(&mut self, now: Instant) -> Result<(), OpenError> {
         let time = self.time(now);
-        let status = queue(&mut self.frames, self.end.open(time), false);
+        let status = queue(&mut self.outgoing, self.end.open(time), false);
         self.called(now);
         OpenError::answer(status)
     }
@@ -195,9 +202,11 @@ impl Connection {
     /// ```
     pub fn send(&mut self, data: &[u8], now: Instant) -> Result<(), SendError> {
         let time = self.time(now);
-        let status = queue(&mut self.frames, self.end.send(data, time), false);
+        let status = queue(&mut self.outgoing, self.end.send(data, time), false);
         self.called(now);
-        SendError::answer(status)
+        SendError::answer(status)?;
+        self.outgoing.counts.sent.count_bytes(data);
+        Ok(())
     }
 
     /// Asks for these values of a feature, best first. What comes of it is seen by [`Connection::feature`].
@@ -223,7 +232,7 @@ impl Connection {
         let left = self
             .end
             .prefer(feature as u32, place.is_peer(), values, time);
-        let status = queue(&mut self.frames, left, false);
+        let status = queue(&mut self.outgoing, left, false);
         self.called(now);
         PreferError::answer(status)
     }
@@ -242,7 +251,7 @@ impl Connection {
     /// ```
     pub fn close(&mut self, now: Instant) -> Result<(), CloseError> {
         let time = self.time(now);
-        let status = queue(&mut self.frames, self.end.close(time), false);
+        let status = queue(&mut self.outgoing, self.end.close(time), false);
         self.called(now);
         CloseError::answer(status)
     }
@@ -263,7 +272,7 @@ impl Connection {
     /// ```
     pub fn abort(&mut self, now: Instant) -> Result<(), AbortError> {
         let time = self.time(now);
-        let status = queue(&mut self.frames, self.end.abort(time), false);
+        let status = queue(&mut self.outgoing, self.end.abort(time), false);
         self.has_ended |= status == sys::DONE;
         self.called(now);
         AbortError::answer(status)
@@ -284,7 +293,7 @@ impl Connection {
     pub fn handle_datagram(&mut self, datagram: &[u8], now: Instant) {
         let (was, time) = (self.phase(), self.time(now));
         let (status, frame, told) = self.end.receive(datagram, time);
-        queue(&mut self.frames, (status, frame), is_answer(&told));
+        queue(&mut self.outgoing, (status, frame), is_answer(&told));
         self.called(now);
         self.hear(&told, datagram, was);
     }
@@ -307,7 +316,7 @@ impl Connection {
     /// ```
     pub fn handle_timeout(&mut self, now: Instant) {
         let time = self.time(now);
-        while queue(&mut self.frames, self.end.tick(time), false) == sys::DONE {}
+        while queue(&mut self.outgoing, self.end.tick(time), false) == sys::DONE {}
         self.called(now);
     }
 
@@ -331,7 +340,11 @@ impl Connection {
     /// ```
     pub fn handle_timer(&mut self, timer: Timer, now: Instant) -> bool {
         let time = self.time(now);
-        let status = queue(&mut self.frames, self.end.timer(timer as u32, time), false);
+        let status = queue(
+            &mut self.outgoing,
+            self.end.timer(timer as u32, time),
+            false,
+        );
         self.called(now);
         status == sys::DONE
     }
@@ -343,7 +356,7 @@ impl Connection {
 
     /// The next frame for the peer.
     pub fn poll_transmit(&mut self) -> Option<Transmit> {
-        self.frames.pop_front()
+        self.outgoing.frames.pop_front()
     }
 
     /// The next that the owner is told.
@@ -381,6 +394,15 @@ impl Connection {
         self.view.in_flight
     }
 
+    /// What was counted, and where the window stands.
+    pub fn statistics(&self) -> Statistics {
+        Statistics {
+            window: self.window(),
+            in_flight: self.in_flight(),
+            ..self.outgoing.counts
+        }
+    }
+
     /// How many packets were taken as new: a sign of the peer's life.
     pub(crate) fn taken(&self) -> u64 {
         self.view.marked
@@ -388,12 +410,12 @@ impl Connection {
 
     /// Whether frames wait for the peer.
     pub(crate) fn has_frames(&self) -> bool {
-        !self.frames.is_empty()
+        !self.outgoing.frames.is_empty()
     }
 
     /// All frames that wait for the peer.
     pub(crate) fn take_frames(&mut self) -> impl Iterator<Item = Transmit> + '_ {
-        self.frames.drain(..)
+        self.outgoing.frames.drain(..)
     }
 
     /// The numbers of this end's packets and of its peer's.
@@ -425,6 +447,7 @@ impl Connection {
 
     /// Tells the owner what became of a datagram, by the phase before it.
     fn hear(&mut self, told: &sys::Told, datagram: &[u8], was: Phase) {
+        self.outgoing.counts.heard(told, datagram);
         let has_closed = was != Phase::Closed && self.phase() == Phase::Closed;
         match told.kind {
             sys::TOLD_DATA => {
@@ -462,9 +485,10 @@ fn is_answer(told: &sys::Told) -> bool {
 }
 
 /// Keeps the frame that a call has left, if any, and answers the call's status.
-fn queue(frames: &mut VecDeque<Transmit>, (status, frame): (u32, &[u8]), is_answer: bool) -> u32 {
+fn queue(outgoing: &mut Outgoing, (status, frame): (u32, &[u8]), is_answer: bool) -> u32 {
     if !frame.is_empty() {
-        frames.push_back(Transmit {
+        outgoing.counts.sent.count(frame);
+        outgoing.frames.push_back(Transmit {
             bytes: frame.to_vec(),
             is_answer,
         });

@@ -50,6 +50,7 @@ mod listener;
 mod names;
 pub mod net;
 mod rules;
+mod statistics;
 mod sys;
 
 pub use crate::config::{Config, PathRule};
@@ -61,6 +62,7 @@ pub use crate::names::{
     OpenError, Phase, Place, PreferError, SendError, Timer,
 };
 pub use crate::rules::FlowRules;
+pub use crate::statistics::{Statistics, Traffic};
 
 /// The most data of one packet.
 pub const MOST_DATA_BYTES: usize = sys::MOST_DATA_BYTES;

@@ -139,6 +139,7 @@ pub const NO_NUMBER: u32 = 17;
 pub const NO_SUCH_LISTENER: u32 = 18;
 pub const GAVE_UP: u32 = 19;
 
+pub const TOLD_TOOK: u32 = 0;
 pub const TOLD_DATA: u32 = 1;
 pub const TOLD_SYNCED: u32 = 3;
 pub const TOLD_WAS_RESET: u32 = 4;

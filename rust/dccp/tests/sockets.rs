@@ -51,7 +51,7 @@ fn packets_come_whole_and_once() -> Outcome {
     }
     let sender = sending.join().unwrap()?;
     assert!(4_000 < seen.iter().filter(|it| **it).count());
-    assert_eq!(sender.statistics().packets_sent, 5_002);
+    assert_eq!(sender.statistics().sent.data, 5_002);
     assert!(matches!(receiver.try_recv(), Err(Error::WouldBlock)));
     Ok(())
 }

@@ -2,7 +2,7 @@
 
 use dccp::{
     Accepted, ArriveError, Config, Connection, Endpoint, Event, Feature, FlowError, ListenError,
-    Listener, Phase, Place, Transmit,
+    Listener, MOST_FRAME_BYTES, Phase, Place, Transmit,
 };
 use std::error::Error;
 use std::net::{SocketAddr, SocketAddrV4};
@@ -412,4 +412,35 @@ fn a_listener_has_limits() {
     }
     let narrow = config.wish(Feature::SequenceWindow, Place::Here, &[31]);
     assert_eq!(Listener::new(&narrow, 1).err(), Some(ListenError::BadList));
+}
+
+/// Three packets of five bytes and a Close, which its Reset answers; by the types of RFC 4340, section 5.1.
+#[test]
+fn what_goes_and_comes_is_counted() -> Result<(), Box<dyn Error>> {
+    let (mut one, mut other, now) = open_pair()?;
+    let (before, begun) = (one.statistics(), other.statistics());
+    assert_eq!((before.sent.others, begun.received.others), (1, 1));
+    assert_eq!((begun.sent.others, before.received.others), (1, 1));
+    for _ in 0..3 {
+        one.send(b"hello", now)?;
+    }
+    one.close(now)?;
+    while let Some(frame) = one.poll_transmit() {
+        other.handle_datagram(&frame.bytes, now);
+    }
+    while let Some(frame) = other.poll_transmit() {
+        one.handle_datagram(&frame.bytes, now);
+    }
+    other.handle_datagram(&[0; MOST_FRAME_BYTES + 1], now);
+    other.handle_datagram(b"no packet", now);
+    let (last, end) = (one.statistics(), other.statistics());
+    assert_eq!((last.sent.data, last.sent.data_bytes), (3, 15));
+    assert_eq!((end.received.data, end.received.data_bytes), (3, 15));
+    assert_eq!((last.sent.others, end.received.others), (2, 2));
+    assert_eq!((end.sent.resets, last.received.resets), (1, 1));
+    assert_eq!(
+        (end.sent.syncs, end.received.syncs, end.not_taken),
+        (0, 0, 2)
+    );
+    Ok(())
 }

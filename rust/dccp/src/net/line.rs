@@ -4,7 +4,7 @@ use super::agenda::Agenda;
 use super::options::Options;
 use super::wire::Wire;
 use super::{End, Error};
-use crate::{Connection, Event, Phase, SendError, Transmit};
+use crate::{Connection, Event, Phase, SendError, Statistics, Transmit};
 use std::collections::VecDeque;
 use std::net::SocketAddr;
 use std::sync::{Arc, Condvar, Mutex, MutexGuard, PoisonError};
@@ -15,30 +15,6 @@ const LINGER: Duration = Duration::from_secs(2);
 
 /// How many Syncs and Resets answer the packets of a connection in a second (RFC 4340, sections 7.5.4 and 8.3.1; the number is own).
 const ANSWERS: u32 = 20;
-
-/// What a connection has counted, and where it stands.
-#[derive(Clone, Copy, Debug, Default, PartialEq, Eq)]
-#[non_exhaustive]
-pub struct Statistics {
-    /// Packets of data that were sent.
-    pub packets_sent: u64,
-    /// Their bytes.
-    pub bytes_sent: u64,
-    /// Packets of data that came, those dropped among them.
-    pub packets_received: u64,
-    /// Their bytes.
-    pub bytes_received: u64,
-    /// Packets of data that were dropped, since as many as may be waited to be read.
-    pub packets_dropped: u64,
-    /// Packets of any type that were taken.
-    pub packets_taken: u64,
-    /// Syncs and Resets that were left out, since as many as may be had gone out.
-    pub answers_left_out: u64,
-    /// How many packets of data may be in flight.
-    pub window: u32,
-    /// How many packets of data are in flight.
-    pub in_flight: u32,
-}
 
 /// How many of something may be done in each second.
 pub(super) struct Limit {
@@ -93,7 +69,8 @@ struct State {
     patience: Duration,
     idle: Duration,
     answers: Limit,
-    counts: Statistics,
+    answers_left_out: u64,
+    unread_dropped: u64,
     /// For when this stands on the agenda.
     scheduled: Option<Instant>,
     is_announced: bool,
@@ -133,12 +110,10 @@ impl State {
     }
 
     fn keep(&mut self, data: Vec<u8>) {
-        self.counts.packets_received += 1;
-        self.counts.bytes_received += data.len() as u64;
         if self.inbox.len() < self.most_waiting {
             self.inbox.push_back(data);
         } else {
-            self.counts.packets_dropped += 1;
+            self.unread_dropped += 1;
         }
     }
 
@@ -211,19 +186,12 @@ impl State {
 
     /// Adds the frames that wait, except answers that are too many.
     fn take_frames(&mut self, now: Instant, frames: &mut Vec<Transmit>) {
-        let (answers, left_out) = (&mut self.answers, &mut self.counts.answers_left_out);
+        let (answers, left_out) = (&mut self.answers, &mut self.answers_left_out);
         frames.extend(self.connection.take_frames().filter(|it| {
             let goes = !it.is_answer || answers.may(now);
             *left_out += u64::from(!goes);
             goes
         }));
-    }
-
-    fn send(&mut self, data: &[u8], now: Instant) -> Result<(), SendError> {
-        self.connection.send(data, now)?;
-        self.counts.packets_sent += 1;
-        self.counts.bytes_sent += data.len() as u64;
-        Ok(())
     }
 }
 
@@ -258,7 +226,8 @@ impl Line {
             patience: options.patience,
             idle: options.idle,
             answers: Limit::new(ANSWERS, now),
-            counts: Statistics::default(),
+            answers_left_out: 0,
+            unread_dropped: 0,
             scheduled: None,
             is_announced: false,
             readers: 0,
@@ -387,7 +356,7 @@ impl Line {
             if let Some((end, _)) = state.end {
                 return Err(Error::Ended(end));
             }
-            match doing(&mut |data| state.send(data, now)) {
+            match doing(&mut |data| state.connection.send(data, now)) {
                 Ok(done) => {
                     self.finish(state, now);
                     return Ok(done);
@@ -520,10 +489,9 @@ impl Line {
     pub(super) fn statistics(&self) -> Statistics {
         let state = self.state();
         Statistics {
-            packets_taken: state.connection.taken(),
-            window: state.connection.window(),
-            in_flight: state.connection.in_flight(),
-            ..state.counts
+            answers_left_out: state.answers_left_out,
+            unread_dropped: state.unread_dropped,
+            ..state.connection.statistics()
         }
     }
 

@@ -46,7 +46,6 @@ mod socket;
 mod wire;
 
 pub use error::{End, Error};
-pub use line::Statistics;
 pub use listener::Listener;
 pub use options::Options;
 pub use socket::{Receiver, Sender, Socket};

@@ -2,12 +2,12 @@
 
 use super::agenda::Agenda;
 use super::driver::Driver;
-use super::line::{Line, Statistics, Wait};
+use super::line::{Line, Wait};
 use super::options::Options;
 use super::random::Random;
 use super::wire::{Wire, any_address};
 use super::{End, Error};
-use crate::{Connection, Feature, Held, Place, PreferError, SendError};
+use crate::{Connection, Feature, Held, Place, PreferError, SendError, Statistics};
 use std::fmt;
 use std::io;
 use std::net::{SocketAddr, ToSocketAddrs, UdpSocket};

@@ -1,0 +1,76 @@
+//! What a connection has counted.
+
+use crate::sys;
+
+/// Packets that went one way, by their types (RFC 4340, section 5.1).
+#[derive(Clone, Copy, Debug, Default, PartialEq, Eq)]
+#[non_exhaustive]
+pub struct Traffic {
+    /// Packets with data: Data and DataAck.
+    pub data: u64,
+    /// The bytes of these data.
+    pub data_bytes: u64,
+    /// Acknowledgements without data: Ack.
+    pub acks: u64,
+    /// Sync and SyncAck.
+    pub syncs: u64,
+    /// Reset.
+    pub resets: u64,
+    /// What opens and closes: Request, Response, CloseReq and Close.
+    pub others: u64,
+}
+
+impl Traffic {
+    /// Counts a packet by its type, which stands in its ninth byte.
+    pub(crate) fn count(&mut self, packet: &[u8]) {
+        match packet.get(8).map(|it| (it >> 1) & 15) {
+            Some(2 | 4) => self.data += 1,
+            Some(3) => self.acks += 1,
+            Some(8 | 9) => self.syncs += 1,
+            Some(7) => self.resets += 1,
+            Some(_) => self.others += 1,
+            None => {}
+        }
+    }
+
+    pub(crate) fn count_bytes(&mut self, data: &[u8]) {
+        self.data_bytes += data.len() as u64;
+    }
+}
+
+/// What a connection has counted, and where its window stands.
+#[derive(Clone, Copy, Debug, Default, PartialEq, Eq)]
+#[non_exhaustive]
+pub struct Statistics {
+    /// Packets that were handed out for the peer. A network may lose them.
+    pub sent: Traffic,
+    /// Packets of the peer that were taken.
+    pub received: Traffic,
+    /// Datagrams that were dropped, or answered by a Sync, or by a Reset for a fault.
+    pub not_taken: u64,
+    /// Of a socket: Syncs and Resets that were left out, since as many as may be had gone out.
+    pub answers_left_out: u64,
+    /// Of a socket: packets of data that were dropped, since as many as may be waited to be read.
+    pub unread_dropped: u64,
+    /// How many packets of data may be in flight.
+    pub window: u32,
+    /// How many packets of data are in flight.
+    pub in_flight: u32,
+}
+
+impl Statistics {
+    /// Counts a datagram by what became of it.
+    pub(crate) fn heard(&mut self, told: &sys::Told, datagram: &[u8]) {
+        match told.kind {
+            _ if sys::MOST_FRAME_BYTES < datagram.len() => self.not_taken += 1,
+            sys::TOLD_TOOK | sys::TOLD_WAS_RESET => self.received.count(datagram),
+            sys::TOLD_DATA => {
+                self.received.count(datagram);
+                self.received.count_bytes(&datagram[told.first..told.past]);
+            }
+            // The Close that ends a connection in order.
+            sys::TOLD_SENT_RESET if told.code == 1 => self.received.count(datagram),
+            _ => self.not_taken += 1,
+        }
+    }
+}
