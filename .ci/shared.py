@@ -80,6 +80,8 @@ def definitions(crate):
 
 # How C is compiled so that it stops where its behaviour is not defined, or memory is not its own.
 CLEAN = ["-g", "-fsanitize=address,undefined", "-fno-sanitize-recover"]
+# How a program is run so that it fails where it reads or leaves memory that it should not.
+WATCHED = ["valgrind", "--quiet", "--leak-check=full", "--show-leak-kinds=all", "--errors-for-leak-kinds=all", "--error-exitcode=99"]
 
 
 def said(*words, **how):

@@ -115,6 +115,8 @@ class connection {
         return view;
     }
 
+    dccp_statistics statistics() const { return dccp_connection_statistics(it_); }
+
     template <typename T>
     T *user() const {
         return static_cast<T *>(dccp_connection_user(it_));

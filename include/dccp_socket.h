@@ -53,6 +53,24 @@ typedef struct dccp_socket_event {
     uint8_t code;
 } dccp_socket_event;
 
+/* Packets that went one way, by their types (RFC 4340, section 5.1). */
+typedef struct dccp_traffic {
+    uint64_t data;       /* Data and DataAck */
+    uint64_t data_bytes; /* the bytes of these data */
+    uint64_t acks;       /* Ack */
+    uint64_t syncs;      /* Sync and SyncAck */
+    uint64_t resets;     /* Reset */
+    uint64_t others;     /* Request, Response, CloseReq and Close */
+} dccp_traffic;
+
+/* What a connection has counted. */
+typedef struct dccp_statistics {
+    dccp_traffic sent;         /* handed to the system; a network may lose them */
+    dccp_traffic received;     /* taken */
+    uint64_t not_taken;        /* datagrams that were dropped, or answered by a Sync, or by a Reset for a fault */
+    uint64_t answers_left_out; /* Syncs and Resets that were left out, since as many as may be had gone out */
+} dccp_statistics;
+
 /* What a socket is made from; begun as DCCP_SOCKET_OPTIONS_INIT. A number of 0 is the usual one. */
 typedef struct dccp_socket_options {
     size_t size;             /* sizeof(dccp_socket_options): later versions have more fields */
@@ -107,6 +125,9 @@ dccp_status dccp_connection_abort(dccp_connection *connection);
 dccp_status dccp_connection_prefer(dccp_connection *connection, dccp_feature_kind feature, bool at_peer, const uint64_t *values, size_t count);
 dccp_status dccp_connection_feature(dccp_connection *connection, dccp_feature_kind feature, bool at_peer, dccp_feature_state *state);
 dccp_status dccp_connection_look(dccp_connection *connection, dccp_view *view);
+
+/* What was counted. */
+dccp_statistics dccp_connection_statistics(const dccp_connection *connection);
 
 /* A pointer of the owner's, NULL at first. */
 void dccp_connection_set_user(dccp_connection *connection, void *user);

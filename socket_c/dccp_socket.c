@@ -49,6 +49,7 @@ struct dccp_connection {
     uint64_t marked; /* how many packets were taken */
     dccp_end_cause cause;
     uint8_t code;
+    dccp_statistics statistics;
     bool has_ended, is_opened, wants_room;
     bool is_told; /* that it has ended, or that this is told to nobody */
 };
@@ -236,6 +237,25 @@ static void hand_over(const dccp_socket *udp, const address *peer, const dccp_fr
     (void)!sendto(udp->descriptor, frame->bytes, frame->length, 0, to, to == NULL ? 0 : size_of(peer));
 }
 
+/* Counts a packet by its type, which stands in its ninth byte (RFC 4340, section 5.1). */
+static void count(dccp_traffic *traffic, const uint8_t *packet, size_t length) {
+    if (length < 12) return;
+    switch ((packet[8] >> 1) & 15) {
+        case 2:
+        case 4: traffic->data++; return;
+        case 3: traffic->acks++; return;
+        case 8:
+        case 9: traffic->syncs++; return;
+        case 7: traffic->resets++; return;
+        default: traffic->others++; return;
+    }
+}
+
+static void send_frame(dccp_connection *it, const dccp_frame *frame) {
+    count(&it->statistics.sent, frame->bytes, frame->length);
+    hand_over(it->udp, &it->peer, frame);
+}
+
 static dccp_view seen(dccp_connection *it) {
     dccp_view view;
     memset(&view, 0, sizeof view);
@@ -285,11 +305,25 @@ static int next_event(dccp_connection *it, dccp_socket_event *event) {
 static void take(dccp_connection *it, const dccp_told *told, const dccp_frame *frame) {
     bool is_answer = told->kind == DCCP_TOLD_SYNCED || told->kind == DCCP_TOLD_SENT_RESET;
     dccp_view view = seen(it);
-    if (!is_answer || may(&it->answers, ANSWERS)) hand_over(it->udp, &it->peer, frame);
+    if (!is_answer || may(&it->answers, ANSWERS))
+        send_frame(it, frame);
+    else
+        it->statistics.answers_left_out++;
     if (view.marked != it->marked) it->heard = now();
     it->marked = view.marked;
     bool is_over = told->kind == DCCP_TOLD_WAS_RESET || (told->kind == DCCP_TOLD_SENT_RESET && view.phase == DCCP_PHASE_CLOSED);
     if (is_over) finish(it, DCCP_END_RESET, told->code);
+}
+
+/* Counts a datagram by what became of it; a Close that ends the connection in order was taken. */
+static void note(dccp_connection *it, const dccp_told *told, size_t length) {
+    bool is_close = told->kind == DCCP_TOLD_SENT_RESET && told->code == 1;
+    bool is_taken = told->kind == DCCP_TOLD_TOOK || told->kind == DCCP_TOLD_DATA || told->kind == DCCP_TOLD_WAS_RESET || is_close;
+    if (is_taken)
+        count(&it->statistics.received, it->udp->room, length);
+    else
+        it->statistics.not_taken++;
+    it->statistics.received.data_bytes += told->past - told->first;
 }
 
 /* Hears a datagram of a connection, and tells what came of it, if anything. */
@@ -298,6 +332,7 @@ static int hear(dccp_connection *it, size_t length, dccp_socket_event *event) {
     dccp_frame frame;
     dccp_told told;
     if (dccp_receive(&it->end, udp->room, length, now(), &frame, &told) != DCCP_OK) return 0;
+    note(it, &told, length);
     take(it, &told, &frame);
     if (told.kind != DCCP_TOLD_DATA || it->has_ended) return next_event(it, event);
     (void)tell(it, DCCP_EVENT_DATA, &udp->data);
@@ -329,6 +364,7 @@ static void meet(dccp_socket *udp, const address *peer, size_t length) {
     dccp_frame frame;
     dccp_told told;
     dccp_status status = dccp_accept(&it->end, &settings, udp->wishes, udp->wish_count, udp->room, length, now(), &frame, &told);
+    if (status == DCCP_OK) note(it, &told, length);
     if (status == DCCP_OK) take(it, &told, &frame);
     if (status == DCCP_NO_CONNECTION) hand_over(udp, peer, &frame);
     if (status == DCCP_OK && seen(it).phase != DCCP_PHASE_CLOSED) return;
@@ -375,11 +411,11 @@ static uint64_t due_in(dccp_connection *it) {
 static void tick(dccp_connection *it) {
     dccp_frame frame;
     dccp_view view;
-    while (dccp_tick(&it->end, now(), &frame) == DCCP_OK) hand_over(it->udp, &it->peer, &frame);
+    while (dccp_tick(&it->end, now(), &frame) == DCCP_OK) send_frame(it, &frame);
     view = seen(it);
     if (view.phase == DCCP_PHASE_CLOSED) finish(it, DCCP_END_SILENT, 0); /* The end gave up by itself. */
     if (it->has_ended || now() < it->heard + (is_open(&view) ? it->udp->idle : it->udp->patience)) return;
-    if (dccp_abort(&it->end, now(), &frame) == DCCP_OK) hand_over(it->udp, &it->peer, &frame);
+    if (dccp_abort(&it->end, now(), &frame) == DCCP_OK) send_frame(it, &frame);
     finish(it, DCCP_END_SILENT, 0);
 }
 
@@ -554,7 +590,7 @@ static bool ask(dccp_socket *udp, uint32_t service) {
     errno = ENOMEM;
     if (it == NULL || dccp_make(&it->end, &settings, udp->wishes, udp->wish_count) != DCCP_OK) return false;
     if (dccp_open(&it->end, now(), &frame) != DCCP_OK) return false;
-    hand_over(udp, &peer, &frame);
+    send_frame(it, &frame);
     return true;
 }
 
@@ -593,7 +629,8 @@ dccp_status dccp_connection_send(dccp_connection *it, const void *data, size_t l
     dccp_frame frame;
     if (it->has_ended) return DCCP_NOT_MADE;
     dccp_status status = dccp_send(&it->end, length == 0 ? nothing : data, length, now(), &frame);
-    hand_over(it->udp, &it->peer, &frame);
+    send_frame(it, &frame);
+    if (status == DCCP_OK) it->statistics.sent.data_bytes += length;
     it->wants_room = status == DCCP_WINDOW_FULL || status == DCCP_NOT_NEGOTIATED;
     return status;
 }
@@ -602,7 +639,7 @@ dccp_status dccp_connection_close(dccp_connection *it) {
     dccp_frame frame;
     if (it->has_ended) return DCCP_NOT_MADE;
     dccp_status status = dccp_close(&it->end, now(), &frame);
-    hand_over(it->udp, &it->peer, &frame);
+    send_frame(it, &frame);
     if (status == DCCP_OK) it->heard = now();
     return status;
 }
@@ -611,7 +648,7 @@ dccp_status dccp_connection_abort(dccp_connection *it) {
     dccp_frame frame;
     if (it->has_ended) return DCCP_NOT_MADE;
     dccp_status status = dccp_abort(&it->end, now(), &frame);
-    hand_over(it->udp, &it->peer, &frame);
+    send_frame(it, &frame);
     if (status == DCCP_OK) finish(it, DCCP_END_ABORTED, 0);
     return status;
 }
@@ -619,7 +656,7 @@ dccp_status dccp_connection_abort(dccp_connection *it) {
 dccp_status dccp_connection_prefer(dccp_connection *it, dccp_feature_kind feature, bool at_peer, const uint64_t *values, size_t count) {
     dccp_frame frame;
     dccp_status status = dccp_prefer(&it->end, (uint32_t)feature, at_peer, values, count, now(), &frame);
-    hand_over(it->udp, &it->peer, &frame);
+    send_frame(it, &frame);
     return status;
 }
 
@@ -628,6 +665,8 @@ dccp_status dccp_connection_feature(dccp_connection *it, dccp_feature_kind featu
 }
 
 dccp_status dccp_connection_look(dccp_connection *it, dccp_view *view) { return dccp_look(&it->end, view); }
+
+dccp_statistics dccp_connection_statistics(const dccp_connection *it) { return it->statistics; }
 
 void dccp_connection_set_user(dccp_connection *it, void *user) { it->user = user; }
 

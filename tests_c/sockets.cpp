@@ -1,0 +1,150 @@
+// Sockets in C++ on this machine, a client and a server in one thread: what is told, counted and refused, a line for each that is otherwise.
+#include <array>
+#include <cstdio>
+#include <map>
+#include <string>
+#include <utility>
+#include <vector>
+
+#include "dccp.hpp"
+
+using namespace std::chrono_literals;
+
+static int wrong;
+
+static void same(const char *what, long long wanted, long long found) {
+    if (wanted == found) return;
+    std::printf("%s: wanted %lld, found %lld\n", what, wanted, found);
+    wrong = 1;
+}
+
+// A client and a server, and what each was told, in order.
+struct pair {
+    dccp::socket server, client;
+    std::vector<dccp::event> of_server = {}, of_client = {};
+    std::vector<std::string> to_server = {}, to_client = {};
+
+    // Polls both until neither is told anything for 20 ms.
+    void settle() {
+        for (bool is_told = true; is_told;) {
+            is_told = false;
+            while (auto event = server.poll(20ms)) {
+                of_server.push_back(*event);
+                if (event->kind == DCCP_EVENT_DATA) to_server.emplace_back(event->data.text());
+                is_told = true;
+            }
+            while (auto event = client.poll(20ms)) {
+                of_client.push_back(*event);
+                if (event->kind == DCCP_EVENT_DATA) to_client.emplace_back(event->data.text());
+                is_told = true;
+            }
+        }
+    }
+};
+
+static pair open_pair(const dccp::options &options, uint32_t service = 42) {
+    auto server = dccp::socket::listen("127.0.0.1", "0", {7, 42}, options);
+    auto client = dccp::socket::connect("127.0.0.1", std::to_string(server.port()), service, options);
+    pair both{std::move(server), std::move(client)};
+    both.settle();
+    return both;
+}
+
+static void a_conversation() {
+    pair both = open_pair({});
+    same("events of the client", 1, static_cast<long long>(both.of_client.size()));
+    auto client = both.client.connection();
+    same("a connection", true, client.has_value());
+    same("data", DCCP_OK, client->send("hello"));
+    same("data of none", DCCP_OK, client->send(dccp::bytes()));
+    same("data of a container", DCCP_OK, client->send(std::array<char, 3>{'a', 'b', 'c'}));
+    both.settle();
+    same("what came", 3, static_cast<long long>(both.to_server.size()));
+    same("the first", true, both.to_server[0] == "hello" && both.to_server[1].empty() && both.to_server[2] == "abc");
+    auto server = both.of_server.at(0).connection;
+    same("it was told to open first", DCCP_EVENT_OPENED, both.of_server.at(0).kind);
+    int number = 5;
+    server.set_user(&number);
+    same("the owner's pointer", 5, *server.user<int>());
+    same("an answer", DCCP_OK, server.send("answer"));
+    both.settle();
+    same("the answer", true, both.to_client.at(0) == "answer");
+    same("packets that the server took", 3, static_cast<long long>(server.statistics().received.data));
+    same("their bytes", 8, static_cast<long long>(server.statistics().received.data_bytes));
+    same("packets that the server sent", 1, static_cast<long long>(server.statistics().sent.data));
+    same("the Sequence Window", 10000, static_cast<long long>(client->feature(DCCP_FEATURE_SEQUENCE_WINDOW).value));
+    server.prefer(DCCP_FEATURE_SEQUENCE_WINDOW, {900});
+    both.settle();
+    same("a wider one", 900, static_cast<long long>(client->feature(DCCP_FEATURE_SEQUENCE_WINDOW, true).value));
+    same("nothing in flight", 0, client->look().in_flight);
+    client->close();
+    both.settle();
+    same("the client's end", true, both.of_client.back().kind == DCCP_EVENT_ENDED && both.of_client.back().is_orderly());
+    same("the server's end", true, both.of_server.back().kind == DCCP_EVENT_ENDED && both.of_server.back().is_orderly());
+    same("no connection any more", false, both.client.connection().has_value());
+}
+
+// A fixed window of eight packets (CCID 248): the ninth finds no room, which is told once there is some.
+static void a_full_window() {
+    pair both = open_pair({{dccp::offer(DCCP_FEATURE_CCID, {248})}});
+    auto client = both.client.connection();
+    for (int sent = 0; sent < 8; sent++) same("one of eight", DCCP_OK, client->send("x"));
+    same("the ninth", DCCP_WINDOW_FULL, client->send("x"));
+    both.settle();
+    same("news of room", DCCP_EVENT_ROOM, both.of_client.back().kind);
+    same("the ninth again", DCCP_OK, client->send("x"));
+    client->abort();
+    both.settle();
+    same("the end of the client", DCCP_END_ABORTED, both.of_client.back().cause);
+    same("the code at the server", 2, both.of_server.back().code);
+}
+
+static void refusals() {
+    pair other = open_pair({}, 43);
+    same("a service that is not served", 8, other.of_client.back().code);
+    same("of which the server hears nothing", 0, static_cast<long long>(other.of_server.size()));
+    try {
+        open_pair({{dccp::offer(DCCP_FEATURE_SEQUENCE_WINDOW, {31})}});
+        same("a wish that is none", 1, 0);
+    } catch (const std::system_error &fault) {
+        same("a wish that is none", EINVAL, fault.code().value());
+    }
+    pair both = open_pair({{}, "192.0.2.1 1", "2001:db8::1 2"});
+    try {
+        both.client.connection()->send(std::string(1025, 'x'));
+        same("1,025 bytes", 1, 0);
+    } catch (const dccp::error &fault) {
+        same("1,025 bytes", DCCP_TOO_LONG, fault.status());
+    }
+    dccp::options impatient;
+    impatient.patience = 200ms;
+    auto nobody = dccp::socket::connect("127.0.0.1", "9", 42, impatient);
+    auto event = nobody.poll(10s);
+    same("nobody answers", true, event && event->kind == DCCP_EVENT_ENDED && event->cause == DCCP_END_SILENT);
+}
+
+// Two ends without sockets, one of which is moved.
+static void ends() {
+    dccp_settings here{}, there{};
+    here.own_address[0] = here.peer_address[0] = there.own_address[0] = there.peer_address[0] = 10;
+    here.own_port = there.peer_port = 1;
+    here.peer_port = there.own_port = 2;
+    dccp::end client(here, {dccp::offer(DCCP_FEATURE_SEQUENCE_WINDOW, {500})}), server;
+    dccp_told told{};
+    same("open", DCCP_OK, client.open(0));
+    same("a Request", DCCP_OK, server.accept(there, {}, client.frame(), 0, told));
+    dccp::end moved = std::move(client);
+    same("what was moved", false, static_cast<bool>(client));
+    same("a Response", DCCP_OK, moved.receive(server.frame(), 0, told));
+    same("its phase", DCCP_PHASE_PARTOPEN, moved.look().phase);
+    same("a timer", true, moved.until_first(0).has_value());
+    same("its abort", DCCP_OK, moved.abort(0));
+}
+
+int main() {
+    a_conversation();
+    a_full_window();
+    refusals();
+    ends();
+    return wrong;
+}
