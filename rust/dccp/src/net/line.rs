@@ -275,6 +275,11 @@ impl Line {
         let wakes_readers = state.readers != 0 && (is_over || !state.inbox.is_empty());
         let wakes_writers = state.writers != 0 && (is_over || state.has_room());
         let has_frames = state.connection.has_frames();
+        // Where nobody hands frames over, these are taken before the state is free for others.
+        let mut order = has_frames.then(|| self.order.try_lock().ok()).flatten();
+        if let Some(frames) = &mut order {
+            state.take_frames(now, frames);
+        }
         drop(state);
         if wakes_readers {
             self.readable.notify_all();
@@ -282,14 +287,20 @@ impl Line {
         if wakes_writers {
             self.writable.notify_all();
         }
-        if has_frames {
-            self.flush(now);
+        match order {
+            Some(frames) => self.hand_over(frames),
+            None if has_frames => self.flush(now),
+            None => {}
         }
     }
 
     fn flush(&self, now: Instant) {
         let mut frames = self.order.lock().unwrap_or_else(PoisonError::into_inner);
         self.state().take_frames(now, &mut frames);
+        self.hand_over(frames);
+    }
+
+    fn hand_over(&self, mut frames: MutexGuard<'_, Vec<Transmit>>) {
         self.wire.send(self.peer, &frames);
         frames.clear();
     }
