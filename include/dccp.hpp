@@ -165,7 +165,8 @@ class socket {
         return socket(dccp_socket_listen(host.empty() ? nullptr : host.c_str(), port.c_str(), services.data(), services.size(), &given));
     }
 
-    // The next event: waiting for it, or for so long at most. Throws std::system_error where the system's socket fails.
+    // The next event: waiting for it, or for so long at most; none too where a client's last one was told before. Throws std::system_error
+    // where the system's socket fails.
     std::optional<event> poll() { return poll_for(-1); }
     std::optional<event> poll(std::chrono::milliseconds wait) { return poll_for(static_cast<int>(wait.count())); }
 

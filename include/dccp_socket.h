@@ -97,7 +97,7 @@ dccp_socket *dccp_socket_listen(const char *host, const char *port, const uint32
 void dccp_socket_free(dccp_socket *socket);
 
 /* Does what is due, and waits for an event, for so many milliseconds at most, or for ever where they are below 0. 1: it is told; 0: the time
- * is over; -1: the system's socket failed, and errno says how. */
+ * is over, or a client's last event was told before; -1: the system's socket failed, and errno says how. */
 int dccp_socket_poll(dccp_socket *socket, int milliseconds, dccp_socket_event *event);
 
 /* The system's socket: to wait until it is readable, and for nothing else. */

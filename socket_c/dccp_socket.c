@@ -466,6 +466,7 @@ int dccp_socket_poll(dccp_socket *udp, int milliseconds, dccp_socket_event *even
         if (found != 0) return found;
         uint64_t gone = now() - begun;
         if (0 <= milliseconds && (uint64_t)milliseconds <= gone) return 0;
+        if (!udp->is_server && dccp_socket_connection(udp) == NULL) return 0;
         int left = milliseconds < 0 ? -1 : milliseconds - (int)gone, wait = dccp_socket_wait(udp);
         struct pollfd readable = {.fd = udp->descriptor, .events = POLLIN};
         if (poll(&readable, 1, wait < 0 || (0 <= left && left < wait) ? left : wait) < 0 && errno != EINTR) return -1;

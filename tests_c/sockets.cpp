@@ -82,6 +82,7 @@ static void a_conversation() {
     same("the client's end", true, both.of_client.back().kind == DCCP_EVENT_ENDED && both.of_client.back().is_orderly());
     same("the server's end", true, both.of_server.back().kind == DCCP_EVENT_ENDED && both.of_server.back().is_orderly());
     same("no connection any more", false, both.client.connection().has_value());
+    same("nothing more to wait for", false, both.client.poll().has_value());
 }
 
 // A fixed window of eight packets (CCID 248): the ninth finds no room, which is told once there is some.

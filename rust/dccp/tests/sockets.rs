@@ -134,10 +134,7 @@ fn who_is_not_answered_gives_up_in_time() -> Outcome {
     let begun = Instant::now();
     let options = Options::new().patience(Duration::from_millis(300));
     let refused = options.connect(silent.local_addr()?, SERVICE);
-    assert!(
-        matches!(refused, Err(Error::TimedOut))
-            || matches!(refused, Err(Error::Ended(End::Silent)))
-    );
+    assert!(matches!(refused, Err(Error::TimedOut)), "{refused:?}");
     assert!(begun.elapsed() < Duration::from_secs(5));
     Ok(())
 }

@@ -106,7 +106,12 @@ impl Socket {
         if waited.is_err() {
             socket.line().abort();
         }
-        waited.map(|()| socket)
+        match waited {
+            Ok(()) => Ok(socket),
+            // The end and the call are equally patient.
+            Err(Error::Ended(End::Silent)) => Err(Error::TimedOut),
+            Err(fault) => Err(fault),
+        }
     }
 
     fn line(&self) -> &Line {
