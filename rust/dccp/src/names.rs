@@ -6,7 +6,6 @@ use std::fmt;
 
 /// Where a connection stands (RFC 4340, section 8.4).
 #[derive(Clone, Copy, Debug, PartialEq, Eq)]
-#[non_exhaustive]
 pub enum Phase {
     /// It has ended, or a client has not asked yet.
     Closed,
