@@ -90,8 +90,13 @@ pub struct Connection {
 #[derive(Debug, Default)]
 struct Outgoing {
     frames: VecDeque<Transmit>,
+    /// Rooms of frames that were sent.
+    spare: Vec<Vec<u8>>,
     counts: Statistics,
 }
+
+/// How many rooms of frames are kept.
+const MOST_SPARE: usize = 64;
 
 impl Connection {
     /// A connection that has sent and received nothing. Refused where a wish is, or where there is no memory.
@@ -413,9 +418,12 @@ impl Connection {
         !self.outgoing.frames.is_empty()
     }
 
-    /// All frames that wait for the peer.
-    pub(crate) fn take_frames(&mut self) -> impl Iterator<Item = Transmit> + '_ {
-        self.outgoing.frames.drain(..)
+    /// All frames that wait for the peer, in place of these, which were sent.
+    pub(crate) fn exchange_frames(&mut self, frames: &mut Vec<Transmit>) {
+        let room = MOST_SPARE - self.outgoing.spare.len();
+        let sent = frames.drain(..).take(room).map(|it| it.bytes);
+        self.outgoing.spare.extend(sent);
+        frames.extend(self.outgoing.frames.drain(..));
     }
 
     /// The numbers of this end's packets and of its peer's.
@@ -488,10 +496,10 @@ fn is_answer(told: &sys::Told) -> bool {
 fn queue(outgoing: &mut Outgoing, (status, frame): (u32, &[u8]), is_answer: bool) -> u32 {
     if !frame.is_empty() {
         outgoing.counts.sent.count(frame);
-        outgoing.frames.push_back(Transmit {
-            bytes: frame.to_vec(),
-            is_answer,
-        });
+        let mut bytes = outgoing.spare.pop().unwrap_or_default();
+        bytes.clear();
+        bytes.extend_from_slice(frame);
+        outgoing.frames.push_back(Transmit { bytes, is_answer });
     }
     status
 }

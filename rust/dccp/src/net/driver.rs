@@ -5,18 +5,22 @@ use super::line::{Limit, Line};
 use super::listener::Door;
 use super::options::Options;
 use super::random::Random;
+use super::system::CAN_LOOK;
 use super::wire::{Batch, Wire};
 use super::{Error, Socket};
-use crate::{Accepted, Connection, Phase, Transmit};
+use crate::{Accepted, Connection, Phase};
 use std::collections::HashMap;
 use std::io;
 use std::net::{IpAddr, SocketAddr};
 use std::sync::Arc;
 use std::thread;
-use std::time::Instant;
+use std::time::{Duration, Instant};
 
 /// How many Resets answer datagrams of no connection in a second (RFC 4340, section 8.3.1; the number is own).
 const STRANGERS: u32 = 100;
+
+/// How many wakings wait, although more has come.
+const MOST_TO_WAKE: usize = 64;
 
 /// What of a listener its driver needs for peers without a connection.
 pub(super) struct Reception {
@@ -45,6 +49,8 @@ pub(super) struct Driver {
     agenda: Arc<Agenda>,
     lines: HashMap<SocketAddr, Arc<Line>>,
     reception: Option<Reception>,
+    /// Connections whose readers are to be woken once no more has come.
+    to_wake: Vec<Arc<Line>>,
 }
 
 /// An address of IPv4 as itself, also where the system spells it as one of IPv6.
@@ -71,6 +77,7 @@ impl Driver {
             agenda,
             lines: HashMap::new(),
             reception,
+            to_wake: Vec::new(),
         }
     }
 
@@ -89,20 +96,32 @@ impl Driver {
     fn run(mut self) {
         let mut batch = Batch::new();
         while !self.is_over() {
-            let wait = self.agenda.begin_sleep(Instant::now());
-            let heard = self.wire.receive(&mut batch, wait);
-            self.agenda.end_sleep();
+            let heard = self.receive(&mut batch);
             if let Err(fault) = heard {
                 self.fail(fault);
                 return;
             }
             self.hear(&batch);
             self.fire();
+            if batch.heard.is_empty() || !CAN_LOOK || MOST_TO_WAKE <= self.to_wake.len() {
+                self.to_wake.drain(..).for_each(|it| it.wake_readers());
+            }
             if !batch.heard.is_empty() {
                 // Whoever sends or reads comes first: then more is heard at once.
                 thread::yield_now();
             }
         }
+    }
+
+    /// Hears what has come, and waits for it where nobody is to be woken.
+    fn receive(&self, batch: &mut Batch) -> io::Result<()> {
+        if !self.to_wake.is_empty() {
+            return self.wire.receive(batch, Duration::ZERO);
+        }
+        let wait = self.agenda.begin_sleep(Instant::now());
+        let heard = self.wire.receive(batch, wait);
+        self.agenda.end_sleep();
+        heard
     }
 
     fn is_over(&self) -> bool {
@@ -124,10 +143,7 @@ impl Driver {
             let known = self.lines.get(&peer).map(Arc::clone);
             // One that has ended stands in no way of a new Request.
             match known.filter(|it| asked_service(first).is_none() || it.end().is_none()) {
-                Some(line) => {
-                    line.hear(some);
-                    self.announce(&line);
-                }
+                Some(line) => self.tell(&line, some),
                 None => some.iter().for_each(|(_, it)| self.meet(peer, it)),
             }
         }
@@ -136,7 +152,8 @@ impl Driver {
     /// Hears a datagram of a peer without a connection. What it would answer itself is passed over; of a client there is none.
     fn meet(&mut self, peer: SocketAddr, datagram: &[u8]) {
         if let Some(line) = self.lines.get(&peer).filter(|it| it.end().is_none()) {
-            return line.hear(&[(peer, datagram)]);
+            let line = Arc::clone(line);
+            return self.tell(&line, &[(peer, datagram)]);
         }
         let Some(reception) = &mut self.reception else {
             return;
@@ -164,12 +181,20 @@ impl Driver {
                 self.lines.insert(peer, line);
             }
             Accepted::Connection(mut connection) => {
-                let frames: Vec<Transmit> = connection.take_frames().collect();
+                let mut frames = Vec::new();
+                connection.exchange_frames(&mut frames);
                 self.wire.send(peer, &frames);
             }
             Accepted::Answer(frame) => self.wire.send(peer, &[frame]),
             Accepted::Nothing => {}
         }
+    }
+
+    fn tell(&mut self, line: &Arc<Line>, datagrams: &[(SocketAddr, &[u8])]) {
+        if line.hear(datagrams) {
+            self.to_wake.push(Arc::clone(line));
+        }
+        self.announce(line);
     }
 
     /// Gives a connection that is open for the first time to the listener's owner.

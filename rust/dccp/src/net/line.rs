@@ -8,6 +8,7 @@ use crate::{Connection, Event, Phase, SendError, Statistics, Transmit};
 use std::collections::VecDeque;
 use std::net::SocketAddr;
 use std::sync::{Arc, Condvar, Mutex, MutexGuard, PoisonError};
+use std::thread;
 use std::time::{Duration, Instant};
 
 /// How long a connection that has ended is kept for what is still under way, and one that was let go waits for what is in flight.
@@ -15,6 +16,9 @@ const LINGER: Duration = Duration::from_secs(2);
 
 /// How many Syncs and Resets answer the packets of a connection in a second (RFC 4340, sections 7.5.4 and 8.3.1; the number is own).
 const ANSWERS: u32 = 20;
+
+/// How many packets wait to be read before a reader is woken although more come.
+const MUCH: usize = 64;
 
 /// How many of something may be done in each second.
 pub(super) struct Limit {
@@ -184,14 +188,14 @@ impl State {
         self.end.is_some_and(|(_, at)| at + LINGER <= now)
     }
 
-    /// Adds the frames that wait, except answers that are too many.
-    fn take_frames(&mut self, now: Instant, frames: &mut Vec<Transmit>) {
-        let (answers, left_out) = (&mut self.answers, &mut self.answers_left_out);
-        frames.extend(self.connection.take_frames().filter(|it| {
-            let goes = !it.is_answer || answers.may(now);
-            *left_out += u64::from(!goes);
+    /// Puts the frames that wait in place of these, which were sent; except answers that are too many.
+    fn exchange_frames(&mut self, now: Instant, frames: &mut Vec<Transmit>) {
+        self.connection.exchange_frames(frames);
+        frames.retain(|it| {
+            let goes = !it.is_answer || self.answers.may(now);
+            self.answers_left_out += u64::from(!goes);
             goes
-        }));
+        });
     }
 }
 
@@ -201,7 +205,7 @@ pub(super) struct Line {
     wire: Arc<Wire>,
     agenda: Arc<Agenda>,
     state: Mutex<State>,
-    /// Held by whoever hands frames to the system, so that they go out in their order: the place for them.
+    /// Held by whoever hands frames to the system, so that they go out in their order. What went last stays, for its room.
     order: Mutex<Vec<Transmit>>,
     readable: Condvar,
     writable: Condvar,
@@ -264,7 +268,14 @@ impl Line {
         answer
     }
 
-    fn finish(&self, mut state: MutexGuard<'_, State>, now: Instant) {
+    fn finish(&self, state: MutexGuard<'_, State>, now: Instant) {
+        if self.finish_quietly(state, now) {
+            self.wake_readers();
+        }
+    }
+
+    /// The same, but it answers whether readers are to be woken.
+    fn finish_quietly(&self, mut state: MutexGuard<'_, State>, now: Instant) -> bool {
         state.settle(now);
         let at = state.alarm();
         if state.scheduled.is_none_or(|planned| at < planned) {
@@ -278,12 +289,9 @@ impl Line {
         // Where nobody hands frames over, these are taken before the state is free for others.
         let mut order = has_frames.then(|| self.order.try_lock().ok()).flatten();
         if let Some(frames) = &mut order {
-            state.take_frames(now, frames);
+            state.exchange_frames(now, frames);
         }
         drop(state);
-        if wakes_readers {
-            self.readable.notify_all();
-        }
         if wakes_writers {
             self.writable.notify_all();
         }
@@ -292,17 +300,22 @@ impl Line {
             None if has_frames => self.flush(now),
             None => {}
         }
+        wakes_readers
+    }
+
+    /// Wakes who waits for data.
+    pub(super) fn wake_readers(&self) {
+        self.readable.notify_all();
     }
 
     fn flush(&self, now: Instant) {
         let mut frames = self.order.lock().unwrap_or_else(PoisonError::into_inner);
-        self.state().take_frames(now, &mut frames);
+        self.state().exchange_frames(now, &mut frames);
         self.hand_over(frames);
     }
 
-    fn hand_over(&self, mut frames: MutexGuard<'_, Vec<Transmit>>) {
+    fn hand_over(&self, frames: MutexGuard<'_, Vec<Transmit>>) {
         self.wire.send(self.peer, &frames);
-        frames.clear();
     }
 
     /// Sleeps until another call may have changed what is waited for.
@@ -334,13 +347,21 @@ impl Line {
         wait: Wait,
         mut take: impl FnMut(&mut VecDeque<Vec<u8>>) -> Option<T>,
     ) -> Result<T, Error> {
-        let mut state = self.state();
+        let (mut state, mut has_yielded) = (self.state(), matches!(wait, Wait::Not));
         loop {
             if let Some(found) = take(&mut state.inbox) {
                 return Ok(found);
             }
             if let Some((end, _)) = state.end {
                 return Err(Error::Ended(end));
+            }
+            if !has_yielded {
+                // Sleeping and waking cost more than letting the driver go first.
+                has_yielded = true;
+                drop(state);
+                thread::yield_now();
+                state = self.state();
+                continue;
             }
             state.readers += 1;
             let slept = self.sleep(&self.readable, state, wait);
@@ -440,8 +461,16 @@ impl Line {
         self.wait_ended(whole)
     }
 
-    pub(super) fn hear(&self, datagrams: &[(SocketAddr, &[u8])]) {
-        self.with(|state, now| state.hear(datagrams, now));
+    /// Hears datagrams. It answers whether readers are to be woken, which may wait until no more has come.
+    pub(super) fn hear(&self, datagrams: &[(SocketAddr, &[u8])]) -> bool {
+        let (mut state, now) = (self.state(), Instant::now());
+        state.hear(datagrams, now);
+        let is_much = MUCH <= state.inbox.len();
+        let wakes = self.finish_quietly(state, now);
+        if wakes && is_much {
+            self.wake_readers();
+        }
+        wakes && !is_much
     }
 
     /// Does what the time has come for, where this is what the agenda had it for.
@@ -509,5 +538,21 @@ impl Line {
     /// Makes calls of the connection, such as `prefer` and `feature`.
     pub(super) fn call<T>(&self, doing: impl FnOnce(&mut Connection) -> T) -> T {
         self.with(|state, _| doing(&mut state.connection))
+    }
+}
+
+#[cfg(test)]
+mod tests {
+    use super::Limit;
+    use std::time::{Duration, Instant};
+
+    #[test]
+    fn a_limit_begins_anew_each_second() {
+        let begun = Instant::now();
+        let mut limit = Limit::new(2, begun);
+        let mut may = |after| limit.may(begun + Duration::from_millis(after));
+        assert_eq!([may(0), may(10), may(20)], [true, true, false]);
+        assert_eq!([may(999), may(1_000), may(1_001)], [false, true, true]);
+        assert_eq!([may(1_999), may(2_000)], [false, true]);
     }
 }

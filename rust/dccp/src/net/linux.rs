@@ -34,6 +34,9 @@ const ROOM: usize = 1 << 16;
 /// The bytes of all messages that are heard at once. What is not used of it takes no memory.
 pub(super) const ROOMS: usize = MOST * ROOM;
 
+/// Whether the system tells at once that nothing has come.
+pub(super) const CAN_LOOK: bool = true;
+
 /// How many datagrams one message has, and how many bytes, headers of IP left out.
 const MOST_SEGMENTS: usize = 62;
 const MOST_BYTES: usize = 65_000;
@@ -520,7 +523,8 @@ fn address_of(name: &Name) -> Option<SocketAddr> {
 
 #[cfg(test)]
 mod tests {
-    use super::{address_of, name_of};
+    use super::{Batch, Control, Runs, SOL_UDP, UDP_GRO, address_of, name_of, segment_of, split};
+    use crate::Transmit;
     use std::net::SocketAddr;
 
     /// As <netinet/in.h> has them: family, port in network order, address.
@@ -529,16 +533,70 @@ mod tests {
         let v4: SocketAddr = "192.0.2.1:5001".parse().unwrap();
         let (name, length) = name_of(v4);
         assert_eq!((name.family, name.port, length), (2, [0x13, 0x89], 16));
-        assert_eq!(
-            (&name.rest[..4], address_of(&name)),
-            (&[192, 0, 2, 1][..], Some(v4))
-        );
+        assert_eq!(name.rest[..4], [192, 0, 2, 1]);
+        assert_eq!(address_of(&name), Some(v4));
         let v6: SocketAddr = "[2001:db8::1]:80".parse().unwrap();
         let (name, length) = name_of(v6);
         assert_eq!((name.family, name.port, length), (10, [0, 80], 28));
+        assert_eq!((name.rest[4], name.rest[19]), (0x20, 1));
+        assert_eq!(address_of(&name), Some(v6));
+    }
+
+    fn lengths(of: &[usize], most: usize) -> Vec<usize> {
+        let frames: Vec<Transmit> = of
+            .iter()
+            .map(|length| Transmit {
+                bytes: vec![0; *length],
+                is_answer: false,
+            })
+            .collect();
+        let left = &frames[..];
+        Runs { left, most }.map(<[Transmit]>::len).collect()
+    }
+
+    /// UDP_SEGMENT cuts a message into pieces of one length, of which the last may be shorter.
+    #[test]
+    fn a_run_has_one_length_and_a_shorter_end() {
+        assert_eq!(lengths(&[9, 9, 9], 62), [3]);
+        assert_eq!(lengths(&[9, 9, 4, 9], 62), [3, 1]);
+        assert_eq!(lengths(&[4, 9, 9], 62), [1, 2]);
+        assert_eq!(lengths(&[9, 9, 9, 9, 9], 2), [2, 2, 1]);
+        assert_eq!(lengths(&[9, 9, 9], 1), [1, 1, 1]);
+        // No more bytes than a datagram of IP has: 65,000 hold 62 of 1,040 bytes, and 31 of 2,044.
+        assert_eq!(lengths(&[1_040; 70], 62), [62, 8]);
+        assert_eq!(lengths(&[2_044; 40], 62), [31, 9]);
+        assert_eq!(lengths(&[], 62), []);
+    }
+
+    /// UDP_GRO tells the length of all datagrams of a message except the last.
+    #[test]
+    fn a_message_of_many_is_parted() {
+        let told = |length, kind| {
+            let mut value = [0; 8];
+            value[..4].copy_from_slice(&1_000_i32.to_ne_bytes());
+            let level = SOL_UDP;
+            segment_of(&Control {
+                length,
+                level,
+                kind,
+                value,
+            })
+        };
+        assert_eq!(told(20, UDP_GRO), Some(1_000));
+        assert_eq!((told(0, UDP_GRO), told(20, UDP_GRO + 1)), (None, None));
+        let from: SocketAddr = "192.0.2.1:5001".parse().unwrap();
+        let parted = |length: usize, segment| {
+            let mut batch = Batch::new();
+            split(&mut batch, from, 10..10 + length, segment);
+            let places = batch.heard.into_iter().map(|(_, place)| place);
+            places.map(|it| (it.start, it.end)).collect::<Vec<_>>()
+        };
         assert_eq!(
-            (name.rest[4], name.rest[19], address_of(&name)),
-            (0x20, 1, Some(v6))
+            parted(2_500, Some(1_000)),
+            [(10, 1_010), (1_010, 2_010), (2_010, 2_510)]
         );
+        assert_eq!(parted(2_000, Some(1_000)), [(10, 1_010), (1_010, 2_010)]);
+        assert_eq!(parted(2_500, None), [(10, 2_510)]);
+        assert_eq!(parted(0, None), [(10, 10)]);
     }
 }

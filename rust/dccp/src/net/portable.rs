@@ -9,6 +9,9 @@ use std::time::Duration;
 /// A byte more than a frame may have, so that one that is too long is seen to be.
 pub(super) const ROOMS: usize = MOST_FRAME_BYTES + 1;
 
+/// Whether the system tells at once that nothing has come.
+pub(super) const CAN_LOOK: bool = false;
+
 /// A read may wait for no time that is shorter.
 const SHORTEST: Duration = Duration::from_millis(1);
 /// Nothing wakes a driver, so it sleeps for no longer.
