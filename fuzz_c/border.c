@@ -9,9 +9,9 @@
 
 #include "dccp.h"
 
-enum { CLIENT = 0, SERVER = 1, LISTENER = 2, CALLS = 16, PHASES = 9, STATUSES = 19, PEERS = 4 };
+enum { CLIENT = 0, SERVER = 1, LISTENER = 2, CALLS = 16, PHASES = 9, STATUSES = 20, CAUSES = 13, PEERS = 4 };
 
-__attribute__((section("__libfuzzer_extra_counters"))) static uint8_t answered[CALLS * PHASES * STATUSES], was_told[3 * PHASES * 6 * 12];
+__attribute__((section("__libfuzzer_extra_counters"))) static uint8_t answered[CALLS * PHASES * STATUSES], was_told[3 * PHASES * 6 * CAUSES];
 
 struct input {
     const uint8_t *next, *past;
@@ -61,7 +61,15 @@ static dccp_settings settings_of(bool is_server, struct input *in) {
     it.first_number = draw(in, 1) == 255 ? draw(in, 8) : 1000;
     it.own_port = is_server ? 2 : 1;
     it.peer_port = is_server ? 1 : 2;
-    it.is_plain = draw(in, 1) & 1;
+    uint8_t flags = (uint8_t)draw(in, 1);
+    it.is_plain = flags & 1;
+    it.without_round_trip = flags >> 1 & 1;
+    it.without_soon_acks = flags >> 2 & 1;
+    it.without_ack_ratio = flags >> 3 & 1;
+    it.without_probes = flags >> 4 & 1;
+    it.without_limits = flags >> 5 & 1;
+    it.without_giving_up = flags >> 6 & 1;
+    it.without_wide_window = flags >> 7;
     return it;
 }
 
@@ -95,9 +103,9 @@ static void judge(int call, int who, dccp_status status, const dccp_view *before
 
 static void judge_told(int who, dccp_status status, const dccp_told *told, size_t length) {
     if (status != DCCP_OK) return;
-    require(told->kind <= DCCP_TOLD_SENT_RESET && told->cause <= DCCP_CAUSE_BAD_SYNC, "something told that is none");
+    require(told->kind <= DCCP_TOLD_SENT_RESET && told->cause < CAUSES, "something told that is none");
     require(told->first <= told->past && told->past <= length, "data that do not lie in the datagram");
-    was_told[((who * PHASES + (int)phase_of(who)) * 6 + (int)told->kind) * 12 + (int)told->cause] = 1;
+    was_told[((who * PHASES + (int)phase_of(who)) * 6 + (int)told->kind) * CAUSES + (int)told->cause] = 1;
 }
 
 /* A datagram for an end or the listener: bytes of the input, or the last frame of another, maybe with a byte changed and mended. */
@@ -169,6 +177,7 @@ static void call_listener(int call, struct input *in) {
     dccp_told told = {0};
     dccp_wish wishes[2] = {0};
     dccp_settings settings;
+    dccp_flow_rules rules;
     size_t length;
     dccp_status status;
     s.frame.length = 0;
@@ -190,7 +199,18 @@ static void call_listener(int call, struct input *in) {
         case 5: judge(12, LISTENER, dccp_listener_send(&s.listener, &peer, bytes, draw(in, 2) % 1026, s.now, &s.frame), NULL); return;
         case 6: judge(13, LISTENER, dccp_listener_close(&s.listener, &peer, s.now, &s.frame), NULL); return;
         case 7: judge(14, LISTENER, dccp_listener_abort(&s.listener, &peer, s.now, &s.frame), NULL); return;
-        case 8: (void)dccp_listener_peer(&s.listener, (uint16_t)draw(in, 2), &peer); return;
+        case 8:
+            (void)dccp_listener_peer(&s.listener, (uint16_t)draw(in, 2), &peer);
+            (void)dccp_listener_evicted(&s.listener, &peer);
+            (void)dccp_listener_life(&s.listener, &peer, &(dccp_flow_life){0});
+            return;
+        case 9: (void)dccp_listener_forget(&s.listener, &peer, s.now); return;
+        case 10:
+            rules = (dccp_flow_rules){.respond = draw(in, 2), .crowded = draw(in, 2), .closing = draw(in, 2), .idle = draw(in, 2)};
+            rules.makes_room = draw(in, 1) & 1;
+            rules.ends_old_flows = draw(in, 1) & 1;
+            (void)dccp_listener_rules(&s.listener, &rules);
+            return;
         default: judge(15, LISTENER, dccp_listener_tick(&s.listener, s.now, &peer, &s.frame), NULL); return;
     }
 }
@@ -203,7 +223,7 @@ int LLVMFuzzerTestOneInput(const uint8_t *data, size_t size) {
         s.now += call >> 7 ? draw(&in, 2) : 1;
         int who = (call & 0x7f) % 3;
         if (who == LISTENER)
-            call_listener((call & 0x7f) / 3 % 10, &in);
+            call_listener((call & 0x7f) / 3 % 12, &in);
         else
             call_end((call & 0x7f) / 3 % 11, who, &in);
         (void)dccp_until_first(&s.ends[CLIENT], s.now);

@@ -180,7 +180,8 @@ typedef struct dccp_flow_rules {
     uint64_t crowded;    /* the same where more than half of the table is in DCCP_PHASE_RESPOND */
     uint64_t closing;    /* how long one may stand in DCCP_PHASE_CLOSEREQ and in DCCP_PHASE_CLOSING */
     uint64_t idle;       /* how long one in DCCP_PHASE_OPEN may take no packet */
-    bool makes_room;     /* a Request at a full table ends the flow longest in DCCP_PHASE_TIMEWAIT, else the longest in DCCP_PHASE_RESPOND over its time */
+    bool makes_room;     /* a Request at a full table ends the flow longest in DCCP_PHASE_TIMEWAIT, else the longest in DCCP_PHASE_RESPOND over
+                            its time */
     bool ends_old_flows; /* a peer that begins anew from its port ends its old flow */
 } dccp_flow_rules;
 
@@ -210,7 +211,8 @@ typedef struct dccp_settings {
     bool without_soon_acks;     /* Acks wait for 200 ms and up to 64 s, else for 50 ms and up to 20 s, and not where data show a hole */
     bool without_ack_ratio;     /* the Ack Ratio of its data stays, else it follows the window */
     bool without_probes;        /* a timeout is told at once, else with a window of 16 or more the peer is asked for a sign of life first */
-    bool without_limits;        /* each datagram is heard that would be answered by a Sync, else 20 a second near the peer's numbers, and one far from them */
+    bool without_limits;        /* each datagram is heard that would be answered by a Sync, else 20 a second near the peer's numbers, and one
+                                   far from them */
     bool without_giving_up;     /* it waits for a silent peer for ever, else some minutes */
 } dccp_settings;
 
@@ -331,8 +333,10 @@ dccp_status dccp_abort(dccp_end *end, uint64_t now, dccp_frame *frame);
 dccp_status dccp_prefer(dccp_end *end, uint32_t feature, bool at_peer, const uint64_t *values, size_t count, uint64_t now,
                         dccp_frame *frame);
 
-/* Tells the end the first of its timers that has run out, or else what it has to do for its path. DCCP_OK, also where that leaves no frame:
- * call it again, at most seven times at one time, until it answers DCCP_NOTHING_DUE, where nothing is due; DCCP_NOT_MADE. */
+/* Tells the end the first of its timers that has run out, or else what it has to do for its path.
+ *     DCCP_OK           also where that leaves no frame: call it again, at most seven times at one time, until it answers the next
+ *     DCCP_NOTHING_DUE
+ *     DCCP_NOT_MADE */
 dccp_status dccp_tick(dccp_end *end, uint64_t now, dccp_frame *frame);
 
 /* How many milliseconds it is until dccp_tick has something to do; DCCP_NEVER where no timer runs, or there is no end. Ask again after every
@@ -371,9 +375,10 @@ dccp_status dccp_feature(dccp_end *end, uint32_t feature, bool at_peer, dccp_fea
 /* Makes a listener in the handle, for at most `most` flows at a time, 1 to 1,024. One that the handle held is freed first, also where making
  * fails; then the handle holds none. Of the settings count the own address and port and the service; `is_v6` has to be false and
  * `first_number` below 2^48, and the others make no difference. The wishes are those of each peer's end, which makes no offer by itself: so
- * one for its own Sequence Window or Ack Ratio changes nothing. The statuses of dccp_make, and DCCP_NO_SUCH_LISTENER for IPv6 and for another
- * `most`.
- * A flow takes about 87 KB, which it gives back where it ends. The listener goes by DCCP_USUAL_RULES until dccp_listener_rules says else. */
+ * one for its own Sequence Window or Ack Ratio changes nothing. A flow takes about 87 KB, which it gives back where it ends. The listener goes
+ * by DCCP_USUAL_RULES until dccp_listener_rules says else.
+ *     DCCP_NO_SUCH_LISTENER  for IPv6, or for none or over 1,024 flows
+ *     a status of dccp_make */
 dccp_status dccp_listener_make(dccp_listener *listener, const dccp_settings *settings, const dccp_wish *wishes, size_t count, uint16_t most);
 
 /* Frees what the handle holds, with all flows. Afterwards it holds none, and may be freed again or made again. */
@@ -381,55 +386,91 @@ void dccp_listener_free(dccp_listener *listener);
 
 /* A datagram has come from this peer. Its flow hears it, or it opens one, if it is a Request that a server's end takes up: that has
  * `first_number` as the number of its first packet, below 2^48, which nobody can guess; draw one for each datagram, or for each whose peer has
- * no flow. DCCP_OK, and what became of it in `told`; a flow that has ended by it is there no more. Where it would open one flow more than
- * may stand, the rules may end a flow for it, which dccp_listener_evicted names; else DCCP_BUSY: nothing has changed, and the frame is a Reset
- * with code 9, Too Busy. Then the owner may forget a flow to make room, or let the peer ask again. Where it shows that the peer has begun anew
- * from its port (DCCP_TOLD_SYNCED, a Reset with code 4 that acknowledges the last Sync of its flow), the rules end that flow and leave no frame, and
- * the peer's next Request opens another. DCCP_NO_NUMBER for the number, DCCP_TOO_LONG over 2,044 bytes, DCCP_NOT_MADE: nothing has changed and
- * nothing is left. DCCP_NO_MEMORY: nothing is left, and nothing has changed but that a flow may have made room. Except for DCCP_OK `told` is
- * as it was. Anybody may call forth the frame of DCCP_BUSY, and those of DCCP_TOLD_SYNCED and
- * DCCP_TOLD_SENT_RESET: limit how many go out in a second. One that is left out is a lost frame. */
+ * no flow. Where it would open one flow more than may stand, the rules may end a flow for it, which dccp_listener_evicted names. Where it shows
+ * that the peer has begun anew from its port (DCCP_TOLD_SYNCED, a Reset with code 4 that acknowledges the last Sync of its flow), the rules end
+ * that flow and leave no frame, and the peer's next Request opens another. Anybody may call forth the frame of DCCP_BUSY, and those of
+ * DCCP_TOLD_SYNCED and DCCP_TOLD_SENT_RESET: limit how many go out in a second. One that is left out is a lost frame.
+ *     DCCP_OK         what became of it is in `told`, which is as it was with all others; a flow that has ended by it is there no more
+ *     DCCP_BUSY       there is no room for it; nothing has changed, and the frame is a Reset with code 9, Too Busy: forget a flow to make
+ *                     room, or let the peer ask again
+ *     DCCP_NO_NUMBER  `first_number` is none; with this and the next two nothing has changed, and nothing is left
+ *     DCCP_TOO_LONG   over 2,044 bytes
+ *     DCCP_NOT_MADE
+ *     DCCP_NO_MEMORY  nothing is left, and nothing has changed except that a flow may have made room */
 dccp_status dccp_listener_arrive(dccp_listener *listener, const dccp_peer *peer, uint64_t first_number, const uint8_t *datagram, size_t length,
-                              uint64_t now, dccp_frame *frame, dccp_told *told);
+                                 uint64_t now, dccp_frame *frame, dccp_told *told);
 
-/* Sends data to a peer, as dccp_send does it once the flow is DCCP_PHASE_OPEN. DCCP_OK; DCCP_NOT_MADE, DCCP_NO_FLOW; DCCP_NOT_OPEN, DCCP_TOO_LONG,
- * DCCP_WINDOW_FULL; DCCP_NOT_NEGOTIATED: the peer sends no Ack Vectors. A flow's end asks for nothing by itself, so its peer has to offer
- * them: by a wish for DCCP_FEATURE_SEND_ACK_VECTOR, not at_peer, of the value 1, that is_offered. */
+/* Sends data to a peer, as dccp_send does it once the flow is DCCP_PHASE_OPEN. A flow's end asks for nothing by itself, so its peer has to
+ * offer Ack Vectors: by a wish for DCCP_FEATURE_SEND_ACK_VECTOR, not at_peer, of the value 1, that is_offered. The first that holds:
+ *     DCCP_NOT_MADE
+ *     DCCP_NO_FLOW
+ *     DCCP_NOT_OPEN
+ *     DCCP_TOO_LONG
+ *     DCCP_NOT_NEGOTIATED  the peer sends no Ack Vectors
+ *     DCCP_WINDOW_FULL
+ *     DCCP_OK */
 dccp_status dccp_listener_send(dccp_listener *listener, const dccp_peer *peer, const uint8_t *data, size_t length, uint64_t now,
-                            dccp_frame *frame);
+                               dccp_frame *frame);
 
-/* Closes a peer's connection in order, as dccp_close. DCCP_OK; DCCP_NOT_MADE, DCCP_NO_FLOW, DCCP_NOT_OPEN. */
+/* Closes a peer's connection in order, as dccp_close.
+ *     DCCP_OK
+ *     DCCP_NOT_MADE
+ *     DCCP_NO_FLOW
+ *     DCCP_NOT_OPEN */
 dccp_status dccp_listener_close(dccp_listener *listener, const dccp_peer *peer, uint64_t now, dccp_frame *frame);
 
-/* Ends a peer's connection at once, and its flow with it. DCCP_OK; DCCP_NOT_MADE, DCCP_NO_FLOW; DCCP_NOT_LIVE in DCCP_PHASE_TIMEWAIT. */
+/* Ends a peer's connection at once, and its flow with it.
+ *     DCCP_OK
+ *     DCCP_NOT_MADE
+ *     DCCP_NO_FLOW
+ *     DCCP_NOT_LIVE  in DCCP_PHASE_TIMEWAIT */
 dccp_status dccp_listener_abort(dccp_listener *listener, const dccp_peer *peer, uint64_t now, dccp_frame *frame);
 
-/* Tells a flow the first of its timers that has run out, and names its peer. DCCP_OK, also where that leaves no frame: call it again until it
- * answers DCCP_NOTHING_DUE. Where no timer has run out, a flow that has stood or been silent for too long by the rules is given up:
- * DCCP_GAVE_UP, with its peer and the Reset for it, code 2, Aborted. With DCCP_NOTHING_DUE and DCCP_NOT_MADE `peer` is as it was. */
+/* Tells a flow the first of its timers that has run out, and names its peer. Where none has, a flow that has stood or been silent for too long
+ * by the rules is given up.
+ *     DCCP_OK           also where that leaves no frame: call it again until it answers DCCP_NOTHING_DUE
+ *     DCCP_GAVE_UP      `peer` was given up, and the frame is its Reset, with code 2, Aborted: call it again
+ *     DCCP_NOTHING_DUE  `peer` is as it was
+ *     DCCP_NOT_MADE     `peer` is as it was */
 dccp_status dccp_listener_tick(dccp_listener *listener, uint64_t now, dccp_peer *peer, dccp_frame *frame);
 
 /* How many milliseconds it is until dccp_listener_tick has something to do; DCCP_NEVER where it never has. Ask again after other calls. Both
  * go through all flows: so hear all datagrams that have come, and then ask. */
 uint64_t dccp_listener_until_first(dccp_listener *listener, uint64_t now);
 
-/* Reads the end of a peer. DCCP_OK; DCCP_NOT_MADE, DCCP_NO_FLOW, and `view` is as it was. */
+/* Reads the end of a peer.
+ *     DCCP_OK
+ *     DCCP_NOT_MADE  `view` is as it was
+ *     DCCP_NO_FLOW   `view` is as it was */
 dccp_status dccp_listener_look(dccp_listener *listener, const dccp_peer *peer, dccp_view *view);
 
-/* Names the peer at this place, from 0, among those that have a flow, in the order of their addresses and ports. DCCP_OK; DCCP_NOT_MADE, or
- * DCCP_NO_FLOW past the last, and `peer` is as it was. */
+/* Names the peer at this place, from 0, among those that have a flow, in the order of their addresses and ports.
+ *     DCCP_OK
+ *     DCCP_NOT_MADE  `peer` is as it was
+ *     DCCP_NO_FLOW   past the last; `peer` is as it was */
 dccp_status dccp_listener_peer(dccp_listener *listener, uint16_t place, dccp_peer *peer);
 
-/* Whose flow made room for the last datagram. DCCP_OK; DCCP_NOT_MADE, or DCCP_NO_FLOW where none did, and `peer` is as it was. */
+/* Whose flow made room for the last datagram.
+ *     DCCP_OK
+ *     DCCP_NOT_MADE  `peer` is as it was
+ *     DCCP_NO_FLOW   none did; `peer` is as it was */
 dccp_status dccp_listener_evicted(dccp_listener *listener, dccp_peer *peer);
 
-/* Ends a peer's flow at once, whatever its phase, also in DCCP_PHASE_TIMEWAIT, and sends nothing. DCCP_OK; DCCP_NOT_MADE, DCCP_NO_FLOW. */
+/* Ends a peer's flow at once, whatever its phase, also in DCCP_PHASE_TIMEWAIT, and sends nothing.
+ *     DCCP_OK
+ *     DCCP_NOT_MADE
+ *     DCCP_NO_FLOW */
 dccp_status dccp_listener_forget(dccp_listener *listener, const dccp_peer *peer, uint64_t now);
 
-/* The listener goes by these rules from now on. DCCP_OK, DCCP_NOT_MADE. */
+/* The listener goes by these rules from now on.
+ *     DCCP_OK
+ *     DCCP_NOT_MADE */
 dccp_status dccp_listener_rules(dccp_listener *listener, const dccp_flow_rules *rules);
 
-/* Reads what is known of a peer's flow beside its end. DCCP_OK; DCCP_NOT_MADE, DCCP_NO_FLOW, and `life` is as it was. */
+/* Reads what is known of a peer's flow beside its end.
+ *     DCCP_OK
+ *     DCCP_NOT_MADE  `life` is as it was
+ *     DCCP_NO_FLOW   `life` is as it was */
 dccp_status dccp_listener_life(dccp_listener *listener, const dccp_peer *peer, dccp_flow_life *life);
 
 /* DCCP_ABI and DCCP_VERSION of the library that was linked: a program whose header has another DCCP_ABI does not fit it. */

@@ -115,6 +115,11 @@ class connection {
         return view;
     }
 
+    dccp_round_trip look_path() const {
+        dccp_round_trip trip{};
+        check(dccp_connection_look_path(it_, &trip));
+        return trip;
+    }
     dccp_statistics statistics() const { return dccp_connection_statistics(it_); }
 
     template <typename T>
@@ -257,6 +262,11 @@ class end {
         dccp_view view{};
         check(dccp_look(&it_, &view));
         return view;
+    }
+    dccp_round_trip look_path() {
+        dccp_round_trip trip{};
+        check(dccp_look_path(&it_, &trip));
+        return trip;
     }
     dccp_feature_state feature(dccp_feature_kind feature, bool at_peer = false) {
         dccp_feature_state state{};

@@ -74,7 +74,7 @@ typedef struct dccp_statistics {
 /* What a socket is made from; begun as DCCP_SOCKET_OPTIONS_INIT. A number of 0 is the usual one. */
 typedef struct dccp_socket_options {
     size_t size;             /* sizeof(dccp_socket_options): later versions have more fields */
-    const dccp_wish *wishes; /* of each end; before them it offers a Sequence Window of 10,000 packets */
+    const dccp_wish *wishes; /* of each end, beside the usual ones; 16 at most */
     size_t wish_count;
     const char *client_name; /* names that both ends have agreed on, "ADDRESS PORT", as "192.0.2.1 1": they stand in each packet and its */
     const char *server_name; /* checksum, in place of addresses and ports that are translated on the way. NULL: the addresses themselves */
@@ -121,10 +121,11 @@ dccp_status dccp_connection_close(dccp_connection *connection);
 /* Ends at once; its event comes. DCCP_OK; DCCP_NOT_LIVE, DCCP_NOT_MADE. */
 dccp_status dccp_connection_abort(dccp_connection *connection);
 
-/* As dccp_prefer, dccp_feature and dccp_look. */
+/* As dccp_prefer, dccp_feature, dccp_look and dccp_look_path. */
 dccp_status dccp_connection_prefer(dccp_connection *connection, dccp_feature_kind feature, bool at_peer, const uint64_t *values, size_t count);
 dccp_status dccp_connection_feature(dccp_connection *connection, dccp_feature_kind feature, bool at_peer, dccp_feature_state *state);
 dccp_status dccp_connection_look(dccp_connection *connection, dccp_view *view);
+dccp_status dccp_connection_look_path(dccp_connection *connection, dccp_round_trip *trip);
 
 /* What was counted. */
 dccp_statistics dccp_connection_statistics(const dccp_connection *connection);

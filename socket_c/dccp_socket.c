@@ -19,8 +19,8 @@
 #include <unistd.h>
 
 /* Syncs and Resets that go out in a second for a connection, and for strangers; milliseconds for which an end that has ended is kept, and
- * after which timers are looked at although datagrams come; places of the table; the Sequence Window; the buffer asked of the system. */
-enum { ANSWERS = 20, STRANGERS = 100, LINGER = 2000, TICK = 5, PLACES = 512, WIDTH = 10000, BUFFER = 1 << 21 };
+ * after which timers are looked at although datagrams come; places of the table; the buffer asked of the system. */
+enum { ANSWERS = 20, STRANGERS = 100, LINGER = 2000, TICK = 5, PLACES = 512, BUFFER = 1 << 21 };
 enum { MOST_WISHES = 16, MOST_SERVICES = 16 };
 
 /* An address of the system's, of IPv4 or IPv6. */
@@ -531,10 +531,9 @@ static bool arrange(dccp_socket *udp, const dccp_socket_options *given) {
     udp->most = usual(options.most, 1000);
     udp->patience = usual(options.patience, 30000);
     udp->idle = usual(options.idle, 180000);
-    udp->wishes[0] = (dccp_wish){.values = {WIDTH}, .count = 1, .feature = DCCP_FEATURE_SEQUENCE_WINDOW, .is_offered = true};
-    udp->wish_count = 1 + options.wish_count;
+    udp->wish_count = options.wish_count;
     if (MOST_WISHES < udp->wish_count) return false;
-    if (options.wish_count != 0) memcpy(udp->wishes + 1, options.wishes, options.wish_count * sizeof *options.wishes);
+    if (options.wish_count != 0) memcpy(udp->wishes, options.wishes, options.wish_count * sizeof *options.wishes);
     udp->has_names = options.client_name != NULL && options.server_name != NULL;
     return !udp->has_names || (read_name(options.client_name, &udp->client_name) && read_name(options.server_name, &udp->server_name));
 }
@@ -666,6 +665,8 @@ dccp_status dccp_connection_feature(dccp_connection *it, dccp_feature_kind featu
 }
 
 dccp_status dccp_connection_look(dccp_connection *it, dccp_view *view) { return dccp_look(&it->end, view); }
+
+dccp_status dccp_connection_look_path(dccp_connection *it, dccp_round_trip *trip) { return dccp_look_path(&it->end, trip); }
 
 dccp_statistics dccp_connection_statistics(const dccp_connection *it) { return it->statistics; }
 

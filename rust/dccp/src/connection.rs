@@ -20,7 +20,8 @@ pub struct Transmit {
 }
 
 /// What an end has measured of its path (RFC 6298).
-#[derive(Clone, Copy, Debug, PartialEq, Eq)]
+#[derive(Clone, Copy, Debug, Default, PartialEq, Eq)]
+#[non_exhaustive]
 pub struct RoundTrip {
     /// The round trip; zero before there was a sample.
     pub smoothed: Duration,
@@ -399,11 +400,12 @@ impl Connection {
         self.view.in_flight
     }
 
-    /// What was counted, and where the window stands.
-    pub fn statistics(&self) -> Statistics {
+    /// What was counted and measured, and where the window stands.
+    pub fn statistics(&mut self) -> Statistics {
         Statistics {
             window: self.window(),
             in_flight: self.in_flight(),
+            round_trip: self.round_trip(),
             ..self.outgoing.counts
         }
     }

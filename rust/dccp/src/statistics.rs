@@ -1,6 +1,6 @@
 //! What a connection has counted.
 
-use crate::sys;
+use crate::{RoundTrip, sys};
 
 /// Packets that went one way, by their types (RFC 4340, section 5.1).
 #[derive(Clone, Copy, Debug, Default, PartialEq, Eq)]
@@ -38,7 +38,7 @@ impl Traffic {
     }
 }
 
-/// What a connection has counted, and where its window stands.
+/// What a connection has counted and measured, and where its window stands.
 #[derive(Clone, Copy, Debug, Default, PartialEq, Eq)]
 #[non_exhaustive]
 pub struct Statistics {
@@ -56,6 +56,8 @@ pub struct Statistics {
     pub window: u32,
     /// How many packets of data are in flight.
     pub in_flight: u32,
+    /// The round trip, its variance, and how long a report is waited for.
+    pub round_trip: RoundTrip,
 }
 
 impl Statistics {

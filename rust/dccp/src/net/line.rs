@@ -527,7 +527,7 @@ impl Line {
     }
 
     pub(super) fn statistics(&self) -> Statistics {
-        let state = self.state();
+        let mut state = self.state();
         Statistics {
             answers_left_out: state.answers_left_out,
             unread_dropped: state.unread_dropped,

@@ -33,11 +33,12 @@ impl Default for Options {
 }
 
 impl Options {
-    /// What [`Socket::connect`] and [`Listener::bind`] take: a Sequence Window of 10,000 packets is asked for, so that the window of
-    /// CCID 2 is what bounds; 30 seconds to connect, three minutes of silence, 4,096 packets that wait, 1,000 connections.
+    /// What [`Socket::connect`] and [`Listener::bind`] take: 30 seconds to connect, three minutes of silence, 4,096 packets that wait,
+    /// 1,000 connections, and no wish beside the usual ones. Each end follows the rules of its path
+    /// ([`PathRule`](crate::PathRule)).
     pub fn new() -> Options {
         Options {
-            wishes: vec![(Feature::SequenceWindow, Place::Here, vec![10_000])],
+            wishes: Vec::new(),
             names: None,
             patience: Duration::from_secs(30),
             idle: Duration::from_secs(180),
@@ -67,7 +68,7 @@ impl Options {
     }
 
     /// After how much silence a connection is given up, three minutes if not said. An end that has nothing to say sends an Ack
-    /// every 64 seconds at the latest, so less than that ends connections that only rest.
+    /// every 20 seconds at the latest, so less than that ends connections that only rest.
     pub fn idle(mut self, wait: Duration) -> Options {
         self.idle = wait;
         self
