@@ -10,7 +10,7 @@
 //! A bench that does not do what it should ends by a panic. Nothing is claimed of what it prints.
 
 #[allow(dead_code)] // The crate for Rust calls more of it.
-#[path = "../../rust/dccp/src/sys.rs"]
+#[path = "../../rust/dccp-sys/src/lib.rs"]
 mod sys;
 
 mod blocks;

@@ -51,7 +51,8 @@ mod names;
 pub mod net;
 mod rules;
 mod statistics;
-mod sys;
+
+use dccp_sys as sys;
 
 pub use crate::config::{Config, PathRule};
 pub use crate::connection::{Accepted, Connection, Event, RoundTrip, Transmit};

@@ -1,4 +1,5 @@
-//! What this crate calls of the library for C, as `include/dccp.h` has it: a quick check of the repository compares this file with it.
+//! What the library for C has, as `include/dccp.h` declares it, which also says what each function does and what it asks of its caller.
+//! A quick check of the repository compares both. `build.rs` links the library; the crate `dccp` is the one to use.
 
 use std::ffi::c_void;
 
