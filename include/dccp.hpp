@@ -1,7 +1,7 @@
 // DCCP for C++17: values that own what dccp.h and dccp_socket.h make, spans in place of pointers with lengths, and exceptions.
 //
-// A dccp::socket is a client or a server over the system's UDP, without a thread (dccp_socket.c has to be linked); a dccp::end is one end
-// without socket and clock, for a program with a loop of its own. What may fail for what a peer does, as sending over a full window, is
+// A dccp::socket is a client or a server over the system's UDP, without a thread (dccp_socket.c has to be linked); a dccp::end is one end, and a
+// dccp::listener a server of many, without socket and clock, for a program with a loop of its own. What may fail for what a peer does, as sending over a full window, is
 // answered; what fails for a mistake or for want of memory is thrown.
 //
 //     auto socket = dccp::socket::connect("192.0.2.1", "5001", 42);
@@ -285,6 +285,65 @@ class end {
     }
 
     dccp_end it_ = DCCP_NONE;
+    dccp_frame frame_{};
+};
+
+// A server of many peers over IPv4, without socket and clock, as dccp.h has it. Each call leaves a frame for the peer that it names, which may
+// have no bytes.
+class listener {
+  public:
+    listener() = default;
+    listener(const dccp_settings &settings, const std::vector<dccp_wish> &wishes, uint16_t most) {
+        static constexpr dccp_wish none{};
+        check(dccp_listener_make(&it_, &settings, wishes.empty() ? &none : wishes.data(), wishes.size(), most));
+    }
+    listener(listener &&other) noexcept : it_(std::exchange(other.it_, DCCP_NO_LISTENER)) {}
+    listener &operator=(listener &&other) noexcept {
+        if (this != &other) {
+            dccp_listener_free(&it_);
+            it_ = std::exchange(other.it_, DCCP_NO_LISTENER);
+        }
+        return *this;
+    }
+    ~listener() { dccp_listener_free(&it_); }
+
+    dccp_status arrive(const dccp_peer &peer, uint64_t first_number, bytes datagram, uint64_t now, dccp_told &told) {
+        return dccp_listener_arrive(&it_, &peer, first_number, datagram.data(), datagram.size(), now, &frame_, &told);
+    }
+    dccp_status send(const dccp_peer &peer, bytes data, uint64_t now) {
+        return dccp_listener_send(&it_, &peer, data.data(), data.size(), now, &frame_);
+    }
+    dccp_status close(const dccp_peer &peer, uint64_t now) { return dccp_listener_close(&it_, &peer, now, &frame_); }
+    dccp_status abort(const dccp_peer &peer, uint64_t now) { return dccp_listener_abort(&it_, &peer, now, &frame_); }
+    dccp_status forget(const dccp_peer &peer, uint64_t now) { return dccp_listener_forget(&it_, &peer, now); }
+    dccp_status tick(uint64_t now, dccp_peer &peer) { return dccp_listener_tick(&it_, now, &peer, &frame_); }
+    void set_rules(const dccp_flow_rules &rules) { check(dccp_listener_rules(&it_, &rules)); }
+    // None: there is never anything to do.
+    std::optional<std::chrono::milliseconds> until_first(uint64_t now) {
+        const uint64_t left = dccp_listener_until_first(&it_, now);
+        if (left == DCCP_NEVER) return std::nullopt;
+        return std::chrono::milliseconds(left);
+    }
+    // None: the peer has no flow.
+    std::optional<dccp_view> look(const dccp_peer &peer) {
+        dccp_view view{};
+        if (dccp_listener_look(&it_, &peer, &view) != DCCP_OK) return std::nullopt;
+        return view;
+    }
+    // The peers that have a flow, in the order of their addresses and ports.
+    std::vector<dccp_peer> peers() {
+        std::vector<dccp_peer> found;
+        dccp_peer peer;
+        for (uint16_t place = 0; dccp_listener_peer(&it_, place, &peer) == DCCP_OK; place++) found.push_back(peer);
+        return found;
+    }
+
+    // What the last call has left for the peer, until the next call.
+    bytes frame() const { return {frame_.bytes, frame_.length}; }
+    explicit operator bool() const { return it_.made; }
+
+  private:
+    dccp_listener it_ = DCCP_NO_LISTENER;
     dccp_frame frame_{};
 };
 

@@ -142,10 +142,37 @@ static void ends() {
     same("its abort", DCCP_OK, moved.abort(0));
 }
 
+// A listener of one flow without a socket, and two clients: the second finds no room until the first is forgotten.
+static void a_listener() {
+    dccp_settings here{}, other{}, there{};
+    here.own_address[0] = here.peer_address[0] = there.own_address[0] = other.own_address[0] = other.peer_address[0] = 10;
+    here.own_port = 1;
+    other.own_port = 3;
+    here.peer_port = other.peer_port = there.own_port = 2;
+    dccp::end client(here), late(other);
+    dccp::listener server(there, {}, 1);
+    const dccp_peer peer{{10, 0, 0, 0}, 1}, second{{10, 0, 0, 0}, 3};
+    dccp_told told{};
+    same("open", DCCP_OK, client.open(0));
+    same("a Request", DCCP_OK, server.arrive(peer, 5, client.frame(), 0, told));
+    same("a Response", DCCP_OK, client.receive(server.frame(), 0, told));
+    same("its phase", DCCP_PHASE_RESPOND, server.look(peer)->phase);
+    same("open", DCCP_OK, late.open(0));
+    same("one too many", DCCP_BUSY, server.arrive(second, 5, late.frame(), 0, told));
+    same("a flow that goes", DCCP_OK, server.forget(peer, 0));
+    same("one of one", DCCP_OK, server.arrive(second, 5, late.frame(), 0, told));
+    same("its peer", 3, server.peers().at(0).port);
+    same("no flow", DCCP_NO_FLOW, server.send(peer, "x", 0));
+    dccp::listener moved = std::move(server);
+    same("what was moved", false, static_cast<bool>(server));
+    same("its flows", 1, static_cast<long long>(moved.peers().size()));
+}
+
 int main() {
     a_conversation();
     a_full_window();
     refusals();
     ends();
+    a_listener();
     return wrong;
 }
