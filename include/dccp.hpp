@@ -1,8 +1,8 @@
 // DCCP for C++17: values that own what dccp.h and dccp_socket.h make, spans in place of pointers with lengths, and exceptions.
 //
-// A dccp::socket is a client or a server over the system's UDP, without a thread (dccp_socket.c has to be linked); a dccp::end is one end, and a
-// dccp::listener a server of many, without socket and clock, for a program with a loop of its own. What may fail for what a peer does, as sending over a full window, is
-// answered; what fails for a mistake or for want of memory is thrown.
+// A dccp::socket is a client or a server over the system's UDP, without a thread (dccp_socket.c has to be linked); a dccp::end is one end, and
+// a dccp::listener a server of many, without socket and clock, for a program with a loop of its own. What may fail for what a peer does, as
+// sending over a full window, is answered; what fails for a mistake or for want of memory is thrown.
 //
 //     auto socket = dccp::socket::connect("192.0.2.1", "5001", 42);
 //     while (auto event = socket.poll()) {
