@@ -80,7 +80,7 @@ typedef struct dccp_socket_options {
     const char *server_name; /* checksum, in place of addresses and ports that are translated on the way. NULL: the addresses themselves */
     uint32_t most;           /* connections of a server at a time: 1,000. A Request beyond them is passed over */
     uint32_t patience;       /* milliseconds in which a connection has to open, and a close to be answered: 30,000 */
-    uint32_t idle;           /* milliseconds of silence after which a connection is given up: 180,000 */
+    uint32_t idle;           /* milliseconds of silence after which a connection is given up: 180,000, when an end gives up by itself */
 } dccp_socket_options;
 
 #define DCCP_SOCKET_OPTIONS_INIT {sizeof(dccp_socket_options), NULL, 0, NULL, NULL, 0, 0, 0}

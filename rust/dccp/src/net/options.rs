@@ -69,6 +69,7 @@ impl Options {
 
     /// After how much silence a connection is given up, three minutes if not said. An end that has nothing to say sends an Ack
     /// every 20 seconds at the latest, so less than that ends connections that only rest.
+    /// By itself an end gives a silent peer up after three minutes, so a longer time changes nothing.
     pub fn idle(mut self, wait: Duration) -> Options {
         self.idle = wait;
         self
