@@ -222,58 +222,77 @@ fn wait(socket: &UdpSocket, bell: &UnixDatagram, wait: Duration) -> io::Result<(
 /// Hears what has come, without waiting, and answers how many messages that is.
 fn receive(socket: &UdpSocket, peer: Option<SocketAddr>, batch: &mut Batch) -> io::Result<usize> {
     batch.heard.clear();
-    let (mut names, mut controls) = ([NOBODY; MOST], [NOTHING; MOST]);
-    let rooms = batch.rooms.as_mut_ptr();
-    let mut pieces: [Piece; MOST] = std::array::from_fn(|place| Piece {
-        // SAFETY: there are MOST rooms.
-        base: unsafe { rooms.add(place * ROOM) }.cast(),
-        length: ROOM,
-    });
-    let (name, piece, control) = (
-        names.as_mut_ptr(),
-        pieces.as_mut_ptr(),
-        controls.as_mut_ptr(),
-    );
-    // SAFETY: all three arrays have MOST entries, and are moved no more before the call is done.
-    let mut messages: [Message; MOST] = std::array::from_fn(|place| unsafe {
-        message(
-            (name.add(place), size_of::<Name>()),
-            (piece.add(place), 1),
-            control.add(place),
-        )
-    });
-    // SAFETY: each message points to a name, a control message, and a piece that points to a room of ROOM bytes; all of it lives longer
-    // than the call, and nothing else uses it before. The call fills at most MOST of them.
-    let count = unsafe {
-        recvmmsg(
-            socket.as_raw_fd(),
-            messages.as_mut_ptr(),
-            MOST as c_uint,
-            MSG_DONTWAIT,
-            ptr::null_mut(),
-        )
-    };
-    let Ok(count) = usize::try_from(count) else {
-        let fault = io::Error::last_os_error();
-        return if is_passing(&fault) {
-            Ok(0)
-        } else {
-            Err(fault)
-        };
-    };
+    let mut messages = Messages::new();
+    let count = messages.receive(socket, &mut batch.rooms)?;
     for place in 0..count {
         // Of another family there is none; such a datagram is no packet of a peer.
         let nobody = SocketAddr::new(IpAddr::V4(Ipv4Addr::UNSPECIFIED), 0);
-        let from = peer.or_else(|| address_of(&names[place])).unwrap_or(nobody);
-        let length = (messages[place].length as usize).min(ROOM);
-        split(
-            batch,
-            from,
-            place * ROOM..place * ROOM + length,
-            segment_of(&controls[place]),
-        );
+        let own = || address_of(&messages.names[place]);
+        let from = peer.or_else(own).unwrap_or(nobody);
+        let first = place * ROOM;
+        let past = first + messages.lengths[place].min(ROOM);
+        let segment = segment_of(&messages.controls[place]);
+        split(batch, from, first..past, segment);
     }
     Ok(count)
+}
+
+/// What the system tells of messages that were heard at once.
+struct Messages {
+    names: [Name; MOST],
+    controls: [Control; MOST],
+    lengths: [usize; MOST],
+}
+
+impl Messages {
+    fn new() -> Messages {
+        Messages {
+            names: [NOBODY; MOST],
+            controls: [NOTHING; MOST],
+            lengths: [0; MOST],
+        }
+    }
+
+    /// Hears messages into these rooms, without waiting, and answers how many have come.
+    fn receive(&mut self, socket: &UdpSocket, rooms: &mut [u8]) -> io::Result<usize> {
+        let mut pieces: Vec<Piece> = rooms
+            .chunks_exact_mut(ROOM)
+            .map(|room| Piece {
+                base: room.as_mut_ptr().cast(),
+                length: ROOM,
+            })
+            .collect();
+        let places = self.names.iter_mut().zip(&mut self.controls);
+        let mut headers: Vec<Message> = pieces
+            .iter_mut()
+            .zip(places)
+            .map(|(piece, (name, control))| message((name, size_of::<Name>()), (piece, 1), control))
+            .collect();
+        let (first, count) = (headers.as_mut_ptr(), headers.len() as c_uint);
+        // SAFETY: there are so many headers. Each points to a name, a control message, and a piece that points to a room of ROOM bytes;
+        // all of it lives longer than the call, and nothing else uses it before.
+        let count = unsafe {
+            recvmmsg(
+                socket.as_raw_fd(),
+                first,
+                count,
+                MSG_DONTWAIT,
+                ptr::null_mut(),
+            )
+        };
+        let Ok(count) = usize::try_from(count) else {
+            let fault = io::Error::last_os_error();
+            return if is_passing(&fault) {
+                Ok(0)
+            } else {
+                Err(fault)
+            };
+        };
+        for (length, header) in self.lengths.iter_mut().zip(&headers[..count]) {
+            *length = header.length as usize;
+        }
+        Ok(count)
+    }
 }
 
 /// The length of the datagrams that a message has, where it has several.
@@ -370,47 +389,39 @@ impl<'a> Iterator for Runs<'a> {
 /// Hands runs to the system, each as a message, and answers how many it took before it refused one.
 fn hand_over(socket: &UdpSocket, to: Option<SocketAddr>, runs: &[&[Transmit]]) -> usize {
     let (mut name, name_length) = to.map_or((NOBODY, 0), name_of);
-    let name = if to.is_some() {
-        &raw mut name
-    } else {
-        ptr::null_mut()
+    let name = match to {
+        Some(_) => &raw mut name,
+        None => ptr::null_mut(),
     };
-    let frames = runs.iter().copied().flatten();
-    let mut pieces: Vec<Piece> = frames
+    let mut pieces: Vec<Vec<Piece>> = runs.iter().map(|run| pieces_of(run)).collect();
+    let mut controls: Vec<Control> = runs.iter().map(|run| control_of(run)).collect();
+    let mut messages: Vec<Message> = pieces
+        .iter_mut()
+        .zip(&mut controls)
+        .map(|(own, control)| {
+            let control: *mut Control = if 1 < own.len() {
+                control
+            } else {
+                ptr::null_mut()
+            };
+            message((name, name_length), (own.as_mut_ptr(), own.len()), control)
+        })
+        .collect();
+    let (first, count) = (messages.as_mut_ptr(), messages.len() as c_uint);
+    // SAFETY: there are so many messages. Each has the name of its peer or none, a control message or none, and pieces, each of which
+    // points to the bytes of a frame; all of it lives longer than the call.
+    let sent = unsafe { sendmmsg(socket.as_raw_fd(), first, count, 0) };
+    usize::try_from(sent).unwrap_or(0)
+}
+
+/// Where the bytes of frames lie. The system only reads what is sent.
+fn pieces_of(run: &[Transmit]) -> Vec<Piece> {
+    run.iter()
         .map(|frame| Piece {
-            // The system only reads what is sent.
             base: frame.bytes.as_ptr().cast_mut().cast(),
             length: frame.bytes.len(),
         })
-        .collect();
-    let mut controls: Vec<Control> = runs.iter().map(|run| control_of(run)).collect();
-    let mut left = &mut pieces[..];
-    let mut messages: Vec<Message> = Vec::with_capacity(runs.len());
-    for (run, control) in runs.iter().zip(&mut controls) {
-        let (own, rest) = left.split_at_mut(run.len());
-        let control = if 1 < run.len() {
-            ptr::from_mut(control)
-        } else {
-            ptr::null_mut()
-        };
-        messages.push(message(
-            (name, name_length),
-            (own.as_mut_ptr(), own.len()),
-            control,
-        ));
-        left = rest;
-    }
-    // SAFETY: there are so many messages. Each has the name of its peer or none, a control message or none, and pieces, each of which
-    // points to the bytes of a frame; all of it lives longer than the call.
-    let sent = unsafe {
-        sendmmsg(
-            socket.as_raw_fd(),
-            messages.as_mut_ptr(),
-            runs.len() as c_uint,
-            0,
-        )
-    };
-    usize::try_from(sent).unwrap_or(0)
+        .collect()
 }
 
 /// What tells the system the length of a run's datagrams.
