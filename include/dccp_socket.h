@@ -78,7 +78,8 @@ typedef struct dccp_socket_options {
     size_t wish_count;
     const char *client_name; /* names that both ends have agreed on, "ADDRESS PORT", as "192.0.2.1 1": they stand in each packet and its */
     const char *server_name; /* checksum, in place of addresses and ports that are translated on the way. NULL: the addresses themselves */
-    uint32_t most;           /* connections of a server at a time: 1,000. A Request beyond them is passed over */
+    uint32_t most;           /* connections of a server at a time: 1,000. A Request beyond them takes the place of one that has ended or not
+                                opened for a second, or is passed over */
     uint32_t patience;       /* milliseconds in which a connection has to open, and a close to be answered: 30,000 */
     uint32_t idle;           /* milliseconds of silence after which a connection is given up: 180,000, when an end gives up by itself */
 } dccp_socket_options;

@@ -18,9 +18,10 @@
 #include <time.h>
 #include <unistd.h>
 
-/* Syncs and Resets that go out in a second for a connection, and for strangers; milliseconds for which an end that has ended is kept, and
- * after which timers are looked at although datagrams come; places of the table; the buffer asked of the system. */
-enum { ANSWERS = 20, STRANGERS = 100, LINGER = 2000, TICK = 5, PLACES = 512, BUFFER = 1 << 21 };
+/* Syncs and Resets that go out in a second for a connection, and for strangers; milliseconds for which an end that has ended is kept, after
+ * which one that has not opened may make room, and after which timers are looked at although datagrams come; places of the table; the buffer
+ * asked of the system. */
+enum { ANSWERS = 20, STRANGERS = 100, LINGER = 2000, STAY = 1000, TICK = 5, PLACES = 512, BUFFER = 1 << 21 };
 enum { MOST_WISHES = 16, MOST_SERVICES = 16 };
 
 /* An address of the system's, of IPv4 or IPv6. */
@@ -353,11 +354,36 @@ static uint32_t asked_service(const dccp_socket *udp, size_t length, bool *is_re
     return udp->services[0];
 }
 
+/* Since when a connection stands without an owner who needs it: it has ended and that was told, or has not opened; 0 of others. */
+static uint64_t idle_since(const dccp_connection *it) {
+    if (it->has_ended) return it->is_told ? it->ended : 0;
+    return it->is_opened ? 0 : it->heard;
+}
+
+/* Lets the connection go that has stood the longest without being open, if it has for a second at least. */
+static bool makes_room(dccp_socket *udp) {
+    dccp_connection *found = NULL;
+    for (dccp_connection *it = udp->newest; it != NULL; it = it->older)
+        if (idle_since(it) != 0 && (found == NULL || idle_since(it) < idle_since(found))) found = it;
+    if (found == NULL || now() < idle_since(found) + STAY) return false;
+    part(found);
+    discard(found);
+    return true;
+}
+
+/* Whether a stranger's datagram is looked at: a Request where there is a place, and others as many as may be answered. To look for a place takes
+ * a look at each connection, which anybody can ask for. */
+static bool may_meet(dccp_socket *udp, bool is_request) {
+    if (!udp->is_server) return false;
+    if (udp->count < udp->most) return is_request || may(&udp->strangers, STRANGERS);
+    return is_request && may(&udp->strangers, STRANGERS) && makes_room(udp);
+}
+
 /* Hears a datagram of a peer without a connection. It may open one, of which nothing is told yet. */
 static void meet(dccp_socket *udp, const address *peer, size_t length) {
     bool is_request;
     uint32_t service = asked_service(udp, length, &is_request);
-    if (!udp->is_server || udp->most <= udp->count || (!is_request && !may(&udp->strangers, STRANGERS))) return;
+    if (!may_meet(udp, is_request)) return;
     dccp_settings settings;
     dccp_connection *it = settle(udp, peer, service, &settings) ? add(udp, peer) : NULL;
     if (it == NULL) return; /* It asks again. */

@@ -1,4 +1,8 @@
 // Sockets in C++ on this machine, a client and a server in one thread: what is told, counted and refused, a line for each that is otherwise.
+#include <arpa/inet.h>
+#include <sys/socket.h>
+#include <unistd.h>
+
 #include <array>
 #include <cstdio>
 #include <map>
@@ -124,6 +128,36 @@ static void refusals() {
     same("nobody answers", true, event && event->kind == DCCP_EVENT_ENDED && event->cause == DCCP_END_SILENT);
 }
 
+// A client that asks and is silent has the one place of a server; another gets it when it asks again.
+static void a_silent_client() {
+    dccp::options one;
+    one.most = 1;
+    auto server = dccp::socket::listen("127.0.0.1", "0", {42}, one);
+    sockaddr_in there{}, here{};
+    socklen_t size = sizeof here;
+    there.sin_family = AF_INET;
+    there.sin_port = htons(server.port());
+    there.sin_addr.s_addr = htonl(INADDR_LOOPBACK);
+    const int silent = ::socket(AF_INET, SOCK_DGRAM, 0);
+    same("a socket", 0, ::connect(silent, reinterpret_cast<sockaddr *>(&there), sizeof there));
+    same("its name", 0, ::getsockname(silent, reinterpret_cast<sockaddr *>(&here), &size));
+    dccp_settings settings{};
+    settings.own_address[0] = settings.peer_address[0] = 127;
+    settings.own_address[3] = settings.peer_address[3] = 1;
+    settings.own_port = ntohs(here.sin_port);
+    settings.peer_port = server.port();
+    settings.service = 42;
+    dccp::end asking(settings);
+    same("its open", DCCP_OK, asking.open(0));
+    const auto request = asking.frame();
+    same("its Request", static_cast<long long>(request.size()), ::send(silent, request.data(), request.size(), 0));
+    same("no news of it", false, server.poll(100ms).has_value());
+    pair both{std::move(server), dccp::socket::connect("127.0.0.1", std::to_string(ntohs(there.sin_port)), 42)};
+    for (int turn = 0; turn < 60 && both.of_client.empty(); turn++) both.settle();
+    same("the other opens", 1, static_cast<long long>(both.of_client.size()));
+    ::close(silent);
+}
+
 // Two ends without sockets, one of which is moved.
 static void ends() {
     dccp_settings here{}, there{};
@@ -172,6 +206,7 @@ int main() {
     a_conversation();
     a_full_window();
     refusals();
+    a_silent_client();
     ends();
     a_listener();
     return wrong;

@@ -1,7 +1,7 @@
 //! Sockets over the system's UDP on this machine: what a client and a server see, and how connections end.
 
 use dccp::net::{End, Error, Listener, Options, Sender, Socket};
-use dccp::{Feature, MOST_DATA_BYTES, Place};
+use dccp::{Config, Connection, Feature, MOST_DATA_BYTES, Place};
 use std::net::{SocketAddr, UdpSocket};
 use std::sync::Arc;
 use std::sync::atomic::{AtomicBool, Ordering};
@@ -203,6 +203,30 @@ fn each_client_has_its_connection() -> Outcome {
         assert_eq!(client.recv_timeout(LONG)?, *word);
     }
     serving.join().unwrap()?;
+    Ok(())
+}
+
+/// A client that asks and is silent has the one place; another gets it when it asks again.
+#[test]
+fn who_does_not_open_makes_room() -> Outcome {
+    let options = Options::new().most_connections(1);
+    let listener = options.bind("127.0.0.1:0", &[SERVICE])?;
+    let address = listener.local_addr()?;
+    let silent = UdpSocket::bind("127.0.0.1:0")?;
+    let config = Config::client(silent.local_addr()?, address, SERVICE, 1_000);
+    let mut asking = Connection::new(&config)?;
+    asking.open(Instant::now())?;
+    let request = asking.poll_transmit().ok_or("a Request")?;
+    silent.send_to(&request.bytes, address)?;
+    silent.recv(&mut [0; 2_048])?;
+    let client = options.connect(address, SERVICE)?;
+    client.send(b"first")?;
+    let server = listener.accept_timeout(LONG)?;
+    assert_eq!(server.recv_timeout(LONG)?, b"first");
+    // One that is open keeps its place.
+    let patience = options.patience(Duration::from_secs(3));
+    let late = patience.connect(address, SERVICE);
+    assert!(matches!(late, Err(Error::TimedOut)), "{late:?}");
     Ok(())
 }
 

@@ -19,6 +19,9 @@ use std::time::{Duration, Instant};
 /// How many Resets answer datagrams of no connection in a second (RFC 4340, section 8.3.1; the number is own).
 const STRANGERS: u32 = 100;
 
+/// How long a Request may take up a place, where there is none left for another.
+const SHORTEST_STAY: Duration = Duration::from_secs(1);
+
 /// How many wakings wait, although more has come.
 const MOST_TO_WAKE: usize = 64;
 
@@ -149,41 +152,72 @@ impl Driver {
         }
     }
 
-    /// Hears a datagram of a peer without a connection. What it would answer itself is passed over; of a client there is none.
+    /// Hears a datagram of a peer without a connection that has not ended; of a client there is none other.
     fn meet(&mut self, peer: SocketAddr, datagram: &[u8]) {
         if let Some(line) = self.lines.get(&peer).filter(|it| it.end().is_none()) {
             let line = Arc::clone(line);
             return self.tell(&line, &[(peer, datagram)]);
         }
+        let asked = asked_service(datagram);
+        if !self.may_meet(asked.is_some()) {
+            return;
+        }
         let Some(reception) = &mut self.reception else {
             return;
         };
-        let asked = asked_service(datagram);
-        let has_place =
-            reception.door.is_open() && self.lines.len() < reception.options.most_connections;
-        if !has_place || (asked.is_none() && !reception.answers.may(Instant::now())) {
-            return;
-        }
         // Where the system gives no number, or no address, the peer asks again.
-        let Ok(accepted) = accept(reception, &self.wire, peer, asked, datagram) else {
-            return;
+        if let Ok(accepted) = accept(reception, &self.wire, peer, asked, datagram) {
+            self.take_in(peer, accepted);
+        }
+    }
+
+    /// Whether a stranger's datagram is looked at: a Request where there is a place, and others as many as may be answered.
+    fn may_meet(&mut self, is_request: bool) -> bool {
+        let now = Instant::now();
+        let Some(reception) = &mut self.reception else {
+            return false;
         };
-        match accepted {
-            Accepted::Connection(connection) if connection.phase() != Phase::Closed => {
-                let line = Line::new(
-                    *connection,
-                    peer,
-                    &self.wire,
-                    &self.agenda,
-                    &reception.options,
-                );
-                line.begin();
-                self.lines.insert(peer, line);
+        if !reception.door.is_open() {
+            return false;
+        }
+        if self.lines.len() < reception.options.most_connections {
+            return is_request || reception.answers.may(now);
+        }
+        // To look for a place takes a look at each connection, which anybody can ask for.
+        is_request && reception.answers.may(now) && self.makes_room(now)
+    }
+
+    /// Lets the connection go that has been there the longest without being open, if it has been for long enough.
+    fn makes_room(&mut self, now: Instant) -> bool {
+        let idle = self
+            .lines
+            .iter()
+            .filter_map(|(peer, line)| Some((line.idle_since()?, *peer)));
+        match idle.min() {
+            Some((since, peer)) if since + SHORTEST_STAY <= now => {
+                self.lines.remove(&peer);
+                true
             }
-            Accepted::Connection(mut connection) => {
+            _ => false,
+        }
+    }
+
+    /// Takes what a stranger's datagram has come to.
+    fn take_in(&mut self, peer: SocketAddr, accepted: Accepted) {
+        match accepted {
+            Accepted::Connection(mut connection) if connection.phase() == Phase::Closed => {
                 let mut frames = Vec::new();
                 connection.exchange_frames(&mut frames);
                 self.wire.send(peer, &frames);
+            }
+            Accepted::Connection(connection) => {
+                let Some(reception) = &self.reception else {
+                    return;
+                };
+                let options = &reception.options;
+                let line = Line::new(*connection, peer, &self.wire, &self.agenda, options);
+                line.begin();
+                self.lines.insert(peer, line);
             }
             Accepted::Answer(frame) => self.wire.send(peer, &[frame]),
             Accepted::Nothing => {}

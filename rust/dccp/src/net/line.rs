@@ -514,6 +514,13 @@ impl Line {
         self.state().end.map(|(end, _)| end)
     }
 
+    /// Since when it stands here without an owner who needs it: it has ended, or has not opened. An open one is needed.
+    pub(super) fn idle_since(&self) -> Option<Instant> {
+        let state = self.state();
+        let unopened = (!state.is_announced && !state.is_open()).then_some(state.heard);
+        state.end.map(|(_, at)| at).or(unopened)
+    }
+
     pub(super) fn is_over(&self) -> bool {
         self.state().is_over(Instant::now())
     }

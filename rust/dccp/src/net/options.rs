@@ -81,8 +81,9 @@ impl Options {
         self
     }
 
-    /// How many connections a listener has at a time, 1,000 if not said. Each takes some 90 KB. A Request beyond them is passed over,
-    /// and its client asks again.
+    /// How many connections a listener has at a time, 1,000 if not said. Each takes some 90 KB. A Request beyond them takes the place
+    /// that has been taken up the longest by one that has ended or not opened, for a second at least; else it is passed over, and its
+    /// client asks again.
     pub fn most_connections(mut self, most: usize) -> Options {
         self.most_connections = most;
         self
