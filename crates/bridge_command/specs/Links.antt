@@ -82,6 +82,15 @@ abbrev pub ip_in_null : List ℕ → Option ℕ
 ip_in_null bytes =
     if nat_lt (length bytes) 4 then None else start_or (ip_of_family (big_number 4 bytes) bytes) (ip_of_family (little_number 4 bytes) bytes)
 
+-- where the IP packet begins in a record of a link type from 113 on, if it has one
+unfoldable pub ip_of_later_link : ℕ → List ℕ → Option ℕ
+ip_of_later_link link bytes =
+    if link == 113 then ip_by_type 14 16 bytes
+    else if link == 228 then ip_at 4 0 bytes
+    else if link == 229 then ip_at 6 0 bytes
+    else if link == 276 then ip_by_type 0 20 bytes
+    else None
+
 -- where the IP packet begins in a record of this link type, if it has one
 abbrev pub ip_start : ℕ → List ℕ → Option ℕ
 ip_start link bytes =
@@ -90,11 +99,7 @@ ip_start link bytes =
     else if link == 9 then ip_in_ppp bytes
     else if link == 12 || link == 101 then ip_at_first bytes
     else if link == 108 then ip_in_loop bytes
-    else if link == 113 then ip_by_type 14 16 bytes
-    else if link == 228 then ip_at 4 0 bytes
-    else if link == 229 then ip_at 6 0 bytes
-    else if link == 276 then ip_by_type 0 20 bytes
-    else None
+    else ip_of_later_link link bytes
 
 -- the IP packet that begins there, or no bytes where there is none
 abbrev pub bytes_at_start : Option ℕ → List ℕ → List ℕ

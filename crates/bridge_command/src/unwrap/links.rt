@@ -1,7 +1,7 @@
 //! Where the IP packet of a record begins, by the link type.
 ghost use Rattle.std.specs.Prelude.{◌≡◌, ◌+◌, ◌≤◌, ◌<◌, length, IfSome};
 ghost use Rattle.dccp_packets.specs.Grammar.{number_at};
-ghost use Rattle.bridge_command.specs.Links.{ip_at, ip_at_first, ip_behind_tag, ip_behind_tags, ip_by_type, ip_bytes, ip_in_loop, ip_in_null, ip_in_ppp, ip_in_session, ip_of_family, ip_of_protocol, ip_of_type, ip_start, is_tag};
+ghost use Rattle.bridge_command.specs.Links.{ip_at, ip_at_first, ip_behind_tag, ip_behind_tags, ip_by_type, ip_bytes, ip_in_loop, ip_in_null, ip_in_ppp, ip_in_session, ip_of_family, ip_of_later_link, ip_of_protocol, ip_of_type, ip_start, is_tag};
 
 use byteorder::{BigEndian, ByteOrder, LittleEndian};
 
@@ -205,6 +205,17 @@ pub(crate) fn ip_start(link: u32, bytes: &[u8]) -> Option<usize>
         9 => ip_in_ppp(bytes),
         12 | 101 => ip_at_first(bytes),
         108 => ip_in_loop(bytes),
+        _ => ip_of_later_link(link, bytes),
+    }
+}
+
+// The same of the link types from 113 on.
+#[tactic(auto, unfolding(crate::specs::Links::ip_of_later_link))]
+fn ip_of_later_link(link: u32, bytes: &[u8]) -> Option<usize>
+    ensures value { result ≡ ip_of_later_link link bytes.now }
+    ensures within { IfSome result (λ n. n < length bytes.now) }
+{
+    match link {
         113 => ip_by_type(14, 16, bytes),
         228 => ip_at(4, 0, bytes),
         229 => ip_at(6, 0, bytes),
