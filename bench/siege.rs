@@ -1,7 +1,7 @@
 //! A siege in counted time: real clients of a server of 1,024 places, and beside them hostile datagrams of strangers who do not see what
 //! goes between others. It prints figures, and ends with 1 where one is past its bound.
 
-use dccp::{Change, Config, Connection, Feature, Listener, Phase, Place};
+use dccp::{Cause, Change, Config, Connection, Feature, FlowRules, Listener, Phase, Place};
 use std::collections::BTreeMap;
 use std::error::Error;
 use std::net::{Ipv4Addr, SocketAddrV4};
@@ -37,11 +37,13 @@ impl Numbers {
     }
 }
 
-/// A client that speaks ten times a second.
+/// A client that speaks ten times a second. Where it is told that the server is busy, it asks again a second later.
 struct Client {
     own: SocketAddrV4,
     end: Connection,
     begins: Instant,
+    /// When it asks, or asks again.
+    asks: Instant,
     is_begun: bool,
     opened: Option<Instant>,
     is_lost: bool,
@@ -57,7 +59,10 @@ fn seal(packet: &mut [u8], from: SocketAddrV4) {
     bytes.extend([0, 33]);
     bytes.extend(length.to_be_bytes());
     bytes.extend(&*packet);
-    let sum: u32 = bytes.chunks(2).map(|it| u32::from(it[0]) << 8 | u32::from(*it.get(1).unwrap_or(&0))).sum();
+    let sum: u32 = bytes
+        .chunks(2)
+        .map(|it| u32::from(it[0]) << 8 | u32::from(*it.get(1).unwrap_or(&0)))
+        .sum();
     let folded = (sum & 0xffff) + (sum >> 16);
     let folded = (folded & 0xffff) + (folded >> 16);
     packet[6..8].copy_from_slice(&(!(folded as u16)).to_be_bytes());
@@ -84,7 +89,10 @@ fn acknowledging(number: u64) -> Vec<u8> {
 
 /// A hostile datagram, and in whose name it comes: of a stranger or of a client.
 fn hostile(numbers: &mut Numbers, clients: &[Client]) -> (SocketAddrV4, Vec<u8>) {
-    let stranger = SocketAddrV4::new(Ipv4Addr::from(0x0a00_0000 | numbers.below(1 << 24) as u32), 1_024 + numbers.below(60_000) as u16);
+    let stranger = SocketAddrV4::new(
+        Ipv4Addr::from(0x0a00_0000 | numbers.below(1 << 24) as u32),
+        1_024 + numbers.below(60_000) as u16,
+    );
     let client = clients[numbers.below(CLIENTS as u64) as usize].own;
     let (number, other) = (numbers.next() << 16 | numbers.below(1 << 16), numbers.next() << 16);
     let whose = if numbers.below(2) == 0 { stranger } else { client };
@@ -113,20 +121,36 @@ struct Figures {
     most_flows: usize,
 }
 
-fn client_of(place: usize, numbers: &mut Numbers, now: Instant) -> Result<Client, Box<dyn Error>> {
-    let own = SocketAddrV4::new(Ipv4Addr::new(198, 51, 100, place as u8), 40_000);
+fn end_of(own: SocketAddrV4, numbers: &mut Numbers) -> Result<Connection, Box<dyn Error>> {
     let config = Config::client(own.into(), here().into(), SERVICE, numbers.next() << 8);
-    let end = Connection::new(&config.offer(Feature::SendAckVector, Place::Here, &[1]))?;
-    let begins = now + STEP * numbers.below(BEGINS_WITHIN_STEPS) as u32;
-    Ok(Client { own, end, begins, is_begun: false, opened: None, is_lost: false })
+    Ok(Connection::new(&config.offer(Feature::SendAckVector, Place::Here, &[1]))?)
 }
 
-fn besiege() -> Result<Figures, Box<dyn Error>> {
+fn client_of(place: usize, numbers: &mut Numbers, now: Instant) -> Result<Client, Box<dyn Error>> {
+    let own = SocketAddrV4::new(Ipv4Addr::new(198, 51, 100, place as u8), 40_000);
+    let begins = now + STEP * numbers.below(BEGINS_WITHIN_STEPS) as u32;
+    let end = end_of(own, numbers)?;
+    Ok(Client {
+        own,
+        end,
+        begins,
+        asks: begins,
+        is_begun: false,
+        opened: None,
+        is_lost: false,
+    })
+}
+
+/// A siege of a server that goes by these rules.
+fn besiege(rules: FlowRules) -> Result<Figures, Box<dyn Error>> {
     let begun = Instant::now();
     let mut now = begun;
     let mut numbers = Numbers(20_261_130);
     let mut server = Listener::new(&Config::listener(here(), SERVICE), PLACES)?;
-    let mut clients = (1..=CLIENTS).map(|place| client_of(place, &mut numbers, now)).collect::<Result<Vec<_>, _>>()?;
+    server.set_rules(rules);
+    let mut clients = (1..=CLIENTS)
+        .map(|place| client_of(place, &mut numbers, now))
+        .collect::<Result<Vec<_>, _>>()?;
     let places: BTreeMap<SocketAddrV4, usize> = clients.iter().enumerate().map(|(place, it)| (it.own, place)).collect();
     let mut figures = Figures::default();
     for step in 0_u64.. {
@@ -139,8 +163,13 @@ fn besiege() -> Result<Figures, Box<dyn Error>> {
             let _ = server.handle_datagram(whose, first, &bytes, now);
         }
         for (place, client) in clients.iter_mut().enumerate() {
-            if !client.is_begun && client.begins <= now {
+            // Who was told that the server is busy is closed, and asks again.
+            if client.opened.is_none() && client.end.phase() == Phase::Closed && client.asks <= now {
+                if client.is_begun {
+                    client.end = end_of(client.own, &mut numbers)?;
+                }
                 client.is_begun = true;
+                client.asks = now + Duration::from_secs(1);
                 client.end.open(now)?;
             }
             if client.end.phase() == Phase::Open && (step + place as u64) % 10 == 0 {
@@ -156,14 +185,15 @@ fn besiege() -> Result<Figures, Box<dyn Error>> {
         while let Some((whose, frame)) = server.poll_transmit() {
             figures.sent += 1;
             figures.answers += usize::from(frame.is_answer);
-            if let Some(place) = places.get(&whose) {
-                clients[*place].end.handle_datagram(&frame.bytes, now);
+            // What answers a forged Request comes to nobody before the client has asked.
+            if let Some(client) = places.get(&whose).map(|place| &mut clients[*place]).filter(|it| it.is_begun) {
+                client.end.handle_datagram(&frame.bytes, now);
             }
         }
         while server.poll_event().is_some() {}
         while server.poll_accept().is_some() {}
         while let Some((_, change)) = server.poll_change() {
-            if let Change::Ended { cause: dccp::Cause::Evicted, .. } = change {
+            if let Change::Ended { cause: Cause::Evicted, .. } = change {
                 figures.evicted += 1;
             }
         }
@@ -183,10 +213,24 @@ fn besiege() -> Result<Figures, Box<dyn Error>> {
     Ok(figures)
 }
 
+/// Prints what came of a siege, and whether it is within its bounds.
+fn judge(name: &str, it: &Figures) -> bool {
+    println!(
+        "{name}: of {CLIENTS} clients {} not connected, {} lost, the slowest after {:?}",
+        it.not_connected, it.lost, it.slowest
+    );
+    println!(
+        "    frames {}, of them answers {}; flows at most {}, evicted {}",
+        it.sent, it.answers, it.most_flows, it.evicted
+    );
+    it.not_connected == 0 && it.lost == 0 && it.slowest <= CONNECTS_WITHIN && it.most_flows <= usize::from(PLACES)
+}
+
 fn main() -> Result<ExitCode, Box<dyn Error>> {
-    let it = besiege()?;
-    println!("clients {CLIENTS}, not connected {}, lost {}, slowest {:?}", it.not_connected, it.lost, it.slowest);
-    println!("frames {}, of them answers {}; flows at most {}, evicted {}", it.sent, it.answers, it.most_flows, it.evicted);
-    let holds = it.not_connected == 0 && it.lost == 0 && it.slowest <= CONNECTS_WITHIN && it.most_flows <= usize::from(PLACES);
+    // Half-open flows go within ten seconds by default. Forged Requests that would fill the table many times over in that time ask for less.
+    let mut rules = FlowRules::default();
+    judge("by default", &besiege(rules)?);
+    rules.crowded = Some(Duration::from_millis(100));
+    let holds = judge("a tenth of a second for a handshake in a crowd", &besiege(rules)?);
     Ok(ExitCode::from(u8::from(!holds)))
 }

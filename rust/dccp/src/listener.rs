@@ -91,6 +91,9 @@ pub enum Cause {
 pub struct Listener {
     flows: Flows,
     changes: VecDeque<(SocketAddrV4, Change)>,
+    /// How many Resets may go to strangers in a second, and since when how many went.
+    most_answers: Option<u32>,
+    answers: (u64, u32),
     /// The owner's numbers, which outlive a flow until its end is told.
     users: BTreeMap<SocketAddrV4, u64>,
     /// The flows' time is counted in milliseconds from the first call that has one.
@@ -111,6 +114,8 @@ impl Listener {
             flows,
             changes: VecDeque::new(),
             users: BTreeMap::new(),
+            most_answers: FlowRules::default().answers_to_strangers,
+            answers: (0, 0),
             begun: None,
             time: 0,
             accepted: VecDeque::new(),
@@ -132,7 +137,10 @@ impl Listener {
         let (status, frame, told) = self.flows.arrive(peer, first_number, datagram, time);
         let is_answer =
             status == sys::BUSY || matches!(told.kind, sys::TOLD_SYNCED | sys::TOLD_SENT_RESET);
-        queue(&mut self.frames, peer, frame, is_answer);
+        let is_to_stranger = is_answer && was.is_none();
+        if !is_to_stranger || may_answer(&mut self.answers, self.most_answers, time) {
+            queue(&mut self.frames, peer, frame, is_answer);
+        }
         let is = self.phase(peer);
         if was.is_none() && is.is_some() {
             self.accepted.push_back(peer);
@@ -258,6 +266,7 @@ impl Listener {
     /// ```
     pub fn set_rules(&mut self, rules: FlowRules) {
         self.flows.rules(&rules.for_c());
+        self.most_answers = rules.answers_to_strangers;
     }
 
     /// Ends the connection to a peer at once, whatever its phase, also in TIMEWAIT, and sends nothing. Refused where there is none.
@@ -386,4 +395,13 @@ fn cause_of(was: Option<Phase>, told: &sys::Told) -> Cause {
         (sys::TOLD_SENT_RESET, _) if told.code != 1 => Cause::Fault,
         _ => Cause::Peer,
     }
+}
+
+/// Whether another Reset may go to a stranger in this second: its beginning, in milliseconds, and how many went are counted.
+fn may_answer((begun, count): &mut (u64, u32), most: Option<u32>, time: u64) -> bool {
+    if time < *begun || 1_000 <= time - *begun {
+        (*begun, *count) = (time, 0);
+    }
+    *count = count.saturating_add(1);
+    most.is_none_or(|it| *count <= it)
 }

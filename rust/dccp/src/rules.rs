@@ -20,6 +20,8 @@ pub struct FlowRules {
     pub makes_room: bool,
     /// Whether a peer that begins anew from its port ends its old connection.
     pub ends_old_flows: bool,
+    /// How many Resets go to strangers in a second, all together: 100 (own). One that is left out is a lost frame.
+    pub answers_to_strangers: Option<u32>,
 }
 
 impl Default for FlowRules {
@@ -31,6 +33,7 @@ impl Default for FlowRules {
             idle: Some(Duration::from_secs(120)),
             makes_room: true,
             ends_old_flows: true,
+            answers_to_strangers: Some(100),
         }
     }
 }
@@ -45,6 +48,7 @@ impl FlowRules {
             idle: None,
             makes_room: false,
             ends_old_flows: false,
+            answers_to_strangers: None,
         }
     }
 

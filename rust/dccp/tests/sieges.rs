@@ -120,10 +120,37 @@ fn clients_that_give_up_leave_room() -> Outcome {
 fn half_open_flows_leave_room() -> Outcome {
     let mut field = Field::new()?;
     half_open(&mut field)?;
-    let mut next = client(at(100), 5_000)?;
-    field
-        .connect(at(100), &mut next, Duration::from_secs(30))
-        .ok_or("a place within 30 seconds")?;
+    // Who is told that the server is busy asks again a second later.
+    let is_served = (0..30).any(|tried| {
+        client(at(100), 5_000 + tried)
+            .ok()
+            .and_then(|mut next| field.connect(at(100), &mut next, Duration::from_secs(1)))
+            .is_some()
+    });
+    assert!(is_served, "no place within 30 seconds");
+    Ok(())
+}
+
+#[test]
+fn strangers_are_answered_a_hundred_times_a_second() -> Outcome {
+    let mut field = Field::new()?;
+    half_open(&mut field)?;
+    while field.server.poll_transmit().is_some() {}
+    let mut answers = [0, 0];
+    for (second, count) in answers.iter_mut().enumerate() {
+        field.now += Duration::from_secs(second as u64 * 2);
+        for last in 0..1_000 {
+            let own = SocketAddrV4::new([198, 51, 100, 7].into(), 10_000 + last);
+            let mut stranger = client(own, 9_000)?;
+            stranger.open(field.now)?;
+            let request = stranger.poll_transmit().ok_or("a Request")?;
+            field.send(own, &request.bytes);
+            while field.server.poll_transmit().is_some() {
+                *count += 1;
+            }
+        }
+    }
+    assert_eq!(answers, [100, 100]);
     Ok(())
 }
 
