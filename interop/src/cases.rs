@@ -78,6 +78,8 @@ fn transfer(
         Role::Client => "server 5001".to_string(),
         Role::Server | Role::Nobody => format!("client {} 5001", addresses.own()),
     };
+    // Our end gives up first, so that what it has sent is heard.
+    let wait: u64 = if loss < 20 { 58 } else { 150 };
     Case {
         name,
         addresses,
@@ -86,12 +88,13 @@ fn transfer(
             size,
             send: packets,
             expect: packets,
+            limit: Duration::from_secs(wait - 3),
             ..plan(role)
         },
         kernel: Some(format!(
-            "{end} family {family} send {packets} size {size} wait 58 close peer"
+            "{end} family {family} send {packets} size {size} wait {wait} close peer"
         )),
-        patience: Duration::from_secs(70),
+        patience: Duration::from_secs(wait + 12),
         verdict: carried,
     }
 }
