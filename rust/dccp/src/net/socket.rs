@@ -167,7 +167,7 @@ impl Socket {
     }
 
     /// Closes in order, once all that was sent is reported or half of the time is over, and waits for the end. It answers how the
-    /// connection ended, or [`Error::TimedOut`]; then closing goes on in the background.
+    /// connection ended, or [`Error::TimedOut`], as where the peer is gone; then closing goes on in the background.
     pub fn close(self, wait: Duration) -> Result<End, Error> {
         self.line().close(wait)
     }
