@@ -2,6 +2,7 @@
 use Rattle.std.proofs.Common.{◌≡◌, refl, ℕ, Bool, false, true, List, ◌++◌, take, codes}
 use Rattle.std.specs.Prelude.{slice_set}
 use Rattle.std.specs.Fmt.{digits}
+use Rattle.bridge_command.specs.Links.{ip_of_later_link}
 use Rattle.bridge_command.specs.Unwrapping.{is_unwrapped_faulty, unwrapped_entry, unwrapped_text}
 use Rattle.tests_tool.proofs.RowsSeen.{bytes, refused_behind}
 
@@ -33,7 +34,7 @@ records =
 blocks_of_two_sections :
     (unwrapped blocks ≡ (records, false))
     × (unwrapped (take 32 blocks) ≡ (take 24 records, false))
-unfolding unwrapped_entry digits
+unfolding unwrapped_entry ip_of_later_link digits
 blocks_of_two_sections = (refl, refl)
 
 -- the blocks, with another byte at a place
@@ -51,7 +52,7 @@ blocks_of_another_link :
       false,
     ))
     × (unwrapped (slice_set (slice_set (changed 183 2) 189 1) 191 0) ≡ (records, false))
-unfolding unwrapped_entry digits
+unfolding unwrapped_entry ip_of_later_link digits
 blocks_of_another_link = (refl, refl)
 
 -- A place in the blocks, the byte that stands there instead, how much is written before it is refused, and the line
@@ -71,7 +72,7 @@ refused_blocks :
     × (unwrapped (changed 256 0) ≡ refused_behind records 78 "capture BadBlock after record 3\n")
     × (unwrapped (changed 260 2) ≡ refused_behind records 78 "capture BadVersion after record 3\n")
     × (unwrapped (changed 304 1) ≡ refused_behind records 78 "capture BadBlock after record 3\n")
-unfolding unwrapped_entry digits
+unfolding unwrapped_entry ip_of_later_link digits
 refused_blocks = (refl, refl, refl, refl, refl, refl, refl, refl, refl, refl, refl, refl, refl, refl)
 
 -- Link type 276, the least significant byte first: IPv4 behind the header of the device, ARP, IPv6 behind a VLAN tag,
@@ -93,7 +94,7 @@ raw =
 -- All of it.
 records_of_the_any_device :
     unwrapped of_any_device ≡ (raw, false)
-unfolding unwrapped_entry digits
+unfolding unwrapped_entry ip_of_later_link digits
 records_of_the_any_device = refl
 
 -- How much of the output stands before the line.
@@ -103,5 +104,5 @@ captures_that_are_cut :
     × (unwrapped (take 39 of_any_device) ≡ refused_behind raw 24 "capture CutShort after record 0\n")
     × (unwrapped (take 63 of_any_device) ≡ refused_behind raw 24 "capture CutShort after record 0\n")
     × (unwrapped (take 65 of_any_device) ≡ refused_behind raw 44 "capture CutShort after record 1\n")
-unfolding unwrapped_entry digits
+unfolding unwrapped_entry ip_of_later_link digits
 captures_that_are_cut = (refl, refl, refl, refl, refl)
