@@ -41,19 +41,11 @@ blocks_of_two_sections = (refl, refl)
 abbrev pub changed : ℕ → ℕ → List ℕ
 changed place byte = slice_set blocks place byte
 
--- The first interface has link type 105, of which nobody knows where IP begins: both of its packets have none. Those of
--- the others stay. And the packet of the other interface in a block of the older kind, whose interface has two bytes.
-blocks_of_another_link :
-    (unwrapped (changed 41 105)
-    ≡ (
-      bytes
-          (codes "a1b2c3d4000200040000000000000000000400000000006500000001" ++ codes "0007a1200000000000000000000000020007a100000000010000002860"
-          ++ codes "00000000000000000000000000000000" ++ codes "000010c6000ec280000000010000002845"),
-      false,
-    ))
-    × (unwrapped (slice_set (slice_set (changed 183 2) 189 1) 191 0) ≡ (records, false))
+-- The packet of the other interface in a block of the older kind, whose interface has two bytes.
+blocks_of_the_older_kind :
+    unwrapped (slice_set (slice_set (changed 183 2) 189 1) 191 0) ≡ (records, false)
 unfolding unwrapped_entry ip_of_later_link digits
-blocks_of_another_link = (refl, refl)
+blocks_of_the_older_kind = refl
 
 -- A place in the blocks, the byte that stands there instead, how much is written before it is refused, and the line
 -- behind that.
