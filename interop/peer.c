@@ -167,8 +167,10 @@ static int made(const struct plan *plan)
         stop("socket");
     if (plan->ccid_count && setsockopt(end, SOL_DCCP, DCCP_SOCKOPT_CCID, plan->ccids, plan->ccid_count) < 0)
         stop("ccid");
-    int yes = 1;
+    int yes = 1, room = 8 << 20;
     setsockopt(end, SOL_SOCKET, SO_REUSEADDR, &yes, sizeof yes);
+    /* What waits to be read is never dropped for want of room: a lost packet would be no fault of either end. */
+    setsockopt(end, SOL_SOCKET, SO_RCVBUFFORCE, &room, sizeof room);
     return end;
 }
 

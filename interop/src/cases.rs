@@ -57,6 +57,7 @@ fn plan(role: Role) -> Plan {
         end: End::Closes,
         offers: offers(role),
         prefers: Vec::new(),
+        keeps_ack_ratio: false,
         limit: Duration::from_secs(60),
     }
 }
@@ -342,7 +343,23 @@ fn left(_: &Case, outcome: &Outcome) -> Vec<String> {
     .collect()
 }
 
+/// Every case. Each client of ours has a port of its own, so that no end of the case before still stands there, except where that is the case.
 pub fn every() -> Vec<Case> {
+    let mut cases = listed();
+    let keep = [
+        "brief-as-client",
+        "we-vanish",
+        "we-come-again-from-that-port",
+    ];
+    for (port, case) in (40_100..).zip(&mut cases) {
+        if !keep.contains(&case.name) {
+            case.plan.port = port;
+        }
+    }
+    cases
+}
+
+fn listed() -> Vec<Case> {
     use Addresses::{V4, V6};
     use Role::{Client, Server};
     vec![
@@ -425,7 +442,8 @@ pub fn every() -> Vec<Case> {
         Case {
             verdict: carried_and_wished,
             ..clean("ack-ratio-while-open", Client, 500, "", |plan| {
-                plan.prefers = vec![(Feature::AckRatio, Place::Here, vec![4])]
+                plan.prefers = vec![(Feature::AckRatio, Place::Here, vec![4])];
+                plan.keeps_ack_ratio = true;
             })
         },
         Case {
@@ -553,7 +571,7 @@ pub fn every() -> Vec<Case> {
                 },
             )
         },
-        clean("we-come-again", Client, 200, "", |plan| plan.port = 40_001),
+        clean("we-come-again", Client, 200, "", |_| {}),
         Case {
             verdict: left,
             ..clean(

@@ -1,7 +1,7 @@
 //! Our end in a case: it sends packets with numbers in them, counts those that come, and ends the connection.
 
 use crate::wire::Wire;
-use dccp::{Accepted, Config, Connection, Event, Feature, Phase, Place};
+use dccp::{Accepted, Config, Connection, Event, Feature, PathRule, Phase, Place};
 use std::collections::HashSet;
 use std::io;
 use std::time::{Duration, Instant};
@@ -48,6 +48,8 @@ pub struct Plan {
     pub offers: Vec<(Feature, Place, Vec<u64>)>,
     /// What it asks for after the first packets.
     pub prefers: Vec<(Feature, Place, Vec<u64>)>,
+    /// Whether the owner's rules leave the Ack Ratio to this plan.
+    pub keeps_ack_ratio: bool,
     pub limit: Duration,
 }
 
@@ -105,6 +107,11 @@ impl<'a> Own<'a> {
             .fold(config, |config, (feature, place, values)| {
                 config.offer(*feature, *place, values)
             });
+        let config = if plan.keeps_ack_ratio {
+            config.without(PathRule::AckRatio)
+        } else {
+            config
+        };
         let mut own = Own {
             plan,
             wire,
