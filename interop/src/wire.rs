@@ -185,7 +185,7 @@ fn count(passed: &mut Passed, packet: &[u8], is_lost: bool) {
             passed.lost_data += u32::from(is_lost);
         }
         Some(8 | 9) => passed.syncs += 1,
-        // Its code stands behind two numbers of eight bytes.
+        // Its code follows two numbers of eight bytes.
         Some(7) => passed.reset = packet.get(24).copied(),
         _ => {}
     }
