@@ -79,7 +79,7 @@ fn took(end: &mut End, frame: &Frame, answer: &mut Frame) -> bool {
         answer.length = 0;
         return false;
     }
-    matches!(end.receive(bytes(frame), 0, answer).kind, TOOK | sys::DATA)
+    matches!(end.receive(bytes(frame), 0, answer).kind, TOOK | sys::TOLD_DATA)
 }
 
 /// A server and its client in OPEN, the frames of a batch, and room for one.

@@ -14,6 +14,7 @@ pub const TIMER_ACK: u32 = 1;
 pub const NO_FRAME: Frame = Frame {
     length: 0,
     bytes: [0; sys::MOST_FRAME_BYTES],
+    number: 0,
 };
 
 /// The bytes that a call has left.

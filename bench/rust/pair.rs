@@ -67,7 +67,7 @@ fn padded(address: [u8; 4]) -> [u8; 16] {
 
 /// Hands an end a frame; tells whether it delivered data.
 pub fn arrive(end: &mut End, frame: &[u8], now: u64, answer: &mut Frame) -> bool {
-    end.receive(frame, now, answer).kind == sys::DATA
+    end.receive(frame, now, answer).kind == sys::TOLD_DATA
 }
 
 /// Two ends, and the frame that is under way between them.
