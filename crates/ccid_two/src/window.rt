@@ -105,6 +105,7 @@ impl Ccid2 {
 
 impl Congestion for Ccid2 {
     ghost use Rattle.std.specs.Prelude.{refl};
+    ghost use Rattle.ccid_two.specs.Keeping.{ccid_window_stays};
 
     ghost control = { ccid_control };
 
@@ -113,6 +114,7 @@ impl Congestion for Ccid2 {
       sending_adds = λ _ _. refl;
       report_settles = λ _ _ _. refl;
       timeout_empties = λ _. refl;
+      keeps_window = ccid_window_stays;
     } };
 
     fn knows(&self, ccid: u8) -> bool {

@@ -7,3 +7,4 @@ pub mod Standings
 pub mod Calls
 pub mod Numbers
 pub mod Halves
+pub mod Keeping

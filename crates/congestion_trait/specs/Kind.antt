@@ -1,11 +1,11 @@
 -- A kind of congestion control by its own rules alone: the flight list follows the list's rules (own).
 --
--- So a kind cannot break the list's rules, and owes no proof that it keeps them. `FixedWindow` and CCID 2 write their
--- functions themselves, since the state of each is one plain list or record.
+-- So a kind cannot break the list's rules, and owes no proof that it keeps them: it owes only that its window never
+-- closes. `FixedWindow` and CCID 2 write their functions themselves, since the state of each is one plain list or record.
 use Rattle.std.specs.Prelude.{ℕ, Bool, List, [], refl}
 use Rattle.congestion_trait.specs.declared.flight.Entry.{Entry}
 use Rattle.congestion_trait.specs.Flight.{States, sent, after_report}
-use Rattle.congestion_trait.specs.Control.{Control, IsLawful}
+use Rattle.congestion_trait.specs.Control.{Control, IsLawful, KeepsWindow}
 
 -- a flight list, and what a kind keeps beside it
 pub record Flying (R : Type 0) : Type 0 where
@@ -37,11 +37,12 @@ control_by_rules rules = record {
   timed_out = λ state. record { flight = []; rest = rules.timed_out state.rest };
 }
 
--- whatever the rules, the flight list keeps its own
-pub kind_is_lawful : {R : Type 0} (rules : Rules R) → IsLawful (control_by_rules rules)
-kind_is_lawful rules = record {
+-- whatever the rules, the flight list keeps its own; that the window never closes is theirs
+pub kind_is_lawful : {R : Type 0} (rules : Rules R) → KeepsWindow (control_by_rules rules) → IsLawful (control_by_rules rules)
+kind_is_lawful rules keeps_window = record {
   start_empties = λ _ _. refl;
   sending_adds = λ _ _. refl;
   report_settles = λ _ _ _. refl;
   timeout_empties = λ _. refl;
+  keeps_window = keeps_window;
 }

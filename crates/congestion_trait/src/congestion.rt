@@ -14,9 +14,9 @@ use seq_circle::Seq48;
 /// To write a kind, take a struct with a `Flight` and whatever else the kind keeps. Its model's Value is a record that
 /// has the list of entries in it, since the laws range over every Value, also over those that no value of the struct
 /// has. `control` names the functions on that Value: the list and the window that it shows, the CCIDs that it knows,
-/// and what each call makes of it. `lawful` says that the list keeps its own rules. `specs/Kind` makes both of the
-/// kind's rules for the rest alone (`control_by_rules`, `kind_is_lawful`). The bounds on the window come from the
-/// struct's invariant. The module additive_window of dccp_uses is an example.
+/// and what each call makes of it. `lawful` says that the list keeps its own rules, and that no call closes the window
+/// (`KeepsWindow`). `specs/Kind` makes both of the kind's rules for the rest alone (`control_by_rules`,
+/// `kind_is_lawful`). The bounds on the window come from the struct's invariant. The module additive_window of dccp_uses is an example.
 pub trait Congestion {
     // The kind's functions on its state, which contracts alone see.
     ghost control: { Control Self };

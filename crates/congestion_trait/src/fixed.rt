@@ -40,6 +40,7 @@ impl FixedWindow {
 
 impl Congestion for FixedWindow {
     ghost use Rattle.std.specs.Prelude.{refl};
+    ghost use Rattle.congestion_trait.specs.Fixed.{fixed_window_stays};
 
     ghost control = { fixed_control };
 
@@ -48,6 +49,7 @@ impl Congestion for FixedWindow {
       sending_adds = λ _ _. refl;
       report_settles = λ _ _ _. refl;
       timeout_empties = λ _. refl;
+      keeps_window = fixed_window_stays;
     } };
 
     fn knows(&self, ccid: u8) -> bool {

@@ -1,10 +1,11 @@
 //! What follows for every kind of congestion control.
-ghost use Rattle.std.specs.Prelude.{◌≡◌, ℕ, ◌+◌, ◌⊎◌, ◌↔◌, IsTrue, map, List};
+ghost use Rattle.std.specs.Prelude.{◌≡◌, ℕ, ◌+◌, ◌≤◌, ◌⊎◌, ◌↔◌, IsTrue, map, List};
 ghost use Rattle.congestion_trait.specs.declared.flight.Entry.{Entry};
 ghost use Rattle.congestion_trait.specs.declared.flight.Standing.TheVariants.{Out, Reported};
 ghost use Rattle.congestion_trait.specs.declared.flight.Standing.{Standing};
 ghost use Rattle.std.specs.List.{list_any, Contains};
 ghost use Rattle.congestion_trait.specs.Calls.{Call, after_call, call_sends, run, tells};
+ghost use Rattle.congestion_trait.specs.Control.{may_send};
 ghost use Rattle.dccp_options.specs.Vectors.{is_received};
 ghost use Rattle.congestion_trait.specs.Flight.{States, Has, HasEntry, numbers_reported, after_report, leaving_count, pipe_of};
 
@@ -63,6 +64,18 @@ pub fn every_entry_was_sent<C: Congestion>()
     ensures calls { (state : C) (calls : List Call) (number : ℕ)
         → HasEntry (C.control.flight (run C.control state calls)) number
         → HasEntry (C.control.flight state) number ⊎ IsTrue (list_any (call_sends number) calls) }
+{}
+
+/// The window never closes: after a start or a timeout, and any calls behind it, it is one packet at least.
+pub fn windows_never_close<C: Congestion>()
+    ensures starts { (state : C) (ccid : ℕ) (calls : List Call) → 1 ≤ C.control.window (run C.control (C.control.started state ccid) calls) }
+    ensures timeouts { (state : C) (calls : List Call) → 1 ≤ C.control.window (run C.control (C.control.timed_out state) calls) }
+{}
+
+/// After a timeout a packet may be sent, whatever was in flight: the retransmission timer frees a sender whose
+/// acknowledgements were all lost.
+pub fn timeouts_let_send<C: Congestion>()
+    ensures { (state : C) → IsTrue (may_send C.control (C.control.timed_out state)) }
 {}
 
 /// The list of the numbers that are Reported holds just those.

@@ -43,11 +43,11 @@ impl AdditiveWindow {
 
 impl Congestion for AdditiveWindow {
     ghost use Rattle.congestion_trait.specs.Kind.{control_by_rules, kind_is_lawful};
-    ghost use Rattle.dccp_uses.specs.Additive.{additive};
+    ghost use Rattle.dccp_uses.specs.Additive.{additive, additive_window_stays};
 
     ghost control = { control_by_rules additive };
 
-    ghost lawful = { kind_is_lawful additive };
+    ghost lawful = { kind_is_lawful additive additive_window_stays };
 
     fn knows(&self, ccid: u8) -> bool {
         ccid == CCID

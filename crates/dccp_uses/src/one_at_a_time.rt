@@ -38,11 +38,11 @@ impl OneAtATime {
 
 impl Congestion for OneAtATime {
     ghost use Rattle.congestion_trait.specs.Kind.{control_by_rules, kind_is_lawful};
-    ghost use Rattle.dccp_uses.specs.OneAtATime.{one_at_a_time};
+    ghost use Rattle.dccp_uses.specs.OneAtATime.{one_at_a_time, one_packet_stays};
 
     ghost control = { control_by_rules one_at_a_time };
 
-    ghost lawful = { kind_is_lawful one_at_a_time };
+    ghost lawful = { kind_is_lawful one_at_a_time one_packet_stays };
 
     fn knows(&self, ccid: u8) -> bool {
         ccid == CCID
