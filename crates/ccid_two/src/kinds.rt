@@ -3,7 +3,7 @@ ghost use Rattle.std.specs.Prelude.{◌≡◌, IfOk};
 ghost use Rattle.ccid_two.specs.Kinds.{at_first, kinds_control};
 
 use crate::window::Ccid2;
-use congestion_trait::{Congestion, FixedWindow};
+use congestion_trait::{Congestion, FixedWindow, Standing};
 use dccp_options::AckReport;
 use seq_circle::{NoMemory, Seq48};
 use std::alloc::Global;
@@ -89,6 +89,13 @@ impl Congestion for Kinds {
         match self.kind {
             Kind::CcidTwo => self.ccid_two.is_reported(number),
             Kind::Fixed => self.fixed.is_reported(number),
+        }
+    }
+
+    fn stands(&self, number: Seq48, standing: Standing) -> bool {
+        match self.kind {
+            Kind::CcidTwo => self.ccid_two.stands(number, standing),
+            Kind::Fixed => self.fixed.stands(number, standing),
         }
     }
 

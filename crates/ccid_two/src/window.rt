@@ -2,7 +2,7 @@
 ghost use Rattle.std.specs.Prelude.{◌≡◌, ℕ, ◌≤◌, IfOk};
 ghost use Rattle.ccid_two.specs.Window.{first_state, halved, grown_in_slow_start, grown_in_avoidance, capped, ccid_control};
 
-use congestion_trait::{Congestion, Flight};
+use congestion_trait::{Congestion, Flight, Standing};
 use dccp_options::AckReport;
 use seq_circle::{NoMemory, Seq48};
 use std::alloc::Global;
@@ -140,6 +140,10 @@ impl Congestion for Ccid2 {
 
     fn is_reported(&self, number: Seq48) -> bool {
         self.flight.is_reported(number)
+    }
+
+    fn stands(&self, number: Seq48, standing: Standing) -> bool {
+        self.flight.stands(number, standing)
     }
 
     fn may_send(&self) -> bool {

@@ -5,6 +5,7 @@ ghost use Rattle.congestion_trait.specs.Flight.{Has, pipe_of};
 ghost use Rattle.congestion_trait.specs.declared.flight.Standing.TheVariants.{Reported};
 ghost use Rattle.congestion_trait.specs.Control.{Control, IsLawful, may_send};
 
+use crate::flight::Standing;
 use dccp_options::AckReport;
 use seq_circle::Seq48;
 
@@ -43,6 +44,10 @@ pub trait Congestion {
     /// Tells whether the flight list has a data packet of this number that was reported.
     fn is_reported(&self, number: Seq48) -> bool
         ensures { IsTrue result ↔ Has (control.flight self.now) number Reported };
+
+    /// Tells whether the flight list has a data packet of this number that stands so.
+    fn stands(&self, number: Seq48, standing: Standing) -> bool
+        ensures { IsTrue result ↔ Has (control.flight self.now) number standing };
 
     /// Tells whether a further data packet may be sent: fewer are in flight than the window.
     fn may_send(&self) -> bool

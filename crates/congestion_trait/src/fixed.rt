@@ -3,7 +3,7 @@ ghost use Rattle.std.specs.Prelude.{◌≡◌, [], IfOk};
 ghost use Rattle.congestion_trait.specs.Fixed.{fixed_control};
 
 use crate::congestion::Congestion;
-use crate::flight::Flight;
+use crate::flight::{Flight, Standing};
 use dccp_options::AckReport;
 use seq_circle::{NoMemory, Seq48};
 use std::alloc::Global;
@@ -70,6 +70,10 @@ impl Congestion for FixedWindow {
 
     fn is_reported(&self, number: Seq48) -> bool {
         self.flight.is_reported(number)
+    }
+
+    fn stands(&self, number: Seq48, standing: Standing) -> bool {
+        self.flight.stands(number, standing)
     }
 
     fn may_send(&self) -> bool {

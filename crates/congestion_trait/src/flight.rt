@@ -104,7 +104,13 @@ impl Flight {
     pub fn is_reported(&self, number: Seq48) -> bool
         ensures { IsTrue result ↔ Has self.now number Reported }
     {
-        let standing = Standing::Reported;
+        self.stands(number, Standing::Reported)
+    }
+
+    /// Tells whether the list has a packet of this number that stands so. The cost is that of the whole list.
+    pub fn stands(&self, number: Seq48, standing: Standing) -> bool
+        ensures { IsTrue result ↔ Has self.now number standing }
+    {
         is_in(&self.entries, &Entry { number, standing })
     }
 

@@ -4,7 +4,7 @@ use crate::{
     AbortFault, CloseFault, Config, Feature, Held, Marks, OpenFault, Outcome, Phase, Place,
     PreferFault, Pseudo, Role, SendFault, Timer,
 };
-use congestion_trait::Congestion;
+use congestion_trait::{Congestion, Standing};
 use dccp_packets::{Outbox, Packet};
 use seq_circle::{NoMemory, Seq48};
 use std::alloc::Global;
@@ -16,8 +16,8 @@ const FIRST_CCID: u8 = 2;
 /// One end of a connection, with the congestion control of the data that it sends. It has no socket and no clock:
 /// whoever owns it has both. Each call that takes an Outbox empties it first and leaves at most one frame there, which
 /// the owner then sends to the peer. A refused call leaves the end and its congestion control unchanged and the box
-/// empty. Only `new` may take memory. No call gives the congestion control out: `window`, `in_flight` and `is_reported`
-/// show what it shows.
+/// empty. Only `new` may take memory. No call gives the congestion control out: `window`, `in_flight`, `is_reported`
+/// and `stands` show what it shows.
 ///
 /// # The order of calls
 ///
@@ -30,8 +30,8 @@ const FIRST_CCID: u8 = 2;
 /// - `send` for data, in OPEN, `send_early` of a client that speaks first, in PARTOPEN, and `send_soon` in both
 /// - `prefer` for another value of a feature, in PARTOPEN and OPEN
 /// - `close` to end the connection in order, in PARTOPEN and OPEN, and `abort` to end it at once
-/// - the readers `phase`, `pseudo_out`, `marks`, `held`, `window`, `in_flight`, `is_reported`, `floor`, `marked`,
-///   `last_taken` and `takes_short`, at any time
+/// - the readers `phase`, `pseudo_out`, `marks`, `held`, `window`, `in_flight`, `is_reported`, `stands`, `floor`,
+///   `marked`, `last_taken` and `takes_short`, at any time
 ///
 /// A feature's value, as `held` shows it, is settled for this end where its stand is Stable; that tells nothing of the
 /// other end, which may hold another one until it is Stable too. The connection has ended once the phase
@@ -181,6 +181,14 @@ impl<C: Congestion> Endpoint<C> {
         ensures { IsTrue result ↔ Has (C.control.flight self.now.congestion) number Reported }
     {
         self.congestion.is_reported(number)
+    }
+
+    /// Tells whether its data packet of this number stands so, of the last 2,048 that it has sent since it began, took up
+    /// another CCID, or took all that was in flight for lost by a timeout.
+    pub fn stands(&self, number: Seq48, standing: Standing) -> bool
+        ensures { IsTrue result ↔ Has (C.control.flight self.now.congestion) number standing }
+    {
+        self.congestion.stands(number, standing)
     }
 
     /// The least number that an Ack Vector may report (RFC 4340, section 11.4.2), or 0 before the first was received.

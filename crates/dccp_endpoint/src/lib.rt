@@ -39,7 +39,7 @@ pub use crate::outgoing::put_reset;
 pub use crate::sealing::seal_frame;
 pub use crate::strangers::answer_stranger;
 pub use ack_vectors::Vectors;
-pub use congestion_trait::Congestion;
+pub use congestion_trait::{Congestion, Standing};
 pub use dccp_packets::{Frame, MOST_FRAME_BYTES, Malformed, Numbers, Outbox, ResetCode, Sent};
 pub use dccp_states::{
     AbortFault, CloseFault, Fault, OpenFault, Outcome, Phase, Role, SendFault, Timer, Why,

@@ -3,7 +3,7 @@
 //! experiments, RFC 4340, section 10).
 ghost use Rattle.std.specs.Prelude.{IfOk, [], ◌≡◌};
 
-use congestion_trait::Flight;
+use congestion_trait::{Flight, Standing};
 use dccp_endpoint::{Congestion, NoMemory, Seq48};
 use dccp_options::AckReport;
 use std::alloc::Global;
@@ -68,6 +68,10 @@ impl Congestion for AdditiveWindow {
 
     fn is_reported(&self, number: Seq48) -> bool {
         self.flight.is_reported(number)
+    }
+
+    fn stands(&self, number: Seq48, standing: Standing) -> bool {
+        self.flight.stands(number, standing)
     }
 
     fn may_send(&self) -> bool {

@@ -1,7 +1,7 @@
 //! An own congestion control, as small as one can be: one packet in flight at a time.
 ghost use Rattle.std.specs.Prelude.{◌≡◌, [], IfOk};
 
-use congestion_trait::Flight;
+use congestion_trait::{Flight, Standing};
 use dccp_endpoint::{Congestion, NoMemory, Seq48};
 use dccp_options::AckReport;
 use std::alloc::Global;
@@ -62,6 +62,10 @@ impl Congestion for OneAtATime {
 
     fn is_reported(&self, number: Seq48) -> bool {
         self.flight.is_reported(number)
+    }
+
+    fn stands(&self, number: Seq48, standing: Standing) -> bool {
+        self.flight.stands(number, standing)
     }
 
     fn may_send(&self) -> bool {

@@ -2,7 +2,9 @@
 //! another test makes.
 use ccid_two::Kinds;
 use data_dropped::DropReport;
-use dccp_endpoint::{Config, Congestion, Endpoint, Frame, Ports, Pseudo, Role, Seq48, feed};
+use dccp_endpoint::{
+    Config, Congestion, Endpoint, Frame, Ports, Pseudo, Role, Seq48, Standing, feed,
+};
 use dccp_options::{AckReport, options};
 use dccp_uses::{AdditiveWindow, Network, OneAtATime, Pace, Session};
 use std::alloc::Global;
@@ -25,11 +27,12 @@ fn client() -> Option<Config> {
     Some(Config::client(addresses, ports, 42, Seq48::new(1000)?))
 }
 
-// Whether an end has taken a Request, and its number was not reported.
+// Whether an end has taken a Request, and knows nothing of its number, which is not its own.
 fn takes(end: &mut Endpoint<Kinds>) -> Option<bool> {
     let frames = [Frame::of(&REQUEST)?];
     let taken = feed(end, &frames);
-    Some(taken == 1 && !end.is_reported(Seq48::new(1000)?))
+    let number = Seq48::new(1000)?;
+    Some(taken == 1 && !end.is_reported(number) && !end.stands(number, Standing::Out))
 }
 
 fn is_fed(alloc: Global) -> Option<bool> {

@@ -2,7 +2,7 @@
 //! flight list by itself. The values are worked out by hand from RFC 4341, section 5.
 use crate::marks::calls::{Called, all_come};
 use ccid_two::{Ccid2, Kinds};
-use congestion_trait::{Congestion, FixedWindow, Flight, FlightNews};
+use congestion_trait::{Congestion, FixedWindow, Flight, FlightNews, Standing};
 use dccp_options::{AckReport, options};
 use seq_circle::Seq48;
 use std::test::Fail;
@@ -181,14 +181,15 @@ fn loses_the_first(flight: &mut Flight, first: Seq48) -> Option<bool> {
     for ahead in 0..4 {
         flight.sent(first.add(ahead));
     }
-    let all_out = flight.out() == 4;
+    let all_out = flight.out() == 4 && flight.stands(first, Standing::Out);
     let report = AckReport::of(first.add(3), options(&[38, 3, 0x02], false))?;
     let news = flight.report(&report, None);
     let wanted = FlightNews {
         acked: 3,
         congested: true,
     };
-    Some(all_out && news == wanted && flight.out() == 0 && !flight.is_reported(first))
+    let settled = flight.stands(first, Standing::Lost) && flight.is_reported(first.add(1));
+    Some(all_out && news == wanted && flight.out() == 0 && settled)
 }
 
 #[test]
