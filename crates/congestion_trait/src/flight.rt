@@ -100,14 +100,16 @@ impl Flight {
         self.counts.out
     }
 
-    /// Tells whether the list has a packet of this number that was reported. The cost is that of the whole list.
+    /// Tells whether the list has a packet of this number that was reported. The cost is that of the entries after it, or
+    /// of the whole list.
     pub fn is_reported(&self, number: Seq48) -> bool
         ensures { IsTrue result ↔ Has self.now number Reported }
     {
         self.stands(number, Standing::Reported)
     }
 
-    /// Tells whether the list has a packet of this number that stands so. The cost is that of the whole list.
+    /// Tells whether the list has a packet of this number that stands so. The cost is that of the entries after it, or of
+    /// the whole list.
     pub fn stands(&self, number: Seq48, standing: Standing) -> bool
         ensures { IsTrue result ↔ Has self.now number standing }
     {
@@ -175,19 +177,26 @@ impl Counts {
     }
 }
 
-// Tells whether an entry is in the list.
+// Tells whether an entry is in the list, from the newest on.
 fn is_in(entries: &HeapCircularBuffer<Entry>, entry: &Entry) -> bool
     ensures { IsTrue result ↔ Contains entries.now.items entry.now }
 {
     let (older, newer) = entries.as_slices();
-    is_among(older, entry) || is_among(newer, entry)
+    is_among(newer, entry) || is_among(older, entry)
 }
 
-// Tells whether an entry is among these.
+// Tells whether an entry is among these, from the newest on.
 fn is_among(entries: &[Entry], entry: &Entry) -> bool
     ensures { IsTrue result ↔ Contains entries.now entry.now }
 {
-    entries.contains(entry)
+    let mut left = entries;
+    while let Some((newest, older)) = left.split_last() {
+        if newest == entry {
+            return true;
+        }
+        left = older;
+    }
+    false
 }
 
 // How many steps up a number is from the newest entry's.
