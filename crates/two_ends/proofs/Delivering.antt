@@ -52,7 +52,7 @@ use Rattle.two_ends.proofs.Reaching.{world-after}
 use Rattle.two_ends.proofs.Shown.{or-any}
 
 -- where a payload lies in the bytes of its packet
-payload-lies : (bytes : List ℕ) (p : Parts) → decoded bytes ≡ Ok p
+pub payload-lies : (bytes : List ℕ) (p : Parts) → decoded bytes ≡ Ok p
     → (length p.payload ≤ length bytes) × (drop (length bytes - length p.payload) bytes ≡ p.payload)
 payload-lies bytes p read =
     let is = read_table p.header p.options p.payload bytes read in
