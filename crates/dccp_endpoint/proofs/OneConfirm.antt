@@ -1,5 +1,5 @@
 -- Of a packet's options a row hears the first that speaks to it, and the Confirm that is due is the row's answer (RFC 4340, section 6).
-use Rattle.std.proofs.Common.{◌≡◌, ◌==◌, ◌&&◌, ◌<◌, ◌≤◌, not, refl, sym, ap, ◌∙◌, subst, arith, ℕ, ◌+◌, suc, Bool, true, false, List, [], ◌∷◌, ◌++◌, drop, length, Option, Some, None, Result, Ok, Err, length-set, get_or-set_same, get_or-set_other, eqb-true}
+use Rattle.std.proofs.Common.{◌≡◌, ◌≢◌, ◌==◌, ◌&&◌, ◌<◌, ◌≤◌, not, refl, sym, ap, ◌∙◌, subst, arith, ℕ, ◌+◌, suc, Bool, true, false, List, [], ◌∷◌, ◌++◌, drop, length, Option, Some, None, Result, Ok, Err, length-set, get_or-set_same, get_or-set_other, eqb-true}
 use Rattle.std.specs.Prelude.{if◌then◌else◌, filter, nat_le, nat_lt, slice_index_or}
 use Rattle.std.proofs.lemmas.Bool.{eq-eqb, and_from, and_left, and_parts, and_right, cond-false, cond-true, eqb-false, false_from_ne_true, false≢true, le-leb, leb-true, lt-ltb}
 use Rattle.std.proofs.lemmas.List.{get_or-replicate, length-replicate}
@@ -71,6 +71,7 @@ record Tells (k : Key) (h next : Heeding) (event : RowEvent) (turns : List Turn)
   used : is_used k next ≡ true
   confirm : confirm_for k h.confirms ≡ None → confirm_for k next.confirms ≡ confirm_of (row_step (row_at h.rows k.0 k.1) event).answer
   times : times_confirmed k next.confirms ≤ times_confirmed k h.confirms + 1
+  lives : (code : ℕ) → (row_step (row_at h.rows k.0 k.1) event).answer ≢ Fatal code
 
 -- reading went on with this
 abbrev fine : Heeding → Result Heeding Fault
@@ -224,8 +225,9 @@ module _ (k : Key) (ack : Option ℕ) (h next : Heeding) (entry : Entry) (body :
   answer change = (row_step (row_at h.rows k.0 k.1) (event change)).answer
 
   silent-tells : (change : Bool) (rows : List Row) → length rows ≡ length h.rows → confirm_of (answer change) ≡ None
+      → ((code : ℕ) → answer change ≢ Fatal code)
       → fine (met h (spot k) change rows h.confirms) ≡ Ok next → Tells k h next (event change) (own_turns change)
-  silent-tells change rows same_size none is =
+  silent-tells change rows same_size none alive is =
       let same : met h (spot k) change rows h.confirms ≡ next = cc is in
       subst (λ end. Tells k h end (event change) (own_turns change)) same (record {
         keeps = met-keeps h (spot k) change rows h.confirms same_size;
@@ -233,6 +235,7 @@ module _ (k : Key) (ack : Option ℕ) (h next : Heeding) (entry : Entry) (body :
         used = get_or-set_same h.used (spot k) true false (let below = spot-below k in omega arith);
         confirm = λ before. before ∙ sym none;
         times = omega arith;
+        lives = alive;
       })
 
   answer-tells : (rows : List Row) → length rows ≡ length h.rows → (its : RowAnswer) → answer true ≡ its
@@ -251,23 +254,24 @@ module _ (k : Key) (ack : Option ℕ) (h next : Heeding) (entry : Entry) (body :
         used = get_or-set_same h.used (spot k) true false (let below = spot-below k in omega arith);
         confirm = λ before. confirm-own k due h.confirms own before ∙ sym (ap confirm_of so);
         times = omega (arith, more, one);
+        lives = λ code fatal. cc (so, fatal);
       })
-  answer-tells rows same_size Ignored so is = silent-tells true rows same_size (ap confirm_of so) is
-  answer-tells rows same_size Settled so is = silent-tells true rows same_size (ap confirm_of so) is
+  answer-tells rows same_size Ignored so is = silent-tells true rows same_size (ap confirm_of so) (λ code fatal. cc (so, fatal)) is
+  answer-tells rows same_size Settled so is = silent-tells true rows same_size (ap confirm_of so) (λ code fatal. cc (so, fatal)) is
   answer-tells rows same_size (Fatal code) so is = cc is
-  answer-tells rows same_size Opens so is = silent-tells true rows same_size (ap confirm_of so) is
-  answer-tells rows same_size Waits so is = silent-tells true rows same_size (ap confirm_of so) is
-  answer-tells rows same_size Quiet so is = silent-tells true rows same_size (ap confirm_of so) is
+  answer-tells rows same_size Opens so is = silent-tells true rows same_size (ap confirm_of so) (λ code fatal. cc (so, fatal)) is
+  answer-tells rows same_size Waits so is = silent-tells true rows same_size (ap confirm_of so) (λ code fatal. cc (so, fatal)) is
+  answer-tells rows same_size Quiet so is = silent-tells true rows same_size (ap confirm_of so) (λ code fatal. cc (so, fatal)) is
 
-  settling-tells : (rows : List Row) → length rows ≡ length h.rows → confirm_of (answer false) ≡ None → (its : RowAnswer)
+  settling-tells : (rows : List Row) → length rows ≡ length h.rows → confirm_of (answer false) ≡ None → (its : RowAnswer) → answer false ≡ its
       → by_settling h (spot k) rows entry (settling_of its) ≡ Ok next → Tells k h next (event false) (own_turns false)
-  settling-tells rows same_size none (Confirms its) is = silent-tells false rows same_size none is
-  settling-tells rows same_size none Ignored is = silent-tells false rows same_size none is
-  settling-tells rows same_size none Settled is = silent-tells false rows same_size none is
-  settling-tells rows same_size none (Fatal code) is = cc is
-  settling-tells rows same_size none Opens is = silent-tells false rows same_size none is
-  settling-tells rows same_size none Waits is = silent-tells false rows same_size none is
-  settling-tells rows same_size none Quiet is = silent-tells false rows same_size none is
+  settling-tells rows same_size none (Confirms its) so is = silent-tells false rows same_size none (λ code fatal. cc (so, fatal)) is
+  settling-tells rows same_size none Ignored so is = silent-tells false rows same_size none (λ code fatal. cc (so, fatal)) is
+  settling-tells rows same_size none Settled so is = silent-tells false rows same_size none (λ code fatal. cc (so, fatal)) is
+  settling-tells rows same_size none (Fatal code) so is = cc is
+  settling-tells rows same_size none Opens so is = silent-tells false rows same_size none (λ code fatal. cc (so, fatal)) is
+  settling-tells rows same_size none Waits so is = silent-tells false rows same_size none (λ code fatal. cc (so, fatal)) is
+  settling-tells rows same_size none Quiet so is = silent-tells false rows same_size none (λ code fatal. cc (so, fatal)) is
 
   first-tells : (change : Bool) → is_too_many h change ≡ false → heeds_first ack h entry change (letter_to k.1) (feature_number k.0) body ≡ Ok next
       → Tells k h next (event change) (own_turns change)
@@ -282,7 +286,7 @@ module _ (k : Key) (ack : Option ℕ) (h next : Heeding) (entry : Entry) (body :
       let own = confirmed-own k h.rows body ack in
       settling-tells (stepped h.rows k.0 k.1 (Confirm body ack)).rows
       (length-set h.rows (index_of k.0 k.1) (row_step (row_at h.rows k.0 k.1) (Confirm body ack)).row)
-      (settles-silent (row_at h.rows k.0 k.1) (row_at h.rows k.0 k.1).stand (confirmation (row_at h.rows k.0 k.1) body ack)) (answer false)
+      (settles-silent (row_at h.rows k.0 k.1) (row_at h.rows k.0 k.1).stand (confirmation (row_at h.rows k.0 k.1) body ack)) (answer false) refl
       (subst (λ (step : RowsStep). by_settling h (spot k) step.rows entry (settling_of step.answer) ≡ Ok next) own is)
 
   own-tells : (change : Bool) → is_too_many h change ≡ false → is_used k h ≡ false
@@ -496,6 +500,7 @@ pub record Hears (k : Key) (count : Bool) (ack : Option ℕ) (h end : Heeding) (
   pub events : events_of k.0 k.1 (heard_turns count ack h items) ≡ said_to count ack k items
   pub confirm : confirm_for k end.confirms ≡ reply_due (row_at h.rows k.0 k.1) (said_to count ack k items)
   pub times : times_confirmed k end.confirms ≤ 1
+  pub lives : (event : RowEvent) → said_to count ack k items ≡ event ∷ [] → (code : ℕ) → (row_step (row_at h.rows k.0 k.1) event).answer ≢ Fatal code
 
 -- nothing spoke to the row yet
 record IsFresh (k : Key) (h : Heeding) : Type 0 where
@@ -522,6 +527,9 @@ module _ (k : Key) (count : Bool) (ack : Option ℕ) where
             later.confirm ∙ ap (λ (row : Row). reply_due row (said_to count ack k rest)) passes.row
             ∙ ap (λ (events : List RowEvent). reply_due (row_at h.rows k.0 k.1) events) (sym said);
         times = later.times;
+        lives =
+            λ event is code fatal.
+            later.lives event (sym said ∙ is) code (ap (λ (row : Row). (row_step row event).answer) passes.row ∙ fatal);
       }
 
   hears-now : (entry : Entry) (rest : List (Result Entry OptFault)) (h next end : Heeding) → IsFresh k h → heeds_entry count ack h entry ≡ Ok next
@@ -542,6 +550,11 @@ module _ (k : Key) (count : Bool) (ack : Option ℕ) where
             stays.confirm ∙ tells.confirm fresh.none
             ∙ ap (λ (events : List RowEvent). reply_due (row_at h.rows k.0 k.1) events) (sym said);
         times = let last = stays.times in let now = tells.times in let first = fresh.times in omega (arith, last, now, first);
+        lives =
+            λ event is code fatal.
+            let same : event_in ack entry ∷ [] ≡ event ∷ [] = sym said ∙ is in
+            let its : event_in ack entry ≡ event = cc same in
+            tells.lives code (ap (λ (one : RowEvent). (row_step (row_at h.rows k.0 k.1) one).answer) its ∙ fatal);
       }
 
   hears-so : (items : List (Result Entry OptFault)) (h end : Heeding) → IsFresh k h → HasRoom h items → heeds count ack h items ≡ Ok end
@@ -549,7 +562,7 @@ module _ (k : Key) (count : Bool) (ack : Option ℕ) where
   hears-so [] h end fresh room is =
       let same : h ≡ end = cc is in
       subst (λ last. Hears k count ack h last []) same
-      (record { events = refl; confirm = fresh.none; times = let none = fresh.times in omega (arith, none) })
+      (record { events = refl; confirm = fresh.none; times = let none = fresh.times in omega (arith, none); lives = λ event is. cc is })
   hears-so (Err fault ∷ rest) h end fresh room is = cc is
   hears-so (Ok entry ∷ rest) h end fresh room is = by (heeds_entry count ack h entry) refl is (λ next its. hears-so rest next end its) where
     by : (step : Result Heeding Fault) → heeds_entry count ack h entry ≡ step → heeds_then step (λ next. heeds count ack next rest) ≡ Ok end
