@@ -489,3 +489,35 @@ module _ {C : Type 0} (control : Control C) where
         at-one w h e events i j named (λ m n first second. delivered-once (next w h e) events (next-held w h e) m n named first second)
         (stands-at (delivered_by e (happens_to control w e)) (frames_delivered control (next w h e) events) i named one)
         (stands-at (delivered_by e (happens_to control w e)) (frames_delivered control (next w h e) events) j named other)
+
+-- data are carried by packets of two types
+carriers : (kind : PacketType) → carries_data kind ≡ true → (kind ≡ types.Data) ⊎ (kind ≡ types.DataAck)
+carriers types.Data is = inl refl
+carriers types.DataAck is = inr refl
+carriers _ is = cc is
+
+-- the frame of data that are delivered
+abbrev DataOf : WorldState → Event → WorldState → ℕ × ℕ → Type 0
+DataOf old e new place =
+    (from : Side) × (index : ℕ) × (frame : SentFrame) × (packet : Parts) × (e ≡ event.Deliver from index)
+    × (slice_get (half_of old from).frames index ≡ Some frame) × (packet_of frame.bytes ≡ Some packet)
+    × ((packet_type packet.header.kind ≡ types.Data) ⊎ (packet_type packet.header.kind ≡ types.DataAck))
+    × (place.0 ≤ place.1) × (place.1 ≡ length frame.bytes) × (drop place.0 frame.bytes ≡ packet.payload)
+    × ((half_of new (other from)).processed ≡ (half_of old (other from)).processed ++ frame.number ∷ [])
+
+pub data-of : (old new : WorldState) (e : Event) (place : ℕ × ℕ) → DeliversIn old e new place → DataOf old e new place
+data-of old new (event.Deliver from index) place d = (
+  from,
+  index,
+  d.frame,
+  d.packet,
+  refl,
+  d.is_there,
+  d.is_packet,
+  carriers (packet_type d.packet.header.kind) d.has_data,
+  d.begins,
+  d.ends,
+  d.are_its_data,
+  d.is_processed,
+)
+data-of old new _ place d = absurd d

@@ -2,7 +2,7 @@
 //!
 //! Each part of `Safe` has a function whose clauses follow from it and from no weaker one. They are what a reader may
 //! hold against the definitions, by plain counts where numbers are in them.
-ghost use Rattle.std.specs.Prelude.{◌≡◌, ◌≢◌, ℕ, ◌+◌, ◌^◌, ◌<◌, ◌≤◌, true, false, List, [], ◌∷◌, ◌++◌, Some, None, IsTrue, IsSome, Contains, take, drop, slice_get};
+ghost use Rattle.std.specs.Prelude.{◌≡◌, ◌≢◌, ◌⊎◌, ℕ, ◌+◌, ◌^◌, ◌<◌, ◌≤◌, true, false, List, [], ◌∷◌, ◌++◌, Some, None, IsTrue, IsSome, Contains, length, take, drop, slice_get};
 ghost use Rattle.ack_vectors.specs.Vector.{is_whole_under};
 ghost use Rattle.congestion_trait.specs.Flight.{Has};
 ghost use Rattle.congestion_trait.specs.declared.flight.Standing.TheVariants as standing;
@@ -10,8 +10,10 @@ ghost use Rattle.dccp_endpoint.specs.Drafts.{Fits};
 ghost use Rattle.dccp_endpoint.specs.End.{floor_of, held_of};
 ghost use Rattle.dccp_endpoint.specs.declared.config.Config.{Config};
 ghost use Rattle.dccp_options.specs.Vectors.{is_received, state_at};
-ghost use Rattle.dccp_packets.specs.Grammar.{Parts, is_long};
+ghost use Rattle.dccp_packets.specs.Grammar.{Parts, is_long, packet_type};
 ghost use Rattle.dccp_packets.specs.Kinds.{ack_of, value_of};
+ghost use Rattle.dccp_packets.specs.declared.header.PacketType.TheVariants as types;
+ghost use Rattle.dccp_states.specs.declared.outcome.Outcome.TheVariants as outcome;
 ghost use Rattle.dccp_states.specs.declared.phase.Role.TheVariants as role;
 ghost use Rattle.feature_lists.specs.Features.{initial_of};
 ghost use Rattle.feature_lists.specs.Lists.{IsFirstShared, SharesNothing, has_entry};
@@ -24,6 +26,8 @@ ghost use Rattle.seq_circle.specs.Circle.{IsBefore};
 ghost use Rattle.seq_circle.specs.Counts.{number_of};
 ghost use Rattle.world_events.specs.Actors.{other};
 ghost use Rattle.world_events.specs.declared.event.Event.{Event};
+ghost use Rattle.world_events.specs.declared.event.Event.TheVariants as events;
+ghost use Rattle.world_events.specs.declared.event.Seen.TheVariants as seen;
 ghost use Rattle.world_events.specs.declared.event.Side.{Side};
 ghost use Rattle.world_events.specs.declared.event.Side.TheVariants.{Client, Server};
 ghost use Rattle.two_ends.specs.declared.frames.SentFrame.{SentFrame};
@@ -32,6 +36,7 @@ ghost use Rattle.two_ends.specs.CameOf.{CameOfLists, CameOfLocation};
 ghost use Rattle.two_ends.specs.Controlled.{Controlled, IsNeverFar, congestion_of, plays, plays_from_start};
 ghost use Rattle.two_ends.specs.Counted.{AreAmongFirst, AreResets};
 ghost use Rattle.dccp_endpoint.specs.Spelled.{ack_in_width, in_width};
+ghost use Rattle.two_ends.specs.Delivered.{DeliversItsData, IsDeliveredOnce, frames_delivered};
 ghost use Rattle.two_ends.specs.Frames.{packet_of};
 ghost use Rattle.two_ends.specs.Negotiated.{HasSent, IsNotNegotiable, IsServerPriority, IsSettled, last_list_sent, last_value, list_said, pair_was_negotiated, value_said};
 ghost use Rattle.two_ends.specs.Numbered.{Facts};
@@ -143,6 +148,23 @@ pub fn frames_spell_their_numbers()
     ensures ack { (w : WorldState) → Facts w → (side : Side) (index : ℕ) (frame : SentFrame) (packet : Parts)
         → slice_get (half_of w side).frames index ≡ Some frame → packet_of frame.bytes ≡ Some packet
         → ack_of packet.header.kind ≡ ack_in_width (is_long packet.header.number) frame.ack }
+{}
+
+/// What *delivers* of a step comes to, and that data are delivered once. Data come of the delivery of a frame alone,
+/// which is a Data or a DataAck; they are all of its payload, up to its end; and the receiving side has processed its
+/// number by this, and no other (`frame`). Among the frames whose data a schedule delivers no later one is an earlier
+/// one (`once`; RFC 4340, section 8.5, step 16).
+pub fn delivered_data_are_those_of_their_frame<C: Congestion>()
+    ensures frame { (old new : WorldState) (event : Event) (begins ends : ℕ)
+        → DeliversItsData old event new (seen.Received (outcome.Took (Some (begins, ends))))
+        → (from : Side) × (index : ℕ) × (frame : SentFrame) × (packet : Parts) × (event ≡ events.Deliver from index)
+        × (slice_get (half_of old from).frames index ≡ Some frame) × (packet_of frame.bytes ≡ Some packet)
+        × ((packet_type packet.header.kind ≡ types.Data) ⊎ (packet_type packet.header.kind ≡ types.DataAck))
+        × (begins ≤ ends) × (ends ≡ length frame.bytes) × (drop begins frame.bytes ≡ packet.payload)
+        × ((half_of new (other from)).processed ≡ (half_of old (other from)).processed ++ frame.number ∷ []) }
+    ensures once { (w : Controlled C) (events : List Event) → IsDeliveredOnce C.control w events
+        → (early late : ℕ) (named : Side × ℕ) → early < late → slice_get (frames_delivered C.control w events) early ≡ Some named
+        → slice_get (frames_delivered C.control w events) late ≡ Some named → ⊥ }
 {}
 
 /// After every list of events no further event is refused as `FarShort`, as long as each side has sent fewer than 2^23
