@@ -17,10 +17,10 @@ use Rattle.dccp_server.specs.declared.rules.Rules.{Rules}
 use Rattle.dccp_c.specs.declared.flow_rules.FlowRules.{FlowRules}
 use Rattle.dccp_c.specs.declared.flow_rules.FlowLife.{FlowLife}
 use Rattle.dccp_listener.specs.declared.peer.Peer.{Peer}
-use Rattle.world_events.specs.declared.event.Refusal.{Refusal}
-use Rattle.world_events.specs.declared.event.Refusal.TheVariants as refusal
-use Rattle.world_events.specs.declared.event.Seen.{Seen}
-use Rattle.world_events.specs.declared.event.Seen.TheVariants as seen
+use Rattle.dccp_states.specs.declared.seen.Refusal.{Refusal}
+use Rattle.dccp_states.specs.declared.seen.Refusal.TheVariants as refusal
+use Rattle.dccp_states.specs.declared.seen.Seen.{Seen}
+use Rattle.dccp_states.specs.declared.seen.Seen.TheVariants as seen
 use Rattle.dccp_packets.specs.Outgoing.{Outgoing}
 use Rattle.dccp_c.specs.Framing.{Handed, handed_of, nothing_handed}
 use Rattle.dccp_c.specs.Outcomes.{told_outcome}

@@ -235,7 +235,11 @@ asks_for_request (input.Prefers key values) = false
 asks_for_request (input.Sends payload may_send) = false
 asks_for_request (input.SendsEarly payload may_send) = false
 asks_for_request (input.Fires timers.Request in_flight) = true
-asks_for_request (input.Fires _ in_flight) = false
+asks_for_request (input.Fires timers.Ack in_flight) = false
+asks_for_request (input.Fires timers.Negotiate in_flight) = false
+asks_for_request (input.Fires timers.Rto in_flight) = false
+asks_for_request (input.Fires timers.Close in_flight) = false
+asks_for_request (input.Fires timers.TimeWait in_flight) = false
 
 -- With what offers come up: the Request, as the client opens and again, and the Response to a packet that was taken
 -- (own).

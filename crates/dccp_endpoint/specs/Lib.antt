@@ -21,6 +21,7 @@ pub mod Early
 pub mod Inputs
 pub mod Spelled
 pub mod Controlled
+pub mod UserCalls
 pub mod Effects
 pub mod Causes
 pub mod InFull

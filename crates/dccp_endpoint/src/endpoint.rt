@@ -30,6 +30,7 @@ const FIRST_CCID: u8 = 2;
 /// - `send` for data, in OPEN, `send_early` of a client that speaks first, in PARTOPEN, and `send_soon` in both
 /// - `prefer` for another value of a feature, in PARTOPEN and OPEN
 /// - `close` to end the connection in order, in PARTOPEN and OPEN, and `abort` to end it at once
+/// - `act` for any of the calls above except `receive`, handed in as a value
 /// - the readers `phase`, `pseudo_out`, `marks`, `held`, `window`, `in_flight`, `is_reported`, `stands`, `floor`,
 ///   `marked`, `last_taken` and `takes_short`, at any time
 ///
@@ -69,8 +70,8 @@ const FIRST_CCID: u8 = 2;
 ///
 /// # Sizes
 ///
-/// An end has 3,136 bytes beside its congestion control's, which are 184 for `Kinds` of ccid_two, and takes two blocks
-/// in `new`, of 17,920 bytes together. A flight list takes one of 32,768; `Kinds` has two. An [`Outbox`] has 2,064
+/// An end has 3,152 bytes beside its congestion control's, which are 184 for `Kinds` of ccid_two, and takes two blocks
+/// in `new`, of 17,920 bytes together. A flight list takes one of 32,768; `Kinds` has two. An [`Outbox`] has 2,088
 /// bytes: one may serve all ends of a thread.
 #[derive(Drop)]
 pub struct Endpoint<C> {

@@ -11,6 +11,7 @@
 //! control.
 #![tactic(auto)]
 
+mod acting;
 mod config;
 mod connection;
 mod endpoint;
@@ -42,7 +43,8 @@ pub use ack_vectors::Vectors;
 pub use congestion_trait::{Congestion, Standing};
 pub use dccp_packets::{Frame, MOST_FRAME_BYTES, Malformed, Numbers, Outbox, ResetCode, Sent};
 pub use dccp_states::{
-    AbortFault, CloseFault, Fault, OpenFault, Outcome, Phase, Role, SendFault, Timer, Why,
+    AbortFault, CloseFault, Fault, OpenFault, Outcome, Phase, Refusal, Role, Seen, SendFault,
+    Timer, UserCall, Why,
 };
 pub use dccp_sum::{Pseudo, SumFault};
 pub use feature_lists::{Feature, Place, PreferFault};

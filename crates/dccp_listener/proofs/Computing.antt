@@ -6,7 +6,7 @@ use Rattle.std.specs.Map.{keys_of, remove_entry, set_value}
 use Rattle.ccid_two.specs.Kinds.{Both}
 use Rattle.dccp_endpoint.specs.Controlled.{EndStep}
 use Rattle.dccp_endpoint.specs.Inputs.{Answer}
-use Rattle.two_ends.specs.World.{seen_of}
+use Rattle.dccp_endpoint.specs.UserCalls.{seen_of}
 use Rattle.dccp_endpoint.specs.Strangers.{stays_in}
 use Rattle.dccp_listener.specs.Calls.{IsStep}
 use Rattle.dccp_listener.specs.Chain.{Arrives, Calls, ChainStep, Deed, chain_step, flow_step, fresh_end, is_given_up}

@@ -14,7 +14,7 @@ use Rattle.dccp_states.specs.declared.phase.Role.TheVariants as roles
 use Rattle.feature_machine.proofs.Listing.{without_offers_are_lists}
 use Rattle.feature_machine.specs.Lists.{IsLists}
 use Rattle.seq_circle.specs.declared.memory.NoMemory.{NoMemory}
-use Rattle.world_events.specs.declared.event.Seen.{Seen}
+use Rattle.dccp_states.specs.declared.seen.Seen.{Seen}
 use Rattle.dccp_packets.specs.Outgoing.{Outgoing}
 use Rattle.dccp_endpoint.specs.Strangers.{stays_in}
 use Rattle.dccp_listener.specs.Calls.{Arrived, IsStep}

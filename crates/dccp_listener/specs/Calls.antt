@@ -11,8 +11,8 @@ use Rattle.dccp_endpoint.specs.Drafts.{sent_of}
 use Rattle.dccp_endpoint.specs.Steps.{reset_of, without_detail}
 use Rattle.dccp_endpoint.specs.declared.config.Config.{Config}
 use Rattle.seq_circle.specs.declared.memory.NoMemory.{NoMemory}
-use Rattle.world_events.specs.declared.event.Seen.{Seen}
-use Rattle.world_events.specs.declared.event.Seen.TheVariants as seen
+use Rattle.dccp_states.specs.declared.seen.Seen.{Seen}
+use Rattle.dccp_states.specs.declared.seen.Seen.TheVariants as seen
 use Rattle.dccp_packets.specs.Outgoing.{Outgoing}
 use Rattle.dccp_listener.specs.Chain.{Deed, Arrives, chain_step, config_for}
 use Rattle.dccp_listener.specs.Peers.{Listening, end_of_peer, is_peer}

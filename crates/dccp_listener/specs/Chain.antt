@@ -19,8 +19,8 @@ use Rattle.dccp_endpoint.specs.Controlled.{EndStep, begins, has_in_flight, with_
 use Rattle.dccp_endpoint.specs.Inputs.{Answer, Input, end_stepped}
 use Rattle.dccp_endpoint.specs.Inputs as input
 use Rattle.dccp_endpoint.specs.declared.config.Config.{Config}
-use Rattle.world_events.specs.declared.event.Seen.{Seen}
-use Rattle.two_ends.specs.World.{seen_of}
+use Rattle.dccp_states.specs.declared.seen.Seen.{Seen}
+use Rattle.dccp_endpoint.specs.UserCalls.{seen_of}
 use Rattle.dccp_packets.specs.Outgoing.{Outgoing}
 use Rattle.dccp_endpoint.specs.Strangers.{stays_in}
 use Rattle.dccp_listener.specs.Peers.{FlowEnd}

@@ -7,7 +7,7 @@ use Rattle.ccid_two.specs.Kinds.{Both}
 use Rattle.dccp_endpoint.specs.Controlled.{EndStep}
 use Rattle.dccp_endpoint.specs.Inputs.{Answer}
 use Rattle.dccp_packets.specs.Grammar.{decoded}
-use Rattle.two_ends.specs.World.{seen_of}
+use Rattle.dccp_endpoint.specs.UserCalls.{seen_of}
 use Rattle.dccp_packets.specs.Outgoing.{Outgoing}
 use Rattle.dccp_endpoint.specs.Strangers.{stays_in}
 use Rattle.dccp_listener.specs.Calls.{busy_frame}

@@ -1,8 +1,8 @@
 -- Runs of a listener, and what they are for one peer (own).
 use Rattle.std.specs.Prelude.{◌≡◌, ℕ, Bool, true, false, List, [], ◌∷◌, Option, Some, Result, Ok, Err}
 use Rattle.seq_circle.specs.declared.memory.NoMemory.{NoMemory}
-use Rattle.world_events.specs.declared.event.Seen.{Seen}
-use Rattle.world_events.specs.declared.event.Seen.TheVariants as seen
+use Rattle.dccp_states.specs.declared.seen.Seen.{Seen}
+use Rattle.dccp_states.specs.declared.seen.Seen.TheVariants as seen
 use Rattle.dccp_packets.specs.Outgoing.{Outgoing}
 use Rattle.dccp_listener.specs.Calls.{IsStep, seen_if}
 use Rattle.dccp_listener.specs.Chain.{Deed, Arrives, Calls, FlowCall, chain_step}

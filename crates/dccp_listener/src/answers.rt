@@ -4,14 +4,13 @@ ghost use Rattle.ccid_two.specs.Kinds.{kinds_control};
 ghost use Rattle.dccp_endpoint.specs.Feeding.{receiving};
 ghost use Rattle.dccp_endpoint.specs.Incoming.{parts_of_packet};
 ghost use Rattle.dccp_packets.specs.Grammar.{decoded};
-ghost use Rattle.two_ends.specs.World.{seen_of};
+ghost use Rattle.dccp_endpoint.specs.UserCalls.{seen_of};
 ghost use Rattle.dccp_listener.specs.Chain.{Calls, call_of, flow_step, is_given_up};
 
 use crate::Act;
 use ccid_two::Kinds;
-use dccp_endpoint::{AbortFault, CloseFault, Endpoint, NoMemory, Outbox, Outcome, Phase};
+use dccp_endpoint::{Endpoint, NoMemory, Outbox, Outcome, Phase, Seen, UserCall};
 use dccp_packets::Packet;
-use world_events::{Refusal, Seen};
 
 /// The phase in which an end is given up.
 pub(crate) fn is_given_up(phase: Phase) -> bool
@@ -27,19 +26,10 @@ pub(crate) fn call(end: &mut Endpoint<Kinds>, act: Act<'_>, out: &mut Outbox) ->
     ensures seen { result ≡ seen_of (flow_step end.old (Calls (call_of act.entry))).answer }
 {
     match act {
-        Act::Send(payload) => match end.send(payload, out) {
-            Ok(()) => Seen::Called(Ok(())),
-            Err(fault) => Seen::Called(Err(Refusal::from(fault))),
-        },
-        Act::Timer(timer) => Seen::Fired(end.timer(timer, out)),
-        Act::Close => match end.close(out) {
-            Ok(()) => Seen::Called(Ok(())),
-            Err(CloseFault::NotOpen) => Seen::Called(Err(Refusal::NotOpen)),
-        },
-        Act::Abort => match end.abort(out) {
-            Ok(()) => Seen::Called(Ok(())),
-            Err(AbortFault::NotLive) => Seen::Called(Err(Refusal::NotLive)),
-        },
+        Act::Send(payload) => end.act(UserCall::Send(payload), out),
+        Act::Timer(timer) => end.act(UserCall::Timer(timer), out),
+        Act::Close => end.act(UserCall::Close, out),
+        Act::Abort => end.act(UserCall::Abort, out),
     }
 }
 

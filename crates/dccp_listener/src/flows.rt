@@ -4,7 +4,7 @@ ghost use Rattle.std.specs.BTreeMap.{insert_entry};
 ghost use Rattle.std.specs.Map.{remove_entry};
 ghost use Rattle.ccid_two.specs.Kinds.{kinds_control};
 ghost use Rattle.dccp_endpoint.specs.Feeding.{receiving};
-ghost use Rattle.two_ends.specs.World.{seen_of};
+ghost use Rattle.dccp_endpoint.specs.UserCalls.{seen_of};
 ghost use Rattle.dccp_listener.specs.Chain.{Calls, call_of, flow_step};
 ghost use Rattle.dccp_listener.specs.Moves.{FlowMoves, FlowSteps};
 ghost use Rattle.dccp_listener.specs.Peers.{end_of_peer, is_peer, peer_cmp};
@@ -14,10 +14,10 @@ use crate::answers::{call, is_given_up, receive};
 use crate::{Act, Peer};
 use ccid_two::Kinds;
 use dccp_endpoint::{Endpoint, NoMemory, Outbox, Outcome};
+use dccp_states::Seen;
 use std::alloc::Global;
 use std::collections::BTreeMap;
 use std::marker::Model;
-use world_events::Seen;
 
 // The end of a peer. It stands apart, so that it stays where it is as peers come and go.
 #[derive(Drop)]

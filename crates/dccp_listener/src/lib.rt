@@ -24,4 +24,4 @@ pub use crate::laws::{
 };
 pub use crate::listener::Listener;
 pub use crate::peer::Peer;
-pub use world_events::{Refusal, Seen};
+pub use dccp_states::{Refusal, Seen};

@@ -6,10 +6,10 @@ use crate::meeting::{arrive, perform};
 use crate::{Act, Heard, ListenConfig, NoFlow, Peer};
 use ccid_two::Kinds;
 use dccp_endpoint::{Endpoint, Feature, NoMemory, Outbox, Place, Seq48};
+use dccp_states::Seen;
 use std::alloc::Global;
 use std::collections::BTreeMap;
 use std::marker::Model;
-use world_events::Seen;
 
 /// A server that serves many peers at one address and port: each peer gets exactly what a server's end of its own would
 /// have given it, whatever the others do. It has no socket and no clock, as an end has none.

@@ -19,9 +19,9 @@ use crate::greeting::{greet, refuse};
 use crate::{Act, Heard, ListenConfig, NoFlow, Peer};
 use dccp_endpoint::{Config, NoMemory, Outbox, Outcome, Seq48, Why, answer_stranger};
 use dccp_packets::{Packet, decode};
+use dccp_states::Seen;
 use std::alloc::Global;
 use std::collections::BTreeMap;
-use world_events::Seen;
 
 // A fresh end hears the datagram, and the peer, which has none, gets it.
 fn admit(

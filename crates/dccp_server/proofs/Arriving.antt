@@ -9,7 +9,7 @@ use Rattle.dccp_listener.specs.declared.calls.Heard.TheVariants as heard
 use Rattle.dccp_listener.specs.declared.peer.Peer.{Peer}
 use Rattle.dccp_states.specs.declared.outcome.Outcome.{Outcome}
 use Rattle.seq_circle.specs.declared.memory.NoMemory.{NoMemory}
-use Rattle.world_events.specs.declared.event.Seen.TheVariants.{Received}
+use Rattle.dccp_states.specs.declared.seen.Seen.TheVariants.{Received}
 use Rattle.dccp_server.specs.Lives.{life_of, signs_in}
 use Rattle.dccp_server.specs.Rooms.{Coming, HasArrived, IsJudged, IsRoomMade, Room, begun_anew, comes_by, forgets, heard_plainly, left_without_memory, room_does, room_made, who_leaves}
 use Rattle.dccp_server.specs.Rules.{begins_anew, has_more_half_open, makes_way}

@@ -21,7 +21,7 @@ use Rattle.dccp_endpoint.specs.Inputs.{Aborted, Answer, Closed, Sent, step_shown
 use Rattle.dccp_endpoint.specs.Steps.{Step}
 use Rattle.dccp_states.specs.declared.phase.Phase.{Phase}
 use Rattle.dccp_states.specs.declared.phase.Phase.TheVariants as phases
-use Rattle.two_ends.specs.World.{seen_of}
+use Rattle.dccp_endpoint.specs.UserCalls.{seen_of}
 use Rattle.dccp_states.specs.declared.calls.SendFault.{SendFault}
 use Rattle.dccp_states.specs.declared.calls.Timer.{Timer}
 use Rattle.dccp_states.specs.declared.calls.Timer.TheVariants as timers

@@ -12,7 +12,7 @@ use Rattle.dccp_states.specs.declared.outcome.Outcome.{Outcome}
 use Rattle.dccp_states.specs.declared.outcome.Outcome.TheVariants.{Took, Synced}
 use Rattle.dccp_states.specs.declared.phase.Phase.{Phase}
 use Rattle.dccp_states.specs.declared.phase.Phase.TheVariants as phases
-use Rattle.world_events.specs.declared.event.Seen.TheVariants.{Received}
+use Rattle.dccp_states.specs.declared.seen.Seen.TheVariants.{Received}
 
 -- the lives of the peers that have a flow, in the order of the peers
 abbrev pub Lives : Type 0

@@ -14,7 +14,7 @@ use Rattle.dccp_uses.specs.Alarms.{arranged, no_alarms, rung, until_first, with_
 use Rattle.dccp_uses.specs.Session.{condition_of, every_timer, is_delivery}
 use Rattle.dccp_uses.specs.declared.alarms.Alarms.{Alarms}
 use Rattle.dccp_states.specs.declared.calls.Timer.{Timer}
-use Rattle.world_events.specs.declared.event.Seen.TheVariants.{Called, Received}
+use Rattle.dccp_states.specs.declared.seen.Seen.TheVariants.{Called, Received}
 use Rattle.dccp_server.specs.Due.{first_due, never}
 use Rattle.dccp_server.specs.Places.{kept_then}
 

@@ -1,3 +1,4 @@
 pub mod Entrance
 pub mod Unexpected
 pub mod Phases
+pub mod Refusals

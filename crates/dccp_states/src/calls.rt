@@ -1,4 +1,5 @@
-//! The refusals of an end's calls, and its timers.
+//! The calls of an end, why they are refused, and its timers.
+use feature_lists::{Feature, Place};
 
 /// Why `open` was refused. The end is unchanged.
 #[derive(Clone, Copy, Debug, PartialEq, Eq)]
@@ -32,6 +33,30 @@ pub enum CloseFault {
 pub enum AbortFault {
     /// The phase is CLOSED, LISTEN or TIMEWAIT: there is no connection (own).
     NotLive,
+}
+
+/// A call of an end by its user, as one value (own; the calls are RFC 4340's): the call that each names takes what
+/// stands here, and refuses as it says.
+#[derive(Clone, Copy, Debug, PartialEq, Eq)]
+pub enum UserCall<'a> {
+    /// `Endpoint::open`: the client asks for its service (RFC 4340, section 8.1.1).
+    Open,
+    /// `Endpoint::send`: these data are to go to the peer, at most 1,024 bytes.
+    Send(&'a [u8]),
+    /// `Endpoint::send_early`: the data of a client that speaks first, at most 1,024 bytes (section 8.1.5).
+    SendEarly(&'a [u8]),
+    /// `Endpoint::prefer`: these values are wanted of a feature at a place, best first (section 6).
+    Prefer {
+        feature: Feature,
+        place: Place,
+        values: &'a [u64],
+    },
+    /// `Endpoint::close`: the connection is to end in order (section 8.3).
+    Close,
+    /// `Endpoint::abort`: the connection is to end at once (section 8.3).
+    Abort,
+    /// `Endpoint::timer`: a timer has run out.
+    Timer(Timer),
 }
 
 /// The timers of an end. Their times are the user's, who tells the end that one has run out.

@@ -1,9 +1,9 @@
 //! The phases of an end, what a packet's type does in each of them, and what an end's calls answer: the tables of RFC
-//! 4340, section 8.5, steps 2 to 4, 7 and 9 to 15, under this project's profile; what became of a packet, why a call was
-//! refused, and the timers that a call names (sections 7 and 8).
+//! 4340, section 8.5, steps 2 to 4, 7 and 9 to 15, under this project's profile; what became of a packet, the calls of an
+//! end's user, the timers that they name, and why a call was refused (sections 7 and 8).
 //!
-//! Nothing here looks at a packet's numbers or options, sends anything or takes memory: each call is one table. The
-//! answers are types alone, so that who reads or prints them needs no end.
+//! Nothing here looks at a packet's numbers or options, sends anything or takes memory: each function is one table.
+//! Calls and answers are types alone, so that who reads or prints them needs no end.
 #![tactic(auto)]
 
 mod calls;
@@ -13,8 +13,9 @@ mod misplaced;
 mod outcome;
 mod phase;
 mod reply;
+mod seen;
 
-pub use crate::calls::{AbortFault, CloseFault, OpenFault, SendFault, Timer};
+pub use crate::calls::{AbortFault, CloseFault, OpenFault, SendFault, Timer, UserCall};
 pub use crate::entrance::{Entrance, gate};
 pub use crate::laws::{
     a_reset_tears_every_phase_down, opens_from_respond_and_part_open_alone, what_stays_silent_stays,
@@ -23,3 +24,4 @@ pub use crate::misplaced::unexpected;
 pub use crate::outcome::{Fault, Outcome, Why};
 pub use crate::phase::{Phase, Role};
 pub use crate::reply::{Reply, after};
+pub use crate::seen::{Refusal, Seen};

@@ -5,7 +5,7 @@ use Rattle.ccid_two.specs.Kinds.{Both, kinds_control}
 use Rattle.two_ends.specs.Controlled.{Controlled, ControlledStep, happens_to}
 use Rattle.world_events.specs.declared.event.Event.{Event}
 use Rattle.world_events.specs.declared.event.Event.TheVariants.{Open}
-use Rattle.world_events.specs.declared.event.Seen.{Seen}
+use Rattle.dccp_states.specs.declared.seen.Seen.{Seen}
 use Rattle.world_events.specs.declared.event.WorldFault.{WorldFault}
 use Rattle.world_events.specs.declared.event.WorldFault.TheVariants as fault
 use Rattle.fault_campaign.specs.Draws.{behind_two}

@@ -5,8 +5,8 @@ use Rattle.feature_lists.specs.declared.features.Feature.TheVariants as feature
 use Rattle.dccp_endpoint.specs.ShortForm.{is_stable}
 use Rattle.dccp_states.specs.declared.outcome.Outcome.{Outcome}
 use Rattle.dccp_states.specs.declared.outcome.Outcome.TheVariants.{Took, Dropped, Synced, WasReset, SentReset}
-use Rattle.world_events.specs.declared.event.Seen.{Seen}
-use Rattle.world_events.specs.declared.event.Seen.TheVariants.{Called, Fired, Received}
+use Rattle.dccp_states.specs.declared.seen.Seen.{Seen}
+use Rattle.dccp_states.specs.declared.seen.Seen.TheVariants.{Called, Fired, Received}
 use Rattle.world_events.specs.declared.event.Side.{Side}
 use Rattle.world_events.specs.declared.event.Side.TheVariants.{Client, Server}
 use Rattle.two_ends.specs.Pairs.{FeatureAt, held_at}

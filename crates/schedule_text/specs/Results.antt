@@ -7,10 +7,10 @@ use Rattle.dccp_states.specs.declared.outcome.Why.TheVariants as why
 use Rattle.dccp_states.specs.declared.outcome.Outcome.{Outcome}
 use Rattle.dccp_states.specs.declared.outcome.Outcome.TheVariants.{Took, Dropped, Synced, WasReset, SentReset}
 use Rattle.world_events.specs.declared.event.Event.{Event}
-use Rattle.world_events.specs.declared.event.Refusal.{Refusal}
-use Rattle.world_events.specs.declared.event.Refusal.TheVariants as refusal
-use Rattle.world_events.specs.declared.event.Seen.{Seen}
-use Rattle.world_events.specs.declared.event.Seen.TheVariants.{Called, Fired, Received}
+use Rattle.dccp_states.specs.declared.seen.Refusal.{Refusal}
+use Rattle.dccp_states.specs.declared.seen.Refusal.TheVariants as refusal
+use Rattle.dccp_states.specs.declared.seen.Seen.{Seen}
+use Rattle.dccp_states.specs.declared.seen.Seen.TheVariants.{Called, Fired, Received}
 use Rattle.tool_text.specs.Names.{malformed_name}
 use Rattle.tool_text.specs.Text.{hex_or_dash}
 use Rattle.schedule_text.specs.Printing.{event_text}

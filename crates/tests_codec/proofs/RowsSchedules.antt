@@ -7,7 +7,7 @@ use Prim.Native.String.{String}
 use Rattle.world_events.specs.declared.event.Side.TheVariants.{Client, Server}
 use Rattle.world_events.specs.declared.event.Event.{Event}
 use Rattle.world_events.specs.declared.event.Event.TheVariants as event
-use Rattle.world_events.specs.declared.event.Seen.TheVariants.{Fired}
+use Rattle.dccp_states.specs.declared.seen.Seen.TheVariants.{Fired}
 use Rattle.dccp_states.specs.declared.calls.Timer.TheVariants as timer
 use Rattle.tool_text.specs.declared.words.faults.LineFault.{LineFault}
 use Rattle.tool_text.specs.declared.words.faults.LineWhy.TheVariants as why

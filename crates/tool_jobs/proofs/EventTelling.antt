@@ -5,14 +5,15 @@ use Rattle.dccp_endpoint.specs.Calling.{aborts, closes, opens, prefers, sends_pa
 use Rattle.dccp_endpoint.specs.Early.{sends_early}
 use Rattle.dccp_endpoint.specs.Inputs as input
 use Rattle.two_ends.specs.Controlled.{Controlled, ControlledStep, congestion_of, controlled, controls, happens_to, said_by}
-use Rattle.two_ends.specs.World.{Half, HalfStep, Said, WorldState, WorldStep, delivers_frame as arrives_at, half_of, half_steps, happens, is_far_frame, is_full, in_world, seen_of_call, unless_far, with_half}
-use Rattle.world_events.specs.Refusals.{refusal_of, send_refusal_of}
+use Rattle.two_ends.specs.World.{Half, HalfStep, Said, WorldState, WorldStep, delivers_frame as arrives_at, half_of, half_steps, happens, is_far_frame, is_full, in_world, unless_far, with_half}
+use Rattle.dccp_endpoint.specs.UserCalls.{seen_of_call}
+use Rattle.dccp_states.specs.Refusals.{refusal_of, send_refusal_of}
 use Rattle.world_events.specs.Actors.{actor, other}
 use Rattle.world_events.specs.declared.event.Event.{Event}
 use Rattle.world_events.specs.declared.event.Event.TheVariants as event
-use Rattle.world_events.specs.declared.event.Refusal.{Refusal}
-use Rattle.world_events.specs.declared.event.Refusal.TheVariants as refusal
-use Rattle.world_events.specs.declared.event.Seen.{Seen}
+use Rattle.dccp_states.specs.declared.seen.Refusal.{Refusal}
+use Rattle.dccp_states.specs.declared.seen.Refusal.TheVariants as refusal
+use Rattle.dccp_states.specs.declared.seen.Seen.{Seen}
 use Rattle.world_events.specs.declared.event.Side.{Side}
 use Rattle.world_events.specs.declared.event.Side.TheVariants.{Client, Server}
 use Rattle.world_events.specs.declared.event.WorldFault.{WorldFault}

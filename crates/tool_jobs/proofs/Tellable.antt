@@ -17,10 +17,10 @@ use Rattle.dccp_listener.specs.declared.config.ListenConfig.{ListenConfig}
 use Rattle.dccp_listener.specs.declared.peer.Peer.{Peer}
 use Rattle.schedule_text.specs.Results.{IsSeenOf}
 use Rattle.seq_circle.specs.declared.memory.NoMemory.{NoMemory}
-use Rattle.two_ends.specs.World.{seen_of, seen_of_call}
-use Rattle.world_events.specs.Refusals.{send_refusal_of}
-use Rattle.world_events.specs.declared.event.Refusal.{Refusal}
-use Rattle.world_events.specs.declared.event.Refusal.TheVariants as refusal
+use Rattle.dccp_endpoint.specs.UserCalls.{seen_of, seen_of_call}
+use Rattle.dccp_states.specs.Refusals.{send_refusal_of}
+use Rattle.dccp_states.specs.declared.seen.Refusal.{Refusal}
+use Rattle.dccp_states.specs.declared.seen.Refusal.TheVariants as refusal
 use Rattle.tool_jobs.proofs.Telling.{data-in-frame}
 use Rattle.tool_jobs.specs.Telling.{CanBeTold, arriving_bytes}
 

@@ -6,7 +6,7 @@ use Rattle.dccp_endpoint.specs.Controlled.{End, EndStep, begins, with_control}
 use Rattle.dccp_endpoint.specs.Receiving.{receives}
 use Rattle.dccp_states.specs.declared.calls.OpenFault.{OpenFault}
 use Rattle.dccp_states.specs.declared.outcome.Outcome.{Outcome}
-use Rattle.world_events.specs.declared.event.Seen.TheVariants as seen
+use Rattle.dccp_states.specs.declared.seen.Seen.TheVariants as seen
 use Rattle.world_events.specs.declared.event.Side.{Side}
 use Rattle.schedule_text.specs.Results.{result_line}
 use Rattle.tool_jobs.specs.Replay.{Act, Acts, opened_line, replay_config, replay_of_input, text_of_replay}

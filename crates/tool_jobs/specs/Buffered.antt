@@ -11,7 +11,7 @@ use Rattle.dccp_endpoint.specs.Calling.{opens}
 use Rattle.dccp_endpoint.specs.Controlled.{with_control}
 use Rattle.dccp_states.specs.declared.calls.OpenFault.{OpenFault}
 use Rattle.dccp_states.specs.declared.outcome.Outcome.{Outcome}
-use Rattle.world_events.specs.declared.event.Seen.TheVariants as seen
+use Rattle.dccp_states.specs.declared.seen.Seen.TheVariants as seen
 use Rattle.world_events.specs.declared.event.Side.{Side}
 use Rattle.schedule_text.specs.Results.{result_line}
 use Rattle.tool_text.specs.Text.{hex_or_dash}

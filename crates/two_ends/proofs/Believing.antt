@@ -32,7 +32,7 @@ use Rattle.two_ends.specs.Safe.{Safe}
 use Rattle.two_ends.specs.World.{Said, WorldState, WorldStep, at_start, half_of, half_steps, happens, world_after_all}
 use Rattle.world_events.specs.Actors.{actor, other}
 use Rattle.world_events.specs.declared.event.Event.{Event}
-use Rattle.world_events.specs.declared.event.Seen.{Seen}
+use Rattle.dccp_states.specs.declared.seen.Seen.{Seen}
 use Rattle.world_events.specs.declared.event.Side.{Side}
 use Rattle.world_events.specs.declared.event.Side.TheVariants.{Client, Server}
 use Rattle.world_events.specs.declared.event.WorldFault.{WorldFault}

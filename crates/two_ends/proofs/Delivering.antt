@@ -34,8 +34,8 @@ use Rattle.run_list.specs.MarkedSet.{answer_to}
 use Rattle.world_events.specs.Actors.{actor, other}
 use Rattle.world_events.specs.declared.event.Event.{Event}
 use Rattle.world_events.specs.declared.event.Event.TheVariants as event
-use Rattle.world_events.specs.declared.event.Refusal.{Refusal}
-use Rattle.world_events.specs.declared.event.Seen.{Seen}
+use Rattle.dccp_states.specs.declared.seen.Refusal.{Refusal}
+use Rattle.dccp_states.specs.declared.seen.Seen.{Seen}
 use Rattle.world_events.specs.declared.event.Side.{Side}
 use Rattle.world_events.specs.declared.event.Side.TheVariants.{Client, Server}
 use Rattle.world_events.specs.declared.event.WorldFault.{WorldFault}
@@ -45,7 +45,8 @@ use Rattle.two_ends.specs.Controlled.{Controlled, ControlledStep, congestion_of,
 use Rattle.two_ends.specs.Delivered.{DeliversFrame, DeliversIn, DeliversItsData, IsDeliveredOnce, delivered_by, frame_delivered, frames_delivered, named_if, place_delivered}
 use Rattle.two_ends.specs.Reported.{IsOnce}
 use Rattle.two_ends.specs.Frames.{packet_of}
-use Rattle.two_ends.specs.World.{Half, HalfStep, Said, WorldState, WorldStep, delivers_frame, half_of, half_steps, happens, is_far_frame, is_full, newly_processed, number_if, in_world, seen_of, seen_of_call, unless_far, unless_full, with_half, world_after}
+use Rattle.two_ends.specs.World.{Half, HalfStep, Said, WorldState, WorldStep, delivers_frame, half_of, half_steps, happens, is_far_frame, is_full, newly_processed, number_if, in_world, unless_far, unless_full, with_half, world_after}
+use Rattle.dccp_endpoint.specs.UserCalls.{seen_of, seen_of_call}
 use Rattle.two_ends.proofs.Acting.{IsHeld, Refused, Steps, Takes, event-taken}
 use Rattle.two_ends.proofs.Keeping.{SideInvariant, held-once, kept-proper, marked-few, step-kept}
 use Rattle.two_ends.proofs.Reaching.{world-after}

@@ -31,8 +31,8 @@ use Rattle.feature_machine.specs.declared.row.Row.{Row}
 use Rattle.world_events.specs.Actors.{actor, other}
 use Rattle.world_events.specs.declared.event.Event.{Event}
 use Rattle.world_events.specs.declared.event.Event.TheVariants as event
-use Rattle.world_events.specs.declared.event.Seen.{Seen}
-use Rattle.world_events.specs.declared.event.Seen.TheVariants as seen
+use Rattle.dccp_states.specs.declared.seen.Seen.{Seen}
+use Rattle.dccp_states.specs.declared.seen.Seen.TheVariants as seen
 use Rattle.world_events.specs.declared.event.Side.{Side}
 use Rattle.world_events.specs.declared.event.Side.TheVariants.{Client, Server}
 use Rattle.world_events.specs.declared.event.WorldFault.{WorldFault}
@@ -40,8 +40,9 @@ use Rattle.world_events.specs.declared.event.WorldFault.TheVariants as fault
 use Rattle.two_ends.specs.Controlled.{Controlled, ControlledStep, begins_with, congestion_of, controlled, controlled_after, controls, happens_to, plays, said_by}
 use Rattle.two_ends.specs.Reached.{IsBeginning}
 use Rattle.two_ends.specs.Preferred.{AsksFor, AsksNothing, IsAccepted, IsLastAsked, WantsValues, row_of, values_configured}
-use Rattle.two_ends.specs.World.{Half, HalfStep, Said, WorldState, WorldStep, delivers_frame, half_of, half_steps, happens, is_far_frame, is_full, seen_of_call, unless_far, unless_full, with_half, world_after}
-use Rattle.world_events.specs.Refusals.{refusal_of}
+use Rattle.two_ends.specs.World.{Half, HalfStep, Said, WorldState, WorldStep, delivers_frame, half_of, half_steps, happens, is_far_frame, is_full, unless_far, unless_full, with_half, world_after}
+use Rattle.dccp_endpoint.specs.UserCalls.{seen_of_call}
+use Rattle.dccp_states.specs.Refusals.{refusal_of}
 use Rattle.two_ends.specs.declared.frames.SentFrame.{SentFrame}
 use Rattle.two_ends.proofs.Acting.{IsHeld, event-taken}
 use Rattle.two_ends.proofs.Keeping.{SideInvariant, kept-proper, run-kept, step-kept}

@@ -4,7 +4,7 @@ use Rattle.congestion_trait.specs.Control.{Control}
 use Rattle.dccp_endpoint.specs.declared.config.Config.{Config}
 use Rattle.dccp_states.specs.declared.phase.Role.TheVariants.{Client, Server}
 use Rattle.world_events.specs.declared.event.Event.{Event}
-use Rattle.world_events.specs.declared.event.Seen.{Seen}
+use Rattle.dccp_states.specs.declared.seen.Seen.{Seen}
 use Rattle.world_events.specs.declared.event.Side.{Side}
 use Rattle.world_events.specs.declared.event.Side.TheVariants as side
 use Rattle.world_events.specs.declared.event.WorldFault.{WorldFault}

@@ -10,8 +10,8 @@ use Rattle.dccp_states.specs.declared.outcome.Outcome.TheVariants as outcome
 use Rattle.world_events.specs.Actors.{other}
 use Rattle.world_events.specs.declared.event.Event.{Event}
 use Rattle.world_events.specs.declared.event.Event.TheVariants as event
-use Rattle.world_events.specs.declared.event.Seen.{Seen}
-use Rattle.world_events.specs.declared.event.Seen.TheVariants as seen
+use Rattle.dccp_states.specs.declared.seen.Seen.{Seen}
+use Rattle.dccp_states.specs.declared.seen.Seen.TheVariants as seen
 use Rattle.world_events.specs.declared.event.Side.{Side}
 use Rattle.world_events.specs.declared.event.WorldFault.{WorldFault}
 use Rattle.two_ends.specs.declared.frames.SentFrame.{SentFrame}

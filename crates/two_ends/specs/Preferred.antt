@@ -10,7 +10,7 @@ use Rattle.feature_machine.specs.declared.row.Row.{Row}
 use Rattle.feature_machine.specs.declared.stands.Stand.TheVariants.{Unstable}
 use Rattle.world_events.specs.declared.event.Event.{Event}
 use Rattle.world_events.specs.declared.event.Event.TheVariants as event
-use Rattle.world_events.specs.declared.event.Seen.TheVariants as seen
+use Rattle.dccp_states.specs.declared.seen.Seen.TheVariants as seen
 use Rattle.world_events.specs.declared.event.Side.{Side}
 use Rattle.two_ends.specs.Controlled.{Controlled, controlled_after, happens_to, plays}
 use Rattle.two_ends.specs.World.{WorldState, half_of}

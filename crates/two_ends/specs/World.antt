@@ -2,30 +2,26 @@
 -- the choice of deliveries.
 use Rattle.std.specs.Prelude.{◌≡◌, ℕ, ◌-◌, ◌^◌, ◌≤◌, ◌&&◌, ◌||◌, Bool, true, false, nat_le, nat_lt, if◌then◌else◌, List, [], ◌∷◌, ◌++◌, length, Option, Some, None, Result, Ok, Err, slice_get, ◌<◌, Vec, vec_len, vec_capacity}
 use Rattle.dccp_endpoint.specs.End.{EndState, new_end, floor_of, marked_of}
-use Rattle.dccp_endpoint.specs.Inputs.{Input, Answer, end_stepped}
+use Rattle.dccp_endpoint.specs.Inputs.{Input, end_stepped}
 use Rattle.dccp_endpoint.specs.Inputs as input
 use Rattle.dccp_endpoint.specs.Receiving.{takes_short}
 use Rattle.dccp_endpoint.specs.Steps.{Step}
+use Rattle.dccp_endpoint.specs.UserCalls.{input_of, seen_of}
+use Rattle.dccp_states.specs.declared.calls.UserCall.{UserCall}
 use Rattle.congestion_trait.specs.Calls.{Call}
 use Rattle.dccp_endpoint.specs.declared.config.Config.{Config}
 use Rattle.world_events.specs.Actors.{actor, other}
-use Rattle.world_events.specs.Refusals.{refusal_of, send_refusal_of}
 use Rattle.seq_circle.specs.Circle.{is_ack_far, is_far}
 use Rattle.dccp_packets.specs.Outgoing.{Outgoing}
 use Rattle.two_ends.specs.Frames.{is_short_packet, packet_of}
 use Rattle.two_ends.specs.declared.frames.SentFrame.{SentFrame}
-use Rattle.two_ends.specs.declared.half.Asked.{Asked}
-use Rattle.two_ends.specs.declared.half.Asked.TheVariants as asked
 use Rattle.world_events.specs.declared.event.Side.{Side}
 use Rattle.world_events.specs.declared.event.Side.TheVariants.{Client, Server}
 use Rattle.world_events.specs.declared.event.Event.{Event}
 use Rattle.world_events.specs.declared.event.Event.TheVariants as event
-use Rattle.world_events.specs.declared.event.Seen.{Seen}
-use Rattle.world_events.specs.declared.event.Seen.TheVariants as seen
+use Rattle.dccp_states.specs.declared.seen.Seen.{Seen}
 use Rattle.world_events.specs.declared.event.WorldFault.{WorldFault}
 use Rattle.world_events.specs.declared.event.WorldFault.TheVariants as fault
-use Rattle.world_events.specs.declared.event.Refusal.{Refusal}
-use Rattle.world_events.specs.declared.event.Refusal.TheVariants as refusal
 
 -- one side: its end, the frames that it ever sent, oldest first, and the numbers that it processed, in order
 pub record Half : Type 0 where
@@ -76,21 +72,6 @@ half_with frames after processed frame =
 -- a side with what a step of its end has added: at most one frame, and at most one number processed
 abbrev pub moved : {Answer : Type 0} → Half → Option ℕ → Step Answer → Half
 moved half arrived step = half_with half.frames step.after (half.processed ++ newly_processed half.end arrived step.after) step.frame
-
--- what is seen of a call, where a refusal has this name
-abbrev pub seen_of_call : {Fault : Type 0} → (Fault → Refusal) → Result (Unit {0}) Fault → Seen
-seen_of_call named (Ok _) = seen.Called (Ok tt)
-seen_of_call named (Err fault) = seen.Called (Err (named fault))
-
--- an outcome, the result of a call, or whether a timer applied
-abbrev pub seen_of : Answer → Seen
-seen_of (input.Received outcome) = seen.Received outcome
-seen_of (input.Opened result) = seen_of_call (λ fault. refusal.NotFresh) result
-seen_of (input.Preferred result) = seen_of_call refusal_of result
-seen_of (input.Sent result) = seen_of_call send_refusal_of result
-seen_of (input.Closed result) = seen_of_call (λ fault. refusal.NotOpen) result
-seen_of (input.Aborted result) = seen_of_call (λ fault. refusal.NotLive) result
-seen_of (input.Fired applies) = seen.Fired applies
 
 -- one step of a side's end, with the number in full of the frame that arrives, if one does
 abbrev pub half_steps : Half → Option ℕ → Input → HalfStep
@@ -156,15 +137,9 @@ pub record Said : Type 0 where
   pub may_send : Bool
   pub in_flight : Bool
 
--- a call as the end takes it, with what its congestion control says
-abbrev pub input_of : Asked → Said → Input
-input_of asked.Open said = input.Opens
-input_of (asked.Send payload) said = input.Sends payload.now said.may_send
-input_of (asked.SendEarly payload) said = input.SendsEarly payload.now said.may_send
-input_of (asked.Prefer feature place values) said = input.Prefers (feature, place) values.now
-input_of asked.Close said = input.Closes
-input_of asked.Abort said = input.Aborts
-input_of (asked.Fire timer) said = input.Fires timer said.in_flight
+-- a user's call as the end takes it, with what its congestion control says
+abbrev pub input_said : UserCall → Said → Input
+input_said call said = input_of call said.may_send said.in_flight
 
 -- an event of a schedule, with what the congestion control of the side that acts says to it
 abbrev pub happening_of : Event → Said → Happening

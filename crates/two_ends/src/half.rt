@@ -4,36 +4,17 @@ ghost use Rattle.dccp_endpoint.specs.Controlled.{after_calls, with_control};
 ghost use Rattle.dccp_endpoint.specs.Inputs.{end_stepped};
 ghost use Rattle.dccp_endpoint.specs.Receiving.{receives};
 ghost use Rattle.two_ends.specs.Controlled.{said_by};
-ghost use Rattle.two_ends.specs.World.{HasPlace, input_of, number_if, seen_of, seen_of_call};
-ghost use Rattle.world_events.specs.Refusals.{send_refusal_of};
+ghost use Rattle.dccp_endpoint.specs.UserCalls.{seen_of};
+ghost use Rattle.two_ends.specs.World.{HasPlace, input_said, number_if};
 
 use crate::frames::{keep_frame, take_memory};
-use crate::{Payload, Refusal, Seen, SentFrame, Values};
+use crate::{Seen, SentFrame};
 use congestion_trait::Congestion;
-use dccp_endpoint::{
-    AbortFault, CloseFault, Config, Endpoint, OpenFault, Outcome, SendFault, Timer,
-};
+use dccp_endpoint::{Config, Endpoint, Outcome, UserCall};
 use dccp_packets::Outbox;
-use feature_lists::{Feature, Place};
 use seq_circle::{NoMemory, Seq48};
 use std::alloc::Global;
 use std::marker::Model;
-
-/// A call of an end.
-#[derive(Clone, Copy)]
-pub(crate) enum Asked<'a> {
-    Open,
-    Send(&'a Payload),
-    SendEarly(&'a Payload),
-    Prefer {
-        feature: Feature,
-        place: Place,
-        values: &'a Values,
-    },
-    Close,
-    Abort,
-    Fire(Timer),
-}
 
 #[derive(Drop)]
 pub(crate) struct HalfWorld<C> {
@@ -86,7 +67,7 @@ impl<C: Congestion> HalfWorld<C> {
     ghost use Rattle.std.specs.Prelude.{◌≡◌, ◌≤◌, length, IfOk, OnErr, Ok, Some, None};
     ghost use Rattle.dccp_endpoint.specs.Inputs.{Arrives};
     ghost use Rattle.two_ends.specs.Controlled.{controlled_half_steps, said_by};
-    ghost use Rattle.two_ends.specs.World.{input_of};
+    ghost use Rattle.two_ends.specs.World.{input_said};
 
     pub(crate) fn end(&self) -> &Endpoint<C>
         ensures state { result.now.state ≡ self.now.half.end }
@@ -110,12 +91,12 @@ impl<C: Congestion> HalfWorld<C> {
     // One call of the end, which processes no number. All memory that the step may need is taken before the end is
     // touched.
     #[tactic(auto, using(crate::proofs::Processing::calls_process_nothing))]
-    pub(crate) fn call(&mut self, asked: Asked<'_>) -> Result<Seen, NoMemory>
-        ensures ok { IfOk result (λ seen. record { after = self.new; seen = seen } ≡ controlled_half_steps C.control self.old None (input_of asked.entry (said_by C.control self.old.congestion))) }
+    pub(crate) fn call(&mut self, call: UserCall<'_>) -> Result<Seen, NoMemory>
+        ensures ok { IfOk result (λ seen. record { after = self.new; seen = seen } ≡ controlled_half_steps C.control self.old None (input_said call.entry (said_by C.control self.old.congestion))) }
         ensures err { OnErr result (self.new ≡ self.old) }
     {
         take_memory(&mut self.frames, &mut self.spare)?;
-        let seen = answer(&mut self.end, asked, &mut self.out);
+        let seen = act(&mut self.end, call, &mut self.out);
         let processed = self.processed.len() as u64;
         let floor = self.end.floor();
         keep_frame(
@@ -155,48 +136,14 @@ impl<C: Congestion> HalfWorld<C> {
     }
 }
 
-// What is seen of data that were sent or refused.
-fn sent(answered: Result<(), SendFault>) -> Seen
-    ensures { result ≡ seen_of_call send_refusal_of answered }
+// The call of the end alone, and what is seen of it.
+fn act<C: Congestion>(end: &mut Endpoint<C>, call: UserCall<'_>, out: &mut Outbox) -> Seen
+    ensures after { end.new.state ≡ (end_stepped end.old.state (input_said call.entry (said_by C.control end.old.congestion))).after }
+    ensures called { end.new.congestion ≡ after_calls C.control end.old.congestion (end_stepped end.old.state (input_said call.entry (said_by C.control end.old.congestion))).calls }
+    ensures sent { out.new ≡ (end_stepped end.old.state (input_said call.entry (said_by C.control end.old.congestion))).frame }
+    ensures seen { result ≡ seen_of (end_stepped end.old.state (input_said call.entry (said_by C.control end.old.congestion))).answer }
 {
-    match answered {
-        Ok(()) => Seen::Called(Ok(())),
-        Err(fault) => Seen::Called(Err(Refusal::from(fault))),
-    }
-}
-
-// What is seen of a call of the end alone.
-fn answer<C: Congestion>(end: &mut Endpoint<C>, asked: Asked<'_>, out: &mut Outbox) -> Seen
-    ensures after { end.new.state ≡ (end_stepped end.old.state (input_of asked.entry (said_by C.control end.old.congestion))).after }
-    ensures called { end.new.congestion ≡ after_calls C.control end.old.congestion (end_stepped end.old.state (input_of asked.entry (said_by C.control end.old.congestion))).calls }
-    ensures sent { out.new ≡ (end_stepped end.old.state (input_of asked.entry (said_by C.control end.old.congestion))).frame }
-    ensures seen { result ≡ seen_of (end_stepped end.old.state (input_of asked.entry (said_by C.control end.old.congestion))).answer }
-{
-    match asked {
-        Asked::Open => match end.open(out) {
-            Ok(()) => Seen::Called(Ok(())),
-            Err(OpenFault::NotFresh) => Seen::Called(Err(Refusal::NotFresh)),
-        },
-        Asked::Send(payload) => sent(end.send(payload.bytes(), out)),
-        Asked::SendEarly(payload) => sent(end.send_early(payload.bytes(), out)),
-        Asked::Prefer {
-            feature,
-            place,
-            values,
-        } => match end.prefer(feature, place, values.numbers(), out) {
-            Ok(()) => Seen::Called(Ok(())),
-            Err(fault) => Seen::Called(Err(Refusal::from(fault))),
-        },
-        Asked::Close => match end.close(out) {
-            Ok(()) => Seen::Called(Ok(())),
-            Err(CloseFault::NotOpen) => Seen::Called(Err(Refusal::NotOpen)),
-        },
-        Asked::Abort => match end.abort(out) {
-            Ok(()) => Seen::Called(Ok(())),
-            Err(AbortFault::NotLive) => Seen::Called(Err(Refusal::NotLive)),
-        },
-        Asked::Fire(timer) => Seen::Fired(end.timer(timer, out)),
-    }
+    end.act(call, out)
 }
 
 // Keeps the number of a packet that was taken, in memory that was taken before.

@@ -2,13 +2,13 @@
 ghost use Rattle.std.specs.Prelude.{◌≡◌, ◌≢◌, ◌↔◌, Ok, Err, Some, None, IfOk, IfSome, OnErr, true, false, is_some, slice_get};
 ghost use Rattle.dccp_endpoint.specs.Inputs.{Arrives};
 ghost use Rattle.two_ends.specs.Controlled.{controlled_half_steps, said_by};
-ghost use Rattle.two_ends.specs.World.{is_far_at, is_far_frame, is_full, input_of};
+ghost use Rattle.two_ends.specs.World.{is_far_at, is_far_frame, is_full, input_said};
 
 use crate::far::is_far_frame;
-use crate::half::{Asked, HalfWorld};
+use crate::half::HalfWorld;
 use crate::{Event, Seen, SentFrame, Side, WorldFault};
 use congestion_trait::Congestion;
-use dccp_endpoint::{Config, Endpoint};
+use dccp_endpoint::{Config, Endpoint, UserCall};
 use seq_circle::NoMemory;
 use std::alloc::Global;
 use std::marker::Model;
@@ -53,7 +53,7 @@ impl<C: Congestion + Drop> Sides<C> {
 impl<C: Congestion> Sides<C> {
     ghost use Rattle.std.specs.Prelude.{◌≡◌, ◌≢◌, ◌↔◌, true, false, is_some, IfOk, OnErr, Ok, Err, slice_get, None};
     ghost use Rattle.two_ends.specs.Controlled.{congestion_of, controls, happens_to, said_by};
-    ghost use Rattle.two_ends.specs.World.{half_of, input_of, is_far_at, is_full, takes_place, Calls, Delivers, LacksFrame, ActorIsFull, DeliversFar};
+    ghost use Rattle.two_ends.specs.World.{half_of, input_said, is_far_at, is_full, takes_place, Calls, Delivers, LacksFrame, ActorIsFull, DeliversFar};
     ghost use Rattle.world_events.specs.Actors.{other};
 
     pub(crate) fn half(&self, side: Side) -> &HalfWorld<C>
@@ -78,25 +78,27 @@ impl<C: Congestion> Sides<C> {
         ensures err { OnErr result (self.new ≡ self.old) }
     {
         match event {
-            Event::Open => self.call(Side::Client, Asked::Open),
-            Event::Send { side, payload } => self.call(*side, Asked::Send(payload)),
-            Event::SendEarly { side, payload } => self.call(*side, Asked::SendEarly(payload)),
+            Event::Open => self.call(Side::Client, UserCall::Open),
+            Event::Send { side, payload } => self.call(*side, UserCall::Send(payload.bytes())),
+            Event::SendEarly { side, payload } => {
+                self.call(*side, UserCall::SendEarly(payload.bytes()))
+            }
             Event::Prefer {
                 side,
                 feature,
                 place,
                 values,
             } => {
-                let asked = Asked::Prefer {
+                let call = UserCall::Prefer {
                     feature: *feature,
                     place: *place,
-                    values,
+                    values: values.numbers(),
                 };
-                self.call(*side, asked)
+                self.call(*side, call)
             }
-            Event::Timer { side, timer } => self.call(*side, Asked::Fire(*timer)),
-            Event::Close { side } => self.call(*side, Asked::Close),
-            Event::Abort { side } => self.call(*side, Asked::Abort),
+            Event::Timer { side, timer } => self.call(*side, UserCall::Timer(*timer)),
+            Event::Close { side } => self.call(*side, UserCall::Close),
+            Event::Abort { side } => self.call(*side, UserCall::Abort),
             Event::Deliver { from, index } => self.deliver(*from, *index),
         }
     }
@@ -116,9 +118,9 @@ impl<C: Congestion> Sides<C> {
         }
     }
 
-    fn call(&mut self, side: Side, asked: Asked<'_>) -> Result<Seen, WorldFault>
+    fn call(&mut self, side: Side, call: UserCall<'_>) -> Result<Seen, WorldFault>
         ensures ok { IfOk result (λ seen.
-            controls C.control self.old side (takes_place self.old.world (Calls side (input_of asked.entry (said_by C.control (congestion_of self.old side)))))
+            controls C.control self.old side (takes_place self.old.world (Calls side (input_said call.entry (said_by C.control (congestion_of self.old side)))))
             ≡ Ok (record { after = self.new; seen = seen })) }
         ensures there { result ≢ Err WorldFault.NoSuchFrame }
         ensures full { (result ≡ Err WorldFault.Full) ↔ (is_full (half_of self.old.world side) ≡ true) }
@@ -126,8 +128,8 @@ impl<C: Congestion> Sides<C> {
         ensures err { OnErr result (self.new ≡ self.old) }
     {
         match side {
-            Side::Client => call_half(&mut self.client, asked),
-            Side::Server => call_half(&mut self.server, asked),
+            Side::Client => call_half(&mut self.client, call),
+            Side::Server => call_half(&mut self.server, call),
         }
     }
 }
@@ -139,9 +141,9 @@ fn is_full<C: Congestion>(half: &HalfWorld<C>) -> bool
     MOST_FRAMES <= half.frames().len()
 }
 
-fn call_half<C: Congestion>(half: &mut HalfWorld<C>, asked: Asked<'_>) -> Result<Seen, WorldFault>
+fn call_half<C: Congestion>(half: &mut HalfWorld<C>, call: UserCall<'_>) -> Result<Seen, WorldFault>
     ensures ok { IfOk result (λ seen. (is_full half.old.half ≡ false) × (record { after = half.new; seen = seen }
-        ≡ controlled_half_steps C.control half.old None (input_of asked.entry (said_by C.control half.old.congestion)))) }
+        ≡ controlled_half_steps C.control half.old None (input_said call.entry (said_by C.control half.old.congestion)))) }
     ensures full { (result ≡ Err WorldFault.Full) ↔ (is_full half.old.half ≡ true) }
     ensures there { result ≢ Err WorldFault.NoSuchFrame }
     ensures near { result ≢ Err WorldFault.FarShort }
@@ -150,7 +152,7 @@ fn call_half<C: Congestion>(half: &mut HalfWorld<C>, asked: Asked<'_>) -> Result
     if is_full(half) {
         return Err(WorldFault::Full);
     }
-    match half.call(asked) {
+    match half.call(call) {
         Ok(seen) => Ok(seen),
         Err(NoMemory) => Err(WorldFault::NoMemory),
     }

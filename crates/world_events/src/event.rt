@@ -1,11 +1,11 @@
-//! What may happen to two ends, and what is seen of it.
+//! What may happen to two ends, and why it did not.
 ghost use Rattle.std.specs.Prelude.{◌≡◌, ◌<◌, ◌≤◌, [], ◌∷◌, ◌++◌, true, false, length};
 ghost use Rattle.world_events.specs.Actors.{actor, other};
 
 use crate::payload::Payload;
 use arrayvec::ArrayVec;
-use dccp_states::{Outcome, SendFault, Timer};
-use feature_lists::{Feature, Place, PreferFault};
+use dccp_states::Timer;
+use feature_lists::{Feature, Place};
 use std::marker::Model;
 
 // The most numbers of a list: one more than an end takes.
@@ -101,70 +101,6 @@ pub enum Event {
     Abort {
         side: Side,
     },
-}
-
-/// Why an end refused a call, by the name of its fault.
-#[derive(Clone, Copy, Debug, PartialEq, Eq)]
-pub enum Refusal {
-    /// `open`: the end is a server, or was opened before.
-    NotFresh,
-    /// `prefer` and `close`: the phase is neither PARTOPEN nor OPEN. `send`: it is not OPEN. `send_early`: not
-    /// PARTOPEN.
-    NotOpen,
-    /// `send`, `send_early`: the data are longer than 1,024 bytes.
-    TooLong,
-    /// `send`, `send_early`: CCID here is 2, and the peer sends no Ack Vectors.
-    NotNegotiated,
-    /// `send`, `send_early`: as many data packets are in flight as may be.
-    WindowFull,
-    /// `prefer`: the values are none, too many or not distinct, or not such as the feature may have.
-    BadList,
-    /// `prefer`: the feature is non-negotiable and located at the peer.
-    NotOurs,
-    /// `abort`: the phase is CLOSED, LISTEN or TIMEWAIT.
-    NotLive,
-}
-
-impl From<SendFault> for Refusal {
-    ghost use Rattle.std.specs.Prelude.{◌≡◌};
-    ghost use Rattle.world_events.specs.Refusals.{send_refusal_of};
-
-    ghost from_gives = { λ fault refusal. refusal ≡ send_refusal_of fault };
-
-    fn from(fault: SendFault) -> Refusal {
-        match fault {
-            SendFault::NotOpen => Refusal::NotOpen,
-            SendFault::TooLong => Refusal::TooLong,
-            SendFault::NotNegotiated => Refusal::NotNegotiated,
-            SendFault::WindowFull => Refusal::WindowFull,
-        }
-    }
-}
-
-impl From<PreferFault> for Refusal {
-    ghost use Rattle.std.specs.Prelude.{◌≡◌};
-    ghost use Rattle.world_events.specs.Refusals.{refusal_of};
-
-    ghost from_gives = { λ fault refusal. refusal ≡ refusal_of fault };
-
-    fn from(fault: PreferFault) -> Refusal {
-        match fault {
-            PreferFault::NotOpen => Refusal::NotOpen,
-            PreferFault::BadList => Refusal::BadList,
-            PreferFault::NotOurs => Refusal::NotOurs,
-        }
-    }
-}
-
-/// What was seen of an event.
-#[derive(Clone, Copy, Debug, PartialEq, Eq)]
-pub enum Seen {
-    /// A call, and whether its end refused it.
-    Called(Result<(), Refusal>),
-    /// A timer, and whether it had something to do.
-    Fired(bool),
-    /// What became of the frame that arrived.
-    Received(Outcome),
 }
 
 /// Why an event did not happen. The world is unchanged.

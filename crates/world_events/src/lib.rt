@@ -5,5 +5,6 @@
 mod event;
 mod payload;
 
-pub use crate::event::{Event, Refusal, Seen, Side, Values, WorldFault};
+pub use crate::event::{Event, Side, Values, WorldFault};
 pub use crate::payload::Payload;
+pub use dccp_states::{Refusal, Seen};

@@ -3,8 +3,8 @@ use Rattle.dccp_states.specs.declared.calls.SendFault.{SendFault}
 use Rattle.dccp_states.specs.declared.calls.SendFault.TheVariants as send
 use Rattle.feature_lists.specs.declared.wishes.PreferFault.{PreferFault}
 use Rattle.feature_lists.specs.declared.wishes.PreferFault.TheVariants as prefer
-use Rattle.world_events.specs.declared.event.Refusal.{Refusal}
-use Rattle.world_events.specs.declared.event.Refusal.TheVariants as refusal
+use Rattle.dccp_states.specs.declared.seen.Refusal.{Refusal}
+use Rattle.dccp_states.specs.declared.seen.Refusal.TheVariants as refusal
 
 -- why data are not sent
 abbrev pub send_refusal_of : SendFault → Refusal
