@@ -114,8 +114,8 @@ impl Alarms {
     }
 }
 
-// The sooner of two waits.
-pub(crate) fn sooner(left: Option<u64>, alarm: Option<Alarm>, now: u64) -> Option<u64>
+/// The sooner of what is left of a wait and of what an alarm has still to run at `now`, in milliseconds (own).
+pub fn sooner(left: Option<u64>, alarm: Option<Alarm>, now: u64) -> Option<u64>
     ensures { result ≡ sooner left alarm now }
 {
     match (left, alarm) {
@@ -142,8 +142,9 @@ fn next_wait(kind: &Wait, wait: u64) -> u64
     kind.after(wait).max(1)
 }
 
-// The wait with which a timer begins, a millisecond at least.
-pub(crate) fn starting_wait(waits: &Waits, alarms: &Alarms, timer: Timer) -> u64
+/// The wait with which a timer begins, in milliseconds, one at least (own). That of the timer rto stays as long as its
+/// timeouts have made it (RFC 2988, section 5.5).
+pub fn starting_wait(waits: &Waits, alarms: &Alarms, timer: Timer) -> u64
     ensures { result ≡ starting_wait_by waits.now alarms.now timer }
 {
     let first = waits.of(timer).first.max(1);

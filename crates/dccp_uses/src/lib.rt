@@ -30,18 +30,22 @@ mod waits;
 pub use crate::additive_window::AdditiveWindow;
 pub use crate::alarms::{
     Alarm, Alarms, Condition, ack_hurried_by, arranged, arranged_by, has_run_out, progressed_by,
-    rung, rung_by, with_delivery, with_progress,
+    rung, rung_by, sooner, starting_wait, with_delivery, with_progress,
 };
 pub use crate::laws::rules_are_inputs;
 pub use crate::listening::accept;
 pub use crate::network::Network;
-pub use crate::news::{News, is_delivery};
+pub use crate::news::{News, is_delivery, is_taken};
 pub use crate::offers::widened;
 pub use crate::one_at_a_time::OneAtATime;
 pub use crate::pace::Pace;
-pub use crate::path::{Path, Timed};
-pub use crate::rule::Rule;
+pub use crate::path::{
+    Path, Timed, aimed, arranged_path, data_timed, handshake_timed, is_probing, path_heard,
+    told_timer, with_flight,
+};
+pub use crate::rule::{Rule, alarms_by_rule, due_rule, obey, path_by_rule};
 pub use crate::session::Session;
 pub use crate::sight::Sight;
-pub use crate::timed_end::{Due, TimedEnd};
+pub use crate::syncs::{Admission, admit};
+pub use crate::timed_end::{Due, TimedEnd, acks_now, is_hole, ruled_condition};
 pub use crate::waits::Waits;

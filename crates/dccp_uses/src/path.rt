@@ -125,8 +125,9 @@ fn first_sent(old: Option<Timed>, sent: Timed) -> Option<Timed>
     }
 }
 
-/// A packet of the handshake was sent.
-pub(crate) fn handshake_timed(path: &Path, number: Seq48, now: u64) -> Path
+/// What is kept once a packet of the handshake with this number was sent at `now`: of these the first and the last are
+/// timed (own).
+pub fn handshake_timed(path: &Path, number: Seq48, now: u64) -> Path
     ensures { result ≡ handshake_timed path.now number now }
 {
     if !path.pace.measures {
@@ -139,8 +140,8 @@ pub(crate) fn handshake_timed(path: &Path, number: Seq48, now: u64) -> Path
     path
 }
 
-/// Data were sent.
-pub(crate) fn data_timed(path: &Path, number: Seq48, now: u64) -> Path
+/// What is kept once data with this number were sent at `now`: one packet at a time is timed (RFC 6298, section 3).
+pub fn data_timed(path: &Path, number: Seq48, now: u64) -> Path
     ensures { result ≡ data_timed path.now number now }
 {
     if !path.pace.measures {
@@ -250,8 +251,8 @@ fn flown(path: &Path, in_flight: u32, now: u64) -> Path
     path
 }
 
-/// So many packets are in flight.
-pub(crate) fn with_flight(path: &Path, in_flight: u32, now: u64) -> Path
+/// What is kept where so many data packets are in flight at `now` (own): the most of a period, of a round trip at least.
+pub fn with_flight(path: &Path, in_flight: u32, now: u64) -> Path
     ensures { result ≡ with_flight path.now in_flight now }
 {
     if !path.pace.moves_ratio {
@@ -302,8 +303,9 @@ fn at_once(now: u64) -> Option<Alarm>
     })
 }
 
-/// The Ack Ratio is asked for at once, where it is to be another.
-pub(crate) fn aimed(path: &Path, sight: &Sight, now: u64) -> Path
+/// The Ack Ratio is asked for at once, where the one that is wanted differs enough from the one held (RFC 4341, section
+/// 6.1.2; own).
+pub fn aimed(path: &Path, sight: &Sight, now: u64) -> Path
     ensures { result ≡ aimed path.now sight.now now }
 {
     let wants = wants_aim(path, sight, now);
@@ -359,8 +361,9 @@ fn fell(path: &Path, progress: bool) -> Path
     path
 }
 
-/// A packet was heard: what there was to see of the end before it, and is now; whether the packet was taken.
-pub(crate) fn path_heard(path: &Path, old: &Sight, new: &Sight, taken: bool, now: u64) -> Path
+/// What is kept once the end has heard a packet at `now` (own). `old` and `new` are what there was to see of the end
+/// before it and is now; `taken` says whether the packet was taken.
+pub fn path_heard(path: &Path, old: &Sight, new: &Sight, taken: bool, now: u64) -> Path
     ensures { result ≡ path_heard path.now old.now new.now taken now }
 {
     let path = measured(path, old, new, now);
@@ -371,8 +374,9 @@ pub(crate) fn path_heard(path: &Path, old: &Sight, new: &Sight, taken: bool, now
     answered_probe(&path, new.gar, now)
 }
 
-/// A timer was told, and this is to be seen of its end now.
-pub(crate) fn told_timer(path: &Path, timer: Timer, sight: &Sight, now: u64) -> Path
+/// What is kept once the end was told at `now` that a timer has run out, where this is to be seen of it afterwards (own):
+/// after a timeout no packet is timed.
+pub fn told_timer(path: &Path, timer: Timer, sight: &Sight, now: u64) -> Path
     ensures { result ≡ told_timer path.now timer sight.now now }
 {
     match timer {
@@ -386,8 +390,9 @@ pub(crate) fn told_timer(path: &Path, timer: Timer, sight: &Sight, now: u64) -> 
     }
 }
 
-/// Whether the peer is asked for a sign of life before what is in flight is taken for lost, or was asked.
-pub(crate) fn is_probing(path: &Path, sight: &Sight) -> bool
+/// Whether the peer is asked for a sign of life before what is in flight is taken for lost, or was asked (own). The timer
+/// rto stands still as long.
+pub fn is_probing(path: &Path, sight: &Sight) -> bool
     ensures { result ≡ is_probing path.now sight.now }
 {
     path.pace.probes
@@ -479,9 +484,10 @@ fn with_rules(path: &Path, least: u64, now: u64) -> Path
     path
 }
 
-/// The rules as they go on from `now`, where the timer rto would begin with this wait, and no rule is due before
-/// `least` milliseconds have gone by.
-pub(crate) fn arranged_path(path: &Path, wait: u64, sight: &Sight, least: u64, now: u64) -> Path
+/// The rules as they go on from `now` for an end of which this is to be seen (own). The timer rto would begin with a
+/// wait of `wait` milliseconds, and no rule is due before `least` milliseconds have gone by: 1 after a rule had the end
+/// do something, else 0.
+pub fn arranged_path(path: &Path, wait: u64, sight: &Sight, least: u64, now: u64) -> Path
     ensures { result ≡ arranged_path path.now wait sight.now least now }
 {
     with_rules(&arranged_rules(path, wait, sight, now), least, now)

@@ -34,8 +34,8 @@ fn probe_rule(probe: Option<Seq48>) -> Rule
     }
 }
 
-/// The first rule that is due.
-pub(crate) fn due_rule(path: &Path, now: u64) -> Rule
+/// The first rule that is due at `now` (own).
+pub fn due_rule(path: &Path, now: u64) -> Rule
     ensures { result ≡ due_rule path.now now }
 {
     if has_run_out(path.give_up, now) {
@@ -61,13 +61,9 @@ fn ask<C: Congestion>(end: &mut Endpoint<C>, ratio: u64, out: &mut Outbox) -> bo
         .is_ok()
 }
 
-/// The end does what the rule says. Whether it did something.
-pub(crate) fn obey<C: Congestion>(
-    end: &mut Endpoint<C>,
-    rule: Rule,
-    aim: u64,
-    out: &mut Outbox,
-) -> bool
+/// The end does what the rule says, with an Ack Ratio of `aim` where it asks for one (own). Whether it did something: false
+/// also where the end refused the call, which has then changed nothing.
+pub fn obey<C: Congestion>(end: &mut Endpoint<C>, rule: Rule, aim: u64, out: &mut Outbox) -> bool
     ensures { record { after = end.new; frame = out.new; answer = result } ≡ rule_does C.control end.old rule aim }
 {
     match rule {
@@ -85,8 +81,8 @@ pub(crate) fn obey<C: Congestion>(
     }
 }
 
-/// The timers after a rule had its end do something.
-pub(crate) fn alarms_by_rule(waits: &Waits, alarms: &Alarms, rule: Rule, now: u64) -> Alarms
+/// The timers after a rule had its end do something at `now` (own): negotiate begins anew with a wish.
+pub fn alarms_by_rule(waits: &Waits, alarms: &Alarms, rule: Rule, now: u64) -> Alarms
     ensures { result ≡ alarms_by_rule waits.now alarms.now rule now }
 {
     match rule {
@@ -100,8 +96,9 @@ pub(crate) fn alarms_by_rule(waits: &Waits, alarms: &Alarms, rule: Rule, now: u6
     }
 }
 
-/// What is kept of the path after that, where this is to be seen of the end now.
-pub(crate) fn path_by_rule(path: &Path, rule: Rule, sight: &Sight, now: u64) -> Path
+/// What is kept of the path after a rule had its end do something at `now`, where this is to be seen of it afterwards
+/// (own).
+pub fn path_by_rule(path: &Path, rule: Rule, sight: &Sight, now: u64) -> Path
     ensures { result ≡ path_by_rule path.now rule sight.now now }
 {
     let mut path = *path;

@@ -98,12 +98,7 @@ fn admitted_by(path: &Path, number: Option<Seq48>, gsr: Seq48, now: u64) -> Admi
 /// Whether a datagram is heard: one that its numbers would have answered by a Sync is heard where there is a token for
 /// that (own; RFC 4340, section 7.5.4, limits the Syncs). Whether its checksum and ports are right is not looked at: such
 /// a one is dropped in any case.
-pub(crate) fn admit<C: Congestion>(
-    end: &Endpoint<C>,
-    path: &Path,
-    datagram: &[u8],
-    now: u64,
-) -> Admission
+pub fn admit<C: Congestion>(end: &Endpoint<C>, path: &Path, datagram: &[u8], now: u64) -> Admission
     ensures { result ≡ admitted end.now.state path.now datagram.now now }
 {
     if !path.pace.limits_syncs || !is_synchronized(end.phase()) {

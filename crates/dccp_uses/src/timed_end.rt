@@ -47,8 +47,8 @@ impl<C> Model for TimedEnd<C> {
     ghost view = { λ s. record { end = s.end; alarms = s.alarms; path = s.path } };
 }
 
-// The timer rto stands still while its question goes first.
-fn ruled_condition(path: &Path, sight: &Sight) -> Condition
+/// What the timers of an end go by, where this is to be seen of it (own): rto stands still while its question goes first.
+pub fn ruled_condition(path: &Path, sight: &Sight) -> Condition
     ensures { result ≡ ruled_condition path.now sight.now }
 {
     Condition {
@@ -57,15 +57,16 @@ fn ruled_condition(path: &Path, sight: &Sight) -> Condition
     }
 }
 
-// Whether data came that show a hole, and nothing went out that tells of it.
-fn is_hole(path: &Path, old: &Sight, new: &Sight, delivered: bool, silent: bool) -> bool
+/// Whether a packet has brought data that show a hole before them (own). `old` and `new` are what there was to see of the
+/// end before the packet and is now; `silent` says that nothing went out in answer, which would have told of the hole.
+pub fn is_hole(path: &Path, old: &Sight, new: &Sight, delivered: bool, silent: bool) -> bool
     ensures { result ≡ is_hole path.now old.now new.now delivered silent }
 {
     path.pace.acks_soon && delivered && silent && 1 < old.gsr.distance(new.gsr)
 }
 
-// An Ack goes out at once.
-fn acks_now(alarms: &Alarms, hole: bool, now: u64) -> Alarms
+/// The timers with an Ack that goes out at once, where there is a hole (own).
+pub fn acks_now(alarms: &Alarms, hole: bool, now: u64) -> Alarms
     ensures { result ≡ acks_now alarms.now hole now }
 {
     let mut alarms = *alarms;
