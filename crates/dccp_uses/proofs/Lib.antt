@@ -4,6 +4,7 @@ pub mod Soonest
 pub mod Accepting
 pub mod Dues
 pub mod OneInput
+pub mod Classic
 mod RowsPath
 pub mod Obeying
 pub mod Told

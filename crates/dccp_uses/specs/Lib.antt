@@ -10,3 +10,4 @@ pub mod Timed
 pub mod Sessions
 pub mod Syncs
 pub mod Inputs
+pub mod Classic

@@ -1,13 +1,19 @@
 //! How an end is used: what a voice, game or streaming transport writes around one `Endpoint` (own; the end is RFC
 //! 4340's).
 //!
-//! A [`Session`] is an end with the timers that its owner keeps for it. What happens goes in by its calls, each with
-//! the time: a datagram that arrived, data to send, a feature's new value, the end of the connection, and the time
-//! itself. Each frame that the end makes is handed to a [`Network`]. [`accept`] is what a server does with a datagram
-//! of a peer that it does not know. There is no socket here and no clock, and no memory is taken once a session is
-//! made. Two kinds of congestion control are its own, [`OneAtATime`] and [`AdditiveWindow`].
+//! A [`TimedEnd`] is an end with the timers that its owner keeps for it, and with the rules by which it fills its path
+//! and spares it. What happens goes in by its calls, each with the time: a datagram that arrived, data to send, a
+//! feature's new value, the end of the connection, and what is due. A [`Session`] is a `TimedEnd` over a [`Network`], to
+//! which each frame is handed. [`accept`] is what a server does with a datagram of a peer that it does not know. There
+//! is no socket here and no clock, and no memory is taken once an end is made.
 //!
-//! This crate is an example to read whole and to copy from; a program over it is dccp_greeting.
+//! A [`Pace`] says which rules are followed, and [`Path`] is what is kept of the path for them. The rules' formulas are
+//! those of path_rules. They have an end do only what a caller or a timer may (`rules_are_inputs`); where none is
+//! followed, a `TimedEnd` is an end with its timers alone (`classic_is_the_session`). Whoever keeps ends in another way
+//! has the same steps one by one, from [`Sight`], which is what the rules see of an end, to [`obey`].
+//!
+//! Two kinds of congestion control are its own, [`OneAtATime`] and [`AdditiveWindow`]. This crate is an example to read
+//! whole and to copy from; a program over it is dccp_greeting.
 #![tactic(auto)]
 
 mod additive_window;
@@ -32,7 +38,7 @@ pub use crate::alarms::{
     Alarm, Alarms, Condition, ack_hurried_by, arranged, arranged_by, has_run_out, progressed_by,
     rung, rung_by, sooner, starting_wait, with_delivery, with_progress,
 };
-pub use crate::laws::rules_are_inputs;
+pub use crate::laws::{classic_is_the_session, rules_are_inputs};
 pub use crate::listening::accept;
 pub use crate::network::Network;
 pub use crate::news::{News, is_delivery, is_taken};

@@ -1,0 +1,214 @@
+-- Where no rule is followed, an end with its timers is a session with the timers alone.
+use Rattle.std.proofs.Common.{◌≡◌, refl, sym, ap, subst, ℕ, ◌-◌, ◌==◌, nat_lt, nat_le, List, length, Bool, true, false, not, ◌&&◌, is_some, if◌then◌else◌, Option, Some, None, Result, Ok, Err}
+use Rattle.std.proofs.Math.Bool.{and-true}
+use Rattle.congestion_trait.specs.Control.{Control, may_send}
+use Rattle.dccp_endpoint.specs.Calling.{aborts, closes, fires, opens, prefers}
+use Rattle.dccp_endpoint.specs.Controlled.{End, EndStep, has_in_flight, in_flight_of, with_control}
+use Rattle.dccp_endpoint.specs.Early.{sends_soon}
+use Rattle.dccp_endpoint.specs.Receiving.{receives}
+use Rattle.dccp_states.specs.declared.calls.Timer.{Timer}
+use Rattle.dccp_states.specs.declared.calls.Timer.TheVariants as timers
+use Rattle.dccp_states.specs.declared.outcome.Outcome.{Outcome}
+use Rattle.feature_lists.specs.declared.features.Feature.{Feature}
+use Rattle.feature_lists.specs.declared.features.Place.{Place}
+use Rattle.dccp_uses.specs.Alarms.{alarm_of, arranged, has_run_out, rung, with_delivery, with_progress}
+use Rattle.dccp_uses.specs.Classic.{ClassicIsTheSession, IsClassic, IsSessionStep, session_of}
+use Rattle.dccp_uses.specs.Path.{aimed, answered_probe, classic_pace, fell, heard_from, is_answered, path_heard, sight_of, with_flight}
+use Rattle.dccp_uses.specs.Session.{SessionStep, after_hearing, called, calls, calls_anew, condition_of, goes_on_with, hears, is_delivery, tells_end, tells_news}
+use Rattle.dccp_uses.specs.Sessions.{session_hears, stands_still, tells_news_of}
+use Rattle.dccp_uses.specs.Timed.{TimedState, TimedStep, after_datagram, heard_out, is_taken, ruled_condition, timed_aborts, timed_called, timed_closes, timed_fires, timed_heard, timed_opens, timed_prefers, timed_sends, timers_go_on, timers_go_on_after}
+use Rattle.dccp_uses.specs.declared.alarms.Alarms.{Alarms}
+use Rattle.dccp_uses.specs.declared.path.Path.{Path}
+use Rattle.dccp_uses.specs.declared.sight.Sight.{Sight}
+use Rattle.dccp_uses.specs.declared.news.News.TheVariants as news
+
+-- a path that follows no rule, with whatever else was kept of it
+abbrev bare : Path → Path
+bare path = record path { pace = classic_pace; ratio = None }
+
+-- and of which nothing is due
+abbrev still : Path → Path
+still path = record path { pace = classic_pace; ratio = None; rules = None }
+
+pub is_still : (path : Path) → IsClassic path → path ≡ still path
+is_still path classic =
+    subst (λ pace. path ≡ record path { pace = pace; ratio = None; rules = None }) classic.follows_none
+    (subst (λ ratio. path ≡ record path { ratio = ratio; rules = None }) classic.asks_nothing
+    (subst (λ rules. path ≡ record path { rules = rules }) classic.nothing_is_due refl))
+
+module _ {C : Type 0} (control : Control C) where
+  -- what the timers go by is what they always went by
+  condition-is : (path : Path) (e : End C) → ruled_condition (bare path) (sight_of control e) ≡ condition_of control e
+  condition-is path e =
+      ap (λ flying. record { phase = e.state.phase; in_flight = flying }) (and-true (has_in_flight control e.congestion))
+
+  alarms-are : (path : Path) (alarms : Alarms) (e : End C) (now least : ℕ)
+      → (timers_go_on control now least alarms (bare path) e).alarms ≡ arranged alarms (condition_of control e) now
+  alarms-are path alarms e now least = ap (λ condition. arranged alarms condition now) (condition-is path e)
+
+  -- after a step of the end
+  went-on : {Answer : Type 0} (path : Path) (alarms : Alarms) (now least : ℕ) (step : EndStep C Answer)
+      → IsSessionStep (timers_go_on_after control now least alarms (bare path) step) (goes_on_with control now alarms step)
+  went-on path alarms now least step =
+      record {
+        session_is = ap (λ alarms. record { end = step.after; alarms = alarms }) (alarms-are path alarms step.after now least);
+        frame_is = refl;
+        answer_is = refl;
+        stays_classic = record { follows_none = refl; asks_nothing = refl; nothing_is_due = refl };
+      }
+
+  -- a call by its answer: one that was refused leaves all as it is
+  called-by : {Fault : Type 0} (now : ℕ) (s : TimedState C) (alarms : Alarms) (path : Path) (step : EndStep C (Result (Unit {0}) Fault))
+      → IsClassic s.path → (answer : Result (Unit {0}) Fault)
+      → IsSessionStep (timed_called control now s alarms (bare path) step answer) (called control now (session_of s) alarms step answer)
+  called-by now s alarms path step classic (Ok done) = went-on path alarms now 0 step
+  called-by now s alarms path step classic (Err fault) = record { session_is = refl; frame_is = refl; answer_is = refl; stays_classic = classic }
+
+  still-classic : (path : Path) → IsClassic (still path)
+  still-classic path = record { follows_none = refl; asks_nothing = refl; nothing_is_due = refl }
+
+  -- what holds of an end whose path is written out as one without rules holds of it
+  for-still : (P : TimedState C → Type 0) (s : TimedState C) → IsClassic s.path → P (record s { path = still s.path }) → P s
+  for-still P s classic it = subst (λ path. P (record s { path = path })) (sym (is_still s.path classic)) it
+
+  opened : (now : ℕ) (s : TimedState C) → IsClassic s.path
+      → IsSessionStep (timed_opens control now s) (calls control now (session_of s) (with_control control s.end.congestion (opens s.end.state)))
+  opened now s classic =
+      let step = with_control control s.end.congestion (opens s.end.state) in
+      for-still (λ t. IsSessionStep (timed_opens control now t) (calls control now (session_of t) (with_control control t.end.congestion (opens t.end.state)))) s classic
+      (called-by now (record s { path = still s.path }) s.alarms (still s.path) step (still-classic s.path) step.answer)
+
+  sent : (now : ℕ) (s : TimedState C) (payload : List ℕ) → IsClassic s.path
+      → IsSessionStep (timed_sends control now s payload)
+      (calls control now (session_of s) (with_control control s.end.congestion (sends_soon s.end.state payload (may_send control s.end.congestion))))
+  sent now s payload classic =
+      let step = with_control control s.end.congestion (sends_soon s.end.state payload (may_send control s.end.congestion)) in
+      for-still
+      (λ t. IsSessionStep (timed_sends control now t payload)
+      (calls control now (session_of t) (with_control control t.end.congestion (sends_soon t.end.state payload (may_send control t.end.congestion)))))
+      s classic (called-by now (record s { path = still s.path }) s.alarms (still s.path) step (still-classic s.path) step.answer)
+
+  wished : (now : ℕ) (s : TimedState C) (feature : Feature) (place : Place) (values : List ℕ) → IsClassic s.path
+      → IsSessionStep (timed_prefers control now s feature place values)
+      (calls_anew control now (session_of s) (with_control control s.end.congestion (prefers s.end.state (feature, place) values)))
+  wished now s feature place values classic =
+      let step = with_control control s.end.congestion (prefers s.end.state (feature, place) values) in
+      for-still
+      (λ t. IsSessionStep (timed_prefers control now t feature place values)
+      (calls_anew control now (session_of t) (with_control control t.end.congestion (prefers t.end.state (feature, place) values))))
+      s classic
+      (called-by now (record s { path = still s.path }) (record s.alarms { negotiate = None }) (still s.path) step (still-classic s.path) step.answer)
+
+  closed : (now : ℕ) (s : TimedState C) → IsClassic s.path
+      → IsSessionStep (timed_closes control now s) (calls control now (session_of s) (with_control control s.end.congestion (closes s.end.state)))
+  closed now s classic =
+      let step = with_control control s.end.congestion (closes s.end.state) in
+      for-still (λ t. IsSessionStep (timed_closes control now t) (calls control now (session_of t) (with_control control t.end.congestion (closes t.end.state)))) s classic
+      (called-by now (record s { path = still s.path }) s.alarms (record (still s.path) { give_up = None }) step (still-classic s.path) step.answer)
+
+  aborted : (now : ℕ) (s : TimedState C) → IsClassic s.path
+      → IsSessionStep (timed_aborts control now s) (calls control now (session_of s) (with_control control s.end.congestion (aborts s.end.state)))
+  aborted now s classic =
+      let step = with_control control s.end.congestion (aborts s.end.state) in
+      for-still (λ t. IsSessionStep (timed_aborts control now t) (calls control now (session_of t) (with_control control t.end.congestion (aborts t.end.state)))) s classic
+      (called-by now (record s { path = still s.path }) s.alarms (still s.path) step (still-classic s.path) step.answer)
+
+  -- what is kept of a packet that was heard
+  taken-bare : (path : Path) (taken : Bool) → heard_from (bare path) taken ≡ bare (heard_from path taken)
+  taken-bare path true = refl
+  taken-bare path false = refl
+
+  fallen-bare : (path : Path) (falls : Bool)
+      → (if falls then record (bare path) { probing = None } else bare path) ≡ bare (if falls then record path { probing = None } else path)
+  fallen-bare path true = refl
+  fallen-bare path false = refl
+
+  answered-bare : (path : Path) (now : ℕ) (answered : Bool)
+      → (if answered then record (bare path) { probing = Some (record { since = now; wait = 0 }) } else bare path)
+      ≡ bare (if answered then record path { probing = Some (record { since = now; wait = 0 }) } else path)
+  answered-bare path now true = refl
+  answered-bare path now false = refl
+
+  fell-bare : (path : Path) (taken progress : Bool) → fell (heard_from (bare path) taken) progress ≡ bare (fell (heard_from path taken) progress)
+  fell-bare path taken progress =
+      subst (λ it. fell it progress ≡ bare (fell (heard_from path taken) progress)) (sym (taken-bare path taken))
+      (fallen-bare (heard_from path taken) (progress && not (is_some (heard_from path taken).probe)))
+
+  heard-bare : (path : Path) (old new : Sight) (taken : Bool) (now : ℕ)
+      → path_heard (bare path) old new taken now
+      ≡ bare (answered_probe (fell (heard_from path taken) (nat_lt new.in_flight old.in_flight)) new.gar now)
+  heard-bare path old new taken now =
+      let after = fell (heard_from path taken) (nat_lt new.in_flight old.in_flight) in
+      subst (λ it. answered_probe (aimed (with_flight it new.in_flight now) new now) new.gar now ≡ bare (answered_probe after new.gar now))
+      (sym (fell-bare path taken (nat_lt new.in_flight old.in_flight))) (answered-bare after now (is_answered after.probe new.gar))
+
+  -- the end hears a datagram
+  heard-still : (now : ℕ) (s : TimedState C) (step : EndStep C Outcome)
+      → IsSessionStep (timed_heard control now (record s { path = still s.path }) step) (after_hearing control now (session_of s) step)
+  heard-still now s step =
+      let old = sight_of control s.end in
+      let new = sight_of control step.after in
+      let rest = answered_probe (fell (heard_from (still s.path) (is_taken step.answer)) (nat_lt new.in_flight old.in_flight)) new.gar now in
+      subst
+      (λ path. IsSessionStep (after_datagram control now (record s { path = still s.path }) new path step) (after_hearing control now (session_of s) step))
+      (sym (heard-bare (still s.path) old new (is_taken step.answer) now))
+      (went-on rest
+      (with_delivery (with_progress s.alarms (nat_lt (in_flight_of control step.after.congestion) (in_flight_of control s.end.congestion))) (is_delivery step.answer))
+      now 0 step)
+
+  told-news : (now : ℕ) (s : TimedState C) (step : EndStep C Outcome) (fits : Bool)
+      → IsSessionStep
+      (if fits then tells_news_of (record s { path = still s.path }) (heard_out (timed_heard control now (record s { path = still s.path }) step))
+      else record { timed = record s { path = still s.path }; frame = None; answer = news.TooLong })
+      (if fits then tells_news (session_of s) (after_hearing control now (session_of s) step)
+      else record { session = session_of s; frame = None; answer = news.TooLong })
+  told-news now s step true =
+      let heard = heard-still now s step in
+      record { session_is = heard.session_is; frame_is = refl; answer_is = refl; stays_classic = heard.stays_classic }
+  told-news now s step false = record { session_is = refl; frame_is = refl; answer_is = refl; stays_classic = still-classic s.path }
+
+  heard : (now : ℕ) (s : TimedState C) (bytes : List ℕ) → IsClassic s.path
+      → IsSessionStep (session_hears control now s bytes) (hears control now (session_of s) bytes)
+  heard now s bytes classic =
+      for-still (λ t. IsSessionStep (session_hears control now t bytes) (hears control now (session_of t) bytes)) s classic
+      (told-news now s (with_control control s.end.congestion (receives s.end.state bytes)) (nat_le (length bytes) 2044))
+
+  abbrev fired : TimedState C → Timer → EndStep C Bool
+  fired s timer = with_control control s.end.congestion (fires s.end.state timer (has_in_flight control s.end.congestion))
+
+  -- a timer is told
+  told-still : (now : ℕ) (s : TimedState C) (timer : Timer)
+      → IsSessionStep (timed_fires control now (record s { path = still s.path }) timer) (tells_end control now (session_of s) timer)
+  told-still now s timers.Request = went-on (still s.path) (rung s.alarms timers.Request now) now 0 (fired s timers.Request)
+  told-still now s timers.Ack = went-on (still s.path) (rung s.alarms timers.Ack now) now 0 (fired s timers.Ack)
+  told-still now s timers.Negotiate = went-on (still s.path) (rung s.alarms timers.Negotiate now) now 0 (fired s timers.Negotiate)
+  told-still now s timers.Rto = went-on (record (still s.path) { timed = None }) (rung s.alarms timers.Rto now) now 0 (fired s timers.Rto)
+  told-still now s timers.Close = went-on (still s.path) (rung s.alarms timers.Close now) now 0 (fired s timers.Close)
+  told-still now s timers.TimeWait = went-on (still s.path) (rung s.alarms timers.TimeWait now) now 0 (fired s timers.TimeWait)
+
+  told : (now : ℕ) (s : TimedState C) (timer : Timer) → IsClassic s.path
+      → IsSessionStep (timed_fires control now s timer) (tells_end control now (session_of s) timer)
+  told now s timer classic =
+      for-still (λ t. IsSessionStep (timed_fires control now t timer) (tells_end control now (session_of t) timer)) s classic (told-still now s timer)
+
+  -- where it has run out
+  rung-if : (now : ℕ) (s : TimedState C) (timer : Timer) → IsClassic s.path → (is_due : Bool)
+      → IsSessionStep (if is_due then timed_fires control now s timer else stands_still s)
+      (if is_due then tells_end control now (session_of s) timer else record { session = session_of s; frame = None; answer = false })
+  rung-if now s timer classic true = told now s timer classic
+  rung-if now s timer classic false = record { session_is = refl; frame_is = refl; answer_is = refl; stays_classic = classic }
+
+  pub classic_is_the_session : ClassicIsTheSession control
+  classic_is_the_session = record {
+    begins = λ config congestion. refl;
+    begins_classic = record { follows_none = refl; asks_nothing = refl; nothing_is_due = refl };
+    opens = opened;
+    sends = sent;
+    prefers = wished;
+    closes = closed;
+    aborts = aborted;
+    hears = heard;
+    tells = told;
+    rings = λ now s timer classic. rung-if now s timer classic (has_run_out (alarm_of s.alarms timer) now);
+    never_rules = λ now s classic. ap (λ rules. has_run_out rules now) classic.nothing_is_due;
+  }
