@@ -8,9 +8,10 @@ use Rattle.feature_machine.specs.declared.stands.Stand.TheVariants as stand
 use Rattle.path_rules.specs.RoundTrip.{with_sample}
 use Rattle.dccp_uses.specs.Alarms.{classic_waits, ack_hurried_by, no_alarms, rung_by, starting_wait_by}
 use Rattle.dccp_uses.specs.Path.{acked_sample, aim_of, aimed, arranged_path, classic_pace, data_timed, handshake_timed, measured, path_begins, path_heard, path_waits, patience, ruled_patience, used_window, usual_pace, with_flight}
-use Rattle.dccp_uses.specs.Rules.{due_rule, path_by_rule}
+use Rattle.dccp_uses.specs.Rules.{alarms_by_rule, due_rule, path_by_rule}
 use Rattle.dccp_uses.specs.Timed.{acks_now, is_hole}
 use Rattle.dccp_uses.specs.declared.alarms.Alarm.{Alarm}
+use Rattle.dccp_uses.specs.declared.alarms.Alarms.{Alarms}
 use Rattle.dccp_uses.specs.declared.path.Path.{Path}
 use Rattle.dccp_uses.specs.declared.rule.Rule.TheVariants as rule
 use Rattle.dccp_uses.specs.declared.sight.Sight.{Sight}
@@ -28,6 +29,7 @@ seen in-phase gss gar gsr in_flight window =
       gsr = gsr;
       in_flight = in_flight;
       window = window;
+      ccid = 2;
       ratio = record { value = 2; stand = stand.Stable };
       width = 100;
     }
@@ -128,3 +130,37 @@ a_hole_is_told :
     × ((ack_hurried_by (path_waits usual_path) (acks_now no_alarms true 1000) true).ack ≡ hurried)
     × ((rung_by (path_waits usual_path) (acks_now no_alarms true 1000) timers.Ack 1000).ack ≡ Some (record { since = 1000; wait = 50 }))
 a_hole_is_told = (refl, refl, refl, refl, refl, refl, refl)
+
+-- under another CCID than 2 none is asked for
+another_ccid_asks_for_none :
+    ((aimed busy (record (seen phase.Open 11 8 5 600 600) { ccid = 248 }) 1000).ratio ≡ None)
+    × ((aimed busy (record (seen phase.Open 11 8 5 600 600) { ccid = 3 }) 1000).ratio ≡ None)
+another_ccid_asks_for_none = (refl, refl)
+
+-- all four are due; and as the first of them are not. A question that was asked ends in a timeout.
+abbrev ended : Option Alarm
+ended = Some (record { since = 0; wait = 1000 })
+
+abbrev due_at : Option Alarm → Option Alarm → Option ℕ → Option Alarm → Option Alarm → Path
+due_at give_up probing probe silence ratio =
+    record usual_path { give_up = give_up; probing = probing; probe = probe; silence = silence; ratio = ratio }
+
+the_first_rule_goes :
+    (due_rule (due_at ended ended None ended ended) 1000 ≡ rule.GiveUp)
+    × (due_rule (due_at None ended None ended ended) 1000 ≡ rule.Probe)
+    × (due_rule (due_at None ended (Some 11) ended ended) 1000 ≡ rule.TimeOut)
+    × (due_rule (due_at None None None ended ended) 1000 ≡ rule.Ask)
+    × (due_rule (due_at None None None None ended) 1000 ≡ rule.Ratio)
+    × (due_rule (due_at ended ended None ended ended) 999 ≡ rule.Nothing)
+the_first_rule_goes = (refl, refl, refl, refl, refl, refl)
+
+-- a wish has the timer negotiate begin anew; a timeout has rto wait twice as long
+abbrev rang : Alarms
+rang = record no_alarms { negotiate = ended; rto = ended; rto_wait = 350 }
+
+rules_move_timers :
+    ((alarms_by_rule classic_waits rang rule.Probe 2000).negotiate ≡ None) × ((alarms_by_rule classic_waits rang rule.Ask 2000).negotiate ≡ None)
+    × ((alarms_by_rule classic_waits rang rule.Ratio 2000).negotiate ≡ None) × (alarms_by_rule classic_waits rang rule.GiveUp 2000 ≡ rang)
+    × ((alarms_by_rule (path_waits probed) rang rule.TimeOut 2000).rto ≡ Some (record { since = 2000; wait = 2000 }))
+    × ((alarms_by_rule (path_waits probed) rang rule.TimeOut 2000).rto_wait ≡ 1000)
+rules_move_timers = (refl, refl, refl, refl, refl, refl)

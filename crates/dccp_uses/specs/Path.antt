@@ -8,7 +8,7 @@ use Rattle.dccp_states.specs.declared.calls.Timer.{Timer}
 use Rattle.dccp_states.specs.declared.calls.Timer.TheVariants as timers
 use Rattle.dccp_states.specs.declared.phase.Phase.{Phase}
 use Rattle.dccp_states.specs.declared.phase.Phase.TheVariants as phases
-use Rattle.feature_lists.specs.declared.features.Feature.TheVariants.{AckRatio, SequenceWindow}
+use Rattle.feature_lists.specs.declared.features.Feature.TheVariants.{AckRatio, Ccid, SequenceWindow}
 use Rattle.feature_lists.specs.declared.features.Place.TheVariants.{Here}
 use Rattle.feature_lists.specs.declared.wishes.Wanted.TheVariants as wanted
 use Rattle.feature_machine.specs.Lists.{with_offer, with_wish}
@@ -69,6 +69,7 @@ sight_of control e =
       gsr = e.state.marks.gsr;
       in_flight = in_flight_of control e.congestion;
       window = window_of control e.congestion;
+      ccid = (held_of e.state Ccid Here).value;
       ratio = held_of e.state AckRatio Here;
       width = e.state.marks.peer_w;
     }
@@ -196,10 +197,10 @@ used_window path window = min window (2 * max path.most path.before)
 abbrev pub aim_of : Path → Sight → ℕ
 aim_of path sight = ack_ratio_aim sight.window (used_window path sight.window) (min sight.width (2 ^ 40))
 
--- it is asked for in OPEN, while nothing is being negotiated of it
+-- Under CCID 2, whose rule it is (RFC 4341, section 6.1.2), it is asked for in OPEN, while nothing is being negotiated of it.
 abbrev pub wants_aim : Path → Sight → ℕ → Bool
 wants_aim path sight now =
-    if not path.pace.moves_ratio || (not (is_open_phase sight.phase) || not (is_stand_stable sight.ratio.stand)) then false
+    if not path.pace.moves_ratio || (not (sight.ccid == 2) || (not (is_open_phase sight.phase) || not (is_stand_stable sight.ratio.stand))) then false
     else wants_ack_ratio (record { held = sight.ratio.value; asked = path.asked }) (aim_of path sight) sight.window (period path.round_trip) now
 
 -- and then at once

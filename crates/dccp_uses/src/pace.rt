@@ -9,7 +9,7 @@ pub struct Pace {
     pub measures: bool,
     /// Acks go out after 50 milliseconds, at once where data show a hole, and each 20 seconds at least.
     pub acks_soon: bool,
-    /// The Ack Ratio of this end follows its window.
+    /// The Ack Ratio of this end's data follows its window, under CCID 2 (RFC 4341, section 6.1.2).
     pub moves_ratio: bool,
     /// With a window of 16 or more the peer is asked for a sign of life before what is in flight is taken for lost.
     pub probes: bool,

@@ -280,6 +280,7 @@ fn wants_aim(path: &Path, sight: &Sight, now: u64) -> bool
     ensures { result ≡ wants_aim path.now sight.now now }
 {
     if !path.pace.moves_ratio
+        || sight.ccid != 2
         || !is_open_phase(sight.phase)
         || !is_stand_stable(sight.ratio.stand)
     {

@@ -19,6 +19,8 @@ pub struct Sight {
     pub in_flight: u32,
     /// How many may be.
     pub window: u32,
+    /// The CCID of its data.
+    pub ccid: u64,
     /// The Ack Ratio of its data.
     pub ratio: Held,
     /// The Sequence Window of its peer.
@@ -38,6 +40,7 @@ impl Sight {
             gsr: marks.gsr,
             in_flight: end.in_flight(),
             window: end.window(),
+            ccid: end.held(Feature::Ccid, Place::Here).value,
             ratio: end.held(Feature::AckRatio, Place::Here),
             width: marks.peer_w,
         }
