@@ -1,7 +1,8 @@
 -- Which datagrams an end does not hear, since it has sent too many Syncs (RFC 4340, section 7.5.4; own).
 use Rattle.std.specs.Prelude.{ℕ, Bool, true, false, not, ◌||◌, List, Option, Some, None, Result, Ok, Err, if◌then◌else◌}
+use Rattle.seq_circle.specs.Circle.{extended}
+use Rattle.dccp_packets.specs.Forms.{ack_near}
 use Rattle.dccp_packets.specs.Grammar.{Parts, decoded, packet_type}
-use Rattle.dccp_packets.specs.Kinds.{ack_of}
 use Rattle.dccp_packets.specs.declared.header.Kind.{Kind}
 use Rattle.dccp_packets.specs.declared.header.Number.{Number}
 use Rattle.dccp_packets.specs.declared.header.Number.TheVariants.{Long, Short}
@@ -11,6 +12,7 @@ use Rattle.validity_windows.specs.declared.marks.Marks.{Marks}
 use Rattle.validity_windows.specs.declared.verdict.Verdict.{Verdict}
 use Rattle.validity_windows.specs.declared.verdict.Verdict.TheVariants.{Valid, SyncFor, Drop}
 use Rattle.dccp_endpoint.specs.End.{EndState}
+use Rattle.dccp_endpoint.specs.Receiving.{takes_short}
 use Rattle.dccp_states.specs.declared.phase.Phase.{Phase}
 use Rattle.dccp_states.specs.declared.phase.Phase.TheVariants as phases
 use Rattle.path_rules.specs.Limits.{far_syncs, is_near_greatest, near_syncs, token_taken}
@@ -18,17 +20,17 @@ use Rattle.path_rules.specs.declared.limits.Taking.{Taking}
 use Rattle.dccp_uses.specs.declared.path.Path.{Path}
 use Rattle.dccp_uses.specs.declared.syncs.Admission.{Admission}
 
--- both ends know each other's numbers
-abbrev pub is_synchronized : Phase → Bool
-is_synchronized phases.Closed = false
-is_synchronized phases.Listen = false
-is_synchronized phases.Request = false
-is_synchronized phases.Respond = false
-is_synchronized phases.PartOpen = true
-is_synchronized phases.Open = true
-is_synchronized phases.CloseReq = true
-is_synchronized phases.Closing = true
-is_synchronized phases.TimeWait = false
+-- the windows judge what arrives (section 8.5, steps 5 and 6)
+abbrev pub has_windows : Phase → Bool
+has_windows phases.Closed = false
+has_windows phases.Listen = false
+has_windows phases.Request = false
+has_windows phases.Respond = true
+has_windows phases.PartOpen = true
+has_windows phases.Open = true
+has_windows phases.CloseReq = true
+has_windows phases.Closing = true
+has_windows phases.TimeWait = false
 
 -- the verdict is a Sync
 abbrev pub is_sync_verdict : Verdict → Bool
@@ -38,21 +40,26 @@ is_sync_verdict Drop = false
 
 -- a packet of this type with these numbers would be answered by a Sync (section 7.5.3)
 abbrev pub wants_sync : Marks → Kind → ℕ → Bool
-wants_sync marks kind number = is_sync_verdict (verdict marks (packet_type kind) number (ack_of kind))
+wants_sync marks kind number = is_sync_verdict (verdict marks (packet_type kind) number (ack_near marks.gss kind))
 
--- its number, where it would; one with short numbers is near
-abbrev pub unanswered : Marks → Kind → Number → Option ℕ
-unanswered marks kind (Long number) = if wants_sync marks kind number then Some number else None
-unanswered marks kind (Short number) = None
+-- its number in full, where it would
+abbrev pub unanswered : Marks → Kind → Option ℕ → Option ℕ
+unanswered marks kind None = None
+unanswered marks kind (Some number) = if wants_sync marks kind number then Some number else None
+
+-- a number in full; a short one is near GSR (section 7.6), where the end takes such
+abbrev pub whole_number : EndState → Number → Option ℕ
+whole_number e (Long number) = Some number
+whole_number e (Short number) = if takes_short e then Some (extended number e.marks.gsr) else None
 
 -- of what was read
-abbrev pub number_unanswered : Marks → Result Parts Malformed → Option ℕ
-number_unanswered marks (Ok packet) = unanswered marks packet.header.kind packet.header.number
-number_unanswered marks (Err fault) = None
+abbrev pub number_unanswered : EndState → Result Parts Malformed → Option ℕ
+number_unanswered e (Ok packet) = unanswered e.marks packet.header.kind (whole_number e packet.header.number)
+number_unanswered e (Err fault) = None
 
 -- of a datagram
-abbrev pub wanted_number : Marks → List ℕ → Option ℕ
-wanted_number marks bytes = number_unanswered marks (decoded bytes)
+abbrev pub wanted_number : EndState → List ℕ → Option ℕ
+wanted_number e bytes = number_unanswered e (decoded bytes)
 
 -- one with the token that was taken
 abbrev pub near_taken : Path → Taking → Admission
@@ -75,5 +82,5 @@ admitted_by path (Some number) gsr now = sync_bucketed path (is_near_greatest nu
 -- so is each where the rule is not followed
 abbrev pub admitted : EndState → Path → List ℕ → ℕ → Admission
 admitted e path bytes now =
-    if not path.pace.limits_syncs || not (is_synchronized e.phase) then record { heard = true; path = path }
-    else admitted_by path (wanted_number e.marks bytes) e.marks.gsr now
+    if not path.pace.limits_syncs || not (has_windows e.phase) then record { heard = true; path = path }
+    else admitted_by path (wanted_number e bytes) e.marks.gsr now

@@ -1,12 +1,13 @@
 //! Which datagrams an end does not hear, since it has sent too many Syncs.
 ghost use Rattle.std.specs.Prelude.{◌≡◌};
 ghost use Rattle.validity_windows.specs.Windows.{InRange};
-ghost use Rattle.dccp_uses.specs.Syncs.{admitted, admitted_by, is_synchronized, sync_bucketed, unanswered, wanted_number, wants_sync};
+ghost use Rattle.dccp_uses.specs.Syncs.{admitted, admitted_by, has_windows, sync_bucketed, unanswered, wanted_number, wants_sync, whole_number};
 
 use crate::Path;
 use dccp_endpoint::{Congestion, Endpoint, Marks, Phase, Seq48};
-use dccp_packets::{Kind, Number, decode};
+use dccp_packets::{Header, Kind, Number, decode};
 use path_rules::{far_syncs, is_near_greatest, near_syncs};
+use seq_circle::extend;
 use validity_windows::Verdict;
 
 /// Whether a datagram is heard, and what is kept of the path then.
@@ -18,13 +19,13 @@ pub struct Admission {
     pub path: Path,
 }
 
-// The phases in which both ends know each other's numbers.
-fn is_synchronized(phase: Phase) -> bool
-    ensures { result ≡ is_synchronized phase }
+// The phases in which the windows judge what arrives.
+fn has_windows(phase: Phase) -> bool
+    ensures { result ≡ has_windows phase }
 {
     matches!(
         phase,
-        Phase::PartOpen | Phase::Open | Phase::CloseReq | Phase::Closing
+        Phase::Respond | Phase::PartOpen | Phase::Open | Phase::CloseReq | Phase::Closing
     )
 }
 
@@ -33,30 +34,49 @@ fn wants_sync(marks: &Marks, kind: &Kind, number: Seq48) -> bool
     requires { InRange marks.now }
     ensures { result ≡ wants_sync marks.now kind.now number }
 {
-    match marks.check(kind.packet_type(), number, kind.ack()) {
+    match marks.check(kind.packet_type(), number, kind.ack_near(marks.gss)) {
         Verdict::SyncFor(_) => true,
         Verdict::Valid | Verdict::Drop => false,
     }
 }
 
-// The number of a packet that would be answered by a Sync, if it would.
-fn unanswered(marks: &Marks, kind: &Kind, number: Number) -> Option<Seq48>
+// The number in full of a packet that would be answered by a Sync, if it would.
+fn unanswered(marks: &Marks, kind: &Kind, number: Option<Seq48>) -> Option<Seq48>
     requires { InRange marks.now }
     ensures { result ≡ unanswered marks.now kind.now number }
 {
     match number {
-        Number::Long(number) if wants_sync(marks, kind, number) => Some(number),
-        Number::Long(_) | Number::Short(_) => None,
+        Some(number) if wants_sync(marks, kind, number) => Some(number),
+        Some(_) | None => None,
     }
 }
 
+// A number in full, where the end takes numbers of this form.
+fn whole_number<C: Congestion>(end: &Endpoint<C>, number: Number) -> Option<Seq48>
+    ensures { result ≡ whole_number end.now.state number }
+{
+    match number {
+        Number::Long(number) => Some(number),
+        Number::Short(number) if end.takes_short() => Some(extend(number, end.marks().gsr)),
+        Number::Short(_) => None,
+    }
+}
+
+// The same of a packet with this header.
+fn number_unanswered<C: Congestion>(end: &Endpoint<C>, header: Header) -> Option<Seq48>
+    ensures { result ≡ unanswered end.now.state.marks header.kind (whole_number end.now.state header.number) }
+{
+    let marks = end.marks();
+    let number = whole_number(end, header.number);
+    unanswered(&marks, &header.kind, number)
+}
+
 // The number of a datagram that would be answered by a Sync, if it would.
-fn wanted_number(marks: &Marks, datagram: &[u8]) -> Option<Seq48>
-    requires { InRange marks.now }
-    ensures { result ≡ wanted_number marks.now datagram.now }
+fn wanted_number<C: Congestion>(end: &Endpoint<C>, datagram: &[u8]) -> Option<Seq48>
+    ensures { result ≡ wanted_number end.now.state datagram.now }
 {
     match decode(datagram) {
-        Ok(packet) => unanswered(marks, &packet.header.kind, packet.header.number),
+        Ok(packet) => number_unanswered(end, packet.header),
         Err(_) => None,
     }
 }
@@ -101,13 +121,12 @@ fn admitted_by(path: &Path, number: Option<Seq48>, gsr: Seq48, now: u64) -> Admi
 pub fn admit<C: Congestion>(end: &Endpoint<C>, path: &Path, datagram: &[u8], now: u64) -> Admission
     ensures { result ≡ admitted end.now.state path.now datagram.now now }
 {
-    if !path.pace.limits_syncs || !is_synchronized(end.phase()) {
+    if !path.pace.limits_syncs || !has_windows(end.phase()) {
         return Admission {
             heard: true,
             path: *path,
         };
     }
-    let marks = end.marks();
-    let number = wanted_number(&marks, datagram);
-    admitted_by(path, number, marks.gsr, now)
+    let number = wanted_number(end, datagram);
+    admitted_by(path, number, end.marks().gsr, now)
 }

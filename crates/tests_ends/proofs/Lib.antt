@@ -12,6 +12,7 @@ pub mod RowsEarlyWorld
 pub mod RowsFar
 pub mod RowsFeatures
 pub mod RowsFed
+pub mod RowsForged
 pub mod RowsHandshake
 pub mod RowsInboxes
 pub mod RowsNegotiations
