@@ -3,8 +3,8 @@
  *     talk server PORT [closes]        serves one client on 127.0.0.1, and ends
  *     talk client PORT [closes]        talks to it
  *
- * Each offers a Sequence Window of 500 packets, and the one that closes asks for 700 while data flow. One frame in twenty is lost
- * on purpose. Last comes a line: how many packets came, the Sequence Windows of this end and of its peer, and the code with which
+ * Neither wishes for anything at first; the one that closes asks for a Sequence Window of 20,000 while data flow. One frame in twenty
+ * is lost on purpose. Last comes a line: how many packets came, the Sequence Windows of this end and of its peer, and the code with which
  * the connection ended. It is what a caller of the library needs: a socket, a clock, a random first number, and a limit on answers
  * to strangers. */
 #include <arpa/inet.h>
@@ -20,7 +20,7 @@
 
 #include "dccp.h"
 
-enum { PACKETS = 200, SERVICE = 42, WIDTH = 500, WIDER = 700, LOST_OF = 20, ANSWERS_A_SECOND = 20, LINGER = 1500 };
+enum { PACKETS = 200, SERVICE = 42, WIDER = 20000, LOST_OF = 20, ANSWERS_A_SECOND = 20, LINGER = 1500 };
 
 struct talk {
     int socket;
@@ -134,9 +134,8 @@ static void say(struct talk *talk) {
     }
 }
 
-/* What both offer, and what a client alone does: to send Ack Vectors, for which the listener of echo.c does not ask, and which it needs. */
-static const dccp_wish wishes[] = {{.values = {WIDTH}, .count = 1, .feature = DCCP_FEATURE_SEQUENCE_WINDOW, .is_offered = true},
-                                   {.values = {1}, .count = 1, .feature = DCCP_FEATURE_SEND_ACK_VECTOR, .is_offered = true}};
+/* What a client offers: to send Ack Vectors, for which the listener of echo.c does not ask, and which it needs. */
+static const dccp_wish vectors = {.values = {1}, .count = 1, .feature = DCCP_FEATURE_SEND_ACK_VECTOR, .is_offered = true};
 
 static dccp_settings settings_of(unsigned own_port, unsigned peer_port) {
     return (dccp_settings){
@@ -171,7 +170,7 @@ static void serve(struct talk *talk, unsigned port) {
         dccp_settings settings = settings_of(port, ntohs(peer.sin_port));
         dccp_frame frame;
         dccp_told told;
-        uint32_t status = dccp_accept(&talk->end, &settings, wishes, 1, datagram, (size_t)length, now(), &frame, &told);
+        uint32_t status = dccp_accept(&talk->end, &settings, NULL, 0, datagram, (size_t)length, now(), &frame, &told);
         if (status == DCCP_OK) {
             connect_to(talk->socket, &peer);
             take(talk, &told, &frame);
@@ -189,7 +188,7 @@ static void ask(struct talk *talk, unsigned port) {
     if (getsockname(talk->socket, (struct sockaddr *)&own, &size) != 0) fail("getsockname");
     dccp_settings settings = settings_of(ntohs(own.sin_port), port);
     dccp_frame frame;
-    if (dccp_make(&talk->end, &settings, wishes, 2) != DCCP_OK) fail("make");
+    if (dccp_make(&talk->end, &settings, &vectors, 1) != DCCP_OK) fail("make");
     if (dccp_open(&talk->end, now(), &frame) != DCCP_OK) fail("open");
     hand_over(talk, &frame);
 }

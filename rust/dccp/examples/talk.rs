@@ -3,9 +3,9 @@
 //!     cargo run --example talk -- server PORT [closes]
 //!     cargo run --example talk -- client PORT [closes]
 //!
-//! Each offers a Sequence Window of 500 packets, sends 200, the client first, and loses one frame in twenty on purpose; the one that
-//! closes asks for a window of 700 while data flow. Last comes a line: how many packets came, the Sequence Windows of this end and of
-//! its peer, and the code with which the connection ended.
+//! Neither wishes for anything at first. Each sends 200 packets, the client first, and loses one frame in twenty on purpose; the one that
+//! closes asks for a Sequence Window of 20,000 while data flow. Last comes a line: how many packets came, the Sequence Windows of this
+//! end and of its peer, and the code with which the connection ended.
 
 use dccp::{
     Accepted, Config, Connection, Event, Feature, MOST_FRAME_BYTES, Phase, Place, Transmit,
@@ -19,8 +19,7 @@ use std::time::{Duration, Instant};
 
 const PACKETS: u32 = 200;
 const SERVICE: u32 = 42;
-const WIDTH: u64 = 500;
-const WIDER: u64 = 700;
+const WIDER: u64 = 20_000;
 const LOST_OF: u32 = 20;
 const ANSWERS_A_SECOND: u32 = 20;
 const QUIET: Duration = Duration::from_secs(1);
@@ -108,7 +107,6 @@ fn serve(port: u16) -> Result<(Connection, Wire), Box<dyn Error>> {
     loop {
         let (length, peer) = wire.socket.recv_from(&mut room)?;
         let config = Config::server(own, peer, SERVICE, first_number()?);
-        let config = config.offer(Feature::SequenceWindow, Place::Here, &[WIDTH]);
         match Connection::accept(&config, &room[..length], Instant::now())? {
             Accepted::Connection(connection) => {
                 wire.socket.connect(peer)?;
@@ -128,7 +126,6 @@ fn ask(port: u16) -> Result<(Connection, Wire), Box<dyn Error>> {
     let socket = UdpSocket::bind(("127.0.0.1", 0))?;
     socket.connect(peer)?;
     let config = Config::client(socket.local_addr()?, peer, SERVICE, first_number()?)
-        .offer(Feature::SequenceWindow, Place::Here, &[WIDTH])
         // The listener of `echo` does not ask for Ack Vectors, and needs them to send data.
         .offer(Feature::SendAckVector, Place::Here, &[1]);
     let mut connection = Connection::new(&config)?;
