@@ -36,8 +36,26 @@ pub fn addresses() -> (SocketAddrV4, SocketAddrV4) {
     (client, SocketAddrV4::new([10, 0, 0, 2].into(), 5_001))
 }
 
-/// What an end of this manner is made from; a sender of another congestion control than is usual has its number.
-fn configured(config: Config, manner: Manner, ccid: Option<u64>) -> Config {
+/// What an end wishes for beside what its manner is.
+#[derive(Clone, Copy, Debug, Default)]
+pub struct Wishes {
+    /// The congestion control of a sender, if another than is usual (RFC 4340, section 10).
+    pub ccid: Option<u64>,
+    /// Short numbers both ways (RFC 4340, section 7.6.1).
+    pub is_short: bool,
+}
+
+/// What an end of this manner is made from.
+fn configured(config: Config, manner: Manner, wishes: Wishes) -> Config {
+    let config = if wishes.is_short {
+        config.offer(Feature::ShortSeqnos, Place::Here, &[1]).offer(
+            Feature::ShortSeqnos,
+            Place::There,
+            &[1],
+        )
+    } else {
+        config
+    };
     let config = match manner {
         Manner::Classic => config.classic(),
         Manner::Usual => config,
@@ -46,7 +64,7 @@ fn configured(config: Config, manner: Manner, ccid: Option<u64>) -> Config {
             classic.offer(Feature::SequenceWindow, Place::Here, &[OFFERED_WIDTH])
         }
     };
-    let Some(ccid) = ccid else {
+    let Some(ccid) = wishes.ccid else {
         return config;
     };
     let config = config.offer(Feature::Ccid, Place::Here, &[ccid]);
@@ -59,14 +77,14 @@ fn configured(config: Config, manner: Manner, ccid: Option<u64>) -> Config {
 /// A client's end. Its peer needs Ack Vectors that it does not ask for, where that is a listener's flow.
 pub fn client(
     manner: Manner,
-    ccid: Option<u64>,
+    wishes: Wishes,
     to_flow: bool,
     first: u64,
     now: Instant,
 ) -> Box<dyn End> {
     let (here, there) = addresses();
     let config = Config::client(here.into(), there.into(), SERVICE, first);
-    let mut config = configured(config, manner, ccid);
+    let mut config = configured(config, manner, wishes);
     if to_flow {
         config = config.offer(Feature::SendAckVector, Place::Here, &[1]);
     }
@@ -78,16 +96,10 @@ pub fn client(
 }
 
 /// What a server makes of a datagram of a peer that it does not know.
-pub fn server(
-    manner: Manner,
-    ccid: Option<u64>,
-    first: u64,
-    datagram: &[u8],
-    now: Instant,
-) -> Made {
+pub fn server(manner: Manner, wishes: Wishes, first: u64, datagram: &[u8], now: Instant) -> Made {
     let (here, there) = addresses();
     let config = Config::server(there.into(), here.into(), SERVICE, first);
-    let config = configured(config, manner, ccid);
+    let config = configured(config, manner, wishes);
     match Connection::accept(&config, datagram, now).expect("the wishes are permitted") {
         Accepted::Connection(connection) => Made::End(match manner {
             Manner::Classic | Manner::Usual => Box::new(Alone::new(*connection)),

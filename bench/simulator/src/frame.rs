@@ -13,6 +13,12 @@ pub const SYNC_ACK: u8 = 9;
 
 const DATA: u8 = 2;
 const REQUEST: u8 = 0;
+
+/// How many numbers the short form tells apart (RFC 4340, section 7.6).
+const SHORT: u64 = 1 << 24;
+/// How many numbers there are (RFC 4340, section 7.1).
+const NUMBERS: u64 = 1 << 48;
+
 const PROTOCOL: u8 = 33;
 
 /// A packet's type; None of too few bytes.
@@ -20,9 +26,9 @@ pub fn kind(frame: &[u8]) -> Option<u8> {
     frame.get(8).map(|byte| (byte >> 1) & 15)
 }
 
-/// The numbers of a packet that has long ones.
+/// The numbers of a packet, in full.
 #[derive(Clone, Copy, Debug, PartialEq, Eq)]
-pub struct LongNumbers {
+pub struct Numbers {
     /// Its type.
     pub kind: u8,
     /// Its own number.
@@ -31,8 +37,8 @@ pub struct LongNumbers {
     pub acknowledged: Option<u64>,
 }
 
-fn number_at(frame: &[u8], place: usize) -> Option<u64> {
-    let bytes = frame.get(place..place + 6)?;
+fn number_at(frame: &[u8], place: usize, length: usize) -> Option<u64> {
+    let bytes = frame.get(place..place + length)?;
     Some(
         bytes
             .iter()
@@ -40,18 +46,30 @@ fn number_at(frame: &[u8], place: usize) -> Option<u64> {
     )
 }
 
-/// The numbers of a frame; None where it has short ones, or too few bytes.
-pub fn long_numbers(frame: &[u8]) -> Option<LongNumbers> {
+/// The number nearest the reference that ends with these 24 bits (RFC 4340, section 7.6).
+fn near(short: u64, reference: u64) -> u64 {
+    let ahead = short.wrapping_sub(reference) % SHORT;
+    let turn_back = if ahead < SHORT / 2 { 0 } else { SHORT };
+    (reference + ahead).wrapping_sub(turn_back) % NUMBERS
+}
+
+/// The numbers of a frame; None where it has too few bytes. Short ones are those nearest the greatest number received, and the greatest sent.
+pub fn numbers(frame: &[u8], received: u64, sent: u64) -> Option<Numbers> {
     let kind = kind(frame)?;
-    if frame[8] & 1 == 0 {
-        return None;
-    }
-    let acknowledged = match kind {
-        REQUEST | DATA => None,
-        _ => Some(number_at(frame, 18)?),
+    let has_acknowledged = !matches!(kind, REQUEST | DATA);
+    let (own, acknowledged) = if frame[8] & 1 == 1 {
+        let acknowledged = has_acknowledged.then(|| number_at(frame, 18, 6));
+        (number_at(frame, 10, 6)?, acknowledged)
+    } else {
+        let short = has_acknowledged.then(|| number_at(frame, 13, 3));
+        let own = near(number_at(frame, 9, 3)?, received);
+        (own, short.map(|it| it.map(|it| near(it, sent))))
     };
-    let own = number_at(frame, 10)?;
-    Some(LongNumbers {
+    let acknowledged = match acknowledged {
+        Some(number) => Some(number?),
+        None => None,
+    };
+    Some(Numbers {
         kind,
         own,
         acknowledged,
@@ -60,11 +78,34 @@ pub fn long_numbers(frame: &[u8]) -> Option<LongNumbers> {
 
 /// A Data packet with this number and no data, with right ports and a right checksum (RFC 4340, section 9.1).
 pub fn forged_data(from: SocketAddrV4, to: SocketAddrV4, number: u64) -> Vec<u8> {
+    let number = number.to_be_bytes();
+    let long = [
+        DATA << 1 | 1,
+        0,
+        number[2],
+        number[3],
+        number[4],
+        number[5],
+        number[6],
+        number[7],
+    ];
+    forged(from, to, &long)
+}
+
+/// The same with a short number: the last 24 bits of this one.
+pub fn forged_short_data(from: SocketAddrV4, to: SocketAddrV4, number: u64) -> Vec<u8> {
+    let number = number.to_be_bytes();
+    forged(from, to, &[DATA << 1, number[5], number[6], number[7]])
+}
+
+/// A packet with these bytes after its checksum.
+fn forged(from: SocketAddrV4, to: SocketAddrV4, rest: &[u8]) -> Vec<u8> {
     let mut frame = Vec::with_capacity(16);
     frame.extend(from.port().to_be_bytes());
     frame.extend(to.port().to_be_bytes());
-    frame.extend([4, 0, 0, 0, DATA << 1 | 1, 0]);
-    frame.extend(&number.to_be_bytes()[2..]);
+    let words = (8 + rest.len()) / 4;
+    frame.extend([words as u8, 0, 0, 0]);
+    frame.extend(rest);
     let mut summed = Vec::with_capacity(28);
     summed.extend(from.ip().octets());
     summed.extend(to.ip().octets());
@@ -102,7 +143,27 @@ mod tests {
             0x9c, 0x40, 0x13, 0x89, 4, 0, 0x29, 0xf6, 5, 0, 1, 2, 3, 4, 5, 6,
         ];
         assert_eq!(frame, bytes);
-        let numbers = long_numbers(&frame).map(|it| (it.kind, it.own, it.acknowledged));
+        let numbers = numbers(&frame, 0, 0).map(|it| (it.kind, it.own, it.acknowledged));
         assert_eq!(numbers, Some((DATA, 0x0102_0304_0506, None)));
+    }
+
+    #[test]
+    fn short_numbers_are_near() {
+        // An Ack with the short numbers 1002 and 2001, from an example of the library's pages.
+        let ack = [
+            0x9c, 0x40, 0x13, 0x89, 4, 0, 0x26, 0x47, 6, 0, 0x03, 0xea, 0, 0, 0x07, 0xd1,
+        ];
+        let read = |received, sent| {
+            numbers(&ack, received, sent).map(|it| (it.kind, it.own, it.acknowledged))
+        };
+        assert_eq!(read(1_001, 2_001), Some((ACK, 1_002, Some(2_001))));
+        // A turn later, and a turn before, where the reference is at the other edge of its turn.
+        assert_eq!(
+            read(SHORT - 1, 2_001),
+            Some((ACK, SHORT + 1_002, Some(2_001)))
+        );
+        assert_eq!(near(SHORT - 1, SHORT), SHORT - 1);
+        assert_eq!(near(SHORT - 1, 0), NUMBERS - 1);
+        assert_eq!(near(0, NUMBERS - 1), 0);
     }
 }

@@ -1,7 +1,7 @@
 //! Two ends over sockets of the loopback, through a relay that delays and loses, beside the same path in counted time.
 
 use crate::end::End;
-use crate::ends::{self, Made, Manner};
+use crate::ends::{self, Made, Manner, Wishes};
 use crate::link::{Capacity, Link, Loss, MILLISECOND, Micros, SECOND, Way};
 use crate::random::Random;
 use crate::run::{Load, Scenario, Sender, run};
@@ -79,6 +79,7 @@ fn counted(path: &Path, seconds: u64) -> f64 {
         ccid: None,
         measured: 0..seconds * SECOND,
         forged: 0,
+        is_short: false,
     };
     let manners = (Manner::Usual, Manner::Usual);
     let delivered = (1..=10).map(|seed| run(&scenario, manners, seed).delivered);
@@ -193,7 +194,7 @@ fn hear(end: &mut dyn End, socket: &UdpSocket, room: &mut [u8]) -> bool {
 fn send(socket: &UdpSocket, until: Instant) {
     let mut room = [0; 2_048];
     let (first, now) = (Random::new(3).draw() >> 16, Instant::now());
-    let mut client = ends::client(Manner::Usual, None, false, first, now);
+    let mut client = ends::client(Manner::Usual, Wishes::default(), false, first, now);
     client.open(now);
     while Instant::now() < until {
         let has_heard = hear(&mut *client, socket, &mut room);
@@ -216,7 +217,13 @@ fn receive(socket: &UdpSocket, is_over: &AtomicBool, delivered: &AtomicU64) {
         let Some(end) = &mut server else {
             let made = socket.recv(&mut room).map(|length| {
                 let now = Instant::now();
-                ends::server(Manner::Usual, None, first, &room[..length], now)
+                ends::server(
+                    Manner::Usual,
+                    Wishes::default(),
+                    first,
+                    &room[..length],
+                    now,
+                )
             });
             match made {
                 Ok(Made::End(end)) => server = Some(end),

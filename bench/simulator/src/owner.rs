@@ -1,7 +1,7 @@
 //! An owner that keeps all timers of a connection by the rules of `rules`.
 
 use crate::end::End;
-use crate::frame::{self, ACK, DATA_ACK, LongNumbers, SYNC, SYNC_ACK};
+use crate::frame::{self, ACK, DATA_ACK, Numbers, SYNC, SYNC_ACK};
 use crate::rules::{
     AckRatio, Bucket, CLOSE_LIMIT, FIRST_ACK_WAIT, Greatest, LONGEST_ACK_WAIT, LONGEST_PROBE,
     LONGEST_PROBE_WAIT, LONGEST_WAIT, PROBED_WINDOW, QUESTION_WAIT, REQUEST_LIMIT, RESPOND_LIMIT,
@@ -310,15 +310,16 @@ impl Owner {
         if self.connection.phase() != Phase::Open {
             return false;
         }
-        let Some(numbers) = frame::long_numbers(datagram) else {
+        let own = self.connection.numbers();
+        let numbers = frame::numbers(datagram, own.greatest_received, own.greatest_sent);
+        let Some(numbers) = numbers else {
             return false;
         };
         if matches!(numbers.kind, SYNC | SYNC_ACK) || self.is_valid(numbers) {
             return false;
         }
-        let received = self.connection.numbers().greatest_received;
-        let ahead = distance(received, numbers.own);
-        let behind = distance(numbers.own, received);
+        let ahead = distance(own.greatest_received, numbers.own);
+        let behind = distance(numbers.own, own.greatest_received);
         if ahead.min(behind) < 1 << 24 {
             !self.near.take(time)
         } else {
@@ -326,7 +327,7 @@ impl Owner {
         }
     }
 
-    fn is_valid(&mut self, it: LongNumbers) -> bool {
+    fn is_valid(&mut self, it: Numbers) -> bool {
         let numbers = self.connection.numbers();
         let peers = self
             .connection

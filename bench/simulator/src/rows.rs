@@ -63,6 +63,7 @@ fn path(rate: u64, round_trip: u64, queue: usize, seconds: u64) -> Scenario {
         ccid: None,
         measured: 0..seconds * SECOND,
         forged: 0,
+        is_short: false,
     }
 }
 
@@ -110,6 +111,11 @@ impl Scenario {
 
     fn forged(mut self, each_second: u64) -> Scenario {
         self.forged = each_second;
+        self
+    }
+
+    fn with_short_numbers(mut self) -> Scenario {
+        self.is_short = true;
         self
     }
 
@@ -249,6 +255,12 @@ fn bulk() -> Vec<Row> {
             "forged",
             "1,200/s, RTT 40, 1,000 forged/s",
             path(1_200, 40, 100, 60).forged(1_000),
+            &[Goal::Share(0.98)],
+        ),
+        row(
+            "forged-short",
+            "the same, and all numbers short",
+            path(1_200, 40, 100, 60).forged(1_000).with_short_numbers(),
             &[Goal::Share(0.98)],
         ),
     ]

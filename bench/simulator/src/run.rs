@@ -1,7 +1,7 @@
 //! One run of a path: two ends, what one of them sends, and what comes of it.
 
 use crate::end::End;
-use crate::ends::{self, Made, Manner, addresses};
+use crate::ends::{self, Made, Manner, Wishes, addresses};
 use crate::frame::{self, SYNC};
 use crate::link::{Link, MILLISECOND, Micros, SECOND, Way};
 use crate::random::Random;
@@ -62,6 +62,18 @@ pub struct Scenario {
     pub measured: Range<Micros>,
     /// How many packets a second a stranger sends to the sender, with right ports and addresses and numbers that he guesses.
     pub forged: u64,
+    /// Whether the packets of both ends may have short numbers, and those of the stranger do (RFC 4340, section 7.6).
+    pub is_short: bool,
+}
+
+impl Scenario {
+    /// What an end wishes for, the sender or the other.
+    fn wishes(&self, is_sender: bool) -> Wishes {
+        Wishes {
+            ccid: self.ccid.filter(|_| is_sender),
+            is_short: self.is_short,
+        }
+    }
 }
 
 /// What came of a run.
@@ -143,9 +155,9 @@ impl Run {
     fn new(scenario: &Scenario, manners: Manners, seed: u64) -> Run {
         let mut random = Random::new(seed);
         let base = Instant::now();
-        let ccid = scenario.ccid.filter(|_| scenario.sender.is_client());
+        let wishes = scenario.wishes(scenario.sender.is_client());
         let to_flow = scenario.sender == Sender::Flow;
-        let client = ends::client(manners.0, ccid, to_flow, random.draw() >> 16, base);
+        let client = ends::client(manners.0, wishes, to_flow, random.draw() >> 16, base);
         let (up, down) = if scenario.sender.is_client() {
             (&scenario.there, &scenario.back)
         } else {
@@ -248,9 +260,8 @@ impl Run {
             self.server = Some(flow);
             return;
         }
-        let is_sender = !self.scenario.sender.is_client();
-        let ccid = self.scenario.ccid.filter(|_| is_sender);
-        match ends::server(self.manners.1, ccid, first, frame, now) {
+        let wishes = self.scenario.wishes(!self.scenario.sender.is_client());
+        match ends::server(self.manners.1, wishes, first, frame, now) {
             Made::End(end) => self.server = Some(end),
             Made::Answer(answer) => self.put_to_client(answer),
             Made::Nothing => {}
@@ -270,12 +281,17 @@ impl Run {
         let number = self.random.draw() >> 16;
         let now = self.instant();
         self.next_forged += SECOND / self.scenario.forged;
+        let forged = if self.scenario.is_short {
+            frame::forged_short_data
+        } else {
+            frame::forged_data
+        };
         if self.scenario.sender.is_client() {
-            let frame = frame::forged_data(there, here, number);
+            let frame = forged(there, here, number);
             self.client.receive(&frame, now);
             self.after_client();
         } else if let Some(server) = &mut self.server {
-            let frame = frame::forged_data(here, there, number);
+            let frame = forged(here, there, number);
             server.receive(&frame, now);
             self.after_server();
         }
