@@ -209,7 +209,7 @@ typedef struct dccp_settings {
     bool without_wide_window;   /* asks for no Sequence Window of 10,000 of its own, which it does else where it makes the usual offers */
     bool without_round_trip;    /* the timers wait as where nothing is known of the path, else by the round trip that is measured */
     bool without_soon_acks;     /* Acks wait for 200 ms and up to 64 s, else for 50 ms and up to 20 s, and not where data show a hole */
-    bool without_ack_ratio;     /* the Ack Ratio of its data stays, else it follows the window */
+    bool without_ack_ratio;     /* the Ack Ratio of its data stays, else it follows the window of CCID 2 */
     bool without_probes;        /* a timeout is told at once, else with a window of 16 or more the peer is asked for a sign of life first */
     bool without_limits;        /* each datagram is heard that would be answered by a Sync, else 20 a second near the peer's numbers, and one
                                    far from them */

@@ -147,7 +147,7 @@ pub enum PathRule {
     RoundTrip,
     /// Its Acks go out after 50 milliseconds, at once where data show a hole, and each 20 seconds at least.
     SoonAcks,
-    /// The Ack Ratio of its data follows its window.
+    /// The Ack Ratio of its data follows its window, under CCID 2.
     AckRatio,
     /// It asks its peer for a sign of life before it takes a large window for lost.
     Probes,
