@@ -27,7 +27,7 @@ ghost use Rattle.seq_circle.specs.Counts.{number_of};
 ghost use Rattle.world_events.specs.Actors.{other};
 ghost use Rattle.world_events.specs.declared.event.Event.{Event};
 ghost use Rattle.world_events.specs.declared.event.Event.TheVariants as events;
-ghost use Rattle.world_events.specs.declared.event.Seen.TheVariants as seen;
+ghost use Rattle.dccp_states.specs.declared.seen.Seen.TheVariants as seen;
 ghost use Rattle.world_events.specs.declared.event.Side.{Side};
 ghost use Rattle.world_events.specs.declared.event.Side.TheVariants.{Client, Server};
 ghost use Rattle.two_ends.specs.declared.frames.SentFrame.{SentFrame};
