@@ -40,7 +40,13 @@ pub record DeliversFrame (old new : WorldState) (from : Side) (index : ℕ) (pla
 -- Data are delivered by the arrival of their frame alone.
 abbrev pub DeliversIn : WorldState → Event → WorldState → ℕ × ℕ → Type 0
 DeliversIn old (event.Deliver from index) new place = DeliversFrame old new from index place
-DeliversIn old _ new place = ⊥
+DeliversIn old event.Open new place = ⊥
+DeliversIn old (event.Send side payload) new place = ⊥
+DeliversIn old (event.SendEarly side payload) new place = ⊥
+DeliversIn old (event.Prefer side feature located values) new place = ⊥
+DeliversIn old (event.Timer side timer) new place = ⊥
+DeliversIn old (event.Close side) new place = ⊥
+DeliversIn old (event.Abort side) new place = ⊥
 
 -- all that a step delivers
 abbrev pub DeliversItsData : WorldState → Event → WorldState → Seen → Type 0
@@ -54,7 +60,13 @@ named_if from index None = []
 -- the frame whose data an event delivers, if it does
 abbrev pub frame_delivered : Event → Seen → List (Side × ℕ)
 frame_delivered (event.Deliver from index) seen = named_if from index (place_delivered seen)
-frame_delivered _ seen = []
+frame_delivered event.Open seen = []
+frame_delivered (event.Send side payload) seen = []
+frame_delivered (event.SendEarly side payload) seen = []
+frame_delivered (event.Prefer side feature located values) seen = []
+frame_delivered (event.Timer side timer) seen = []
+frame_delivered (event.Close side) seen = []
+frame_delivered (event.Abort side) seen = []
 
 -- an event that cannot happen delivers nothing
 abbrev pub delivered_by : {C : Type 0} → Event → Result (ControlledStep C) WorldFault → List (Side × ℕ)
