@@ -2,6 +2,8 @@
 use Rattle.std.specs.Prelude.{◌≡◌, ℕ, zero, suc, ◌+◌, ◌-◌, ◌^◌, ◌++◌, nat_lt, Bool, is_some, if◌then◌else◌, List, [], ◌∷◌, length, take, flat_map, Option, Some, None, Result, Ok, Err}
 use Rattle.tool_text.specs.Ends.{Answers, StopsWithin}
 use Rattle.tool_text.specs.declared.output.status.JobEnd.{JobEnd}
+use Rattle.bridge_records.specs.declared.pieces.fault.PieceError.{PieceError}
+use Rattle.bridge_records.specs.declared.pieces.fault.PieceError.TheVariants as piece_error
 use Rattle.bridge_records.specs.declared.pieces.fault.PieceFault.{PieceFault}
 use Rattle.bridge_records.specs.declared.pieces.fault.PieceFault.TheVariants.{CutShort, TooLarge}
 
@@ -26,10 +28,11 @@ piece_text job None = []
 piece_text job (Some deed) = job.told deed
 
 -- A piece was judged so: an accepted one leaves its text at the text's end and leads on, a refused one leaves all as it
--- was.
-abbrev pub JudgesPiece : {P V : Type 0} → PieceWork P V → V → Judgement P V → List ℕ → List ℕ → V → Result (Unit {0}) PieceFault → Type 0
+-- was. Where no memory was left nothing is told.
+abbrev pub JudgesPiece : {P V : Type 0} → PieceWork P V → V → Judgement P V → List ℕ → List ℕ → V → Result (Unit {0}) PieceError → Type 0
+JudgesPiece job state judgement old new after (Err piece_error.NoMemory) = Unit {0}
 JudgesPiece job state (Goes deed next) old new after answer = (new ≡ old ++ piece_text job deed) × (after ≡ next) × (answer ≡ Ok tt)
-JudgesPiece job state (Stops why) old new after answer = (new ≡ old) × (after ≡ state) × (answer ≡ Err why)
+JudgesPiece job state (Stops why) old new after answer = (new ≡ old) × (after ≡ state) × (answer ≡ Err (piece_error.Refused why))
 
 -- the most bytes of an input
 abbrev pub most_piece_bytes : ℕ

@@ -9,6 +9,8 @@ use Rattle.capture_reader.specs.declared.format.Order.{Order}
 use Rattle.capture_reader.specs.declared.format.Order.TheVariants.{Big}
 use Rattle.capture_reader.specs.declared.record.RecordHeader.{RecordHeader}
 use Rattle.bridge_records.specs.Pieces.{Goes, Judgement, Stops}
+use Rattle.bridge_records.specs.declared.pieces.fault.PieceError.{PieceError}
+use Rattle.bridge_records.specs.declared.pieces.fault.PieceError.TheVariants as piece_error
 use Rattle.bridge_records.specs.declared.pieces.fault.PieceFault.{PieceFault}
 use Rattle.bridge_records.specs.declared.pieces.fault.PieceFault.TheVariants as why
 use Rattle.capture_reader.specs.Records.{record_header}
@@ -263,3 +265,9 @@ bytes_held head start piece = take head.captured (drop start piece)
 abbrev pub ReadsPiece : Judgement Found FileState → List ℕ → FileState → FileState → Result (Option Found) PieceFault → Type 0
 ReadsPiece judged piece old new (Ok found) = (judged ≡ Goes found new) × IfSome found (λ f. IsInside f piece)
 ReadsPiece judged piece old new (Err fault) = (judged ≡ Stops fault) × (new ≡ old)
+
+-- The same where an interface may want memory. Where none was left nothing is told.
+abbrev pub ReadsOrLacks : Judgement Found FileState → List ℕ → FileState → FileState → Result (Option Found) PieceError → Type 0
+ReadsOrLacks judged piece old new (Ok found) = ReadsPiece judged piece old new (Ok found)
+ReadsOrLacks judged piece old new (Err (piece_error.Refused fault)) = ReadsPiece judged piece old new (Err fault)
+ReadsOrLacks judged piece old new (Err piece_error.NoMemory) = Unit {0}

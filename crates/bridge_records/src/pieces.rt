@@ -10,6 +10,7 @@ mod job;
 mod loops;
 mod turns;
 
+pub(crate) use crate::pieces::fault::PieceError;
 pub use crate::pieces::fault::PieceFault;
 pub(crate) use crate::pieces::job::PieceJob;
 pub(crate) use crate::pieces::loops::run_pieces;

@@ -1,9 +1,9 @@
 //! How the pieces of a capture are read.
-ghost use Rattle.std.specs.Prelude.{◌≡◌, ◌≤◌, ◌%◌, length, slice_get, IfOk, Some, None, Ok};
+ghost use Rattle.std.specs.Prelude.{◌≡◌, ◌≤◌, ◌%◌, length, slice_get, Some, None, Ok};
 ghost use Rattle.bridge_records.specs.Blocks.{block_order, section_order};
 ghost use Rattle.capture_reader.specs.Records.{record_header};
 ghost use Rattle.bridge_records.specs.Reading as spec;
-ghost use Rattle.bridge_records.specs.Reading.{ReadsPiece, file_judged, first_file};
+ghost use Rattle.bridge_records.specs.Reading.{ReadsOrLacks, ReadsPiece, file_judged, first_file};
 
 use crate::blocks::{
     BlockHead, ENHANCED, INTERFACE, MOST_BLOCK, PACKET, SECTION, SIMPLE, block_head, block_order,
@@ -13,9 +13,8 @@ use crate::found::Found;
 use crate::interfaces::{Interface, front_of, interface_of, needs_nanos};
 use crate::links::KNOWN_LINKS;
 use crate::packets::{enhanced_head, simple_head};
-use crate::pieces::PieceFault;
+use crate::pieces::{PieceError, PieceFault};
 use capture_reader::{Format, MOST_CAPTURED, Order, RecordHeader};
-use seq_circle::NoMemory;
 use std::alloc::Global;
 use std::marker::Model;
 
@@ -111,18 +110,18 @@ impl CaptureFile {
 
     /// Reads the next piece. What it holds is answered, if it holds anything. A piece that is refused changes nothing.
     /// NoMemory comes where no memory was left for an interface.
-    pub(crate) fn read(&mut self, piece: &[u8]) -> Result<Answer, NoMemory>
+    pub(crate) fn read(&mut self, piece: &[u8]) -> Result<Option<Found>, PieceError>
         requires { length piece.now ≡ spec.next_length self.old.place }
-        ensures { IfOk result (λ answer. ReadsPiece (file_judged self.old piece.now) piece.now self.old self.new answer) }
+        ensures { ReadsOrLacks (file_judged self.old piece.now) piece.now self.old self.new result }
     {
         match self.place {
-            Place::Start => Ok(self.begin(piece)),
-            Place::Header(format) => Ok(self.read_header(format, piece)),
-            Place::Body(format, head) => Ok(self.end_record(format, head)),
-            Place::Section(order, total) => Ok(self.end_section(order, total, piece)),
-            Place::Block(order) => Ok(self.begin_block(order, piece)),
+            Place::Start => Ok(self.begin(piece)?),
+            Place::Header(format) => Ok(self.read_header(format, piece)?),
+            Place::Body(format, head) => Ok(self.end_record(format, head)?),
+            Place::Section(order, total) => Ok(self.end_section(order, total, piece)?),
+            Place::Block(order) => Ok(self.begin_block(order, piece)?),
             Place::Rest(order, head) => self.end_block(order, head, piece),
-            Place::Passing(order, total, left) => Ok(self.pass_over(order, total, left, piece)),
+            Place::Passing(order, total, left) => Ok(self.pass_over(order, total, left, piece)?),
         }
     }
 
@@ -240,23 +239,28 @@ impl CaptureFile {
     }
 
     // The rest of a block.
-    fn end_block(&mut self, order: Order, head: BlockHead, piece: &[u8]) -> Result<Answer, NoMemory>
+    fn end_block(
+        &mut self,
+        order: Order,
+        head: BlockHead,
+        piece: &[u8],
+    ) -> Result<Option<Found>, PieceError>
         requires least { 4 ≤ length piece.now }
         requires most { length piece.now ≤ 524288 }
-        ensures { IfOk result (λ answer. ReadsPiece (spec.by_rest self.old order head piece.now) piece.now self.old self.new answer) }
+        ensures { ReadsOrLacks (spec.by_rest self.old order head piece.now) piece.now self.old self.new result }
     {
         if !ends_block(order, head.total, piece) {
-            return Ok(Err(PieceFault::BadBlock));
+            return Err(PieceError::Refused(PieceFault::BadBlock));
         }
         match head.kind {
-            SECTION => Ok(self.next_section(order, piece)),
+            SECTION => Ok(self.next_section(order, piece)?),
             INTERFACE => self.add_interface(order, head.first, piece),
-            SIMPLE => Ok(self.simple(order, head.first, piece)),
-            ENHANCED => Ok(self.enhanced(order, head.first, piece)),
-            PACKET => Ok(self.enhanced(order, front_of(order, head.first), piece)),
+            SIMPLE => Ok(self.simple(order, head.first, piece)?),
+            ENHANCED => Ok(self.enhanced(order, head.first, piece)?),
+            PACKET => Ok(self.enhanced(order, front_of(order, head.first), piece)?),
             _ => {
                 self.place = Place::Block(order);
-                Ok(Ok(None))
+                Ok(None)
             }
         }
     }
@@ -290,22 +294,25 @@ impl CaptureFile {
     }
 
     // The rest of an interface's block.
-    fn add_interface(&mut self, order: Order, first: u32, piece: &[u8]) -> Result<Answer, NoMemory>
+    fn add_interface(
+        &mut self,
+        order: Order,
+        first: u32,
+        piece: &[u8],
+    ) -> Result<Option<Found>, PieceError>
         requires { length piece.now ≤ 524288 }
-        ensures { IfOk result (λ answer. ReadsPiece (spec.by_interface_block self.old order first piece.now) piece.now self.old self.new answer) }
+        ensures { ReadsOrLacks (spec.by_interface_block self.old order first piece.now) piece.now self.old self.new result }
     {
         if MOST_INTERFACES <= self.interfaces.len() {
             self.place = Place::Block(order);
-            return Ok(Ok(None));
+            return Ok(None);
         }
-        match interface_of(order, first, piece) {
-            Err(fault) => Ok(Err(fault)),
-            Ok(interface) => {
-                self.interfaces.push(interface)?;
-                self.place = Place::Block(order);
-                Ok(Ok(self.begin_capture(&interface)))
-            }
+        let interface = interface_of(order, first, piece)?;
+        if self.interfaces.push(interface).is_err() {
+            return Err(PieceError::NoMemory);
         }
+        self.place = Place::Block(order);
+        Ok(self.begin_capture(&interface))
     }
 
     // The interface of this number in the section.

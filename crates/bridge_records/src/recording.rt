@@ -8,7 +8,7 @@ ghost use Rattle.bridge_records.specs.Reading.{bytes_held};
 ghost use Rattle.bridge_records.specs.Recording.{RecordWork, first_reading, held_passed, numbered_entry, reading_at, records_work};
 
 use crate::found::Found;
-use crate::pieces::{PieceFault, PieceJob, run_pieces};
+use crate::pieces::{PieceError, PieceFault, PieceJob, run_pieces};
 use crate::reading::CaptureFile;
 use capture_reader::{Record, RecordHeader};
 use dccp_io::{Sink, Source};
@@ -155,23 +155,15 @@ impl<J: RecordJob> PieceJob for Recording<J> {
         self.file.may_end()
     }
 
-    fn judge(
-        &mut self,
-        piece: &[u8],
-        text: &mut Vec<u8>,
-    ) -> Result<Result<(), PieceFault>, NoMemory> {
+    fn judge(&mut self, piece: &[u8], text: &mut Vec<u8>) -> Result<(), PieceError> {
         match self.file.read(piece)? {
-            Err(fault) => Ok(Err(fault)),
-            Ok(None) => Ok(Ok(())),
-            Ok(Some(Found::Begins(nanos))) => {
-                self.begin(nanos, text)?;
-                Ok(Ok(()))
-            }
-            Ok(Some(Found::Holds(link, head, start))) => {
+            None => {}
+            Some(Found::Begins(nanos)) => self.begin(nanos, text)?,
+            Some(Found::Holds(link, head, start)) => {
                 self.pass_held(link, &head, start, piece, text)?;
-                Ok(Ok(()))
             }
         }
+        Ok(())
     }
 
     fn finish(&self, end: Option<PieceFault>, text: &mut Vec<u8>) -> Result<(), NoMemory> {

@@ -1,5 +1,6 @@
-//! Why an input of pieces is refused.
+//! Why an input of pieces is refused, and why a piece is not accepted.
 use capture_reader::FormatFault;
+use seq_circle::NoMemory;
 
 /// Why an input of pieces is refused (own).
 #[derive(Clone, Copy, Debug, PartialEq, Eq)]
@@ -32,5 +33,36 @@ impl From<FormatFault> for PieceFault {
             FormatFault::BadVersion => PieceFault::BadVersion,
             FormatFault::BadLink => PieceFault::BadLink,
         }
+    }
+}
+
+/// Why a job does not accept a piece (own).
+#[derive(Clone, Copy, Debug, PartialEq, Eq)]
+pub(crate) enum PieceError {
+    /// The input is refused at the piece for this fault.
+    Refused(PieceFault),
+    /// No memory was left.
+    NoMemory,
+}
+
+impl From<PieceFault> for PieceError {
+    ghost use Rattle.std.specs.Prelude.{◌≡◌};
+    ghost use Rattle.bridge_records.specs.declared.pieces.fault.PieceError.TheVariants as piece_error;
+
+    ghost from_gives = { λ fault error. error ≡ piece_error.Refused fault };
+
+    fn from(fault: PieceFault) -> PieceError {
+        PieceError::Refused(fault)
+    }
+}
+
+impl From<NoMemory> for PieceError {
+    ghost use Rattle.std.specs.Prelude.{◌≡◌};
+    ghost use Rattle.bridge_records.specs.declared.pieces.fault.PieceError.TheVariants as piece_error;
+
+    ghost from_gives = { λ none error. error ≡ piece_error.NoMemory };
+
+    fn from(_: NoMemory) -> PieceError {
+        PieceError::NoMemory
     }
 }

@@ -1,8 +1,8 @@
 //! What a job makes of pieces.
-ghost use Rattle.std.specs.Prelude.{◌≡◌, ◌≤◌, ◌++◌, length, IfOk, OnOk};
+ghost use Rattle.std.specs.Prelude.{◌≡◌, ◌≤◌, ◌++◌, length, OnOk};
 ghost use Rattle.bridge_records.specs.Pieces.{JudgesPiece, PieceWork};
 
-use crate::pieces::fault::PieceFault;
+use crate::pieces::fault::{PieceError, PieceFault};
 use seq_circle::NoMemory;
 
 /// A job over the pieces of an input (own). Contracts see what a piece does, and what the job makes of pieces: how long
@@ -24,14 +24,10 @@ pub(crate) trait PieceJob {
         ensures { result ≡ job.may_end self.now };
 
     /// Judges the next piece. An accepted one leaves the text of what it does at the text's end; a refused one leaves
-    /// text and state as they were. NoMemory comes where no memory was left.
-    fn judge(
-        &mut self,
-        piece: &[u8],
-        text: &mut Vec<u8>,
-    ) -> Result<Result<(), PieceFault>, NoMemory>
+    /// text and state as they were. NoMemory comes where no memory was left, and then nothing is told of state and text.
+    fn judge(&mut self, piece: &[u8], text: &mut Vec<u8>) -> Result<(), PieceError>
         requires { length piece.now ≡ job.wanted self.old }
-        ensures { IfOk result (λ answer. JudgesPiece job self.old (job.judged self.old piece.now) text.old.items text.new.items self.new answer) };
+        ensures { JudgesPiece job self.old (job.judged self.old piece.now) text.old.items text.new.items self.new result };
 
     /// Puts the text behind the last piece: at the input's end, or where it is refused. NoMemory comes where no memory
     /// was left.

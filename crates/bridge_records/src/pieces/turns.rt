@@ -5,7 +5,7 @@ ghost use Rattle.tool_text.specs.Ends.{IsMovedOut, SinkFails};
 ghost use Rattle.bridge_records.specs.Pieces.{unended, most_piece_bytes};
 ghost use Rattle.bridge_records.specs.Turns.{KeepsBlock, TurnsPiece};
 
-use crate::pieces::fault::PieceFault;
+use crate::pieces::fault::{PieceError, PieceFault};
 use crate::pieces::job::PieceJob;
 use dccp_io::{Failed, ReadAhead, Sink, Source};
 use seq_circle::NoMemory;
@@ -101,13 +101,13 @@ fn judge_piece<J: PieceJob, S: Source>(
         (record { source = source.new; ahead = ahead.new; state = job.new; text = text.new.items }) result }
 {
     let wanted = job.wanted();
-    let answer = job.judge(&ahead.pending()[..wanted], text)?;
-    match answer {
+    match job.judge(&ahead.pending()[..wanted], text) {
         Ok(()) => {
             ahead.pass(wanted);
             Ok(Turn::Taken(wanted))
         }
-        Err(fault) => Ok(Turn::Over(Some(fault))),
+        Err(PieceError::Refused(fault)) => Ok(Turn::Over(Some(fault))),
+        Err(PieceError::NoMemory) => Err(NoMemory),
     }
 }
 
