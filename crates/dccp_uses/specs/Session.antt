@@ -63,7 +63,14 @@ calls_anew control now s step = called control now s (record s.alarms { negotiat
 -- the connection is over, or was never begun
 abbrev pub is_closed : Phase → Bool
 is_closed phases.Closed = true
-is_closed _ = false
+is_closed phases.Listen = false
+is_closed phases.Request = false
+is_closed phases.Respond = false
+is_closed phases.PartOpen = false
+is_closed phases.Open = false
+is_closed phases.CloseReq = false
+is_closed phases.Closing = false
+is_closed phases.TimeWait = false
 
 -- the connection has come to its end with this step
 abbrev pub has_closed : Phase → Phase → Bool
@@ -145,8 +152,15 @@ NothingIsDue now alarms = (timer : Timer) → has_run_out (alarm_of alarms timer
 
 -- A server's end for a peer hears its first datagram. It's a connection where it left LISTEN.
 abbrev pub is_listening : Phase → Bool
+is_listening phases.Closed = false
 is_listening phases.Listen = true
-is_listening _ = false
+is_listening phases.Request = false
+is_listening phases.Respond = false
+is_listening phases.PartOpen = false
+is_listening phases.Open = false
+is_listening phases.CloseReq = false
+is_listening phases.Closing = false
+is_listening phases.TimeWait = false
 
 -- the session of an end that has left LISTEN
 abbrev pub unless_listening : {C : Type 0} → SessionState C → Bool → Option (SessionState C)

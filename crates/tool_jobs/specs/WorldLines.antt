@@ -18,7 +18,13 @@ sent_bytes (Some frame) = frame.bytes
 -- The bytes that an event brought to an end, in a world that has the frame; none for a call.
 abbrev pub arrived : WorldState → Event → List ℕ
 arrived w (event.Deliver from index) = sent_bytes (slice_get (half_of w from).frames index)
-arrived w _ = []
+arrived w event.Open = []
+arrived w (event.Send side payload) = []
+arrived w (event.SendEarly side payload) = []
+arrived w (event.Prefer side feature located values) = []
+arrived w (event.Timer side timer) = []
+arrived w (event.Close side) = []
+arrived w (event.Abort side) = []
 
 -- the line of a frame that a side sent, under its name; nothing where there is no such frame
 abbrev pub sent_frame_line : Side → ℕ → Option SentFrame → List ℕ
