@@ -11,7 +11,6 @@ use Rattle.dccp_states.specs.declared.phase.Phase.{Phase}
 use Rattle.dccp_states.specs.declared.phase.Phase.TheVariants as phases
 use Rattle.dccp_states.specs.declared.phase.Role.{Role}
 use Rattle.dccp_states.specs.declared.phase.Role.TheVariants as roles
-use Rattle.feature_machine.proofs.Listing.{without_offers_are_lists}
 use Rattle.feature_machine.specs.Lists.{IsLists}
 use Rattle.seq_circle.specs.declared.memory.NoMemory.{NoMemory}
 use Rattle.dccp_states.specs.declared.seen.Seen.{Seen}
@@ -106,7 +105,7 @@ ends_stand config peer None (Arrives iss bytes) lists none =
     let next : FlowEnd = (flow_step fresh (Arrives iss bytes)).after in
     if-flow config peer next (stays_in next.state.phase)
     (λ live. stands-after config peer iss bytes fresh.state (input_of_deed (Arrives iss bytes) fresh.congestion) next refl
-    (first-proper (config_for config peer iss bytes) (without_offers_are_lists config.lists lists)) refl live)
+    (first-proper (config_for config peer iss bytes) lists) refl live)
 ends_stand config peer None (Calls call) lists none = tt
 
 -- each peer's end stands after a step of one peer

@@ -13,7 +13,8 @@ use Rattle.dccp_states.specs.declared.phase.Phase.{Phase}
 use Rattle.dccp_states.specs.declared.phase.Phase.TheVariants as phases
 use Rattle.dccp_states.specs.declared.phase.Role.TheVariants.{Server}
 use Rattle.dccp_states.specs.declared.calls.Timer.{Timer}
-use Rattle.feature_machine.specs.Lists.{without_offers}
+use Rattle.feature_lists.specs.declared.features.Feature.{Feature}
+use Rattle.feature_lists.specs.declared.features.Place.{Place}
 use Rattle.dccp_endpoint.specs.Configured.{configured}
 use Rattle.dccp_endpoint.specs.Controlled.{EndStep, begins, has_in_flight, with_control}
 use Rattle.dccp_endpoint.specs.Inputs.{Answer, Input, end_stepped}
@@ -26,6 +27,8 @@ use Rattle.dccp_endpoint.specs.Strangers.{stays_in}
 use Rattle.dccp_listener.specs.Peers.{FlowEnd}
 use Rattle.dccp_listener.specs.declared.calls.Act.{Act}
 use Rattle.dccp_listener.specs.declared.calls.Act.TheVariants as act
+use Rattle.dccp_states.specs.declared.calls.UserCall.{UserCall}
+use Rattle.dccp_states.specs.declared.calls.UserCall.TheVariants as user
 use Rattle.dccp_listener.specs.declared.config.ListenConfig.{ListenConfig}
 use Rattle.dccp_listener.specs.declared.peer.Peer.{Peer}
 
@@ -33,7 +36,9 @@ use Rattle.dccp_listener.specs.declared.peer.Peer.{Peer}
 pub data FlowCall : Type 0 where
   Sends : (payload : List ℕ) → FlowCall
   Fires : (timer : Timer) → FlowCall
-  Closes Aborts : FlowCall
+  Opens Closes Aborts : FlowCall
+  SendsEarly : (payload : List ℕ) → FlowCall
+  Prefers : (feature : Feature) (place : Place) (values : List ℕ) → FlowCall
 
 -- What happens to a peer: a datagram of it arrives, with the first number that an end made for it would have; or the
 -- owner calls.
@@ -48,12 +53,25 @@ call_of (act.Timer timer) = Fires timer
 call_of act.Close = Closes
 call_of act.Abort = Aborts
 
+-- any call of an end's user as the call that it is
+abbrev pub asked : UserCall → FlowCall
+asked user.Open = Opens
+asked (user.Send payload) = Sends payload.now
+asked (user.SendEarly payload) = SendsEarly payload.now
+asked (user.Prefer feature place values) = Prefers feature place values.now
+asked user.Close = Closes
+asked user.Abort = Aborts
+asked (user.Timer timer) = Fires timer
+
 -- the call as the end takes it, with what its congestion control says
 abbrev pub input_of_call : FlowCall → Both → Input
 input_of_call (Sends payload) congestion = input.Sends payload (may_send kinds_control congestion)
 input_of_call (Fires timer) congestion = input.Fires timer (has_in_flight kinds_control congestion)
 input_of_call Closes congestion = input.Closes
 input_of_call Aborts congestion = input.Aborts
+input_of_call Opens congestion = input.Opens
+input_of_call (SendsEarly payload) congestion = input.SendsEarly payload (may_send kinds_control congestion)
+input_of_call (Prefers feature place values) congestion = input.Prefers (feature, place) values
 
 -- the deed as the end takes it
 abbrev pub input_of_deed : Deed → Both → Input
@@ -79,11 +97,11 @@ abbrev pub service_for : List ℕ → Option ℕ → ℕ
 service_for services None = unwrap_or (slice_get services 0) 0
 service_for services (Some asked) = if list_any (λ one. one == asked) services then asked else unwrap_or (slice_get services 0) 0
 
--- A fresh end is a server's, between the listener's address and port and the peer's. It offers no feature by itself.
+-- A fresh end is a server's, between the listener's address and port and the peer's.
 abbrev pub config_asked : ListenConfig → Peer → ℕ → Option ℕ → Config
 config_asked config peer iss asked =
     record (configured Server (V4 config.own_address peer.address) (record { own = config.own_port; peer = peer.port })
-    (service_for config.services.items asked) iss) { lists = without_offers config.lists }
+    (service_for config.services.items asked) iss) { lists = config.lists }
 
 -- by the bytes that it is made for
 abbrev pub config_for : ListenConfig → Peer → ℕ → List ℕ → Config

@@ -1,7 +1,7 @@
 -- What always holds of a listener and of each end in it (own).
 use Rattle.std.specs.Prelude.{◌≡◌, ◌≤◌, ℕ, true, List, length, Option, IfSome}
 use Rattle.feature_lists.specs.Lists.{is_distinct}
-use Rattle.feature_machine.specs.Lists.{IsLists}
+use Rattle.feature_machine.specs.Lists.{IsLists, without_offers}
 use Rattle.dccp_endpoint.specs.End.{IsProper}
 use Rattle.dccp_endpoint.specs.Strangers.{stays_in}
 use Rattle.dccp_listener.specs.Chain.{Deed, chain_step, config_for}
@@ -15,6 +15,10 @@ pub record IsListening (config : ListenConfig) : Type 0 where
   pub distinct : is_distinct config.services.items ≡ true
   pub least : 1 ≤ config.most
   pub most : config.most ≤ 1024
+
+-- the same without offers: the ends of its flows ask for no feature by themselves
+abbrev pub unoffering : ListenConfig → ListenConfig
+unoffering config = record config { lists = without_offers config.lists }
 
 -- An end of a peer was made for the peer, by the listener's configuration, and is neither CLOSED nor in LISTEN.
 pub record Stands (config : ListenConfig) (peer : Peer) (e : FlowEnd) : Type 0 where

@@ -5,9 +5,8 @@ ghost use Rattle.dccp_endpoint.specs.Feeding.{receiving};
 ghost use Rattle.dccp_endpoint.specs.Incoming.{parts_of_packet};
 ghost use Rattle.dccp_packets.specs.Grammar.{decoded};
 ghost use Rattle.dccp_endpoint.specs.UserCalls.{seen_of};
-ghost use Rattle.dccp_listener.specs.Chain.{Calls, call_of, flow_step, is_given_up};
+ghost use Rattle.dccp_listener.specs.Chain.{Calls, asked, flow_step, is_given_up};
 
-use crate::Act;
 use ccid_two::Kinds;
 use dccp_endpoint::{Endpoint, NoMemory, Outbox, Outcome, Phase, Seen, UserCall};
 use dccp_packets::Packet;
@@ -19,18 +18,13 @@ pub(crate) fn is_given_up(phase: Phase) -> bool
     matches!(phase, Phase::Closed)
 }
 
-/// The end takes a call.
-pub(crate) fn call(end: &mut Endpoint<Kinds>, act: Act<'_>, out: &mut Outbox) -> Seen
-    ensures after { end.new ≡ (flow_step end.old (Calls (call_of act.entry))).after }
-    ensures sent { out.new ≡ (flow_step end.old (Calls (call_of act.entry))).frame }
-    ensures seen { result ≡ seen_of (flow_step end.old (Calls (call_of act.entry))).answer }
+/// The end takes a call of its user.
+pub(crate) fn answer(end: &mut Endpoint<Kinds>, call: UserCall<'_>, out: &mut Outbox) -> Seen
+    ensures after { end.new ≡ (flow_step end.old (Calls (asked call.entry))).after }
+    ensures sent { out.new ≡ (flow_step end.old (Calls (asked call.entry))).frame }
+    ensures seen { result ≡ seen_of (flow_step end.old (Calls (asked call.entry))).answer }
 {
-    match act {
-        Act::Send(payload) => end.act(UserCall::Send(payload), out),
-        Act::Timer(timer) => end.act(UserCall::Timer(timer), out),
-        Act::Close => end.act(UserCall::Close, out),
-        Act::Abort => end.act(UserCall::Abort, out),
-    }
+    end.act(call, out)
 }
 
 /// A fresh end hears a datagram that was decoded.

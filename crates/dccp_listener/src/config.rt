@@ -18,7 +18,7 @@ pub struct ListenConfig {
     pub own_port: u16,
     /// The Service Codes that it serves (RFC 4340, section 8.1.2): 1 to 16, each once.
     pub services: ArrayVec<u32, 16>,
-    /// What each peer's end wishes for its features. Its offers are not made (RFC 4340, section 6).
+    /// What each peer's end wishes for its features, and what it offers where offers are made (RFC 4340, section 6).
     pub lists: Lists,
     /// The most flows that stand at a time: 1 to 1,024.
     pub most: u16,
@@ -84,7 +84,7 @@ fn config_asked(config: &ListenConfig, peer: Peer, iss: Seq48, asked: Option<u32
 {
     let own_address = config.own_address;
     let address = peer.address;
-    let mut fresh = Config {
+    Config {
         role: Role::Server,
         pseudo_out: Pseudo::V4 {
             from: own_address,
@@ -100,7 +100,5 @@ fn config_asked(config: &ListenConfig, peer: Peer, iss: Seq48, asked: Option<u32
         iss,
         lists: config.lists,
         vectors: Vectors::One,
-    };
-    fresh.plain();
-    fresh
+    }
 }

@@ -5,16 +5,15 @@ ghost use Rattle.std.specs.Map.{remove_entry};
 ghost use Rattle.ccid_two.specs.Kinds.{kinds_control};
 ghost use Rattle.dccp_endpoint.specs.Feeding.{receiving};
 ghost use Rattle.dccp_endpoint.specs.UserCalls.{seen_of};
-ghost use Rattle.dccp_listener.specs.Chain.{Calls, call_of, flow_step};
+ghost use Rattle.dccp_listener.specs.Chain.{Calls, asked, flow_step};
 ghost use Rattle.dccp_listener.specs.Moves.{FlowMoves, FlowSteps};
 ghost use Rattle.dccp_listener.specs.Peers.{end_of_peer, is_peer, peer_cmp};
 ghost use Rattle.dccp_listener.specs.declared.peer.Peer.{Peer};
 
-use crate::answers::{call, is_given_up, receive};
-use crate::{Act, Peer};
+use crate::Peer;
+use crate::answers::{answer, is_given_up, receive};
 use ccid_two::Kinds;
-use dccp_endpoint::{Endpoint, NoMemory, Outbox, Outcome};
-use dccp_states::Seen;
+use dccp_endpoint::{Endpoint, NoMemory, Outbox, Outcome, Seen, UserCall};
 use std::alloc::Global;
 use std::collections::BTreeMap;
 use std::marker::Model;
@@ -48,18 +47,18 @@ impl Held {
 fn call_flow(
     flows: &mut BTreeMap<Peer, Held>,
     peer: Peer,
-    act: Act<'_>,
+    call: UserCall<'_>,
     out: &mut Outbox,
 ) -> Option<(Seen, bool)>
     requires { out.old ≡ None }
-    ensures moves { FlowMoves (λ e. flow_step e (Calls (call_of act.entry))) seen_of (end_of_peer flows.old.entries peer) (end_of_peer flows.new.entries peer) flows.old.entries flows.new.entries peer out.new result }
+    ensures moves { FlowMoves (λ e. flow_step e (Calls (asked call.entry))) seen_of (end_of_peer flows.old.entries peer) (end_of_peer flows.new.entries peer) flows.old.entries flows.new.entries peer out.new result }
     ensures others { (other : Peer) → is_peer peer other ≡ false
         → end_of_peer flows.new.entries other ≡ end_of_peer flows.old.entries other }
     ensures count { length flows.new.entries ≡ length flows.old.entries }
 {
     match flows.get_mut(&peer) {
         Some(held) => {
-            let seen = call(&mut held.end, act, out);
+            let seen = answer(&mut held.end, call, out);
             let over = is_given_up(held.end.phase());
             Some((seen, over))
         }
@@ -109,16 +108,16 @@ fn settle(flows: &mut BTreeMap<Peer, Held>, peer: Peer, over: bool)
 pub(crate) fn act_at(
     flows: &mut BTreeMap<Peer, Held>,
     peer: Peer,
-    act: Act<'_>,
+    call: UserCall<'_>,
     out: &mut Outbox,
 ) -> Option<Seen>
     requires { out.old ≡ None }
-    ensures steps { FlowSteps (λ e. flow_step e (Calls (call_of act.entry))) seen_of (end_of_peer flows.old.entries peer) (end_of_peer flows.new.entries peer) flows.old.entries flows.new.entries peer out.new result }
+    ensures steps { FlowSteps (λ e. flow_step e (Calls (asked call.entry))) seen_of (end_of_peer flows.old.entries peer) (end_of_peer flows.new.entries peer) flows.old.entries flows.new.entries peer out.new result }
     ensures others { (other : Peer) → is_peer peer other ≡ false
         → end_of_peer flows.new.entries other ≡ end_of_peer flows.old.entries other }
     ensures count { length flows.new.entries ≤ length flows.old.entries }
 {
-    let Some((seen, over)) = call_flow(flows, peer, act, out) else {
+    let Some((seen, over)) = call_flow(flows, peer, call, out) else {
         return None;
     };
     settle(flows, peer, over);

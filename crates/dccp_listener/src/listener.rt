@@ -5,8 +5,7 @@ use crate::flows::Held;
 use crate::meeting::{arrive, perform};
 use crate::{Act, Heard, ListenConfig, NoFlow, Peer};
 use ccid_two::Kinds;
-use dccp_endpoint::{Endpoint, Feature, NoMemory, Outbox, Place, Seq48};
-use dccp_states::Seen;
+use dccp_endpoint::{Endpoint, Feature, NoMemory, Outbox, Place, Seen, Seq48, UserCall};
 use std::alloc::Global;
 use std::collections::BTreeMap;
 use std::marker::Model;
@@ -54,14 +53,25 @@ impl Listener {
     ghost use Rattle.std.specs.Prelude.{◌≡◌, ◌≤◌, ◌<◌, ◌↔◌, [], None, Some, Ok, IfOk, IfSome, IsErr, IsNone, OnErr, MatchOption, length, slice_get};
     ghost use Rattle.std.specs.Map.{keys_of};
     ghost use Rattle.dccp_listener.specs.Calls.{Arrived, IsStep, seen_if};
-    ghost use Rattle.dccp_listener.specs.Chain.{Arrives, Calls, call_of};
+    ghost use Rattle.dccp_listener.specs.Chain.{Arrives, Calls, asked, call_of};
     ghost use Rattle.dccp_listener.specs.Listens.{AreInOrder, listens};
     ghost use Rattle.dccp_listener.specs.Peers.{end_of_peer};
     ghost use Rattle.dccp_listener.specs.Runs.{IsTurn, Stepped, arrival, call_turn, told_of};
-    ghost use Rattle.dccp_listener.specs.Standing.{IsListening, Stands};
+    ghost use Rattle.dccp_listener.specs.Standing.{IsListening, Stands, unoffering};
 
-    /// A listener without flows. It takes no memory.
+    /// A listener without flows, whose ends make no offers, whatever the lists say. It takes no memory.
     pub fn new(alloc: Global, config: ListenConfig) -> Listener
+        requires { IsListening config }
+        ensures { result ≡ record { config = unoffering config; flows = [] } }
+    {
+        let mut config = config;
+        config.lists.plain();
+        Listener::offering(alloc, config)
+    }
+
+    /// A listener without flows, whose ends make the offers of the lists from their Response on, as an end of its own
+    /// would (own). It takes no memory.
+    pub fn offering(alloc: Global, config: ListenConfig) -> Listener
         requires { IsListening config }
         ensures { result ≡ record { config = config; flows = [] } }
     {
@@ -113,7 +123,24 @@ impl Listener {
         ensures no_flow { IsErr result ↔ (end_of_peer self.old.flows peer ≡ None) }
         ensures refused { OnErr result ((self.new ≡ self.old) × (out.new ≡ None)) }
     {
-        perform(&self.config, &mut self.flows, peer, act, out)
+        match act {
+            Act::Send(payload) => self.ask(peer, UserCall::Send(payload), out),
+            Act::Timer(timer) => self.ask(peer, UserCall::Timer(timer), out),
+            Act::Close => self.ask(peer, UserCall::Close, out),
+            Act::Abort => self.ask(peer, UserCall::Abort, out),
+        }
+    }
+
+    /// The owner calls a peer's end by any call that an end has, also `Endpoint::prefer` (own). NoFlow comes exactly where
+    /// the peer has none, and then nothing changes and nothing goes out. It takes no memory.
+    pub fn ask(&mut self, peer: Peer, call: UserCall<'_>, out: &mut Outbox) -> Result<Seen, NoFlow>
+        ensures step { IsStep self.old self.new peer (Calls (asked call.entry)) out.new (seen_if result) }
+        ensures turn { IsTurn self.old self.new (call_turn peer (asked call.entry) out.new result) }
+        ensures computed { record { flows = self.new.flows; frame = out.new; told = Stepped (seen_if result) } ≡ listens self.old peer (Calls (asked call.entry)) }
+        ensures no_flow { IsErr result ↔ (end_of_peer self.old.flows peer ≡ None) }
+        ensures refused { OnErr result ((self.new ≡ self.old) × (out.new ≡ None)) }
+    {
+        perform(&self.config, &mut self.flows, peer, call, out)
     }
 
     /// A peer's end, or None exactly where it has none. It was made for this peer, and is neither CLOSED nor in LISTEN.

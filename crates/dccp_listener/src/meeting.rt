@@ -6,7 +6,7 @@ ghost use Rattle.dccp_endpoint.specs.Feeding.{receiving};
 ghost use Rattle.dccp_endpoint.specs.Incoming.{parts_of_packet};
 ghost use Rattle.dccp_packets.specs.Grammar.{decoded};
 ghost use Rattle.dccp_listener.specs.Calls.{Arrived, IsStep, seen_if};
-ghost use Rattle.dccp_listener.specs.Chain.{Arrives, Calls, call_of};
+ghost use Rattle.dccp_listener.specs.Chain.{Arrives, Calls, asked};
 ghost use Rattle.dccp_listener.specs.Listens.{listens};
 ghost use Rattle.dccp_listener.specs.Moves.{IsTakenIn};
 ghost use Rattle.dccp_listener.specs.Peers.{end_of_peer, is_peer};
@@ -16,10 +16,11 @@ use crate::answers::without_memory;
 use crate::config::config_for;
 use crate::flows::{Held, act_at, hear_at, put_flow};
 use crate::greeting::{greet, refuse};
-use crate::{Act, Heard, ListenConfig, NoFlow, Peer};
-use dccp_endpoint::{Config, NoMemory, Outbox, Outcome, Seq48, Why, answer_stranger};
+use crate::{Heard, ListenConfig, NoFlow, Peer};
+use dccp_endpoint::{
+    Config, NoMemory, Outbox, Outcome, Seen, Seq48, UserCall, Why, answer_stranger,
+};
 use dccp_packets::{Packet, decode};
-use dccp_states::Seen;
 use std::alloc::Global;
 use std::collections::BTreeMap;
 
@@ -120,18 +121,18 @@ pub(crate) fn perform(
     config: &ListenConfig,
     flows: &mut BTreeMap<Peer, Held>,
     peer: Peer,
-    act: Act<'_>,
+    call: UserCall<'_>,
     out: &mut Outbox,
 ) -> Result<Seen, NoFlow>
-    ensures step { IsStep (record { config = config.now; flows = flows.old.entries }) (record { config = config.now; flows = flows.new.entries }) peer (Calls (call_of act.entry)) out.new (seen_if result) }
-    ensures listens { record { flows = flows.new.entries; frame = out.new; told = Stepped (seen_if result) } ≡ listens (record { config = config.now; flows = flows.old.entries }) peer (Calls (call_of act.entry)) }
+    ensures step { IsStep (record { config = config.now; flows = flows.old.entries }) (record { config = config.now; flows = flows.new.entries }) peer (Calls (asked call.entry)) out.new (seen_if result) }
+    ensures listens { record { flows = flows.new.entries; frame = out.new; told = Stepped (seen_if result) } ≡ listens (record { config = config.now; flows = flows.old.entries }) peer (Calls (asked call.entry)) }
     ensures no_flow { IsErr result ↔ (end_of_peer flows.old.entries peer ≡ None) }
     ensures refused { OnErr result ((flows.new.entries ≡ flows.old.entries) × (out.new ≡ None)) }
     ensures count { length flows.new.entries ≤ length flows.old.entries }
 {
     let _ = config;
     out.clear();
-    match act_at(flows, peer, act, out) {
+    match act_at(flows, peer, call, out) {
         Some(seen) => Ok(seen),
         None => Err(NoFlow),
     }

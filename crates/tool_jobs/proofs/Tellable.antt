@@ -5,10 +5,11 @@ use Rattle.ccid_two.specs.Kinds.{Both, kinds_control}
 use Rattle.congestion_trait.specs.Control.{may_send}
 use Rattle.dccp_packets.specs.Outgoing.{Outgoing}
 use Rattle.dccp_endpoint.specs.Strangers.{stays_in}
-use Rattle.dccp_endpoint.specs.Calling.{aborts, closes, sends_payload}
+use Rattle.dccp_endpoint.specs.Calling.{aborts, closes, opens, prefers, sends_payload}
+use Rattle.dccp_endpoint.specs.Early.{sends_early}
 use Rattle.dccp_endpoint.specs.Controlled.{EndStep}
 use Rattle.dccp_endpoint.specs.Inputs.{Answer}
-use Rattle.dccp_listener.specs.Chain.{Deed, Arrives, Calls, Sends, Fires, Closes, Aborts, flow_step, fresh_end}
+use Rattle.dccp_listener.specs.Chain.{Deed, Arrives, Calls, Opens, Sends, SendsEarly, Fires, Closes, Aborts, Prefers, flow_step, fresh_end}
 use Rattle.dccp_listener.specs.Listens.{Listened, fresh_met, is_table_full, listening_after, listens, listens_by}
 use Rattle.dccp_listener.specs.Peers.{FlowEnd, Flows, Listening, end_of_peer}
 use Rattle.dccp_listener.specs.Runs.{CallTold, CallTurn, IsTurn, IsTurnSo, Stepped, WasBusy, HadNoMemory, arrival, told_of}
@@ -18,7 +19,7 @@ use Rattle.dccp_listener.specs.declared.peer.Peer.{Peer}
 use Rattle.schedule_text.specs.Results.{IsSeenOf}
 use Rattle.seq_circle.specs.declared.memory.NoMemory.{NoMemory}
 use Rattle.dccp_endpoint.specs.UserCalls.{seen_of, seen_of_call}
-use Rattle.dccp_states.specs.Refusals.{send_refusal_of}
+use Rattle.dccp_states.specs.Refusals.{refusal_of, send_refusal_of}
 use Rattle.dccp_states.specs.declared.seen.Refusal.{Refusal}
 use Rattle.dccp_states.specs.declared.seen.Refusal.TheVariants as refusal
 use Rattle.tool_jobs.proofs.Telling.{data-in-frame}
@@ -36,6 +37,9 @@ step-told e (Calls (Sends payload)) = call-told send_refusal_of (sends_payload e
 step-told e (Calls (Fires timer)) = tt
 step-told e (Calls Closes) = call-told (λ fault. refusal.NotOpen) (closes e.state).answer
 step-told e (Calls Aborts) = call-told (λ fault. refusal.NotLive) (aborts e.state).answer
+step-told e (Calls Opens) = call-told (λ fault. refusal.NotFresh) (opens e.state).answer
+step-told e (Calls (SendsEarly payload)) = call-told send_refusal_of (sends_early e.state payload (may_send kinds_control e.congestion)).answer
+step-told e (Calls (Prefers feature place values)) = call-told refusal_of (prefers e.state (feature, place) values).answer
 
 met-told : (l : Listening) (peer : Peer) (iss : ℕ) (bytes : List ℕ) (step : EndStep Both Answer) (stays full : Bool) → IsSeenOf bytes (seen_of step.answer)
     → CanBeTold bytes (fresh_met l peer iss bytes step stays full).told

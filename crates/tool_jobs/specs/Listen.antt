@@ -5,6 +5,7 @@ use Rattle.dccp_listener.specs.Chain.{Deed, Arrives, Calls, Sends, Fires, Closes
 use Rattle.dccp_listener.specs.Listens.{computed_turn, listening_after}
 use Rattle.dccp_listener.specs.Peers.{Listening, end_of_peer}
 use Rattle.dccp_listener.specs.Runs.{CallTurn, IsChain, IsRunOfTurns, peer_turns}
+use Rattle.dccp_listener.specs.Standing.{unoffering}
 use Rattle.dccp_listener.specs.declared.config.ListenConfig.{ListenConfig}
 use Rattle.dccp_listener.specs.declared.peer.Peer.{Peer}
 use Rattle.dccp_sum.specs.declared.pseudo_header.Pseudo.{Pseudo}
@@ -34,9 +35,9 @@ abbrev pub listen_config : ℕ → ListenConfig
 listen_config most =
     record { own_address = own_address; own_port = 5001; services = record { items = 42 ∷ 43 ∷ [] }; lists = usual_lists; most = most }
 
--- Before the first line: no flow stands.
+-- Before the first line: no flow stands, and their ends will make no offers.
 abbrev pub first_listening : ℕ → Listening
-first_listening most = record { config = listen_config most; flows = [] }
+first_listening most = record { config = unoffering (listen_config most); flows = [] }
 
 -- nor has anything happened
 abbrev pub first_serving : ℕ → Serving
@@ -109,4 +110,4 @@ EveryInputIsARun = (most : ℕ) (input : List ℕ) → IsRunOfTurns (first_liste
 abbrev pub EachPeerOfAnInputHasItsChain : Type 0
 EachPeerOfAnInputHasItsChain =
     (most : ℕ) (input : List ℕ) (peer : Peer)
-    → IsChain (listen_config most) peer None (end_of_peer (listened most input).last.listener.flows peer) (peer_turns peer (turns_of_input most input))
+    → IsChain (first_listening most).config peer None (end_of_peer (listened most input).last.listener.flows peer) (peer_turns peer (turns_of_input most input))

@@ -1,6 +1,6 @@
 use Rattle.std.proofs.Common.{le_trans}
 use Rattle.dccp_listener.proofs.EndsStand.{sound_step}
-use Rattle.dccp_listener.proofs.listener.Listener.act.Goals as goal
+use Rattle.dccp_listener.proofs.listener.Listener.ask.Goals as goal
 
 pub invariant_of-self : goal.invariant_of-self
 invariant_of-self c =

@@ -2,7 +2,7 @@ use Rattle.std.proofs.Common.{subst, sym}
 use Rattle.dccp_listener.proofs.EndsStand.{sound_fresh}
 use Rattle.dccp_listener.specs.Peers.{Flows}
 use Rattle.dccp_listener.specs.Standing.{IsSoundListener}
-use Rattle.dccp_listener.proofs.listener.Listener.new.Goals as goal
+use Rattle.dccp_listener.proofs.listener.Listener.offering.Goals as goal
 
 pub invariant_of-result : goal.invariant_of-result
 invariant_of-result c =
