@@ -13,7 +13,7 @@ use Rattle.dccp_sum.specs.declared.pseudo_header.Pseudo.{Pseudo}
 use Rattle.dccp_endpoint.specs.Causes.{Came}
 use Rattle.dccp_endpoint.specs.Drafts.{Draft, Fits, IsSendable, alone, frame_of, own_header}
 use Rattle.dccp_endpoint.specs.End.{EndState}
-use Rattle.dccp_endpoint.specs.Incoming.{Incoming, incoming}
+use Rattle.dccp_endpoint.specs.Incoming.{Incoming, incoming, is_newest}
 use Rattle.dccp_endpoint.specs.Inputs.{Arrives}
 use Rattle.dccp_endpoint.specs.Receiving.{takes_short}
 use Rattle.dccp_endpoint.specs.declared.config.Config.{Config}
@@ -48,6 +48,7 @@ pub record IsRead (e : EndState) (bytes : List ℕ) (number : ℕ) (d : Draft) :
   pub numbered : packet.number ≡ number
   pub acks : packet.ack ≡ ack_of d.kind
   pub listed : packet.options ≡ map Ok (entries_at 0 d.options)
+  pub newest_is : packet.newest ≡ is_newest e number
   pub is_long : is_short_packet (packet_of bytes) ≡ false
 
 -- a type alone
@@ -85,6 +86,7 @@ draft-read from e number d meant fits small plain =
       numbered = refl;
       acks = plain.acks e.marks.gss;
       listed = read.are_listed;
+      newest_is = refl;
       is_long = ap (λ (r : Option Parts). is_short_packet r) (ap result_ok read.is_packet);
     }
 

@@ -58,7 +58,7 @@ server-sync = record { checked = refl; no_reset = λ is. cc is; expected = λ b.
 client-asked : IsRow role.Client phases.Open types.CloseReq phases.Closing reply.Close
 client-asked = record { checked = refl; no_reset = λ is. cc is; expected = λ b. refl; for_us = λ x service. refl; next = refl }
 
-client-told : IsRow role.Client phases.Open types.SyncAck phases.Open reply.Nothing
+pub client-told : IsRow role.Client phases.Open types.SyncAck phases.Open reply.Nothing
 client-told = record { checked = refl; no_reset = λ is. cc is; expected = λ b. refl; for_us = λ x service. refl; next = refl }
 
 -- The phases in which a server waits for the client's Close.
@@ -115,7 +115,7 @@ both-over w client server Server = server
 -- GSR and the number that comes are in order.
 pub heard-in-order : (m : Marks) (last : ℕ) → AreHeard m last → AreInOrder m.gsr last
 heard-in-order m last h =
-    record { first = h.first; early = h.greatest; late = h.end; low_is = h.gsr_is; high_is = h.last_is; in_order = h.ends; few = h.few }
+    record { first = h.first; early = h.greatest; late = h.end; low_is = h.gsr_is; high_is = h.last_is; in_order = h.ends; few = omega (arith, h.few) }
 
 module _ {C : Type 0} (control : Control C) (effects : EveryStepHasOneEffect) where
   abbrev Leads : ℕ → Controlled C → Type 0
@@ -282,24 +282,26 @@ module _ {C : Type 0} (control : Control C) (effects : EveryStepHasOneEffect) wh
       (near-valid m w.world.server.end.marks.gss v.world.server.end.marks.gss m.gsr heard.widths near by.shut.gss_is)))
 
   -- A Sync and its SyncAck have put two sides in step: what each has received last is known.
-  record AreInStep (more : ℕ) (w : WorldState) (x y : Side) (p q : Phase) : Type 0 where
-    under_way : IsUnderWay more w
-    phase : (half_of w x).end.phase ≡ p
-    peer_phase : (half_of w y).end.phase ≡ q
-    told : (half_of w x).end.marks.gsr ≡ (half_of w y).end.marks.gar
-    heard : (half_of w y).end.marks.gsr ≡ (half_of w x).end.marks.gss
-    near : ((half_of w y).end.marks.gss ≡ (half_of w x).end.marks.gsr) ⊎ ((half_of w y).end.marks.gss ≡ residue ((half_of w x).end.marks.gsr + 1))
+  pub record AreInStep (more : ℕ) (w : WorldState) (x y : Side) (p q : Phase) : Type 0 where
+    pub under_way : IsUnderWay more w
+    pub phase : (half_of w x).end.phase ≡ p
+    pub peer_phase : (half_of w y).end.phase ≡ q
+    pub told : (half_of w x).end.marks.gsr ≡ (half_of w y).end.marks.gar
+    pub heard : (half_of w y).end.marks.gsr ≡ (half_of w x).end.marks.gss
+    pub near : ((half_of w y).end.marks.gss ≡ (half_of w x).end.marks.gsr) ⊎ ((half_of w y).end.marks.gss ≡ residue ((half_of w x).end.marks.gsr + 1))
 
-  abbrev synced-twice : Controlled C → Side → Side → ℕ → ℕ → Controlled C
+  abbrev pub synced-twice : Controlled C → Side → Side → ℕ → ℕ → Controlled C
   synced-twice w x y first second = next control (next control w (event.Deliver y first)) (event.Deliver x second)
 
-  record GetInStep (more : ℕ) (w : Controlled C) (x y : Side) (p q : Phase) : Type 0 where
-    first : ℕ
-    second : ℕ
-    in_step : AreInStep more (synced-twice w x y first second).world x y p q
+  pub record GetInStep (more : ℕ) (w : Controlled C) (x y : Side) (p q : Phase) : Type 0 where
+    pub first : ℕ
+    pub second : ℕ
+    pub in_step : AreInStep more (synced-twice w x y first second).world x y p q
+    pub rows_are : (half_of (synced-twice w x y first second).world x).end.rows ≡ (half_of w.world x).end.rows
+    pub peer_rows : (half_of (synced-twice w x y first second).world y).end.rows ≡ (half_of w.world y).end.rows
 
   -- With a Sync on its way to the first side two deliveries put both in step.
-  get-in-step : (more : ℕ) (w : Controlled C) → IsUnderWay (more + 1 + 1) w.world → {x y : Side} (two : AreTwo x y) (who whose : Role) (p q : Phase)
+  pub get-in-step : (more : ℕ) (w : Controlled C) → IsUnderWay (more + 1 + 1) w.world → {x y : Side} (two : AreTwo x y) (who whose : Role) (p q : Phase)
       → IsRow who p types.Sync p reply.SyncAck → IsRow whose q types.SyncAck q reply.Nothing
       → (half_of w.world x).end.config.role ≡ who → (half_of w.world y).end.config.role ≡ whose
       → (half_of w.world x).end.phase ≡ p → (half_of w.world y).end.phase ≡ q → is_live p ≡ true → is_live q ≡ true → is_begun q ≡ true
@@ -358,6 +360,8 @@ module _ {C : Type 0} (control : Control C) (effects : EveryStepHasOneEffect) wh
       record {
         first = c.index;
         second = d.index;
+        rows_are = ap (λ (h : Half). h.end.rows) unmoved ∙ said.is_after.rows_are;
+        peer_rows = left.rows_are ∙ ap (λ (h : Half). h.end.rows) still;
         in_step =
             record {
               under_way = left.under_way;

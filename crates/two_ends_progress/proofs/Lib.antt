@@ -7,3 +7,8 @@ pub mod Stepping
 pub mod Closing
 pub mod Entering
 pub mod Opening
+pub mod Exchanging
+pub mod RowSteps
+pub mod Settling
+pub mod Rounds
+pub mod Agreed

@@ -1,8 +1,9 @@
 -- What is valid whatever was lost: a Sync or SyncAck under the last number of its sender, and what comes next.
-use Rattle.std.proofs.Common.{◌≡◌, ◌⊎◌, inl, inr, refl, sym, ◌∙◌, subst, ◌&&◌, ℕ, ◌+◌, ◌*◌, ◌/◌, ◌^◌, ◌<◌, ◌≤◌, Bool, true, false, if◌then◌else◌, Option, Some, arith}
-use Rattle.std.proofs.lemmas.Bool.{cases_lt, le-leb}
-use Rattle.seq_circle.specs.Circle.{distance, is_within, later_of, open_end, residue}
-use Rattle.validity_windows.proofs.Counts.{later_of-before, later_of-same, no_end-count, sequence-count}
+use Rattle.std.proofs.Common.{nat_lt, ◌-◌, ◌≡◌, ◌⊎◌, inl, inr, refl, sym, ◌∙◌, subst, ◌&&◌, ℕ, ◌+◌, ◌*◌, ◌/◌, ◌^◌, ◌<◌, ◌≤◌, Bool, true, false, if◌then◌else◌, Option, Some, arith}
+use Rattle.std.proofs.lemmas.Bool.{cases_lt, le-leb, lt-ltb}
+use Rattle.seq_circle.specs.Circle.{distance, is_before, is_within, later_of, open_end, residue}
+use Rattle.seq_circle.specs.Counts.{count_of}
+use Rattle.validity_windows.proofs.Counts.{ack-count, later_of-before, later_of-same, no_end-count, sequence-count}
 use Rattle.validity_windows.specs.Verdict.{by_greatest, by_low_end, by_window, is_ack_within, is_after_greatest, is_in_window, is_not_old}
 use Rattle.validity_windows.specs.Windows.{InRange, ack_high, ack_low, sequence_high, sequence_low}
 use Rattle.validity_windows.specs.declared.marks.Marks.{Marks}
@@ -41,7 +42,7 @@ pub record AreHeard (m : Marks) (last : ℕ) : Type 0 where
   pub last_is : last ≡ residue (first + end)
   pub begins : begin ≤ greatest
   pub ends : greatest ≤ end
-  pub few : end < 2 ^ 47
+  pub few : end + 1 < 2 ^ 47
   pub widths : InRange m
 
 both : (x y : Bool) (other : Verdict) → x ≡ true → y ≡ true → (if x && y then verdicts.Valid else other) ≡ verdicts.Valid
@@ -127,3 +128,62 @@ window-or m n ack = by (is_in_window m n && is_ack_within (ack_low m) (ack_high 
 -- What acknowledges GSS is in the window of what was sent.
 pub newest-within : (m : Marks) → is_ack_within (ack_low m) (ack_high m) (Some m.gss) ≡ true
 newest-within m = within-high (ack_low m) m.gss
+
+-- A number one or two after GSR is in the window.
+pub near-in-window : (m : Marks) (last n : ℕ) → AreHeard m last → (n ≡ residue (m.gsr + 1)) ⊎ (n ≡ residue (residue (m.gsr + 1) + 1))
+    → is_in_window m n ≡ true
+near-in-window m last n h which =
+    elim which [
+      | inl one ↦ within 1 (omega arith) (omega arith) (one ∙ omega (arith, h.gsr_is))
+      | inr two ↦ within 2 (omega arith) (omega arith) (two ∙ omega (arith, h.gsr_is))
+    ]
+  where
+    within : (more : ℕ) → 1 ≤ more → more ≤ 2 → n ≡ residue (h.first + h.greatest + more) → is_in_window m n ≡ true
+    within more some few is =
+        let counts =
+        sequence-count m (h.first + h.begin) (h.first + h.greatest) (h.first + h.greatest + more) h.widths h.isr_is h.gsr_is (omega (arith, h.begins))
+        (omega (arith, h.begins, h.ends, h.few)) (omega (arith, h.begins)) (omega (arith, h.ends, h.few, few)) in
+        let inside = counts.1 (omega (arith, h.begins, h.widths.peer_least, some), omega (arith, h.widths.peer_least, few)) in
+        le-leb (distance (sequence_low m) n) (distance (sequence_low m) (sequence_high m))
+        (subst (λ (k : ℕ). distance (sequence_low m) k ≤ distance (sequence_low m) (sequence_high m)) (sym is) inside)
+
+-- GAR is in the window of what was sent, where GSS is that or the next.
+pub gar-within : (m : Marks) → InRange m → (o : AreInOrder m.gar m.gss) → m.iss ≡ residue o.first → (m.gss ≡ m.gar) ⊎ (m.gss ≡ residue (m.gar + 1))
+    → is_ack_within (ack_low m) (ack_high m) (Some m.gar) ≡ true
+gar-within m range o first near =
+    let close : o.late ≤ o.early + 1 =
+    elim near [
+      | inl same ↦ omega (arith, same, o.low_is, o.high_is, o.in_order, o.few)
+      | inr after ↦ omega (arith, after, o.low_is, o.high_is, o.in_order, o.few)
+    ] in
+    let counts =
+    ack-count m (o.first) (o.first + o.late) (o.first + o.early) range first o.high_is (omega arith) (omega (arith, o.few)) (omega arith)
+    (omega (arith, o.in_order, o.few)) in
+    let inside = counts.1 (omega (arith, close, range.own_least), omega (arith, o.in_order)) in
+    le-leb (distance (ack_low m) m.gar) (distance (ack_low m) (ack_high m))
+    (subst (λ (k : ℕ). distance (ack_low m) k ≤ distance (ack_low m) (ack_high m)) (sym o.low_is) inside)
+
+pub window-both : (m : Marks) (n : ℕ) (ack : Option ℕ) → is_in_window m n ≡ true → is_ack_within (ack_low m) (ack_high m) ack ≡ true
+    → by_window m n ack ≡ verdicts.Valid
+window-both m n ack left right = both (is_in_window m n) (is_ack_within (ack_low m) (ack_high m) ack) (verdicts.SyncFor n) left right
+
+-- What a side sends next is newer than all that the other has received.
+pub next-newest : (m : Marks) (last n : ℕ) → AreHeard m last → n ≡ residue (last + 1) → is_before m.gsr n ≡ true
+next-newest m last n h same =
+    let few = h.few in
+    let far : distance m.gsr n ≡ h.end + 1 - h.greatest = omega (arith, h.gsr_is, h.last_is, same, h.ends, few) in
+    and-both (nat_lt 0 (distance m.gsr n)) (nat_lt (distance m.gsr n) (2 ^ 47)) (lt-ltb 0 (distance m.gsr n) (omega (arith, far, h.ends)))
+    (lt-ltb (distance m.gsr n) (2 ^ 47) (omega (arith, far, few)))
+  where
+    and-both : (x y : Bool) → x ≡ true → y ≡ true → (x && y) ≡ true
+    and-both x y left right = rw (left, right) refl
+
+-- A number of a frame that was sent is not after the next one.
+pub sent-before : (iss count n o : ℕ) → n ≡ residue (iss + count) → count < 2 ^ 47 → o < 2 ^ 48 → iss < 2 ^ 48 → count_of iss o ≤ count
+    → is_before n o ≡ false
+sent-before iss count n o same few fits iss_fits early =
+    let far : 2 ^ 47 ≤ distance n o = omega (arith, same, few, fits, iss_fits, early) in
+    grind (arith, far)
+
+pub self-before : (n : ℕ) → is_before n n ≡ false
+self-before n = let none : distance n n ≡ 0 = omega arith in grind (arith, none)

@@ -82,7 +82,7 @@ response-plain d ack service sendable is small fits =
       acks = λ reference. rw is refl;
     }
 
-ack-plain : (d : Draft) (ack : ℕ) → IsSendable d → d.kind ≡ kind.Ack (Long ack) → ack < 2 ^ 48 → IsPlain d
+pub ack-plain : (d : Draft) (ack : ℕ) → IsSendable d → d.kind ≡ kind.Ack (Long ack) → ack < 2 ^ 48 → IsPlain d
 ack-plain d ack sendable is small =
     record {
       sendable = sendable;
@@ -95,15 +95,16 @@ refusal-bare : (ack : ℕ) → ack < 2 ^ 48
 refusal-bare ack small = record { is_long = refl; detail = refl; fits = (small, omega arith, refl); never_short = refl; acks = λ reference. refl }
 
 -- What is known after a side has told something.
-record HasTold (more : ℕ) (v : WorldState) (half : Half) (resting : Half) (b : EndState) (to : Phase) (k : Kind) : Type 0 where
-  under_way : IsUnderWay more v
-  phase : half.end.phase ≡ to
-  gsr_is : half.end.marks.gsr ≡ b.marks.gsr
-  gss_is : half.end.marks.gss ≡ next_number b
-  draft : Draft
-  is_kind : draft.kind ≡ k
-  sendable : IsSendable draft
-  out : IsOut half half.end.marks.gss draft
+pub record HasTold (more : ℕ) (v : WorldState) (half : Half) (b : EndState) (to : Phase) (k : Kind) (d : Draft) : Type 0 where
+  pub under_way : IsUnderWay more v
+  pub phase : half.end.phase ≡ to
+  pub gsr_is : half.end.marks.gsr ≡ b.marks.gsr
+  pub gss_is : half.end.marks.gss ≡ next_number b
+  pub draft : Draft
+  pub draft_is : draft ≡ d
+  pub is_kind : draft.kind ≡ k
+  pub sendable : IsSendable draft
+  pub out : IsOut half half.end.marks.gss draft
 
 -- the call `open` of a client that was not opened yet
 opens-so : (client : Config) → client.role ≡ role.Client → (opens (new_end client)).after.phase ≡ phases.Request
@@ -114,10 +115,10 @@ module _ {C : Type 0} (control : Control C) (effects : EveryStepHasOneEffect) wh
   abbrev Leads : ℕ → Controlled C → Type 0
   Leads most w = HasWay control most w (λ (v : Controlled C). HasEnded v.world ⊎ AreConnected v.world)
 
-  after-tells : {A : Type 0} (more : ℕ) (w : Controlled C) (e : Event) {x y : Side} (two : AreTwo x y) (arrived : Option ℕ) (s : Step A) (b : EndState)
-      (to : Phase) (k : Kind) → Acts w.world (next control w e).world x y (moved (half_of w.world x) arrived s) → Tells b s to k
+  pub after-tells : {A : Type 0} (more : ℕ) (w : Controlled C) (e : Event) {x y : Side} (two : AreTwo x y) (arrived : Option ℕ) (s : Step A) (b : EndState)
+      (to : Phase) (k : Kind) → Acts w.world (next control w e).world x y (moved (half_of w.world x) arrived s) → (tells : Tells b s to k)
       → b.config ≡ (half_of w.world x).end.config → IsUnderWay (more + 1) w.world
-      → HasTold more (next control w e).world (half_of (next control w e).world x) (half_of w.world y) b to k
+      → HasTold more (next control w e).world (half_of (next control w e).world x) b to k tells.draft
   after-tells more w e {x} two arrived s b to k acts tells same u =
       let half : Half = half_of w.world x in
       let out : IsOut (moved half arrived s) s.after.marks.gss tells.draft =
@@ -131,6 +132,7 @@ module _ {C : Type 0} (control : Control C) (effects : EveryStepHasOneEffect) wh
         gsr_is = ap (λ (h : Half). h.end.marks.gsr) acts.acting ∙ tells.gsr_is;
         gss_is = ap (λ (h : Half). h.end.marks.gss) acts.acting ∙ tells.gss_is;
         draft = tells.draft;
+        draft_is = refl;
         is_kind = tells.is_kind;
         sendable = tells.sendable;
         out = subst (λ (h : Half). IsOut h h.end.marks.gss tells.draft) (sym acts.acting) out;

@@ -51,6 +51,7 @@ pub record Moves {A : Type 0} (e : EndState) (s : Step A) (to : Phase) (gsr gar 
   pub phase : s.after.phase ≡ to
   pub gsr_is : s.after.marks.gsr ≡ gsr
   pub gar_is : s.after.marks.gar ≡ gar
+  pub rows_are : s.after.rows ≡ e.rows
 
 -- Besides it sends this type alone, under the next number.
 pub record Says {A : Type 0} (e : EndState) (s : Step A) (to : Phase) (gsr gar : ℕ) (k : Kind) : Type 0 where
@@ -65,6 +66,7 @@ record IsLeft (e x : EndState) (to : Phase) (gsr gar : ℕ) : Type 0 where
   gss : x.marks.gss ≡ e.marks.gss
   gsr_is : x.marks.gsr ≡ gsr
   gar_is : x.marks.gar ≡ gar
+  rows_are : x.rows ≡ e.rows
 
 says-so : {A : Type 0} (e x : EndState) (s : Step A) (calls : List Call) (answer : A) (to : Phase) (gsr gar : ℕ) (k : Kind)
     → s ≡ with_calls calls (sends x (alone k) answer) → IsLeft e x to gsr gar → may_be_short (packet_type k) ≡ false → Says e s to gsr gar k
@@ -76,6 +78,7 @@ says-so {A} e x s calls answer to gsr gar k same left never =
             phase = ap (λ (t : Step A). t.after.phase) same ∙ left.phase;
             gsr_is = ap (λ (t : Step A). t.after.marks.gsr) same ∙ left.gsr_is;
             gar_is = ap (λ (t : Step A). t.after.marks.gar) same ∙ left.gar_is;
+            rows_are = ap (λ (t : Step A). t.after.rows) same ∙ left.rows_are;
           };
       gss_is = ap (λ (t : Step A). t.after.marks.gss) same ∙ ap (λ (n : ℕ). residue (n + 1)) left.gss;
       frame_is =
@@ -99,7 +102,7 @@ module _ (e : EndState) (bytes : List ℕ) (a : Incoming) (came : Came e (Arrive
       → Says e (receives e bytes) e.phase e.marks.gsr e.marks.gar (kind.Sync n)
   bad-comes n is bad =
       says-so e e (receives e bytes) [] (Synced n) e.phase e.marks.gsr e.marks.gar (kind.Sync n) (bad-goes e bytes a came n is bad)
-      (record { config = refl; phase = refl; gss = refl; gsr_is = refl; gar_is = refl }) refl
+      (record { config = refl; phase = refl; gss = refl; gsr_is = refl; gar_is = refl; rows_are = refl }) refl
 
   -- a valid Reset
   pub reset-comes : entrance_of e a ≡ entrance.Check → verdict_of e a ≡ verdicts.Valid → a.kind ≡ types.Reset
@@ -111,6 +114,7 @@ module _ (e : EndState) (bytes : List ℕ) (a : Incoming) (came : Came e (Arrive
         phase = ap (λ (t : Step Outcome). t.after.phase) same;
         gsr_is = ap (λ (t : Step Outcome). t.after.marks.gsr) same;
         gar_is = ap (λ (t : Step Outcome). t.after.marks.gar) same;
+        rows_are = ap (λ (t : Step Outcome). t.after.rows) same;
       }
 
   -- a packet without a connection: the frame that answers it, and an end that stays as it is
@@ -167,7 +171,7 @@ module _ (e : EndState) (bytes : List ℕ) (a : Incoming) (came : Came e (Arrive
         ∙ ap (λ (row_of : Phase × Reply). with_calls calls (moves z a [] mark row_of)) (next-so who phase to type answer row is_role is_phase is_type fits)
 
     left : IsLeft e x to (later_of e.marks.gsr a.number) (gar_after e.marks.gar a.kind a.ack)
-    left = record { config = refl; phase = refl; gss = refl; gsr_is = refl; gar_is = refl }
+    left = record { config = refl; phase = refl; gss = refl; gsr_is = refl; gar_is = refl; rows_are = refl }
 
     -- a row that answers with a SyncAck
     pub sync-acked : answer ≡ reply.SyncAck
@@ -196,8 +200,8 @@ module _ (e : EndState) (bytes : List ℕ) (a : Incoming) (came : Came e (Arrive
       gss_is : (s.after.marks.gss ≡ e.marks.gss) ⊎ (s.after.marks.gss ≡ next_number e)
 
     quiet-by : (due : Bool) → IsQuiet (with_calls calls (if due then acknowledges x [] took else idle x took))
-    quiet-by true = record { moves = record { config = refl; phase = refl; gsr_is = refl; gar_is = refl }; gss_is = inr refl }
-    quiet-by false = record { moves = record { config = refl; phase = refl; gsr_is = refl; gar_is = refl }; gss_is = inl refl }
+    quiet-by true = record { moves = record { config = refl; phase = refl; gsr_is = refl; gar_is = refl; rows_are = refl }; gss_is = inr refl }
+    quiet-by false = record { moves = record { config = refl; phase = refl; gsr_is = refl; gar_is = refl; rows_are = refl }; gss_is = inl refl }
 
     quiet : answer ≡ reply.Nothing → IsQuiet (receives e bytes)
     quiet is =
@@ -218,7 +222,7 @@ pub close-called : (e : EndState) (who : Role) → e.config.role ≡ who → e.p
 unfolding closes
 close-called e who is_role is_phase never =
     says-so e (in_phase e (closing_phase who)) (closes e) [] (Ok tt) (closing_phase who) e.marks.gsr e.marks.gar (closing_packet who e.marks.gsr)
-    (rw (is_phase, is_role) refl) (record { config = refl; phase = refl; gss = refl; gsr_is = refl; gar_is = refl }) never
+    (rw (is_phase, is_role) refl) (record { config = refl; phase = refl; gss = refl; gsr_is = refl; gar_is = refl; rows_are = refl }) never
 
 -- The timer close sends the Close again in CLOSING, and the CloseReq in CLOSEREQ.
 pub close-fires : (e : EndState) (in_flight : Bool) → e.phase ≡ phases.Closing
@@ -226,11 +230,11 @@ pub close-fires : (e : EndState) (in_flight : Bool) → e.phase ≡ phases.Closi
 unfolding fires
 close-fires e in_flight is_phase =
     says-so e e (fires e timers.Close in_flight) [] true phases.Closing e.marks.gsr e.marks.gar (kind.Close e.marks.gsr)
-    (rw is_phase refl) (record { config = refl; phase = is_phase; gss = refl; gsr_is = refl; gar_is = refl }) refl
+    (rw is_phase refl) (record { config = refl; phase = is_phase; gss = refl; gsr_is = refl; gar_is = refl; rows_are = refl }) refl
 
 pub request-fires : (e : EndState) (in_flight : Bool) → e.phase ≡ phases.CloseReq
     → Says e (fires e timers.Close in_flight) phases.CloseReq e.marks.gsr e.marks.gar (kind.CloseReq e.marks.gsr)
 unfolding fires
 request-fires e in_flight is_phase =
     says-so e e (fires e timers.Close in_flight) [] true phases.CloseReq e.marks.gsr e.marks.gar (kind.CloseReq e.marks.gsr)
-    (rw is_phase refl) (record { config = refl; phase = is_phase; gss = refl; gsr_is = refl; gar_is = refl }) refl
+    (rw is_phase refl) (record { config = refl; phase = is_phase; gss = refl; gsr_is = refl; gar_is = refl; rows_are = refl }) refl

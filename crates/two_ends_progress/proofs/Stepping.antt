@@ -126,6 +126,7 @@ pub record IsAfter (more : ℕ) (w v : WorldState) (x y : Side) (to : Phase) (gs
   pub phase : (half_of v x).end.phase ≡ to
   pub gsr_is : (half_of v x).end.marks.gsr ≡ gsr
   pub gar_is : (half_of v x).end.marks.gar ≡ gar
+  pub rows_are : (half_of v x).end.rows ≡ (half_of w x).end.rows
   pub rests : half_of v y ≡ half_of w y
 
 -- and has sent a type alone
@@ -168,7 +169,7 @@ pub same-meant : (a b c d : Config) → c ≡ a → d ≡ b → IsSentTo a b →
 same-meant a b c d from to meant = subst (λ (k : Config). IsSentTo k d) (sym from) (subst (λ (k : Config). IsSentTo a k) (sym to) meant)
 
 -- as it is seen from the first side
-held-two : (w : WorldState) (h : IsHeld SideInvariant w) {x y : Side} → AreTwo x y
+pub held-two : (w : WorldState) (h : IsHeld SideInvariant w) {x y : Side} → AreTwo x y
     → SideInvariant (party_of w h.logs x) (party_of w h.logs y) × SideInvariant (party_of w h.logs y) (party_of w h.logs x)
 held-two w h ClientFirst = h.holds
 held-two w h ServerFirst = (h.holds.1, h.holds.0)
@@ -214,12 +215,12 @@ module _ (more : ℕ) (w : WorldState) (u : IsUnderWay more w) {x y : Side} (two
           last_is = omega (arith, others.ordered.greatest, h.greatest.was_sent);
           begins = h.in_order;
           ends = omega (arith, h.greatest.was_sent);
-          few = omega (arith, few-logged (party_of w u.held.logs y) others.ordered);
+          few = omega (arith, few-logged (party_of w u.held.logs y) others.ordered, h.greatest.was_sent);
           widths = mine.ordered.proper.widths;
         }
 
   -- GAR is a number of the own ones, and none is after GSS.
-  pub own-in-order : is_begun (half_of w x).end.phase ≡ true → AreInOrder (half_of w x).end.marks.gar (half_of w x).end.marks.gss
+  abbrev pub own-in-order : is_begun (half_of w x).end.phase ≡ true → AreInOrder (half_of w x).end.marks.gar (half_of w x).end.marks.gss
   own-in-order begun =
       let some = mine.acknowledged.begun begun in
       record {
@@ -300,6 +301,7 @@ module _ {C : Type 0} (control : Control C) (effects : EveryStepHasOneEffect) wh
         phase = ap (λ (h : Half). h.end.phase) acts.acting ∙ moves.phase;
         gsr_is = ap (λ (h : Half). h.end.marks.gsr) acts.acting ∙ moves.gsr_is;
         gar_is = ap (λ (h : Half). h.end.marks.gar) acts.acting ∙ moves.gar_is;
+        rows_are = ap (λ (h : Half). h.end.rows) acts.acting ∙ moves.rows_are;
         rests = acts.resting;
       }
 

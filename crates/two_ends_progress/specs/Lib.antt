@@ -1,3 +1,4 @@
 pub mod Leading
 pub mod Opening
 pub mod Paired
+pub mod Settled

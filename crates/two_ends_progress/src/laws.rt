@@ -1,21 +1,28 @@
 //! The laws, each over every list of events and every kind of congestion control.
 ghost use Rattle.std.specs.Prelude.{◌≡◌, ◌⊎◌, ◌≤◌, ℕ, List, [], ◌∷◌, Some, length, slice_get};
 ghost use Rattle.dccp_endpoint.specs.Drafts.{Fits};
+ghost use Rattle.dccp_endpoint.specs.End.{held_of};
 ghost use Rattle.dccp_endpoint.specs.declared.config.Config.{Config};
 ghost use Rattle.dccp_states.specs.declared.calls.Timer.{Timer};
 ghost use Rattle.dccp_states.specs.declared.phase.Phase.TheVariants as phases;
 ghost use Rattle.dccp_states.specs.declared.phase.Role.TheVariants as role;
+ghost use Rattle.feature_lists.specs.declared.features.Feature.{Feature};
+ghost use Rattle.feature_lists.specs.declared.features.Place.{Place};
+ghost use Rattle.feature_lists.specs.declared.features.Place.TheVariants as place;
+ghost use Rattle.feature_machine.specs.declared.stands.Stand.TheVariants.{Stable};
 ghost use Rattle.two_ends.specs.Controlled.{Controlled, plays, plays_from_start};
 ghost use Rattle.two_ends.specs.World.{half_of};
 ghost use Rattle.two_ends_progress.specs.Leading.{AreOpen, AreOver, HaveRoomFor, HasWay};
 ghost use Rattle.two_ends_progress.specs.Opening.{AreConnected, HasEnded, IsInHandshake};
 ghost use Rattle.two_ends_progress.specs.Paired.{AreForEachOther};
+ghost use Rattle.two_ends_progress.specs.Settled.{HaveAgreed};
 ghost use Rattle.world_events.specs.declared.event.Event.{Event};
 ghost use Rattle.world_events.specs.declared.event.Event.TheVariants as event;
 ghost use Rattle.world_events.specs.declared.event.Side.{Side};
 
 use congestion_trait::Congestion;
 use dccp_endpoint::every_step_has_one_effect;
+use two_ends::every_run_is_safe;
 
 /// A connection can be closed. Where both ends are OPEN, whatever led there, once either side is asked to close, at
 /// most seven timers and deliveries lead both to CLOSED or TIMEWAIT (RFC 4340, section 8.3). The configurations are each
@@ -61,3 +68,46 @@ pub fn openings_get_through<C: Congestion>()
 {
     every_step_has_one_effect();
 }
+
+/// Negotiations settle. Where both ends are OPEN, whatever led there, at most twenty-four timers and deliveries lead to a
+/// world in which an end is in CLOSED or in TIMEWAIT, or in which both are OPEN, all eighteen rows of both are STABLE, and
+/// each feature has one value (RFC 4340, section 6). The configurations are each other's; and neither side is near the
+/// 2^47 - 1 frames after which it takes no event.
+pub fn negotiations_settle<C: Congestion>()
+    ensures { (client server : Config) (for_client for_server : C) (events : List Event) → client.role ≡ role.Client
+        → server.role ≡ role.Server → Fits client → Fits server → AreForEachOther client server
+        → AreOpen (plays_from_start C.control client server for_client for_server events).world
+        → HaveRoomFor 24 (plays_from_start C.control client server for_client for_server events).world
+        → HasWay C.control 24 (plays_from_start C.control client server for_client for_server events)
+        (λ (w : Controlled C). HasEnded w.world ⊎ HaveAgreed w.world) }
+{
+    every_step_has_one_effect();
+    every_run_is_safe::<C>();
+}
+
+/// What such a way of settling is, in plain words: a list of at most twenty-four events (`few`), each of them a timer of a
+/// side or the delivery of a frame (`passive`). After it an end is in CLOSED or in TIMEWAIT; or both are OPEN (`opened`),
+/// each row of each is STABLE (`settled`), and what an end holds of its own feature the other holds of its peer's
+/// (`clients`, `servers`).
+pub fn settling_takes_twenty_four_events<C: Congestion>()
+    ensures few { (w : Controlled C) (way : HasWay C.control 24 w (λ (v : Controlled C). HasEnded v.world ⊎ HaveAgreed v.world)) → length way.events ≤ 24 }
+    ensures passive { (w : Controlled C) (way : HasWay C.control 24 w (λ (v : Controlled C). HasEnded v.world ⊎ HaveAgreed v.world)) (place : ℕ) (e : Event)
+        → slice_get way.events place ≡ Some e
+        → ((side : Side) × ((timer : Timer) × (e ≡ event.Timer side timer))) ⊎ ((from : Side) × ((index : ℕ) × (e ≡ event.Deliver from index))) }
+    ensures opened { (w : Controlled C) (way : HasWay C.control 24 w (λ (v : Controlled C). HasEnded v.world ⊎ HaveAgreed v.world))
+        → ((side : Side) × (((half_of (plays C.control w way.events).world side).end.phase ≡ phases.Closed)
+        ⊎ ((half_of (plays C.control w way.events).world side).end.phase ≡ phases.TimeWait)))
+        ⊎ ((side : Side) → (half_of (plays C.control w way.events).world side).end.phase ≡ phases.Open) }
+    ensures settled { (w : Controlled C) (way : HasWay C.control 24 w (λ (v : Controlled C). HasEnded v.world ⊎ HaveAgreed v.world))
+        → ((side : Side) → (half_of (plays C.control w way.events).world side).end.phase ≡ phases.Open)
+        → (side : Side) (feature : Feature) (place : Place)
+        → (held_of (half_of (plays C.control w way.events).world side).end feature place).stand ≡ Stable }
+    ensures clients { (w : Controlled C) (way : HasWay C.control 24 w (λ (v : Controlled C). HasEnded v.world ⊎ HaveAgreed v.world))
+        → ((side : Side) → (half_of (plays C.control w way.events).world side).end.phase ≡ phases.Open) → (feature : Feature)
+        → (held_of (plays C.control w way.events).world.client.end feature place.Here).value
+        ≡ (held_of (plays C.control w way.events).world.server.end feature place.There).value }
+    ensures servers { (w : Controlled C) (way : HasWay C.control 24 w (λ (v : Controlled C). HasEnded v.world ⊎ HaveAgreed v.world))
+        → ((side : Side) → (half_of (plays C.control w way.events).world side).end.phase ≡ phases.Open) → (feature : Feature)
+        → (held_of (plays C.control w way.events).world.client.end feature place.There).value
+        ≡ (held_of (plays C.control w way.events).world.server.end feature place.Here).value }
+{}

@@ -6,4 +6,6 @@
 
 mod laws;
 
-pub use crate::laws::{closing_ends_both, closing_takes_seven_events, openings_get_through};
+pub use crate::laws::{
+    closing_ends_both, closing_takes_seven_events, negotiations_settle, openings_get_through,
+};

@@ -1,0 +1,105 @@
+-- The law on negotiations: three rounds settle all rows, and settled rows of a feature hold one value.
+use Rattle.std.proofs.Common.{◌≡◌, ◌⊎◌, inl, inr, refl, sym, subst, ℕ, ◌+◌, List, [], ◌∷◌, ◌++◌, arith}
+use Rattle.congestion_trait.specs.Control.{Control}
+use Rattle.dccp_endpoint.specs.Causes.{EveryStepHasOneEffect}
+use Rattle.dccp_endpoint.specs.Drafts.{Fits}
+use Rattle.dccp_endpoint.specs.declared.config.Config.{Config}
+use Rattle.dccp_states.specs.declared.phase.Phase.{Phase}
+use Rattle.dccp_states.specs.declared.phase.Phase.TheVariants as phases
+use Rattle.dccp_states.specs.declared.phase.Role.TheVariants as role
+use Rattle.feature_lists.specs.declared.features.Place.TheVariants.{Here, There}
+use Rattle.two_ends.proofs.Consequences.{alike}
+use Rattle.two_ends.specs.Controlled.{Controlled, plays, plays_from_start, begins_with}
+use Rattle.two_ends.specs.Negotiated.{Agree}
+use Rattle.two_ends.specs.Safe.{Safe}
+use Rattle.two_ends.specs.World.{WorldState, half_of}
+use Rattle.world_events.specs.declared.event.Event.{Event}
+use Rattle.world_events.specs.declared.event.Side.{Side}
+use Rattle.world_events.specs.declared.event.Side.TheVariants.{Client, Server}
+use Rattle.two_ends_progress.specs.Leading.{AreOpen, HasWay, HaveRoomFor}
+use Rattle.two_ends_progress.specs.Opening.{HasEnded}
+use Rattle.two_ends_progress.specs.Paired.{AreForEachOther}
+use Rattle.two_ends_progress.specs.Settled.{AreSettled, HaveAgreed, HoldOneValue}
+use Rattle.two_ends_progress.proofs.Closing.{start-under-way}
+use Rattle.two_ends_progress.proofs.Leading.{leads-here, leads-within, next}
+use Rattle.two_ends_progress.proofs.Rounds.{settle-on}
+use Rattle.two_ends_progress.proofs.Stepping.{fewer-under-way}
+
+-- Settled rows hold one value where the ends agree.
+one-value : (w : WorldState) → Agree w → AreSettled w → HoldOneValue w
+one-value w agree settled feature Here =
+    alike w agree (record { feature = feature; location = Client }) (settled Client feature Here, settled Server feature There) Client Server
+one-value w agree settled feature There =
+    alike w agree (record { feature = feature; location = Server }) (settled Client feature There, settled Server feature Here) Client Server
+
+-- What has come to the goal: an end is over, or both are OPEN.
+pub ends-or-opens : (w : WorldState) → HasEnded w ⊎ HaveAgreed w
+    → ((side : Side) × (((half_of w side).end.phase ≡ phases.Closed) ⊎ ((half_of w side).end.phase ≡ phases.TimeWait)))
+    ⊎ ((side : Side) → (half_of w side).end.phase ≡ phases.Open)
+ends-or-opens w (inl (inl over)) = inl (Client, over)
+ends-or-opens w (inl (inr over)) = inl (Server, over)
+ends-or-opens w (inr agreed) = inr agreed.are_open
+
+not-over : (p : Phase) → p ≡ phases.Open → (p ≡ phases.Closed) ⊎ (p ≡ phases.TimeWait) → ⊥
+not-over p is (inl closed) = cc (is, closed)
+not-over p is (inr waits) = cc (is, waits)
+
+-- Where both are OPEN, no end is over.
+pub settled-there : (w : WorldState) → HasEnded w ⊎ HaveAgreed w → AreOpen w → HaveAgreed w
+settled-there w (inl (inl over)) opened = absurd (not-over w.client.end.phase (opened Client) over)
+settled-there w (inl (inr over)) opened = absurd (not-over w.server.end.phase (opened Server) over)
+settled-there w (inr agreed) opened = agreed
+
+module _ {C : Type 0} (control : Control C) where
+  -- a list of events after another
+  pub plays-joined : (w : Controlled C) (events more : List Event) → plays control w (events ++ more) ≡ plays control (plays control w events) more
+  plays-joined w [] more = refl
+  plays-joined w (event ∷ events) more = plays-joined (next control w event) events more
+
+  -- What is settled at the end of a way agrees, since each world that a schedule reaches is safe.
+  agreed-so : (start w : Controlled C) (events : List Event) → w ≡ plays control start events
+      → ((all : List Event) → Safe control (plays control start all)) → (most : ℕ)
+      → HasWay control most w (λ (v : Controlled C). HasEnded v.world ⊎ (AreOpen v.world × AreSettled v.world))
+      → HasWay control most w (λ (v : Controlled C). HasEnded v.world ⊎ HaveAgreed v.world)
+  agreed-so start w events same safe most way =
+      record {
+        events = way.events;
+        are_passive = way.are_passive;
+        few = way.few;
+        leads =
+            elim way.leads [
+              | inl over ↦ inl over
+              | inr settled ↦
+                  inr (record {
+                    are_open = settled.0;
+                    are_settled = settled.1;
+                    hold_one_value = one-value (plays control w way.events).world safe-there.agree settled.1;
+                  })
+            ];
+      }
+    where
+      safe-there : Safe control (plays control w way.events)
+      safe-there =
+          subst (λ (v : Controlled C). Safe control (plays control v way.events)) (sym same)
+          (subst (Safe control) (plays-joined start events way.events) (safe (events ++ way.events)))
+
+module _ {C : Type 0} (control : Control C) (effects : EveryStepHasOneEffect) (client server : Config) (for_client for_server : C) (events : List Event)
+    (is_client : client.role ≡ role.Client) (is_server : server.role ≡ role.Server) (client_fits : Fits client) (server_fits : Fits server)
+    (paired : AreForEachOther client server) where
+  abbrev reached : Controlled C
+  reached = plays_from_start control client server for_client for_server events
+
+  pub settling-leads : AreOpen reached.world → HaveRoomFor 24 reached.world
+      → HasWay control 24 reached (λ (v : Controlled C). HasEnded v.world ⊎ (AreOpen v.world × AreSettled v.world))
+  settling-leads opened room =
+      let goal : (Controlled C → Type 0) = λ v. HasEnded v.world ⊎ (AreOpen v.world × AreSettled v.world) in
+      leads-within control (0 + 24) 24 reached goal (omega arith)
+      (settle-on control effects goal (λ v over. inl over) 0 reached
+      (fewer-under-way (0 + 24) 24 reached.world (omega arith)
+      (start-under-way control effects 24 client server for_client for_server events is_client is_server client_fits server_fits paired room))
+      opened (λ v under_way are_open are_settled. leads-here control v goal (inr (are_open, are_settled))))
+
+  pub agreeing-leads : ((all : List Event) → Safe control (plays_from_start control client server for_client for_server all)) → AreOpen reached.world
+      → HaveRoomFor 24 reached.world → HasWay control 24 reached (λ (v : Controlled C). HasEnded v.world ⊎ HaveAgreed v.world)
+  agreeing-leads safe opened room =
+      agreed-so control (begins_with control client server for_client for_server) reached events refl safe 24 (settling-leads opened room)
