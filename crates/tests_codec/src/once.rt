@@ -118,6 +118,40 @@ fn requests_that_are_refused(rt: HostRuntime) {
     }
 }
 
+// A Response with four options, by which Ack Vectors and ECN Incapable are settled.
+const RESPONSE: [u8; 52] = [
+    0x13, 0x89, 0x9c, 0x40, 0x0d, 0, 0xa1, 0xc3, 3, 0, 0, 0, 0, 0, 7, 0xd0, 0, 0, 0, 0, 0, 0, 3,
+    0xe8, 0, 0, 0, 42, 0x23, 6, 4, 1, 1, 0, 0x21, 6, 6, 1, 1, 0, 1, 0x20, 4, 4, 1, 1, 0x22, 4, 6,
+    1, 0, 0,
+];
+
+// Cut inside the first 12 bytes it is too short to be read, and cut behind them its Data Offset points past its end.
+#[test]
+fn a_response_that_is_cut(rt: HostRuntime) {
+    for length in 0..RESPONSE.len() {
+        let fault = if length < 12 {
+            Malformed::Short
+        } else {
+            Malformed::OffsetLarge
+        };
+        assert!(rt; decode(&RESPONSE[..length]) == Err(fault), "{length} bytes");
+    }
+}
+
+const TO_CLIENT: Pseudo = Pseudo::V4 {
+    from: [10, 0, 0, 2],
+    to: [10, 0, 0, 1],
+};
+
+// With a byte behind it, it has another length, which its sum covers.
+#[test]
+fn a_response_and_a_byte(rt: HostRuntime) {
+    let mut longer = [0; 53];
+    longer[..52].copy_from_slice(&RESPONSE);
+    assert!(rt; check(&TO_CLIENT, &RESPONSE).is_ok());
+    assert!(rt; check(&TO_CLIENT, &longer) == Err(SumFault::Wrong));
+}
+
 // With reserved bits set it is read as before, and its sum alone is another.
 #[test]
 fn a_request_with_reserved_bits(rt: HostRuntime) {

@@ -137,18 +137,30 @@ fn window_of_ccid_two_by_calls(rt: HostRuntime) -> Result<(), Fail> {
     all_come(&mut control, "CCID 2", &OF_CCID_TWO)
 }
 
-// The same numbers are sent and reported, and a timeout empties the flight.
-const OF_EIGHT: [Call; 14] = [
+// The numbers of CCID 2 above, and its reports: the window stays.
+const OF_EIGHT: [Call; 26] = [
     Call::Window(8),
-    Call::Send(1, 9),
-    Call::MaySend(false),
+    Call::Send(1, 5),
+    Call::MaySend(true),
     Call::Tell(4, 0x03),
     Call::Window(8),
-    Call::InFlight(4),
-    Call::Send(9, 11),
+    Call::InFlight(0),
+    Call::Send(5, 10),
     Call::Tell(8, 0x02),
     Call::Window(8),
-    Call::InFlight(2),
+    Call::InFlight(1),
+    Call::Send(10, 11),
+    Call::Tell(10, 0x00),
+    Call::Window(8),
+    Call::Send(11, 12),
+    Call::Tell(11, 0x00),
+    Call::Window(8),
+    Call::Send(12, 13),
+    Call::Tell(12, 0x00),
+    Call::Window(8),
+    Call::InFlight(0),
+    Call::Send(13, 21),
+    Call::MaySend(false),
     Call::Timeout,
     Call::Window(8),
     Call::InFlight(0),
