@@ -1,5 +1,6 @@
 -- The numbers that are told of frames beside the bytes that spell them, and the number that was taken last, worked out by hand.
 use Rattle.std.proofs.Common.{◌≡◌, refl, ℕ, Option, None, Some, false}
+use Prim.Native.String.{String}
 use Rattle.dccp_packets.specs.Outgoing.{Outgoing}
 use Rattle.dccp_endpoint.specs.Calling.{fires, opens, sends_payload}
 use Rattle.dccp_endpoint.specs.Drafts.{framed}
@@ -7,10 +8,12 @@ use Rattle.dccp_endpoint.specs.End.{EndState, last_taken, new_end}
 use Rattle.dccp_endpoint.specs.Receiving.{receives}
 use Rattle.dccp_endpoint.specs.Steps.{Step}
 use Rattle.dccp_states.specs.declared.calls.Timer.TheVariants as timers
+use Rattle.dccp_states.specs.declared.outcome.Outcome.TheVariants.{Synced, Took}
+use Rattle.dccp_states.specs.declared.phase.Phase.TheVariants as phase
 use Rattle.dccp_states.specs.declared.phase.Role.TheVariants.{Client, Server}
 use Rattle.feature_lists.specs.declared.features.Feature.TheVariants.{SendAckVector, ShortSeqnos}
 use Rattle.feature_lists.specs.declared.features.Place.TheVariants.{There}
-use Rattle.tests_ends.proofs.RowsSeen.{arrives, client_ack, close, listening, open_server, plain, request, requesting, response, sends}
+use Rattle.tests_ends.proofs.RowsSeen.{arrives, client_ack, close, listening, open_server, plain, request, requesting, response, seen, sends, sent}
 use Rattle.tests_ends.proofs.RowsShort.{holding, short_ack}
 use Rattle.tests_ends.proofs.RowsShortSent.{acknowledges, sending}
 
@@ -36,6 +39,22 @@ told_numbers :
     × (told (fires sending timers.Request false).frame ≡ None)
 unfolding receives fires opens sends_payload framed
 told_numbers = (refl, refl, refl, refl, refl, refl, refl, refl, refl, refl, refl)
+
+-- the server's end once this Request and this Ack of its Response have come
+abbrev opened : String → String → EndState
+opened request ack = (arrives (arrives listening request).after ack).after
+
+-- The number that opened is the last of the circle, and then the first. A Request with the next number is unexpected, and one with the number
+-- before is passed over, though it is the greater one of the two.
+opened_around_the_end :
+    ((opened "9c401389050035d50100fffffffffffe0000002a" "9c4013890600272a0700ffffffffffff00000000000007d0").marks.osr ≡ 281474976710655)
+    × (seen (arrives (opened "9c401389050035d50100fffffffffffe0000002a" "9c4013890600272a0700ffffffffffff00000000000007d0")
+    "9c401389050035d401000000000000000000002a") ≡ (Synced 0, sent "13899c4006001d2811000000000007d20000000000000000", phase.Open))
+    × ((opened "9c401389050035d40100ffffffffffff0000002a" "9c4013890600272a070000000000000000000000000007d0").marks.osr ≡ 0)
+    × (seen (arrives (opened "9c401389050035d40100ffffffffffff0000002a" "9c4013890600272a070000000000000000000000000007d0")
+    "9c401389050035d40100ffffffffffff0000002a") ≡ (Took None, None, phase.Open))
+unfolding receives framed
+opened_around_the_end = (refl, refl, refl, refl)
 
 -- The number of a packet that was taken, also where its form is short, and where it is older than another; not that of one that is not valid, that
 -- is unexpected in its phase, though it raises GSR, or that meets no connection.

@@ -13,6 +13,8 @@ use Rattle.feature_lists.specs.declared.features.Place.{Place}
 use Rattle.feature_lists.specs.declared.features.Place.TheVariants.{Here, There}
 use Rattle.feature_machine.specs.Lists.{index_of}
 use Rattle.feature_machine.specs.Negotiating.{row_at}
+use Rattle.feature_machine.specs.declared.stands.Stand.{Stand}
+use Rattle.feature_machine.specs.declared.stands.Stand.TheVariants.{Changing, Stable, Unstable}
 use Rattle.dccp_endpoint.specs.Drafts.{framed}
 use Rattle.dccp_endpoint.specs.End.{EndState, new_end, with_rows}
 use Rattle.dccp_endpoint.specs.Receiving.{receives}
@@ -62,6 +64,19 @@ where-short-numbers-are-taken :
     × (seen (in_which phase.TimeWait) ≡ (Dropped why.ShortOff, None, phase.TimeWait))
 unfolding receives framed
 where-short-numbers-are-taken = (refl, refl, refl, refl, refl, refl, refl, refl, refl, refl, refl, refl, refl)
+
+-- the server that takes them, with another stand of that value
+abbrev standing : Stand → EndState
+standing stand =
+    with_rows taking (slice_set taking.rows (index_of ShortSeqnos There) (record (row_at taking.rows ShortSeqnos There) { stand = stand }))
+
+-- They are taken by the value alone, also where a change of it is under way, or one is to follow.
+short-numbers-in-every-stand :
+    (seen (arrives (standing Stable) short_ack) ≡ (Took None, None, phase.Open))
+    × (seen (arrives (standing Changing) short_ack) ≡ (Took None, None, phase.Open))
+    × (seen (arrives (standing Unstable) short_ack) ≡ (Took None, None, phase.Open))
+unfolding receives framed
+short-numbers-in-every-stand = (refl, refl, refl)
 
 -- A wrong checksum and other ports come before.
 what-comes-before-short-numbers :

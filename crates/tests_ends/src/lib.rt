@@ -22,4 +22,8 @@ mod repeated;
 #[cfg(test)]
 mod rooms;
 #[cfg(test)]
+mod shortened;
+#[cfg(test)]
 mod uses;
+#[cfg(test)]
+mod vectors;
