@@ -5,14 +5,14 @@
 use crate::bridge::CALLS;
 use crate::calls::{Ended, Streams, Tool};
 use crate::cases::{Case, Way, cases_come, end_over};
+use crate::pieces::CAPTURES;
 use dccp_command::Status;
 use std::alloc::Global;
 use std::test::Fail;
 use std::thread::Threads;
 
 // Of each form calls that are done, and where there is one, one whose input is refused: what comes of them where
-// nothing fails. Captures are in hexadecimal. In the third Mandatory stands at the end of the options, with nothing
-// behind it.
+// nothing fails. In the third Mandatory stands at the end of the options, with nothing behind it.
 const FORMS: &str = "\
 ~ run\n\
 plain\nopen\ndeliver c0\ndeliver s0\ndeliver c1\n\
@@ -60,20 +60,6 @@ end server LISTEN window 4 flight 0 1=2/2 2=0/0 3=100/100 4=0/0 5=2/2 6=0/0 7=0/
 00\nseal 0011223344556\nseal 00\n\
 => Input\n\
 1: dropped Short\nline 2 column 19: BadHex\n\
-~ show\n\
-d4c3b2a1020004000000000000000000ffff000065000000\
-0100000020a107002800000028000000\
-4500002800010000402166b20a0000010a000002\
-9c401389050031ec01000000000003e80000002a\
-=> Done\n\
-1 1.500000 flow 1 10.0.0.1 40000 > 10.0.0.2 5001 Request seq 1000 service 42 data 0 sum ok\n\
-records 1 shown 1 skipped 0 flows 1\n\
-~ show\n\
-d4c3b2a1020004000000000000000000ffff000065000000\
-0100000020a107002800000028000000\
-4500\
-=> Input\n\
-capture CutShort after record 0\n\
 ~ listen,--most,1\n\
 10.0.0.3:40000 close\n10.0.0.1:40000 seal 9c4013890500000001000000000003e80000002a\n\
 => Done\n\
@@ -193,6 +179,8 @@ pub(crate) fn fails_in_turn<R: Threads + Sync>(
 
 #[test]
 fn each_read_and_write_fails_in_turn(rt: HostRuntime) -> Result<(), Fail> {
-    cases_come(&rt, rt.alloc(), (Tool::Dccp, Way::Failing), FORMS)?;
+    for cases in &[FORMS, CAPTURES] {
+        cases_come(&rt, rt.alloc(), (Tool::Dccp, Way::Failing), *cases)?;
+    }
     cases_come(&rt, rt.alloc(), (Tool::Bridge, Way::Failing), CALLS)
 }

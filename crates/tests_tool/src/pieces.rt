@@ -104,9 +104,9 @@ sent 10.0.0.3:40000 13899c400700190c0f0000000000000000000000000003e809000000\n\
 flows 1\n\
 flow 10.0.0.1:40000 RESPOND\n";
 
-// A capture of one packet, the same without its last byte, no bytes, and an Ethernet capture of the handshake, with a
-// record of ARP and one of which 50 bytes were captured.
-const CAPTURES: &str = "\
+/// A capture of one packet, the same without its last byte, no bytes, and an Ethernet capture of the handshake, with a
+/// record of ARP and one of which 50 bytes were captured.
+pub(crate) const CAPTURES: &str = "\
 ~ show\n\
 d4c3b2a1020004000000000000000000ffff0000650000000100000020a107002800000028000000\
 4500002800010000402166b20a0000010a0000029c401389050031ec01000000000003e80000002a\
