@@ -1,7 +1,8 @@
 //! The laws, each over every list of events and every kind of congestion control.
-ghost use Rattle.std.specs.Prelude.{◌≡◌, ◌⊎◌, ◌≤◌, ℕ, List, [], ◌∷◌, Some, length, slice_get};
+ghost use Rattle.std.specs.Prelude.{◌≡◌, ◌⊎◌, ◌≤◌, ℕ, List, [], ◌∷◌, Some, None, length, slice_get};
 ghost use Rattle.dccp_endpoint.specs.Drafts.{Fits};
 ghost use Rattle.dccp_endpoint.specs.End.{held_of};
+ghost use Rattle.dccp_endpoint.specs.Steps.{next_number};
 ghost use Rattle.dccp_endpoint.specs.declared.config.Config.{Config};
 ghost use Rattle.dccp_states.specs.declared.calls.Timer.{Timer};
 ghost use Rattle.dccp_states.specs.declared.phase.Phase.TheVariants as phases;
@@ -11,11 +12,13 @@ ghost use Rattle.feature_lists.specs.declared.features.Place.{Place};
 ghost use Rattle.feature_lists.specs.declared.features.Place.TheVariants as place;
 ghost use Rattle.feature_machine.specs.declared.stands.Stand.TheVariants.{Stable};
 ghost use Rattle.two_ends.specs.Controlled.{Controlled, plays, plays_from_start};
-ghost use Rattle.two_ends.specs.World.{half_of};
+ghost use Rattle.two_ends.specs.World.{WorldState, half_of};
 ghost use Rattle.two_ends_progress.specs.Leading.{AreOpen, AreOver, HaveRoomFor, HasWay};
 ghost use Rattle.two_ends_progress.specs.Opening.{AreConnected, HasEnded, IsInHandshake};
 ghost use Rattle.two_ends_progress.specs.Paired.{AreForEachOther};
 ghost use Rattle.two_ends_progress.specs.Settled.{HaveAgreed};
+ghost use Rattle.validity_windows.specs.Verdict.{by_window};
+ghost use Rattle.validity_windows.specs.declared.verdict.Verdict.TheVariants as verdicts;
 ghost use Rattle.world_events.specs.declared.event.Event.{Event};
 ghost use Rattle.world_events.specs.declared.event.Event.TheVariants as event;
 ghost use Rattle.world_events.specs.declared.event.Side.{Side};
@@ -49,6 +52,26 @@ pub fn closing_takes_seven_events<C: Congestion>()
     ensures over { (w : Controlled C) (way : HasWay C.control 7 w (λ (v : Controlled C). AreOver v.world)) (side : Side)
         → ((half_of (plays C.control w way.events).world side).end.phase ≡ phases.Closed)
         ⊎ ((half_of (plays C.control w way.events).world side).end.phase ≡ phases.TimeWait) }
+{}
+
+/// What an opening is that gets through, and such a way, in plain words. The client asks and the server has heard nothing,
+/// or answered a Request and would take the next; or the client is in PARTOPEN and the server in RESPOND (`asking`,
+/// `again`, `answered`). The way is a list of at most four events (`few`), each of them a timer of a side or the delivery
+/// of a frame (`passive`), after which an end is in CLOSED or in TIMEWAIT, or each is in PARTOPEN or in OPEN (`through`).
+pub fn openings_take_four_events<C: Congestion>()
+    ensures asking { (w : WorldState) → w.client.end.phase ≡ phases.Request → w.server.end.phase ≡ phases.Listen → IsInHandshake w }
+    ensures again { (w : WorldState) → w.client.end.phase ≡ phases.Request → w.server.end.phase ≡ phases.Respond
+        → by_window w.server.end.marks (next_number w.client.end) None ≡ verdicts.Valid → IsInHandshake w }
+    ensures answered { (w : WorldState) → w.client.end.phase ≡ phases.PartOpen → w.server.end.phase ≡ phases.Respond → IsInHandshake w }
+    ensures few { (w : Controlled C) (way : HasWay C.control 4 w (λ (v : Controlled C). HasEnded v.world ⊎ AreConnected v.world)) → length way.events ≤ 4 }
+    ensures passive { (w : Controlled C) (way : HasWay C.control 4 w (λ (v : Controlled C). HasEnded v.world ⊎ AreConnected v.world)) (place : ℕ) (e : Event)
+        → slice_get way.events place ≡ Some e
+        → ((side : Side) × ((timer : Timer) × (e ≡ event.Timer side timer))) ⊎ ((from : Side) × ((index : ℕ) × (e ≡ event.Deliver from index))) }
+    ensures through { (w : Controlled C) (way : HasWay C.control 4 w (λ (v : Controlled C). HasEnded v.world ⊎ AreConnected v.world))
+        → ((side : Side) × (((half_of (plays C.control w way.events).world side).end.phase ≡ phases.Closed)
+        ⊎ ((half_of (plays C.control w way.events).world side).end.phase ≡ phases.TimeWait)))
+        ⊎ ((side : Side) → ((half_of (plays C.control w way.events).world side).end.phase ≡ phases.PartOpen)
+        ⊎ ((half_of (plays C.control w way.events).world side).end.phase ≡ phases.Open)) }
 {}
 
 /// An opening gets through. Where the client is in REQUEST and the server in LISTEN, or in RESPOND with the client's next

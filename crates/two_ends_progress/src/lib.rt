@@ -8,4 +8,5 @@ mod laws;
 
 pub use crate::laws::{
     closing_ends_both, closing_takes_seven_events, negotiations_settle, openings_get_through,
+    openings_take_four_events, settling_takes_twenty_four_events,
 };
