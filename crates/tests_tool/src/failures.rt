@@ -179,8 +179,15 @@ pub(crate) fn fails_in_turn<R: Threads + Sync>(
 
 #[test]
 fn each_read_and_write_fails_in_turn(rt: HostRuntime) -> Result<(), Fail> {
-    for cases in &[FORMS, CAPTURES] {
-        cases_come(&rt, rt.alloc(), (Tool::Dccp, Way::Failing), *cases)?;
-    }
+    cases_come(&rt, rt.alloc(), (Tool::Dccp, Way::Failing), FORMS)
+}
+
+#[test]
+fn each_read_and_write_of_captures_fails_in_turn(rt: HostRuntime) -> Result<(), Fail> {
+    cases_come(&rt, rt.alloc(), (Tool::Dccp, Way::Failing), CAPTURES)
+}
+
+#[test]
+fn each_read_and_write_of_the_second_tool_fails_in_turn(rt: HostRuntime) -> Result<(), Fail> {
     cases_come(&rt, rt.alloc(), (Tool::Bridge, Way::Failing), CALLS)
 }
