@@ -17,7 +17,8 @@
  * A server of many peers holds a dccp_listener, begun with DCCP_NO_LISTENER, in place of an end for each: dccp_listener_make, then
  * dccp_listener_arrive for each datagram with the address that it came from, dccp_listener_tick as soon as dccp_listener_until_first has
  * gone by, and dccp_listener_send, dccp_listener_close and dccp_listener_abort for the peers that have a flow. The frame of a call goes to
- * the peer that the call names, or that dccp_listener_tick has named. Each peer is answered as a server of its own would answer it.
+ * the peer that the call names, or that dccp_listener_tick has named. Each peer is answered as by a server of its own with
+ * is_plain, which offers nothing.
  *
  * The caller keeps to this, which nothing checks:
  *   - A handle is passed to one call at a time. It may go to another thread, if the two are ordered by a lock or a join.

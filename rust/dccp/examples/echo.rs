@@ -23,7 +23,7 @@ const ANSWERS_A_SECOND: u32 = 20;
 /// A number that nobody can guess, for the first packet (RFC 4340, section 7.2).
 fn first_number(random: &mut File) -> u64 {
     let mut bytes = [0; 8];
-    // Where nothing can be drawn, the number is none, and no connection is made.
+    // Where nothing can be drawn, the number is none, and the datagram is not heard, whoever sent it.
     random
         .read_exact(&mut bytes)
         .map_or(u64::MAX, |()| u64::from_ne_bytes(bytes) >> 16)

@@ -40,7 +40,7 @@ pub enum Cause {
 }
 
 /// A server of many peers over one socket of IPv4, at most 1,024 at a time, whose connections the library keeps. Each peer is answered
-/// just as a server of its own would answer it, whatever the others send (`docs/LIBRARY.md`); what they may do is to take all places.
+/// just as a plain server of its own would answer it, whatever the others send (`docs/LIBRARY.md`); what they may do is to take all places.
 /// It makes an end only for a datagram that opens a connection. It has no socket and no clock.
 ///
 /// After each call, [`poll_accept`](Listener::poll_accept), [`poll_transmit`](Listener::poll_transmit) and
