@@ -134,9 +134,9 @@ impl RecordJob for Unwrapping {
 /// Enhanced Packet Blocks, and its Simple Packet Blocks at time 0. Fractions of a second are nanoseconds where the
 /// first interface of a pcapng file counts time finer than in microseconds.
 ///
-/// Input comes where the capture has a fault, and then its line stands behind the records; it is no record, to any
-/// reader. With status 0 or 1 the output is that of the whole input, with another a front of it. Read comes where the
-/// source failed, Write where the sink did, and Memory where no memory was left.
+/// Input comes where the capture has a fault, and then its line stands behind the records. With status 0 or 1 the
+/// output is that of the whole input, with another a front of it. Read comes where the source failed, Write where the
+/// sink did, and Memory where no memory was left.
 pub(crate) fn unwrap_capture<S: Source, K: Sink>(
     alloc: Global,
     input: &mut S,
