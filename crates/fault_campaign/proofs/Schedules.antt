@@ -10,6 +10,7 @@ use Rattle.dccp_endpoint.specs.declared.config.Config.{Config}
 use Rattle.dccp_states.specs.declared.phase.Role.TheVariants as role
 use Rattle.feature_machine.proofs.Listing.{usual_are_lists}
 use Rattle.two_ends.specs.Controlled.{Controlled, ControlledStep, begins_with, controlled_after, happens_to, plays}
+use Rattle.two_ends.specs.Delivered.{IsDeliveredOnce}
 use Rattle.two_ends.specs.Safe.{Safe}
 use Rattle.world_events.specs.declared.event.Event.{Event}
 use Rattle.world_events.specs.declared.event.Event.TheVariants.{Open}
@@ -81,6 +82,18 @@ begun-safe always g events =
 pub safe : AlwaysSafe → (seed events : ℕ) → Safe kinds_control (seeded seed events).world
 safe always seed events =
     subst (Safe kinds_control) (sym (schedule seed events)) (begun-safe always (generator seed) (seeded_events seed events))
+
+abbrev AlwaysOnce : Type 0
+AlwaysOnce =
+    (client server : Config) (for_client for_server : Both) (events : List Event) → Fits client → Fits server
+    → IsDeliveredOnce kinds_control (begins_with kinds_control client server for_client for_server) events
+
+pub once : AlwaysOnce → (seed events : ℕ) → IsDeliveredOnce kinds_control (begun_run (generator seed)).world (seeded_events seed events)
+unfolding begun_run
+once always seed events =
+    let g : Lcg = generator seed in
+    always (usual_from role.Client (initial_number g)) (usual_from role.Server (initial_number (behind_two g))) at_first at_first
+    (seeded_events seed events) (client-fits _ (number-fits g)) (server-fits _ (number-fits (behind_two g)))
 
 abbrev pub NeverFar : Type 0
 NeverFar =

@@ -2,6 +2,7 @@
 ghost use Rattle.std.specs.Prelude.{◌≡◌, ◌⊎◌, ℕ, ◌+◌, ◌-◌, ◌*◌, ◌^◌, ◌<◌, ◌≤◌, ◌∷◌, [], length, Err, IsOk};
 ghost use Rattle.ccid_two.specs.Kinds.{kinds_control};
 ghost use Rattle.two_ends.specs.Controlled.{happens_to, plays};
+ghost use Rattle.two_ends.specs.Delivered.{IsDeliveredOnce};
 ghost use Rattle.two_ends.specs.Safe.{Safe};
 ghost use Rattle.feature_lists.specs.declared.features.Feature.TheVariants.{MinCsCov};
 ghost use Rattle.feature_lists.specs.declared.features.Place.TheVariants.{Here, There};
@@ -15,7 +16,7 @@ ghost use Rattle.fault_campaign.specs.Seeded.{begun_run, next_event, seeded, see
 ghost use Rattle.fault_campaign.specs.Totals.{totals};
 
 use ccid_two::Kinds;
-use two_ends::{WorldFault, every_run_is_safe, few_frames_are_never_far};
+use two_ends::{WorldFault, data_are_delivered_once, every_run_is_safe, few_frames_are_never_far};
 
 /// A run counts no more than five for an event, and nineteen more: the seed, and the features that are settled (own).
 /// So the reports of a campaign can be added.
@@ -37,15 +38,17 @@ pub fn drawn_events_happen()
     few_frames_are_never_far::<Kinds>();
 }
 
-/// The run of a seed is that of a schedule (own), of as many events as it was asked for; and the two ends are safe
-/// after any number of them.
+/// The run of a seed is that of a schedule (own), of as many events as it was asked for; the two ends are safe after any
+/// number of them, and deliver no frame's data twice.
 pub fn seeded_runs_are_safe()
     ensures schedule { (seed events : ℕ)
         → (seeded seed events).world ≡ plays kinds_control (begun_run (generator seed)).world (seeded_events seed events) }
     ensures many { (seed events : ℕ) → 1 ≤ events → length (seeded_events seed events) ≡ events }
     ensures safe { (seed events : ℕ) → Safe kinds_control (seeded seed events).world }
+    ensures once { (seed events : ℕ) → IsDeliveredOnce kinds_control (begun_run (generator seed)).world (seeded_events seed events) }
 {
     every_run_is_safe::<Kinds>();
+    data_are_delivered_once::<Kinds>();
 }
 
 /// The totals of seeds, and those of the seeds behind them, are the totals of all of them, count by count (own). So a
