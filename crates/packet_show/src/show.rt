@@ -188,14 +188,7 @@ fn refuse_header<K: Sink>(alloc: Global, why: CaptureFault, output: &mut K) -> J
     match why {
         CaptureFault::ReadFault => JobEnd::Read,
         CaptureFault::NoMemory => JobEnd::Memory,
-        CaptureFault::BadMagic
-        | CaptureFault::BadVersion
-        | CaptureFault::BadLink
-        | CaptureFault::CutShort
-        | CaptureFault::RecordTooLong
-        | CaptureFault::TooLarge => {
-            finish(output, &mut Vec::new(alloc), &Tally::new(alloc), Some(why))
-        }
+        _ => finish(output, &mut Vec::new(alloc), &Tally::new(alloc), Some(why)),
     }
 }
 
