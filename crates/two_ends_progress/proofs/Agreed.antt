@@ -4,17 +4,14 @@ use Rattle.congestion_trait.specs.Control.{Control}
 use Rattle.dccp_endpoint.specs.Causes.{EveryStepHasOneEffect}
 use Rattle.dccp_endpoint.specs.Drafts.{Fits}
 use Rattle.dccp_endpoint.specs.declared.config.Config.{Config}
-use Rattle.dccp_states.specs.declared.phase.Phase.{Phase}
-use Rattle.dccp_states.specs.declared.phase.Phase.TheVariants as phases
 use Rattle.dccp_states.specs.declared.phase.Role.TheVariants as role
 use Rattle.feature_lists.specs.declared.features.Place.TheVariants.{Here, There}
 use Rattle.two_ends.proofs.Consequences.{alike}
 use Rattle.two_ends.specs.Controlled.{Controlled, plays, plays_from_start, begins_with}
 use Rattle.two_ends.specs.Negotiated.{Agree}
 use Rattle.two_ends.specs.Safe.{Safe}
-use Rattle.two_ends.specs.World.{WorldState, half_of}
+use Rattle.two_ends.specs.World.{WorldState}
 use Rattle.world_events.specs.declared.event.Event.{Event}
-use Rattle.world_events.specs.declared.event.Side.{Side}
 use Rattle.world_events.specs.declared.event.Side.TheVariants.{Client, Server}
 use Rattle.two_ends_progress.specs.Leading.{AreOpen, HasWay, HaveRoomFor}
 use Rattle.two_ends_progress.specs.Opening.{HasEnded}
@@ -31,24 +28,6 @@ one-value w agree settled feature Here =
     alike w agree (record { feature = feature; location = Client }) (settled Client feature Here, settled Server feature There) Client Server
 one-value w agree settled feature There =
     alike w agree (record { feature = feature; location = Server }) (settled Client feature There, settled Server feature Here) Client Server
-
--- What has come to the goal: an end is over, or both are OPEN.
-pub ends-or-opens : (w : WorldState) → HasEnded w ⊎ HaveAgreed w
-    → ((side : Side) × (((half_of w side).end.phase ≡ phases.Closed) ⊎ ((half_of w side).end.phase ≡ phases.TimeWait)))
-    ⊎ ((side : Side) → (half_of w side).end.phase ≡ phases.Open)
-ends-or-opens w (inl (inl over)) = inl (Client, over)
-ends-or-opens w (inl (inr over)) = inl (Server, over)
-ends-or-opens w (inr agreed) = inr agreed.are_open
-
-not-over : (p : Phase) → p ≡ phases.Open → (p ≡ phases.Closed) ⊎ (p ≡ phases.TimeWait) → ⊥
-not-over p is (inl closed) = cc (is, closed)
-not-over p is (inr waits) = cc (is, waits)
-
--- Where both are OPEN, no end is over.
-pub settled-there : (w : WorldState) → HasEnded w ⊎ HaveAgreed w → AreOpen w → HaveAgreed w
-settled-there w (inl (inl over)) opened = absurd (not-over w.client.end.phase (opened Client) over)
-settled-there w (inl (inr over)) opened = absurd (not-over w.server.end.phase (opened Server) over)
-settled-there w (inr agreed) opened = agreed
 
 module _ {C : Type 0} (control : Control C) where
   -- a list of events after another

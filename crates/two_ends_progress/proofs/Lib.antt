@@ -10,5 +10,7 @@ pub mod Opening
 pub mod Exchanging
 pub mod RowSteps
 pub mod Settling
+pub mod Questions
 pub mod Rounds
+pub mod Settled
 pub mod Agreed

@@ -1,4 +1,4 @@
-use Rattle.two_ends_progress.proofs.Agreed.{ends-or-opens, settled-there}
+use Rattle.two_ends_progress.proofs.Settled.{ends-or-opens, settled-there}
 use Rattle.two_ends_progress.proofs.Leading.{passive-at}
 use Rattle.two_ends_progress.proofs.laws.settling_takes_twenty_four_events.Goals as goal
 use Rattle.feature_lists.specs.declared.features.Place.TheVariants.{Here, There}
