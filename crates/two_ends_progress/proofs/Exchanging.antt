@@ -1,5 +1,5 @@
 -- What an end that asks sends, and what the options of an Ack come to in OPEN.
-use Rattle.std.proofs.Common.{◌≡◌, ◌⊎◌, inl, inr, refl, ap, sym, ◌∙◌, subst, ◌&&◌, ◌||◌, not, ℕ, ◌+◌, List, [], ◌∷◌, ◌++◌, append-nil, Bool, true, false, if◌then◌else◌, Some, Ok, Err, length, ◌≤◌}
+use Rattle.std.proofs.Common.{◌≡◌, ◌⊎◌, inl, inr, refl, ap, sym, ◌∙◌, subst, ◌&&◌, ◌||◌, not, ℕ, List, [], ◌∷◌, ◌++◌, append-nil, Bool, true, false, if◌then◌else◌, Some, Ok, Err, length, ◌≤◌}
 use Rattle.std.proofs.Math.Bool.{and-false}
 use Rattle.congestion_trait.specs.Calls.{Call}
 use Rattle.dccp_packets.specs.declared.header.Kind.TheVariants as kind

@@ -1,5 +1,5 @@
 -- The tree of a negotiation: an end asks, the other answers, and by three rounds all rows are STABLE, or an end is over.
-use Rattle.std.proofs.Common.{◌≡◌, ◌⊎◌, inl, inr, refl, ap, sym, ◌∙◌, subst, not, ℕ, ◌+◌, ◌-◌, ◌^◌, ◌<◌, ◌≤◌, true, false, List, [], ◌∷◌, Option, Some, arith}
+use Rattle.std.proofs.Common.{◌≡◌, ◌⊎◌, inl, inr, refl, ap, sym, ◌∙◌, subst, ℕ, ◌+◌, ◌^◌, ◌<◌, ◌≤◌, true, false, List, [], ◌∷◌, Option, Some, arith}
 use Rattle.congestion_trait.specs.Control.{Control}
 use Rattle.dccp_packets.specs.declared.header.Kind.TheVariants as kind
 use Rattle.dccp_packets.specs.declared.header.PacketType.TheVariants as types
@@ -20,7 +20,6 @@ use Rattle.dccp_endpoint.proofs.Keys.{has-due}
 use Rattle.feature_machine.specs.Negotiating.{IsNegotiation, due_keys, is_due, row_at}
 use Rattle.feature_machine.specs.Rows.{answers_opening}
 use Rattle.feature_machine.specs.declared.row.Row.{Row}
-use Rattle.feature_machine.specs.declared.stands.Stand.TheVariants as stand
 use Rattle.seq_circle.specs.Circle.{is_before, residue}
 use Rattle.two_ends.specs.Controlled.{Controlled}
 use Rattle.two_ends.specs.World.{Half, WorldState, half_of}

@@ -1,5 +1,5 @@
 -- An exchange of an Ack that asks and one that answers it, by what it makes of the rows of both ends.
-use Rattle.std.proofs.Common.{◌≡◌, ◌≢◌, inl, inr, refl, ap, sym, ◌∙◌, subst, not, ℕ, suc, ◌+◌, ◌≤◌, List, [], ◌∷◌, ◌++◌, length, map, Bool, true, false, if◌then◌else◌, Option, Some, None, Result, Ok, arith}
+use Rattle.std.proofs.Common.{◌≡◌, ◌≢◌, inl, inr, refl, ap, sym, ◌∙◌, subst, ℕ, suc, ◌+◌, ◌≤◌, List, [], ◌∷◌, ◌++◌, length, map, Bool, true, false, if◌then◌else◌, Option, Some, None, Result, Ok, arith}
 use Rattle.std.proofs.lemmas.List.{length-map}
 use Rattle.ack_vectors.specs.declared.room.Vectors.{Vectors}
 use Rattle.run_list.specs.MarkedSet.{MarkedSet}
