@@ -23,7 +23,7 @@ use Rattle.two_ends_progress.proofs.Rounds.{settle-on}
 use Rattle.two_ends_progress.proofs.Stepping.{fewer-under-way}
 
 -- Settled rows hold one value where the ends agree.
-one-value : (w : WorldState) → Agree w → AreSettled w → HoldOneValue w
+pub one-value : (w : WorldState) → Agree w → AreSettled w → HoldOneValue w
 one-value w agree settled feature Here =
     alike w agree (record { feature = feature; location = Client }) (settled Client feature Here, settled Server feature There) Client Server
 one-value w agree settled feature There =

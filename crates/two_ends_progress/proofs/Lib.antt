@@ -14,3 +14,12 @@ pub mod Questions
 pub mod Rounds
 pub mod Settled
 pub mod Agreed
+pub mod EitherForm
+pub mod Vectoring
+pub mod Openly
+pub mod InStep
+pub mod HandedOver
+pub mod Through
+pub mod Widening
+pub mod Sent
+pub mod Plainly

@@ -53,7 +53,7 @@ pub record Acts (w v : WorldState) (x y : Side) (half : Half) : Type 0 where
   pub acting : half_of v x ≡ half
   pub resting : half_of v y ≡ half_of w y
 
-acts-with : (w v : WorldState) {x y : Side} (half : Half) → AreTwo x y → v ≡ with_half w x half → Acts w v x y half
+pub acts-with : (w v : WorldState) {x y : Side} (half : Half) → AreTwo x y → v ≡ with_half w x half → Acts w v x y half
 acts-with w v half ClientFirst same = record { acting = ap (λ (u : WorldState). u.client) same; resting = ap (λ (u : WorldState). u.server) same }
 acts-with w v half ServerFirst same = record { acting = ap (λ (u : WorldState). u.server) same; resting = ap (λ (u : WorldState). u.client) same }
 
@@ -70,7 +70,7 @@ fewer-under-way fewer more w less s =
     record { held = s.held; roles = s.roles; there = s.there; back = s.back; room = λ side. omega (arith, s.room side, less) }
 
 -- what the second side sends is meant for the first
-meant-of : (more : ℕ) (w : WorldState) {x y : Side} → AreTwo x y → IsUnderWay more w → IsSentTo (half_of w y).end.config (half_of w x).end.config
+pub meant-of : (more : ℕ) (w : WorldState) {x y : Side} → AreTwo x y → IsUnderWay more w → IsSentTo (half_of w y).end.config (half_of w x).end.config
 meant-of more w ClientFirst u = u.back
 meant-of more w ServerFirst u = u.there
 
@@ -85,7 +85,7 @@ pub record IsOut (half : Half) (number : ℕ) (d : Draft) : Type 0 where
 abbrev pub IsSent : Half → ℕ → Kind → Type 0
 IsSent half number k = IsOut half number (alone k)
 
-at-end : {X : Type 0} (xs : List X) (x : X) → slice_get (xs ++ x ∷ []) (length xs) ≡ Some x
+pub at-end : {X : Type 0} (xs : List X) (x : X) → slice_get (xs ++ x ∷ []) (length xs) ≡ Some x
 at-end [] x = refl
 at-end (y ∷ ys) x = at-end ys x
 
@@ -107,7 +107,7 @@ pub sent-so : {A : Type 0} (half : Half) (arrived : Option ℕ) (s : Step A) (nu
 sent-so half arrived s number k is = out-so half arrived s number (alone k) is
 
 -- A side has room for a frame.
-room-so : (half : Half) (more : ℕ) → length half.frames + more < 2 ^ 47 - 1 → is_full half ≡ false
+pub room-so : (half : Half) (more : ℕ) → length half.frames + more < 2 ^ 47 - 1 → is_full half ≡ false
 room-so half more room = grind (arith, room)
 
 delivered-so : (w : WorldState) (from : Side) (index : ℕ) (frame : SentFrame) (said : Said) → slice_get (half_of w from).frames index ≡ Some frame
@@ -116,7 +116,7 @@ delivered-so : (w : WorldState) (from : Side) (index : ℕ) (frame : SentFrame) 
     ≡ with_half w (other from) (moved (half_of w (other from)) (Some frame.number) (receives (half_of w (other from)).end frame.bytes))
 delivered-so w from index frame said there room near = rw (there, room, near) refl
 
-called-so : (w : WorldState) (side : Side) (given : Input) → is_full (half_of w side) ≡ false
+pub called-so : (w : WorldState) (side : Side) (given : Input) → is_full (half_of w side) ≡ false
     → world_after w (takes_place w (Calls side given)) ≡ with_half w side (half_steps (half_of w side) None given).half
 called-so w side given room = rw room refl
 
@@ -238,7 +238,7 @@ module _ {C : Type 0} (control : Control C) (effects : EveryStepHasOneEffect) wh
   abbrev said : Controlled C → Event → Said
   said w e = said_by control (congestion_of w (actor e))
 
-  after-so : (w : Controlled C) (e : Event) → (next control w e).world ≡ world_after w.world (happens w.world e (said w e))
+  pub after-so : (w : Controlled C) (e : Event) → (next control w e).world ≡ world_after w.world (happens w.world e (said w e))
   after-so w e = world-after control w (actor e) (happens w.world e (said w e))
 
   held-next : (w : Controlled C) (e : Event) → IsHeld SideInvariant w.world → IsHeld SideInvariant (next control w e).world
@@ -246,7 +246,7 @@ module _ {C : Type 0} (control : Control C) (effects : EveryStepHasOneEffect) wh
       subst (IsHeld SideInvariant) (sym (after-so w e))
       (step-kept effects w.world (actor e) (happens w.world e (said w e)) (event-taken w.world e (said w e)) h)
 
-  arrives : (w : Controlled C) {x y : Side} (two : AreTwo x y) (index : ℕ) (frame : SentFrame) → slice_get (half_of w.world y).frames index ≡ Some frame
+  pub arrives : (w : Controlled C) {x y : Side} (two : AreTwo x y) (index : ℕ) (frame : SentFrame) → slice_get (half_of w.world y).frames index ≡ Some frame
       → is_full (half_of w.world x) ≡ false → is_far_frame (half_of w.world x).end frame ≡ false
       → Acts w.world (next control w (event.Deliver y index)).world x y
       (moved (half_of w.world x) (Some frame.number) (receives (half_of w.world x).end frame.bytes))

@@ -2,3 +2,4 @@ pub mod Leading
 pub mod Opening
 pub mod Paired
 pub mod Settled
+pub mod GettingThrough

@@ -1,22 +1,28 @@
 //! The laws, each over every list of events and every kind of congestion control.
-ghost use Rattle.std.specs.Prelude.{◌≡◌, ◌⊎◌, ◌≤◌, ℕ, List, [], ◌∷◌, Some, None, length, slice_get};
+ghost use Rattle.std.specs.Prelude.{◌≡◌, ◌≢◌, ◌⊎◌, ◌≤◌, ◌<◌, ◌+◌, ◌^◌, ℕ, false, List, [], ◌∷◌, Some, None, Ok, length, drop, slice_get};
+ghost use Rattle.dccp_endpoint.specs.Calling.{lacks_vectors};
 ghost use Rattle.dccp_endpoint.specs.Drafts.{Fits};
-ghost use Rattle.dccp_endpoint.specs.End.{held_of};
+ghost use Rattle.dccp_endpoint.specs.End.{held_of, value_in};
 ghost use Rattle.dccp_endpoint.specs.Steps.{next_number};
 ghost use Rattle.dccp_endpoint.specs.declared.config.Config.{Config};
 ghost use Rattle.dccp_states.specs.declared.calls.Timer.{Timer};
 ghost use Rattle.dccp_states.specs.declared.phase.Phase.TheVariants as phases;
 ghost use Rattle.dccp_states.specs.declared.phase.Role.TheVariants as role;
+ghost use Rattle.dccp_states.specs.declared.outcome.Outcome.TheVariants as outcome;
+ghost use Rattle.dccp_states.specs.declared.seen.Seen.TheVariants as seen;
 ghost use Rattle.feature_lists.specs.declared.features.Feature.{Feature};
+ghost use Rattle.feature_lists.specs.declared.features.Feature.TheVariants.{Ccid, SendAckVector};
 ghost use Rattle.feature_lists.specs.declared.features.Place.{Place};
 ghost use Rattle.feature_lists.specs.declared.features.Place.TheVariants as place;
 ghost use Rattle.feature_machine.specs.declared.stands.Stand.TheVariants.{Stable};
-ghost use Rattle.two_ends.specs.Controlled.{Controlled, plays, plays_from_start};
+ghost use Rattle.two_ends.specs.Controlled.{Controlled, ControlledStep, happens_to, plays, plays_from_start};
 ghost use Rattle.two_ends.specs.World.{WorldState, half_of};
+ghost use Rattle.two_ends.specs.declared.frames.SentFrame.{SentFrame};
+ghost use Rattle.two_ends_progress.specs.GettingThrough.{AreFew, GetsThrough, LacksReports};
 ghost use Rattle.two_ends_progress.specs.Leading.{AreOpen, AreOver, HaveRoomFor, HasWay};
 ghost use Rattle.two_ends_progress.specs.Opening.{AreConnected, HasEnded, IsInHandshake};
 ghost use Rattle.two_ends_progress.specs.Paired.{AreForEachOther};
-ghost use Rattle.two_ends_progress.specs.Settled.{HaveAgreed};
+ghost use Rattle.two_ends_progress.specs.Settled.{AreSettled, HaveAgreed};
 ghost use Rattle.validity_windows.specs.Verdict.{by_window};
 ghost use Rattle.validity_windows.specs.declared.verdict.Verdict.TheVariants as verdicts;
 ghost use Rattle.world_events.specs.declared.event.Event.{Event};
@@ -133,4 +139,70 @@ pub fn settling_takes_twenty_four_events<C: Congestion>()
         → ((side : Side) → (half_of (plays C.control w way.events).world side).end.phase ≡ phases.Open) → (feature : Feature)
         → (held_of (plays C.control w way.events).world.client.end feature place.There).value
         ≡ (held_of (plays C.control w way.events).world.server.end feature place.Here).value }
+{}
+
+/// Data get through. Where both ends are OPEN and all rows of both are STABLE, whatever led there and whatever was lost,
+/// at most six timers and deliveries lead to a world in which `send` of a side takes up to 1,024 bytes, and in which the
+/// delivery of the frame that goes out for them hands over just these (RFC 4340, sections 7 and 8.5). A sender whose CCID
+/// needs Ack Vectors has to get some, the configurations are each other's, and each side has sent fewer than 2^23 - 8
+/// frames: of more than 2^23 a short number need not be told.
+pub fn data_get_through<C: Congestion>()
+    ensures { (client server : Config) (for_client for_server : C) (events : List Event) (side : Side) (payload : List ℕ)
+        → client.role ≡ role.Client → server.role ≡ role.Server → Fits client → Fits server → AreForEachOther client server
+        → AreOpen (plays_from_start C.control client server for_client for_server events).world
+        → AreSettled (plays_from_start C.control client server for_client for_server events).world
+        → AreFew 8 (plays_from_start C.control client server for_client for_server events).world
+        → lacks_vectors (half_of (plays_from_start C.control client server for_client for_server events).world side).end.rows ≡ false
+        → length payload ≤ 1024
+        → HasWay C.control 6 (plays_from_start C.control client server for_client for_server events)
+        (λ (w : Controlled C). GetsThrough C.control w side payload) }
+{
+    every_step_has_one_effect();
+    every_run_is_safe::<C>();
+}
+
+/// From every world in which both ends are OPEN, at most thirty timers and deliveries lead to a world in which an end is
+/// in CLOSED or in TIMEWAIT, or both have agreed that the sender gets no Ack Vectors though its CCID needs them, or its
+/// data get through. So no list of events leaves a sender stuck.
+pub fn senders_are_never_stuck<C: Congestion>()
+    ensures { (client server : Config) (for_client for_server : C) (events : List Event) (side : Side) (payload : List ℕ)
+        → client.role ≡ role.Client → server.role ≡ role.Server → Fits client → Fits server → AreForEachOther client server
+        → AreOpen (plays_from_start C.control client server for_client for_server events).world
+        → AreFew 32 (plays_from_start C.control client server for_client for_server events).world → length payload ≤ 1024
+        → HasWay C.control 30 (plays_from_start C.control client server for_client for_server events)
+        (λ (w : Controlled C). HasEnded w.world ⊎ (LacksReports w.world side ⊎ GetsThrough C.control w side payload)) }
+{
+    every_step_has_one_effect();
+    every_run_is_safe::<C>();
+}
+
+/// What such a way of sending is, in plain words: a list of at most six events (`few`), each of them a timer of a side or
+/// the delivery of a frame (`passive`). After it `send` is taken (`taken`); and of the world that it leaves, the delivery
+/// of the frame that it added hands over the bytes from a place up to the frame's end, which are the data (`handed`). Any
+/// world with fewer than 2^23 - 8 frames a side will do (`counts`).
+pub fn sending_takes_six_events<C: Congestion>()
+    ensures few { (w : Controlled C) (side : Side) (payload : List ℕ) (way : HasWay C.control 6 w (λ (v : Controlled C). GetsThrough C.control v side payload))
+        → length way.events ≤ 6 }
+    ensures passive { (w : Controlled C) (side : Side) (payload : List ℕ) (way : HasWay C.control 6 w (λ (v : Controlled C). GetsThrough C.control v side payload))
+        (place : ℕ) (e : Event) → slice_get way.events place ≡ Some e
+        → ((side : Side) × ((timer : Timer) × (e ≡ event.Timer side timer))) ⊎ ((from : Side) × ((index : ℕ) × (e ≡ event.Deliver from index))) }
+    ensures taken { (w : Controlled C) (side : Side) (payload : List ℕ) → GetsThrough C.control w side payload
+        → (step : ControlledStep C) × (happens_to C.control w (event.Send side payload) ≡ Ok step) × (step.seen ≡ seen.Called (Ok tt)) }
+    ensures handed { (w : Controlled C) (side : Side) (payload : List ℕ) → GetsThrough C.control w side payload
+        → let sent = plays C.control w (event.Send side payload ∷ []) in
+        let index = length (half_of w.world side).frames in
+        (frame : SentFrame) × (step : ControlledStep C) × (begins : ℕ) × (slice_get (half_of sent.world side).frames index ≡ Some frame)
+        × (happens_to C.control sent (event.Deliver side index) ≡ Ok step)
+        × (step.seen ≡ seen.Received (outcome.Took (Some (begins, length frame.bytes)))) × (drop begins frame.bytes ≡ payload) }
+    ensures counts { (w : WorldState) → length w.client.frames + 8 < 2 ^ 23 → length w.server.frames + 8 < 2 ^ 23 → AreFew 8 w }
+{}
+
+/// A sender that both have agreed to leave without reports, in plain words: both ends are OPEN (`opened`), all rows are
+/// STABLE (`settled`), its CCID is 2 (`ccid`), and its peer sends no Ack Vectors (`vectors`).
+pub fn a_sender_lacks_reports_by_agreement()
+    ensures opened { (w : WorldState) (side each : Side) → LacksReports w side → (half_of w each).end.phase ≡ phases.Open }
+    ensures settled { (w : WorldState) (side each : Side) (feature : Feature) (place : Place) → LacksReports w side
+        → (held_of (half_of w each).end feature place).stand ≡ Stable }
+    ensures ccid { (w : WorldState) (side : Side) → LacksReports w side → value_in (half_of w side).end.rows Ccid place.Here ≡ 2 }
+    ensures vectors { (w : WorldState) (side : Side) → LacksReports w side → value_in (half_of w side).end.rows SendAckVector place.There ≢ 1 }
 {}
