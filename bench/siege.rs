@@ -1,7 +1,7 @@
 //! A siege in counted time: real clients of a server of 1,024 places, and beside them hostile datagrams of strangers who do not see what
 //! goes between others. It prints figures, and ends with 1 where one is past its bound.
 
-use dccp::{Cause, Change, Config, Connection, Feature, FlowRules, Listener, Phase, Place};
+use dccp::{Cause, Change, Config, Connection, FlowRules, Listener, Phase};
 use std::collections::BTreeMap;
 use std::error::Error;
 use std::net::{Ipv4Addr, SocketAddrV4};
@@ -122,8 +122,7 @@ struct Figures {
 }
 
 fn end_of(own: SocketAddrV4, numbers: &mut Numbers) -> Result<Connection, Box<dyn Error>> {
-    let config = Config::client(own.into(), here().into(), SERVICE, numbers.next() << 8);
-    Ok(Connection::new(&config.offer(Feature::SendAckVector, Place::Here, &[1]))?)
+    Ok(Connection::new(&Config::client(own.into(), here().into(), SERVICE, numbers.next() << 8))?)
 }
 
 fn client_of(place: usize, numbers: &mut Numbers, now: Instant) -> Result<Client, Box<dyn Error>> {

@@ -2,7 +2,8 @@
  *
  *     echo PORT
  *
- * The client of talk.c may speak to it. One that is silent for two minutes is given up, by the listener. It runs until it is stopped. */
+ * The client of talk.c may speak to it. The listener gives up one that is silent for two minutes, and limits what strangers call forth. It
+ * runs until it is stopped. */
 #include <arpa/inet.h>
 #include <poll.h>
 #include <stdio.h>
@@ -15,12 +16,10 @@
 #include "dccp.h"
 
 /* MOST_HEARD: how many datagrams are heard before the timers are looked at again. */
-enum { MOST_PEERS = 64, SERVICE = 42, ANSWERS_A_SECOND = 20, MOST_HEARD = 64 };
+enum { MOST_PEERS = 64, SERVICE = 42, MOST_HEARD = 64 };
 
 struct server {
     int socket;
-    unsigned answers;
-    uint64_t second; /* in which answers are counted */
     dccp_listener listener;
 };
 
@@ -49,16 +48,6 @@ static void hand_over(const struct server *server, const dccp_peer *peer, const 
     if (frame->length != 0) (void)!sendto(server->socket, frame->bytes, frame->length, 0, (const struct sockaddr *)&to, sizeof to);
 }
 
-/* Whether another Sync or Reset may answer in this second (RFC 4340, sections 7.5.4 and 8.3.1). */
-static bool may_answer(struct server *server, uint32_t status, const dccp_told *told) {
-    if (status != DCCP_BUSY && told->kind != DCCP_TOLD_SYNCED && told->kind != DCCP_TOLD_SENT_RESET) return true;
-    if (server->second != now() / 1000) {
-        server->second = now() / 1000;
-        server->answers = 0;
-    }
-    return server->answers++ < ANSWERS_A_SECOND;
-}
-
 /* Hears one datagram, if one has come. Where data came, they go back. */
 static bool hear(struct server *server) {
     uint8_t bytes[DCCP_MOST_FRAME_BYTES + 1];
@@ -70,8 +59,8 @@ static bool hear(struct server *server) {
     if (length < 0) return false;
     dccp_peer peer = {.port = ntohs(from.sin_port)};
     memcpy(peer.address, &from.sin_addr, 4);
-    uint32_t status = dccp_listener_arrive(&server->listener, &peer, first_number(), bytes, (size_t)length, now(), &frame, &told);
-    if (may_answer(server, status, &told)) hand_over(server, &peer, &frame);
+    dccp_listener_arrive(&server->listener, &peer, first_number(), bytes, (size_t)length, now(), &frame, &told);
+    hand_over(server, &peer, &frame);
     if (told.kind != DCCP_TOLD_DATA) return true;
     if (dccp_listener_send(&server->listener, &peer, bytes + told.first, told.past - told.first, now(), &frame) == DCCP_OK)
         hand_over(server, &peer, &frame);

@@ -174,20 +174,25 @@ typedef struct dccp_peer {
     uint16_t port;      /* in the byte order of the machine */
 } dccp_peer;
 
-/* By which rules a listener makes room and gives flows up. Waits are in milliseconds, and DCCP_NEVER is for ever. DCCP_USUAL_RULES are those
- * of a listener that was just made, DCCP_NO_RULES leave all to the owner. */
+/* How many answers go to peers without a flow, where there is no limit. */
+#define DCCP_UNLIMITED UINT16_MAX
+
+/* By which rules a listener makes room, gives flows up and answers strangers. Waits are in milliseconds, and DCCP_NEVER is for ever.
+ * DCCP_USUAL_RULES are those of a listener that was just made, DCCP_NO_RULES leave all to the owner. */
 typedef struct dccp_flow_rules {
     uint64_t respond;    /* how long a flow may stand in DCCP_PHASE_RESPOND (RFC 4340, section 8.1.3) */
     uint64_t crowded;    /* the same where more than half of the table is in DCCP_PHASE_RESPOND */
     uint64_t closing;    /* how long one may stand in DCCP_PHASE_CLOSEREQ and in DCCP_PHASE_CLOSING */
     uint64_t idle;       /* how long one in DCCP_PHASE_OPEN may take no packet */
+    uint16_t answers;    /* how many answers go to peers without a flow in a second; DCCP_UNLIMITED: as many as there are */
+    uint16_t resets;     /* how many of them are Resets to packets that belong to no connection (RFC 4340, section 8.1.3) */
     bool makes_room;     /* a Request at a full table ends the flow longest in DCCP_PHASE_TIMEWAIT, else the longest in DCCP_PHASE_RESPOND over
                             its time */
     bool ends_old_flows; /* a peer that begins anew from its port ends its old flow */
 } dccp_flow_rules;
 
-#define DCCP_USUAL_RULES {240000, 10000, 64000, 120000, true, true}
-#define DCCP_NO_RULES {UINT64_MAX, UINT64_MAX, UINT64_MAX, UINT64_MAX, false, false}
+#define DCCP_USUAL_RULES {240000, 10000, 64000, 120000, 100, 8, true, true}
+#define DCCP_NO_RULES {UINT64_MAX, UINT64_MAX, UINT64_MAX, UINT64_MAX, DCCP_UNLIMITED, DCCP_UNLIMITED, false, false}
 
 /* What is known of a flow beside its end. Times are those of the calls. */
 typedef struct dccp_flow_life {
@@ -206,7 +211,7 @@ typedef struct dccp_settings {
     bool is_server;
     bool is_v6;
     bool is_plain;            /* takes away the usual offers, so that only those among the wishes are made */
-    /* What an end does for its path, unless one of these is true; a listener's flows do none of it. */
+    /* What an end does for its path, and each flow of a listener for its own, unless one of these is true. */
     bool without_wide_window;   /* asks for no Sequence Window of 10,000 of its own, which it does else where it makes the usual offers */
     bool without_round_trip;    /* the timers wait as where nothing is known of the path, else by the round trip that is measured */
     bool without_soon_acks;     /* Acks wait for 200 ms and up to 64 s, else for 50 ms and up to 20 s, and not where data show a hole */
@@ -374,10 +379,10 @@ dccp_status dccp_look_path(dccp_end *end, dccp_round_trip *trip);
 dccp_status dccp_feature(dccp_end *end, uint32_t feature, bool at_peer, dccp_feature_state *state);
 
 /* Makes a listener in the handle, for at most `most` flows at a time, 1 to 1,024. One that the handle held is freed first, also where making
- * fails; then the handle holds none. Of the settings count the own address and port and the service; `is_v6` has to be false and
- * `first_number` below 2^48, and the others make no difference. The wishes are those of each peer's end, which makes no offer by itself: so
- * one for its own Sequence Window or Ack Ratio changes nothing. A flow takes about 87 KB, which it gives back where it ends. The listener goes
- * by DCCP_USUAL_RULES until dccp_listener_rules says else.
+ * fails; then the handle holds none. Of the settings count the own address and port, the service, whether the end is plain, and what it does
+ * for its path; `is_v6` has to be false and `first_number` below 2^48, and the others make no difference. The wishes are those of each peer's
+ * end, which makes the same offers as one that dccp_accept makes. A flow takes about 87 KB, which it gives back where it ends. The listener
+ * goes by DCCP_USUAL_RULES until dccp_listener_rules says else.
  *     DCCP_NO_SUCH_LISTENER  for IPv6, or for none or over 1,024 flows
  *     a status of dccp_make */
 dccp_status dccp_listener_make(dccp_listener *listener, const dccp_settings *settings, const dccp_wish *wishes, size_t count, uint16_t most);
@@ -389,8 +394,8 @@ void dccp_listener_free(dccp_listener *listener);
  * `first_number` as the number of its first packet, below 2^48, which nobody can guess; draw one for each datagram, or for each whose peer has
  * no flow. Where it would open one flow more than may stand, the rules may end a flow for it, which dccp_listener_evicted names. Where it shows
  * that the peer has begun anew from its port (DCCP_TOLD_SYNCED, a Reset with code 4 that acknowledges the last Sync of its flow), the rules end
- * that flow and leave no frame, and the peer's next Request opens another. Anybody may call forth the frame of DCCP_BUSY, and those of
- * DCCP_TOLD_SYNCED and DCCP_TOLD_SENT_RESET: limit how many go out in a second. One that is left out is a lost frame.
+ * that flow and leave no frame, and the peer's next Request opens another. What anybody may call forth is limited here: a datagram that its
+ * flow would answer with one Sync too many is left out (DCCP_CAUSE_LIMIT), and a frame for a peer without a flow that is one too many.
  *     DCCP_OK         what became of it is in `told`, which is as it was with all others; a flow that has ended by it is there no more
  *     DCCP_BUSY       there is no room for it; nothing has changed, and the frame is a Reset with code 9, Too Busy: forget a flow to make
  *                     room, or let the peer ask again
@@ -426,6 +431,24 @@ dccp_status dccp_listener_close(dccp_listener *listener, const dccp_peer *peer, 
  *     DCCP_NO_FLOW
  *     DCCP_NOT_LIVE  in DCCP_PHASE_TIMEWAIT */
 dccp_status dccp_listener_abort(dccp_listener *listener, const dccp_peer *peer, uint64_t now, dccp_frame *frame);
+
+/* Asks for these values of a feature of a peer's flow, as dccp_prefer does.
+ *     DCCP_OK
+ *     DCCP_NO_FEATURE  no feature has this number, or
+ *     DCCP_NOT_MADE    there is no listener, or
+ *     DCCP_NO_FLOW     the peer has no flow
+ *     DCCP_NOT_OPEN    in all phases except DCCP_PHASE_OPEN
+ *     DCCP_BAD_LIST    as dccp_prefer
+ *     DCCP_NOT_OURS    as dccp_prefer */
+dccp_status dccp_listener_prefer(dccp_listener *listener, const dccp_peer *peer, uint32_t feature, bool at_peer, const uint64_t *values,
+                                 size_t count, uint64_t now, dccp_frame *frame);
+
+/* Reads what a peer's flow holds for a feature.
+ *     DCCP_OK
+ *     DCCP_NO_FEATURE  `state` is as it was, as with the next two
+ *     DCCP_NOT_MADE
+ *     DCCP_NO_FLOW */
+dccp_status dccp_listener_feature(dccp_listener *listener, const dccp_peer *peer, uint32_t feature, bool at_peer, dccp_feature_state *state);
 
 /* Tells a flow the first of its timers that has run out, and names its peer. Where none has, a flow that has stood or been silent for too long
  * by the rules is given up.

@@ -1,44 +1,37 @@
 -- What a server makes of a datagram, as C's own definitions have it.
-use Rattle.std.proofs.Common.{◌≡◌, sym, ap, ◌∙◌, subst, ℕ, List, Bool, Option, Some, None, is_some, if◌then◌else◌, Result, Ok, Err, inr}
+use Rattle.std.proofs.Common.{◌≡◌, refl, sym, ap, ◌∙◌, subst, ℕ, List, Bool, Option, Some, None, is_some, if◌then◌else◌, Result, Ok, Err, inl, inr}
 use Rattle.dccp_packets.specs.Outgoing.{Outgoing}
 use Rattle.dccp_listener.specs.declared.calls.Heard.{Heard}
 use Rattle.dccp_listener.specs.Peers.{end_of_peer}
 use Rattle.dccp_listener.specs.declared.peer.Peer.{Peer}
 use Rattle.seq_circle.specs.declared.memory.NoMemory.{NoMemory}
-use Rattle.dccp_server.specs.Rooms.{Coming, HasArrived, Room, Ruled, comes, forgets, left_without_memory}
-use Rattle.dccp_server.specs.declared.rules.Rules.{Rules}
-use Rattle.dccp_c.specs.Listening.{Forgets, HearsAtServer, HearsDatagram, ServerHears, listen_code, listen_told, with_room}
-use Rattle.dccp_c.specs.Framing.{Handed, handed_of}
+use Rattle.dccp_server.specs.Rooms.{IsServed, Reception, Ruled, forgets, told_of_arrival, unreceived_at}
+use Rattle.dccp_c.specs.Listening.{Forgets, HearsAtServer, HearsDatagram, arrival_code, arrival_told, with_room}
+use Rattle.dccp_c.specs.Framing.{Handed, handed_of, nothing_handed}
 use Rattle.dccp_c.specs.declared.told.Told.{Told}
-use Rattle.dccp_listener.specs.Runs.{CallTold, told_of}
 
-abbrev ruled : Room → Rules → ℕ → Ruled
-ruled room rules half = record { room = room; rules = rules; half = half }
-
--- a server whose rules stay has another room
-moved : (s after : Ruled) (room : Room) → after.room ≡ room → after.rules ≡ s.rules → after.half ≡ s.half → after ≡ with_room s room
-moved s after room room-is rules-are half-is =
-    ap (λ (x : Room). ruled x after.rules after.half) room-is ∙ ap (λ (x : Rules). ruled room x after.half) rules-are
-    ∙ ap (λ (x : ℕ). ruled room s.rules x) half-is
-
-pub server_heard : (now : ℕ) (s after : Ruled) (peer : Peer) (first : ℕ) (bytes : List ℕ) (frame : Option Outgoing) (result : Result Heard NoMemory)
-    (evicted : Option Peer) (anew : Bool) → HasArrived now s.rules s.half s.room after.room peer first bytes frame result evicted anew
-    → after.rules ≡ s.rules → after.half ≡ s.half → ServerHears now s after peer first bytes frame evicted result
-server_heard now s after peer first bytes frame (Ok it) evicted anew is rules-are half-is = (
-  moved s after (comes now s.rules s.half s.room peer first bytes).room (ap (λ (x : Coming). x.room) is) rules-are half-is,
-  ap (λ (x : Coming). x.frame) is,
-  ap (λ (x : Coming). x.evicted) is,
-  ap (λ (x : Coming). x.told) is,
-)
-server_heard now s after peer first bytes frame (Err fault) evicted anew is rules-are half-is =
-    moved s after (left_without_memory now s.room peer first bytes evicted) is.0 rules-are half-is
-
-pub heard_for_c : (now : ℕ) (s after : Ruled) (peer : Peer) (first : ℕ) (bytes : List ℕ) (frame : Option Outgoing) (evicted : Option Peer) (it : Heard)
-    (left : Handed) (code : ℕ) (old new : Told) → ServerHears now s after peer first bytes frame evicted (Ok it) → left ≡ handed_of frame
-    → code ≡ listen_code (told_of (Ok it)) → new ≡ listen_told (told_of (Ok it)) old
+pub heard_for_c : (now : ℕ) (s after : Ruled) (peer : Peer) (first : ℕ) (bytes : List ℕ) (frame : Option Outgoing) (result : Result (Option Heard) NoMemory)
+    (evicted gone : Option Peer) (anew : Bool) (it : Option Heard) (left : Handed) (code : ℕ) (old new : Told)
+    → IsServed now s after peer first bytes frame result gone anew → result ≡ Ok it → evicted ≡ gone → left ≡ handed_of frame
+    → code ≡ arrival_code (told_of_arrival (Ok it)) → new ≡ arrival_told (told_of_arrival (Ok it)) old
     → HearsAtServer now s after peer first bytes left evicted code old new
-heard_for_c now s after peer first bytes frame evicted it left code old new is left-is code-is new-is =
-    inr (is.0, left-is ∙ ap handed_of is.1, is.2, code-is ∙ ap listen_code is.3, new-is ∙ ap (λ (t : CallTold). listen_told t old) is.3)
+heard_for_c now s after peer first bytes frame result evicted gone anew it left code old new served is same-gone left-is code-is new-is =
+    let so = subst (λ (x : Result (Option Heard) NoMemory). IsServed now s after peer first bytes frame x gone anew) is served in
+    inr (
+      ap (λ (x : Reception). x.server) so,
+      left-is ∙ ap (λ (x : Reception). handed_of x.frame) so,
+      same-gone ∙ ap (λ (x : Reception). x.evicted) so,
+      code-is ∙ ap (λ (x : Reception). arrival_code x.told) so,
+      new-is ∙ ap (λ (x : Reception). arrival_told x.told old) so,
+    )
+
+pub unheard_for_c : (now : ℕ) (s after : Ruled) (peer : Peer) (first : ℕ) (bytes : List ℕ) (frame : Option Outgoing) (result : Result (Option Heard) NoMemory)
+    (evicted gone : Option Peer) (anew : Bool) (fault : NoMemory) (left : Handed) (code : ℕ) (old : Told)
+    → IsServed now s after peer first bytes frame result gone anew → result ≡ Err fault → evicted ≡ gone → left ≡ nothing_handed → code ≡ 2
+    → HearsAtServer now s after peer first bytes left evicted code old old
+unheard_for_c now s after peer first bytes frame result evicted gone anew fault left code old served is same-gone left-is code-is =
+    let so = subst (λ (x : Result (Option Heard) NoMemory). IsServed now s after peer first bytes frame x gone anew) is served in
+    inl (so.0 ∙ sym (ap (unreceived_at now s peer first bytes) same-gone), left-is, code-is, refl)
 
 -- and as it is once the server has been taken out of its handle and put back
 pub hears_so : (now : ℕ) (before after : Option Ruled) (s t : Ruled) (peer whose : Peer) (first number : ℕ) (bytes : List ℕ) (refusal : Option ℕ)

@@ -1,6 +1,7 @@
 pub mod Accepting
 pub mod Codes
 pub mod Doing
+pub mod FlowFeatures
 pub mod Founding
 pub mod Framing
 pub mod Keeping

@@ -5,13 +5,17 @@ use Rattle.std.specs.Option.{option_map}
 use Rattle.dccp_listener.specs.Chain.{Calls, FlowCall}
 use Rattle.dccp_listener.specs.Listens.{listens}
 use Rattle.dccp_listener.specs.Peers.{FlowEnd, end_of_peer}
-use Rattle.dccp_listener.specs.Runs.{CallTold, Stepped, WasBusy, HadNoMemory, told_of}
+use Rattle.dccp_listener.specs.Runs.{CallTold, Stepped, WasBusy, HadNoMemory}
 use Rattle.dccp_listener.specs.declared.calls.Heard.{Heard}
 use Rattle.seq_circle.specs.declared.memory.NoMemory.{NoMemory}
 use Rattle.dccp_server.specs.Lives.{life_of}
-use Rattle.dccp_server.specs.Rooms.{Room, Ruled, comes, duty_done, duty_frame, duty_in, forgets, left_without_memory, duty_peer, room_does, room_waits}
+use Rattle.dccp_server.specs.Rooms.{Room, Ruled, duty_done, duty_frame, duty_in, duty_peer, forgets, received_at, room_does, room_waits, unreceived_at}
+use Rattle.dccp_server.specs.Serving.{Does}
+use Rattle.dccp_uses.specs.declared.rule.Rule.{Rule}
+use Rattle.dccp_uses.specs.declared.rule.Rule.TheVariants as rules
+use Rattle.path_rules.specs.declared.limits.Limit.{Limit}
 use Rattle.dccp_server.specs.declared.duty.Duty.{Duty}
-use Rattle.dccp_server.specs.declared.duty.Duty.TheVariants.{Ring, GiveUp}
+use Rattle.dccp_server.specs.declared.duty.Duty.TheVariants.{Ring, Follow, GiveUp}
 use Rattle.dccp_server.specs.declared.life.Life.{Life}
 use Rattle.dccp_server.specs.declared.rules.Rules.{Rules}
 use Rattle.dccp_c.specs.declared.flow_rules.FlowRules.{FlowRules}
@@ -23,7 +27,7 @@ use Rattle.dccp_states.specs.declared.seen.Seen.{Seen}
 use Rattle.dccp_states.specs.declared.seen.Seen.TheVariants as seen
 use Rattle.dccp_packets.specs.Outgoing.{Outgoing}
 use Rattle.dccp_c.specs.Framing.{Handed, handed_of, nothing_handed}
-use Rattle.dccp_c.specs.Outcomes.{told_outcome}
+use Rattle.dccp_c.specs.Outcomes.{told_heard, told_outcome}
 use Rattle.dccp_c.specs.declared.told.Told.{Told}
 use Rattle.dccp_c.specs.Codes.{timer_code}
 use Rattle.dccp_c.specs.Doing.{never}
@@ -88,28 +92,28 @@ with_room s room = record s { room = room }
 abbrev pub Serves : ℕ → Option Ruled → Option Ruled → Peer → FlowCall → Handed → ℕ → Type 0
 Serves now None after peer call frame code = IsUnserved None after frame × (code ≡ 1)
 Serves now (Some s) after peer call frame code =
-    (after ≡ Some (with_room s (room_does now s.room peer (Calls call))))
+    (after ≡ Some (with_room s (room_does now s.room peer (Does (Calls call)))))
     × (frame ≡ handed_of (listens s.room.served.listening peer (Calls call)).frame)
     × (code ≡ listen_code (listens s.room.served.listening peer (Calls call)).told)
 
--- What a datagram comes to where there is a server: what comes of it there; or no memory was found.
-abbrev pub ServerHears : ℕ → Ruled → Ruled → Peer → ℕ → List ℕ → Option Outgoing → Option Peer → Result Heard NoMemory → Type 0
-ServerHears now s after peer first bytes frame evicted (Ok it) =
-    (after ≡ with_room s (comes now s.rules s.half s.room peer first bytes).room) × (frame ≡ (comes now s.rules s.half s.room peer first bytes).frame)
-    × (evicted ≡ (comes now s.rules s.half s.room peer first bytes).evicted)
-    × (told_of (Ok it) ≡ (comes now s.rules s.half s.room peer first bytes).told)
-ServerHears now s after peer first bytes frame evicted (Err _) = after ≡ with_room s (left_without_memory now s.room peer first bytes evicted)
+-- the code of what was told of a datagram: one that was left out was dropped
+abbrev pub arrival_code : Option CallTold → ℕ
+arrival_code None = 0
+arrival_code (Some told) = listen_code told
+
+-- what C is told of it
+abbrev pub arrival_told : Option CallTold → Told → Told
+arrival_told None old = told_heard None
+arrival_told (Some told) old = listen_told told old
 
 -- What a datagram comes to for C where there is a server: where no memory was found, by 2, no frame is left, and what C had
--- to be told stays; else it has what comes of it there.
+-- to be told stays; else it has what the server makes of it.
 abbrev pub HearsAtServer : ℕ → Ruled → Ruled → Peer → ℕ → List ℕ → Handed → Option Peer → ℕ → Told → Told → Type 0
 HearsAtServer now s after peer first bytes left evicted code old new =
-    ((after ≡ with_room s (left_without_memory now s.room peer first bytes evicted)) × (left ≡ nothing_handed) × (code ≡ 2) × (new ≡ old))
-    ⊎ ((after ≡ with_room s (comes now s.rules s.half s.room peer first bytes).room)
-    × (left ≡ handed_of (comes now s.rules s.half s.room peer first bytes).frame)
-    × (evicted ≡ (comes now s.rules s.half s.room peer first bytes).evicted)
-    × (code ≡ listen_code (comes now s.rules s.half s.room peer first bytes).told)
-    × (new ≡ listen_told (comes now s.rules s.half s.room peer first bytes).told old))
+    ((after ≡ unreceived_at now s peer first bytes evicted) × (left ≡ nothing_handed) × (code ≡ 2) × (new ≡ old))
+    ⊎ ((after ≡ (received_at now s peer first bytes).server) × (left ≡ handed_of (received_at now s peer first bytes).frame)
+    × (evicted ≡ (received_at now s peer first bytes).evicted) × (code ≡ arrival_code (received_at now s peer first bytes).told)
+    × (new ≡ arrival_told (received_at now s peer first bytes).told old))
 
 -- Why a datagram is not heard at all: a first number that is none, by 17, or its length, by 5.
 abbrev pub datagram_refusal : ℕ → List ℕ → Option ℕ
@@ -125,10 +129,20 @@ HearsDatagram now (Some s) None peer first bytes None left evicted code old new 
 HearsDatagram now (Some s) (Some after) peer first bytes None left evicted code old new =
     HearsAtServer now s after peer first bytes left evicted code old new
 
+-- the code of what a rule of a path had a flow do: 19 where it was given up
+abbrev pub rule_code : Rule → ℕ
+rule_code rules.Nothing = 0
+rule_code rules.GiveUp = 19
+rule_code rules.TimeOut = 0
+rule_code rules.Probe = 0
+rule_code rules.Ask = 0
+rule_code rules.Ratio = 0
+
 -- the code of what there was to do: 12 where there was nothing, 19 where a flow was given up
 abbrev pub duty_code : Option Duty → ℕ
 duty_code None = 12
 duty_code (Some (Ring peer timer)) = 0
+duty_code (Some (Follow peer rule)) = rule_code rule
 duty_code (Some (GiveUp peer)) = 19
 
 -- how C finds its peer
@@ -142,7 +156,7 @@ abbrev pub Ticks : ℕ → Option Ruled → Option Ruled → Handed → PeerAddr
 Ticks now None after left old new code = IsUnserved None after left × (new ≡ old) × (code ≡ 1)
 Ticks now (Some s) after left old new code =
     (after ≡ Some (with_room s (duty_done now s.room (duty_in now s.rules s.half s.room))))
-    × (left ≡ handed_of (duty_frame s.room (duty_in now s.rules s.half s.room)))
+    × (left ≡ handed_of (duty_frame now s.room (duty_in now s.rules s.half s.room)))
     × (new ≡ duty_address (duty_in now s.rules s.half s.room) old) × (code ≡ duty_code (duty_in now s.rules s.half s.room))
 
 -- What forgetting a peer's flow comes to: it goes, and nothing is sent; 15 where there is none, 1 where there is no
@@ -183,6 +197,10 @@ evicted_in (Some held) = held.evicted
 abbrev pub wait_of : ℕ → Option ℕ
 wait_of wait = if wait == never then None else Some wait
 
+-- a limit of C's: so many a second, and 65,535 is none
+abbrev pub limit_of : ℕ → Option Limit
+limit_of per_second = if per_second == 65535 then None else Some (record { per_second = per_second; burst = per_second })
+
 -- the rules that C gives
 abbrev pub rules_of : FlowRules → Rules
 rules_of it =
@@ -193,6 +211,8 @@ rules_of it =
       crowded = wait_of it.crowded;
       closing = wait_of it.closing;
       idle = wait_of it.idle;
+      answers = limit_of it.answers;
+      resets = limit_of it.resets;
     }
 
 -- the server once it goes by these rules

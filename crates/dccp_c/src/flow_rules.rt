@@ -1,8 +1,9 @@
 //! The rules that C gives a listener, and what it may know of a flow beside its end.
 ghost use Rattle.std.specs.Prelude.{◌≡◌};
-ghost use Rattle.dccp_c.specs.Listening.{known_of, rules_of, wait_of};
+ghost use Rattle.dccp_c.specs.Listening.{known_of, limit_of, rules_of, wait_of};
 
 use dccp_server::{Life, Rules};
+use path_rules::Limit;
 
 /// By which rules a listener makes room and gives flows up. Waits are in milliseconds; 2^64 - 1 is for ever.
 #[repr(C)]
@@ -16,6 +17,10 @@ pub struct FlowRules {
     pub closing: u64,
     /// How long a flow in OPEN may take no packet.
     pub idle: u64,
+    /// How many answers go to peers without a flow in a second; 65,535 is as many as there are.
+    pub answers: u16,
+    /// How many of them are Resets to packets that belong to no connection; 65,535 is as many as there are.
+    pub resets: u16,
     /// Whether a Request at a full table ends a flow that may leave.
     pub makes_room: bool,
     /// Whether a peer that begins anew from its port ends its old flow.
@@ -38,6 +43,18 @@ fn wait_of(wait: u64) -> Option<u64>
     if wait == u64::MAX { None } else { Some(wait) }
 }
 
+fn limit_of(per_second: u16) -> Option<Limit>
+    ensures { result ≡ limit_of per_second }
+{
+    if per_second == u16::MAX {
+        return None;
+    }
+    Some(Limit {
+        per_second,
+        burst: per_second,
+    })
+}
+
 pub(crate) fn rules_of(given: &FlowRules) -> Rules
     ensures { result ≡ rules_of given.now }
 {
@@ -48,6 +65,8 @@ pub(crate) fn rules_of(given: &FlowRules) -> Rules
         crowded: wait_of(given.crowded),
         closing: wait_of(given.closing),
         idle: wait_of(given.idle),
+        answers: limit_of(given.answers),
+        resets: limit_of(given.resets),
     }
 }
 

@@ -17,6 +17,7 @@
 mod calls;
 mod codes;
 mod end;
+mod flow_features;
 mod flow_rules;
 mod founding;
 mod frame;

@@ -1,18 +1,20 @@
 //! The functions of a listener that C calls: each does one deed of a peer with the listener that its handle holds.
 ghost use Rattle.std.specs.Prelude.{◌≡◌, ◌≢◌, ◌≤◌, None, Ok, if◌then◌else◌, is_some, length, slice_get, unwrap_or};
 ghost use Rattle.dccp_listener.specs.Calls.{seen_if};
-ghost use Rattle.dccp_listener.specs.Chain.{Calls, Sends, Closes, Aborts, call_of};
+ghost use Rattle.dccp_listener.specs.Chain.{Calls, Sends, Closes, Aborts, asked};
 ghost use Rattle.dccp_listener.specs.Listens.{listens};
 ghost use Rattle.dccp_listener.specs.Runs.{Stepped, told_of};
 ghost use Rattle.std.specs.Option.{option_map};
 ghost use Rattle.dccp_c.specs.Framing.{handed_in};
+ghost use Rattle.dccp_c.specs.Making.{pace_by};
 ghost use Rattle.dccp_c.specs.Founding.{FoundsCode, founded_of, listening_by};
 ghost use Rattle.std.specs.Map.{keys_of};
 ghost use Rattle.dccp_listener.specs.Peers.{end_of_peer};
 ghost use Rattle.dccp_server.specs.Lives.{life_of};
-ghost use Rattle.dccp_server.specs.Rooms.{duty_done, duty_frame, duty_in, forgets, room_does};
+ghost use Rattle.dccp_server.specs.Rooms.{IsServed, duty_done, duty_frame, duty_in, forgets, room_does, told_of_arrival};
+ghost use Rattle.dccp_server.specs.Serving.{Does};
 ghost use Rattle.dccp_c.specs.Seeing.{seen as seen_end};
-ghost use Rattle.dccp_c.specs.Listening.{ServerHears, Forgets, HearsAtServer, HearsDatagram, Serves, Ticks, address_of, datagram_refusal, duty_address, duty_code, evicted_in, flow_code, flow_in, known_of, life_if, life_in, listen_code, listen_told, listener_waits, made_code, peer_in, peer_named, refusal_code, ruled_by, rules_of, seen_code, served_in, with_room};
+ghost use Rattle.dccp_c.specs.Listening.{Forgets, HearsAtServer, HearsDatagram, Serves, Ticks, address_of, arrival_code, arrival_told, datagram_refusal, duty_address, duty_code, evicted_in, flow_code, flow_in, known_of, life_if, life_in, listen_code, listen_told, listener_waits, made_code, peer_in, peer_named, refusal_code, rule_code, ruled_by, rules_of, seen_code, served_in, with_room};
 
 use crate::codes::{
     BAD_LIST, BUSY, DONE, GAVE_UP, NO_FLOW, NO_MEMORY, NO_NUMBER, NOT_FRESH, NOT_LIVE, NOT_MADE,
@@ -21,14 +23,16 @@ use crate::codes::{
 use crate::flow_rules::{known_of, rules_of};
 use crate::founding::listening_by;
 use crate::frame::Frame;
+use crate::making::pace_by;
 use crate::peer::{address_of, peer_named};
 use crate::readers::seen;
 use crate::serving::Serving;
-use crate::told::{Told, tell};
+use crate::told::{Told, tell, tell_heard as tell_left_out};
 use crate::{FlowLife, FlowRules, ListenerHandle, PeerAddress, Settings, View, Wish};
-use dccp_endpoint::{MOST_FRAME_BYTES, NoMemory, Outbox, Seq48};
-use dccp_listener::{Act, Heard, NoFlow, Peer, Refusal, Seen};
-use dccp_server::{Duty, Rules, Server};
+use dccp_endpoint::{MOST_FRAME_BYTES, NoMemory, Outbox, Refusal, Seen, Seq48, UserCall};
+use dccp_listener::{Heard, NoFlow, Peer};
+use dccp_server::{Arrival, Duty, Rules, Server};
+use dccp_uses::Rule;
 use std::alloc::Global;
 
 fn refusal_code(refusal: Refusal) -> u32
@@ -70,7 +74,6 @@ fn call_code(answer: &Result<Seen, NoFlow>) -> u32
 fn tell_heard(heard: &Heard, told: &mut Told) -> u32
     ensures told { told.new ≡ listen_told (told_of (Ok heard.now)) told.old }
     ensures code { result ≡ listen_code (told_of (Ok heard.now)) }
-    ensures memory { result ≢ 2 }
 {
     match heard {
         Heard::Flow(outcome) => {
@@ -78,6 +81,20 @@ fn tell_heard(heard: &Heard, told: &mut Told) -> u32
             DONE
         }
         Heard::Busy => BUSY,
+    }
+}
+
+// The same of one that may have been left out.
+fn tell_arrival(heard: Option<Heard>, told: &mut Told) -> u32
+    ensures told { told.new ≡ arrival_told (told_of_arrival (Ok heard)) told.old }
+    ensures code { result ≡ arrival_code (told_of_arrival (Ok heard)) }
+{
+    match heard {
+        Some(heard) => tell_heard(&heard, told),
+        None => {
+            tell_left_out(None, told);
+            DONE
+        }
     }
 }
 
@@ -112,7 +129,7 @@ pub extern "C" fn dccp_listener_make(
     wishes: &[Wish],
     most: u16,
 ) -> u32
-    ensures listener { served_in listener.new.kept.value ≡ founded_of result (listening_by settings.now wishes.now most) }
+    ensures listener { served_in listener.new.kept.value ≡ founded_of result (pace_by settings.now) (listening_by settings.now wishes.now most) }
     ensures code { FoundsCode (listening_by settings.now wishes.now most) result }
 {
     listener.clear(alloc);
@@ -120,7 +137,7 @@ pub extern "C" fn dccp_listener_make(
         Ok(config) => config,
         Err(code) => return code,
     };
-    let server = Server::new(alloc, config, Rules::usual());
+    let server = Server::new(alloc, config, pace_by(settings), Rules::usual());
     let serving = Serving {
         server,
         out: Outbox::new(),
@@ -144,21 +161,16 @@ pub extern "C" fn dccp_listener_free(listener: &mut ListenerHandle, alloc: Globa
 }
 
 // A datagram that is short enough, at a server.
-fn hear(
-    serving: &mut Serving,
-    peer: Peer,
-    iss: Seq48,
-    datagram: &[u8],
-    now: u64,
-) -> Result<Heard, NoMemory>
+fn hear(serving: &mut Serving, peer: Peer, iss: Seq48, datagram: &[u8], now: u64) -> Arrival
     requires { length datagram.now ≤ 2044 }
-    ensures { ServerHears now serving.old.server serving.new.server peer iss datagram.now serving.new.out serving.new.evicted result }
+    ensures served { IsServed now serving.old.server serving.new.server peer iss datagram.now serving.new.out result.heard result.evicted result.anew }
+    ensures evicted { serving.new.evicted ≡ result.evicted }
 {
     let arrival = serving
         .server
         .arrive(peer, iss, datagram, now, &mut serving.out);
     serving.evicted = arrival.evicted;
-    arrival.heard
+    arrival
 }
 
 // The same for C: the frame and what it is told.
@@ -174,10 +186,10 @@ fn serve(
     requires { length datagram.now ≤ 2044 }
     ensures { HearsAtServer now serving.old.server serving.new.server peer iss datagram.now (handed_in frame.new) serving.new.evicted result told.old told.new }
 {
-    match hear(serving, peer, iss, datagram, now) {
+    match hear(serving, peer, iss, datagram, now).heard {
         Ok(heard) => {
             frame.fill(&serving.out);
-            tell_heard(&heard, told)
+            tell_arrival(heard, told)
         }
         Err(NoMemory) => {
             frame.clear();
@@ -186,7 +198,7 @@ fn serve(
     }
 }
 
-/// `Server::arrive`: `Listener::arrive`, and the rules. BUSY where it answers Busy. NO_NUMBER where the first number is
+/// `Server::arrive`. BUSY where it answers Busy. NO_NUMBER where the first number is
 /// none and TOO_LONG where the datagram is; then nothing changes, nor with NOT_MADE. With NO_MEMORY nothing changes but
 /// that a flow may have made room. C is told of the datagram where the answer is DONE alone.
 #[unsafe(no_mangle)]
@@ -251,36 +263,36 @@ pub extern "C" fn dccp_listener_evicted(
 }
 
 // A call of a peer's end, at a server.
-fn ask(serving: &mut Serving, peer: Peer, act: Act<'_>, now: u64) -> Result<Seen, NoFlow>
-    ensures after { serving.new.server ≡ with_room serving.old.server (room_does now serving.old.server.room peer (Calls (call_of act.entry))) }
-    ensures sent { serving.new.out ≡ (listens serving.old.server.room.served.listening peer (Calls (call_of act.entry))).frame }
-    ensures told { Stepped (seen_if result) ≡ (listens serving.old.server.room.served.listening peer (Calls (call_of act.entry))).told }
+fn ask(serving: &mut Serving, peer: Peer, call: UserCall<'_>, now: u64) -> Result<Seen, NoFlow>
+    ensures after { serving.new.server ≡ with_room serving.old.server (room_does now serving.old.server.room peer (Does (Calls (asked call.entry)))) }
+    ensures sent { serving.new.out ≡ (listens serving.old.server.room.served.listening peer (Calls (asked call.entry))).frame }
+    ensures told { Stepped (seen_if result) ≡ (listens serving.old.server.room.served.listening peer (Calls (asked call.entry))).told }
 {
-    serving.server.act(peer, act, now, &mut serving.out)
+    serving.server.ask(peer, call, now, &mut serving.out)
 }
 
-// A call of a peer's end.
-fn call(
+/// A call of a peer's end, for C.
+pub(crate) fn call(
     listener: &mut ListenerHandle,
     alloc: Global,
     peer: Peer,
-    act: Act<'_>,
+    call: UserCall<'_>,
     now: u64,
     frame: &mut Frame,
 ) -> u32
-    ensures { Serves now (served_in listener.old.kept.value) (served_in listener.new.kept.value) peer (call_of act.entry) (handed_in frame.new) result }
+    ensures { Serves now (served_in listener.old.kept.value) (served_in listener.new.kept.value) peer (asked call.entry) (handed_in frame.new) result }
 {
     frame.clear();
     let Some(mut serving) = listener.take(alloc) else {
         return NOT_MADE;
     };
-    let answer = ask(&mut serving, peer, act, now);
+    let answer = ask(&mut serving, peer, call, now);
     frame.fill(&serving.out);
     listener.put(serving);
     call_code(&answer)
 }
 
-/// `Listener::act` with `Act::Send`. Answers DONE, NOT_MADE, NO_FLOW, NOT_OPEN, TOO_LONG, NOT_NEGOTIATED or
+/// `Server::ask` with `UserCall::Send`. Answers DONE, NOT_MADE, NO_FLOW, NOT_OPEN, TOO_LONG, NOT_NEGOTIATED or
 /// WINDOW_FULL.
 #[unsafe(no_mangle)]
 pub extern "C" fn dccp_listener_send(
@@ -297,13 +309,13 @@ pub extern "C" fn dccp_listener_send(
         listener,
         alloc,
         peer_named(peer),
-        Act::Send(payload),
+        UserCall::Send(payload),
         now,
         frame,
     )
 }
 
-/// `Listener::act` with `Act::Close`. Answers DONE, NOT_MADE, NO_FLOW or NOT_OPEN.
+/// `Server::ask` with `UserCall::Close`. Answers DONE, NOT_MADE, NO_FLOW or NOT_OPEN.
 #[unsafe(no_mangle)]
 pub extern "C" fn dccp_listener_close(
     listener: &mut ListenerHandle,
@@ -314,10 +326,17 @@ pub extern "C" fn dccp_listener_close(
 ) -> u32
     ensures { Serves now (served_in listener.old.kept.value) (served_in listener.new.kept.value) (peer_named peer.now) Closes (handed_in frame.new) result }
 {
-    call(listener, alloc, peer_named(peer), Act::Close, now, frame)
+    call(
+        listener,
+        alloc,
+        peer_named(peer),
+        UserCall::Close,
+        now,
+        frame,
+    )
 }
 
-/// `Listener::act` with `Act::Abort`. Answers DONE, NOT_MADE, NO_FLOW or NOT_LIVE.
+/// `Server::ask` with `UserCall::Abort`. Answers DONE, NOT_MADE, NO_FLOW or NOT_LIVE.
 #[unsafe(no_mangle)]
 pub extern "C" fn dccp_listener_abort(
     listener: &mut ListenerHandle,
@@ -328,7 +347,23 @@ pub extern "C" fn dccp_listener_abort(
 ) -> u32
     ensures { Serves now (served_in listener.old.kept.value) (served_in listener.new.kept.value) (peer_named peer.now) Aborts (handed_in frame.new) result }
 {
-    call(listener, alloc, peer_named(peer), Act::Abort, now, frame)
+    call(
+        listener,
+        alloc,
+        peer_named(peer),
+        UserCall::Abort,
+        now,
+        frame,
+    )
+}
+
+fn rule_code(rule: Rule) -> u32
+    ensures { result ≡ rule_code rule }
+{
+    match rule {
+        Rule::Nothing | Rule::TimeOut | Rule::Probe | Rule::Ask | Rule::Ratio => DONE,
+        Rule::GiveUp => GAVE_UP,
+    }
 }
 
 fn duty_code(duty: Option<Duty>) -> u32
@@ -337,6 +372,7 @@ fn duty_code(duty: Option<Duty>) -> u32
     match duty {
         None => NOTHING_DUE,
         Some(Duty::Ring(_, _)) => DONE,
+        Some(Duty::Follow(_, rule)) => rule_code(rule),
         Some(Duty::GiveUp(_)) => GAVE_UP,
     }
 }
@@ -346,7 +382,7 @@ fn duty_address(duty: Option<Duty>, old: PeerAddress) -> PeerAddress
 {
     match duty {
         None => old,
-        Some(Duty::Ring(peer, _) | Duty::GiveUp(peer)) => address_of(peer),
+        Some(Duty::Ring(peer, _) | Duty::Follow(peer, _) | Duty::GiveUp(peer)) => address_of(peer),
     }
 }
 
@@ -354,13 +390,13 @@ fn duty_address(duty: Option<Duty>, old: PeerAddress) -> PeerAddress
 fn do_duty(serving: &mut Serving, now: u64) -> Option<Duty>
     ensures duty { result ≡ duty_in now serving.old.server.rules serving.old.server.half serving.old.server.room }
     ensures after { serving.new.server ≡ with_room serving.old.server (duty_done now serving.old.server.room result) }
-    ensures sent { serving.new.out ≡ duty_frame serving.old.server.room result }
+    ensures sent { serving.new.out ≡ duty_frame now serving.old.server.room result }
 {
     serving.server.tick(now, &mut serving.out)
 }
 
-/// Tells a flow the first of its timers that has run out; or, where none has, gives up a flow that has stood or been
-/// silent for too long, by aborting it. C is told whose it is. Answers DONE, GAVE_UP, NOT_MADE, or NOTHING_DUE where
+/// Does what is due of a flow: tells it a timer, or follows a rule of its path; or, where nothing is, gives up a flow that
+/// has stood or been silent for too long, by aborting it. C is told whose it is. Answers DONE, GAVE_UP, NOT_MADE, or NOTHING_DUE where
 /// there is nothing to do.
 #[unsafe(no_mangle)]
 pub extern "C" fn dccp_listener_tick(

@@ -6,7 +6,7 @@ use arrayvec::ArrayVec;
 use dccp_endpoint::{Lists, MOST_FRAME_BYTES, Outbox, Outcome, Seq48};
 use dccp_listener::{Heard, ListenConfig, Peer};
 use dccp_server::{Rules, Server};
-use dccp_uses::Network;
+use dccp_uses::{Network, Pace};
 use std::alloc::Global;
 
 /// A server with all its peers, and what came of them.
@@ -30,7 +30,7 @@ impl ServerOfMany {
             most: 1,
         };
         ServerOfMany {
-            server: Server::new(alloc, config, Rules::usual()),
+            server: Server::new(alloc, config, Pace::usual(), Rules::usual()),
             out: Outbox::new(),
             got: Vec::new(alloc),
         }
@@ -46,8 +46,8 @@ impl ServerOfMany {
             .server
             .arrive(peer, first, datagram, now, &mut self.out);
         self.send(network);
-        let Ok(Heard::Flow(outcome)) = arrival.heard else {
-            // One flow too many, of which the peer was told; or no memory, and the datagram counts as lost.
+        let Ok(Some(Heard::Flow(outcome))) = arrival.heard else {
+            // One flow too many, of which the peer was told; or it was left out, or no memory was to be had: it counts as lost.
             return Some(());
         };
         self.take(&outcome, datagram)
@@ -88,8 +88,8 @@ impl ServerOfMany {
 
 // Does all that there is to do at this time. A frame goes to the peer of the duty, which a real server sends it to.
 fn tick(server: &mut ServerOfMany, first: &mut Client, second: &mut Client, now: u64) {
-    // Six timers for each of two peers, and two flows that may be given up.
-    for _ in 0..14 {
+    // Thirteen times something may be due of each of two peers, and two flows may be given up.
+    for _ in 0..28 {
         let Some(duty) = server.server.tick(now, &mut server.out) else {
             return;
         };

@@ -1,5 +1,5 @@
--- Ticks of a listener come to an end: each leaves fewer timers that have run out.
-use Rattle.std.proofs.Common.{◌≡◌, refl, sym, ap, ◌∙◌, subst, ℕ, zero, suc, ◌+◌, ◌*◌, ◌≤◌, Bool, true, false, cond, if◌then◌else◌, List, [], ◌∷◌, length, Option, Some, None, is_some, IsSome, arith}
+-- Ticks of a listener come to an end: each leaves less that is due.
+use Rattle.std.proofs.Common.{◌≡◌, refl, sym, ap, ◌∙◌, subst, ℕ, zero, suc, ◌+◌, ◌*◌, ◌≤◌, Bool, true, false, cond, if◌then◌else◌, List, [], ◌∷◌, length, Option, Some, None, is_some, IsSome, IfSome, arith}
 use Rattle.std.proofs.lemmas.Bool.{false≢true}
 use Rattle.std.proofs.lemmas.List.Sums.{sum_by-cons}
 use Rattle.std.proofs.lemmas.Map.Entries.{length-keys_of, sum_by-insert_entry, sum_by-remove_entry}
@@ -12,26 +12,31 @@ use Rattle.ccid_two.specs.Kinds.{Both, kinds_control}
 use Rattle.dccp_packets.specs.Outgoing.{Outgoing}
 use Rattle.dccp_listener.proofs.Computing.{computed_runs}
 use Rattle.dccp_listener.proofs.OnePeer.{one_peer, peers_alike, peers_total}
-use Rattle.dccp_listener.specs.Chain.{Calls, ChainStep, Fires, chain_step, flow_step, is_given_up}
+use Rattle.dccp_listener.specs.Chain.{Calls, ChainStep, Fires, FlowCall, chain_step, flow_step, is_given_up}
 use Rattle.dccp_listener.specs.Listens.{listening_after, listens, listens_by}
 use Rattle.dccp_listener.specs.Peers.{FlowEnd, Listening, end_of_peer, is_peer, peer_cmp}
 use Rattle.dccp_listener.specs.Runs.{CallTold, HadNoMemory, IsTurnSo, Stepped, WasBusy}
 use Rattle.dccp_listener.specs.declared.peer.Peer.{Peer}
-use Rattle.dccp_uses.proofs.Ringing.{other_stays_quiet, told_is_quiet}
-use Rattle.dccp_uses.specs.Alarms.{alarm_of, arranged, has_run_out, no_alarms, rung}
-use Rattle.dccp_uses.specs.Session.{SessionState, condition_of, every_timer, rings, tells_end}
-use Rattle.dccp_uses.specs.declared.alarms.Alarms.{Alarms}
 use Rattle.dccp_states.specs.declared.calls.Timer.{Timer}
 use Rattle.dccp_states.specs.declared.calls.Timer.TheVariants as timers
-use Rattle.dccp_server.specs.Due.{first_due}
-use Rattle.dccp_server.specs.Ending.{ListenerTicksEnd, due_served, listener_ticked}
-use Rattle.dccp_server.specs.Serving.{Served, Timers, deed_served, due_or, first_due_flow, served_through, serving_begins, timers_of, timers_then}
-use Rattle.dccp_server.proofs.Refusing.{IsResting, rests_after, resting}
+use Rattle.dccp_uses.proofs.Dues.{other_rests, rung_rests}
+use Rattle.dccp_uses.specs.Alarms.{has_run_out}
+use Rattle.dccp_uses.specs.Rules.{due_rule}
+use Rattle.dccp_uses.specs.Sessions.{rings_due, stands_still}
+use Rattle.dccp_uses.specs.Timed.{TimedState, TimedStep, due_told, every_due}
+use Rattle.dccp_uses.specs.declared.pace.Pace.{Pace}
+use Rattle.dccp_uses.specs.declared.timed_end.Due.{Due}
+use Rattle.dccp_uses.specs.declared.timed_end.Due.TheVariants as due
+use Rattle.dccp_server.specs.Ending.{ListenerTicksEnd, doing_due, due_served, listener_ticked}
+use Rattle.dccp_server.specs.Serving.{Served, Upkeeps, due_or, first_due_flow, is_refusal, listening_if, served_by, served_through, serves_on, serving_begins, upkeep_at, upkeeps_then}
+use Rattle.dccp_server.specs.Timing.{flow_after}
+use Rattle.dccp_server.specs.Upkeeps.{call_for_rule, called_so, first_due, kept_alarm, next_upkeep, timed_flow, upkeep_begins, upkeep_of}
+use Rattle.dccp_server.specs.declared.happening.Happening.{Happening}
+use Rattle.dccp_server.specs.declared.happening.Happening.TheVariants as happening
+use Rattle.dccp_server.specs.declared.upkeep.Upkeep.{Upkeep}
+use Rattle.dccp_server.proofs.Refusing.{IsResting, kept_at, rests_after, resting}
+use Rattle.dccp_server.proofs.Timing.{same_kept}
 use Rattle.dccp_server.proofs.Tying.{found_among, not_among}
-
--- an end of a flow, with its timers
-abbrev TimedEnd : Type 0
-TimedEnd = SessionState Both
 
 one-if : Bool → ℕ
 one-if true = 1
@@ -50,110 +55,174 @@ one-most true = omega arith
 one-most false = omega arith
 
 module _ (now : ℕ) where
-  -- how many timers of a peer have run out
-  due : Alarms → Timer → ℕ
-  due alarms timer = one-if (has_run_out (alarm_of alarms timer) now)
+  -- how much is due of a flow: a timer may make the rules due once more
 
-  due-count : Alarms → ℕ
-  due-count alarms =
-      due alarms timers.Request + due alarms timers.Ack + due alarms timers.Negotiate + due alarms timers.Rto + due alarms timers.Close
-      + due alarms timers.TimeWait
+  owes : Upkeep → Due → ℕ
+  owes u it = one-if (has_run_out (kept_alarm u it) now)
 
-  at-most-six : (alarms : Alarms) → due-count alarms ≤ 6
-  unfolding due-count due
-  at-most-six alarms =
+  abbrev rings : Upkeep → Timer → ℕ
+  rings u timer = owes u (due.Timer timer)
+
+  timers-due : Upkeep → ℕ
+  timers-due u = rings u timers.Request + rings u timers.Ack + rings u timers.Negotiate + rings u timers.Rto + rings u timers.Close + rings u timers.TimeWait
+
+  weight : Upkeep → ℕ
+  weight u = 2 * timers-due u + owes u due.Rules
+
+  at-most-thirteen : (u : Upkeep) → weight u ≤ 13
+  unfolding weight timers-due owes
+  at-most-thirteen u =
       omega (
         arith,
-        one-most (has_run_out (alarm_of alarms timers.Request) now),
-        one-most (has_run_out (alarm_of alarms timers.Ack) now),
-        one-most (has_run_out (alarm_of alarms timers.Negotiate) now),
-        one-most (has_run_out (alarm_of alarms timers.Rto) now),
-        one-most (has_run_out (alarm_of alarms timers.Close) now),
-        one-most (has_run_out (alarm_of alarms timers.TimeWait) now),
+        one-most (has_run_out (kept_alarm u (due.Timer timers.Request)) now),
+        one-most (has_run_out (kept_alarm u (due.Timer timers.Ack)) now),
+        one-most (has_run_out (kept_alarm u (due.Timer timers.Negotiate)) now),
+        one-most (has_run_out (kept_alarm u (due.Timer timers.Rto)) now),
+        one-most (has_run_out (kept_alarm u (due.Timer timers.Close)) now),
+        one-most (has_run_out (kept_alarm u (due.Timer timers.TimeWait)) now),
+        one-most (has_run_out (kept_alarm u due.Rules) now),
       )
 
-  -- a timer that is told has not run out any more, and no other has that had not
+  itself : (e : FlowEnd) (u : Upkeep) (it : Due)
+      → has_run_out (kept_alarm (upkeep_of (rings_due kinds_control now (timed_flow e u) it).timed) it) now ≡ false
+  itself e u (due.Timer timer) = rung_rests kinds_control now (timed_flow e u) (due.Timer timer)
+  itself e u due.Rules = rung_rests kinds_control now (timed_flow e u) due.Rules
 
-  abbrev told : TimedEnd → Timer → Alarms
-  told s timer = (rings kinds_control now s timer).session.alarms
+  module _ (e : FlowEnd) (u : Upkeep) (it : Due) (is : has_run_out (kept_alarm u it) now ≡ true) where
+    abbrev s : TimedState Both
+    s = timed_flow e u
 
-  own : (s : TimedEnd) (timer : Timer) → due (told s timer) timer ≡ 0
-  unfolding due one-if
-  own s timer = ap one-if (told_is_quiet kinds_control now s timer)
+    -- what is kept once the end was told it
+    abbrev told : Upkeep
+    told = upkeep_of (due_told kinds_control now s it).timed
 
-  was : (alarms : Alarms) (timer : Timer) → has_run_out (alarm_of alarms timer) now ≡ true → due alarms timer ≡ 1
-  unfolding due one-if
-  was alarms timer is = ap one-if is
+    abbrev rung : TimedStep Both Bool
+    rung = rings_due kinds_control now s it
 
-  other : (s : TimedEnd) (timer another : Timer) → alarm_of (rung s.alarms timer now) another ≡ alarm_of s.alarms another
-      → due (told s timer) another ≤ due s.alarms another
-  unfolding due
-  other s timer another same =
-      at-most (has_run_out (alarm_of (told s timer) another) now) (has_run_out (alarm_of s.alarms another) now)
-      (other_stays_quiet kinds_control now s timer another same)
+    told-so : upkeep_of rung.timed ≡ told
+    told-so = ap (λ (b : Bool). upkeep_of (if b then due_told kinds_control now s it else stands_still s).timed) is
 
-  -- the call of a timer leaves the alarm of another as it was
-  abbrev Stays : TimedEnd → Timer → Timer → Type 0
-  Stays s timer another = alarm_of (rung s.alarms timer now) another ≡ alarm_of s.alarms another
+    own : owes told it ≡ 0
+    unfolding owes one-if
+    own = ap (λ (x : Upkeep). one-if (has_run_out (kept_alarm x it) now)) (sym told-so) ∙ ap one-if (itself e u it)
 
-  -- so of six timers of which one that has run out is told, and whose others stay, fewer have run out
-  fewer-of : (s : TimedEnd) (timer a b c d e : Timer) → has_run_out (alarm_of s.alarms timer) now ≡ true
-      → Stays s timer a → Stays s timer b → Stays s timer c → Stays s timer d → Stays s timer e
-      → due (told s timer) timer + due (told s timer) a + due (told s timer) b + due (told s timer) c + due (told s timer) d + due (told s timer) e + 1
-      ≤ due s.alarms timer + due s.alarms a + due s.alarms b + due s.alarms c + due s.alarms d + due s.alarms e
-  fewer-of s timer a b c d e is of-a of-b of-c of-d of-e =
+    other : (timer : Timer) → rings told timer ≤ rings u timer
+    unfolding owes
+    other timer =
+        at-most (has_run_out (kept_alarm told (due.Timer timer)) now) (has_run_out (kept_alarm u (due.Timer timer)) now)
+        (λ quiet. ap (λ (x : Upkeep). has_run_out (kept_alarm x (due.Timer timer)) now) (sym told-so) ∙ other_rests kinds_control now s it timer quiet)
+
+    was : owes u it ≡ 1
+    unfolding owes one-if
+    was = ap one-if is
+
+  -- So what is due gets less.
+  less : (e : FlowEnd) (u : Upkeep) (it : Due) → has_run_out (kept_alarm u it) now ≡ true
+      → weight (upkeep_of (due_told kinds_control now (timed_flow e u) it).timed) + 1 ≤ weight u
+  unfolding weight timers-due owes
+  less e u (due.Timer timers.Request) is =
       omega (
         arith,
-        own s timer,
-        was s.alarms timer is,
-        other s timer a of-a,
-        other s timer b of-b,
-        other s timer c of-c,
-        other s timer d of-d,
-        other s timer e of-e,
+        own e u (due.Timer timers.Request) is,
+        was e u (due.Timer timers.Request) is,
+        other e u (due.Timer timers.Request) is timers.Ack,
+        other e u (due.Timer timers.Request) is timers.Negotiate,
+        other e u (due.Timer timers.Request) is timers.Rto,
+        other e u (due.Timer timers.Request) is timers.Close,
+        other e u (due.Timer timers.Request) is timers.TimeWait,
+        one-most (has_run_out (kept_alarm (told e u (due.Timer timers.Request) is) due.Rules) now),
+      )
+  less e u (due.Timer timers.Ack) is =
+      omega (
+        arith,
+        own e u (due.Timer timers.Ack) is,
+        was e u (due.Timer timers.Ack) is,
+        other e u (due.Timer timers.Ack) is timers.Request,
+        other e u (due.Timer timers.Ack) is timers.Negotiate,
+        other e u (due.Timer timers.Ack) is timers.Rto,
+        other e u (due.Timer timers.Ack) is timers.Close,
+        other e u (due.Timer timers.Ack) is timers.TimeWait,
+        one-most (has_run_out (kept_alarm (told e u (due.Timer timers.Ack) is) due.Rules) now),
+      )
+  less e u (due.Timer timers.Negotiate) is =
+      omega (
+        arith,
+        own e u (due.Timer timers.Negotiate) is,
+        was e u (due.Timer timers.Negotiate) is,
+        other e u (due.Timer timers.Negotiate) is timers.Request,
+        other e u (due.Timer timers.Negotiate) is timers.Ack,
+        other e u (due.Timer timers.Negotiate) is timers.Rto,
+        other e u (due.Timer timers.Negotiate) is timers.Close,
+        other e u (due.Timer timers.Negotiate) is timers.TimeWait,
+        one-most (has_run_out (kept_alarm (told e u (due.Timer timers.Negotiate) is) due.Rules) now),
+      )
+  less e u (due.Timer timers.Rto) is =
+      omega (
+        arith,
+        own e u (due.Timer timers.Rto) is,
+        was e u (due.Timer timers.Rto) is,
+        other e u (due.Timer timers.Rto) is timers.Request,
+        other e u (due.Timer timers.Rto) is timers.Ack,
+        other e u (due.Timer timers.Rto) is timers.Negotiate,
+        other e u (due.Timer timers.Rto) is timers.Close,
+        other e u (due.Timer timers.Rto) is timers.TimeWait,
+        one-most (has_run_out (kept_alarm (told e u (due.Timer timers.Rto) is) due.Rules) now),
+      )
+  less e u (due.Timer timers.Close) is =
+      omega (
+        arith,
+        own e u (due.Timer timers.Close) is,
+        was e u (due.Timer timers.Close) is,
+        other e u (due.Timer timers.Close) is timers.Request,
+        other e u (due.Timer timers.Close) is timers.Ack,
+        other e u (due.Timer timers.Close) is timers.Negotiate,
+        other e u (due.Timer timers.Close) is timers.Rto,
+        other e u (due.Timer timers.Close) is timers.TimeWait,
+        one-most (has_run_out (kept_alarm (told e u (due.Timer timers.Close) is) due.Rules) now),
+      )
+  less e u (due.Timer timers.TimeWait) is =
+      omega (
+        arith,
+        own e u (due.Timer timers.TimeWait) is,
+        was e u (due.Timer timers.TimeWait) is,
+        other e u (due.Timer timers.TimeWait) is timers.Request,
+        other e u (due.Timer timers.TimeWait) is timers.Ack,
+        other e u (due.Timer timers.TimeWait) is timers.Negotiate,
+        other e u (due.Timer timers.TimeWait) is timers.Rto,
+        other e u (due.Timer timers.TimeWait) is timers.Close,
+        one-most (has_run_out (kept_alarm (told e u (due.Timer timers.TimeWait) is) due.Rules) now),
+      )
+  less e u due.Rules is =
+      omega (
+        arith,
+        own e u due.Rules is,
+        was e u due.Rules is,
+        other e u due.Rules is timers.Request,
+        other e u due.Rules is timers.Ack,
+        other e u due.Rules is timers.Negotiate,
+        other e u due.Rules is timers.Rto,
+        other e u due.Rules is timers.Close,
+        other e u due.Rules is timers.TimeWait,
       )
 
-  less : (s : TimedEnd) (timer : Timer) → has_run_out (alarm_of s.alarms timer) now ≡ true → due-count (told s timer) + 1 ≤ due-count s.alarms
-  unfolding due-count
-  less s timers.Request is =
-      omega (arith, fewer-of s timers.Request timers.Ack timers.Negotiate timers.Rto timers.Close timers.TimeWait is refl refl refl refl refl)
-  less s timers.Ack is =
-      omega (arith, fewer-of s timers.Ack timers.Request timers.Negotiate timers.Rto timers.Close timers.TimeWait is refl refl refl refl refl)
-  less s timers.Negotiate is =
-      omega (arith, fewer-of s timers.Negotiate timers.Request timers.Ack timers.Rto timers.Close timers.TimeWait is refl refl refl refl refl)
-  less s timers.Rto is =
-      omega (arith, fewer-of s timers.Rto timers.Request timers.Ack timers.Negotiate timers.Close timers.TimeWait is refl refl refl refl refl)
-  less s timers.Close is =
-      omega (arith, fewer-of s timers.Close timers.Request timers.Ack timers.Negotiate timers.Rto timers.TimeWait is refl refl refl refl refl)
-  less s timers.TimeWait is =
-      omega (arith, fewer-of s timers.TimeWait timers.Request timers.Ack timers.Negotiate timers.Rto timers.Close is refl refl refl refl refl)
+  first-by : (u : Upkeep) (one it : Due) (rest : List Due) (here : Bool) → has_run_out (kept_alarm u one) now ≡ here
+      → (if here then Some one else first_due u now rest) ≡ Some it
+      → (first_due u now rest ≡ Some it → has_run_out (kept_alarm u it) now ≡ true)
+      → has_run_out (kept_alarm u it) now ≡ true
+  first-by u one it rest true is found later =
+      subst (λ (d : Due). has_run_out (kept_alarm u d) now ≡ true) (ap (λ (d : Option Due). unwrap_or d one) found) is
+  first-by u one it rest false is found later = later found
 
-  -- of one that has run out what a session tells is what its end is told
-  told-so : (s : TimedEnd) (timer : Timer) → has_run_out (alarm_of s.alarms timer) now ≡ true
-      → told s timer ≡ (tells_end kinds_control now s timer).session.alarms
-  told-so s timer is =
-      ap (λ (due : Bool). (if due then tells_end kinds_control now s timer else record { session = s; frame = None; answer = false }).session.alarms) is
+  first-is-due : (u : Upkeep) (it : Due) (list : List Due) → first_due u now list ≡ Some it → has_run_out (kept_alarm u it) now ≡ true
+  first-is-due u it [] found = cc found
+  first-is-due u it (one ∷ rest) found = first-by u one it rest (has_run_out (kept_alarm u one) now) refl found (first-is-due u it rest)
 
-  first-by : (alarms : Alarms) (one timer : Timer) (rest : List Timer) (here : Bool) → has_run_out (alarm_of alarms one) now ≡ here
-      → (if here then Some one else first_due alarms now rest) ≡ Some timer
-      → (first_due alarms now rest ≡ Some timer → has_run_out (alarm_of alarms timer) now ≡ true)
-      → has_run_out (alarm_of alarms timer) now ≡ true
-  first-by alarms one timer rest true is found later =
-      subst (λ (t : Timer). has_run_out (alarm_of alarms t) now ≡ true) (ap (λ (t : Option Timer). unwrap_or t one) found) is
-  first-by alarms one timer rest false is found later = later found
+  -- the first peer of which something is due has what is due
 
-  first-is-due : (alarms : Alarms) (timer : Timer) (list : List Timer) → first_due alarms now list ≡ Some timer
-      → has_run_out (alarm_of alarms timer) now ≡ true
-  first-is-due alarms timer [] found = cc found
-  first-is-due alarms timer (one ∷ rest) found =
-      first-by alarms one timer rest (has_run_out (alarm_of alarms one) now) refl found (first-is-due alarms timer rest)
+  abbrev IsItsFirst : Upkeeps → Peer × Due → Type 0
+  IsItsFirst list it = (v : Upkeep) × (lookup (is_peer it.0) list ≡ Some v) × (first_due v now every_due ≡ Some it.1)
 
-  -- the first peer of which one has run out has that timer
-
-  abbrev IsItsFirst : Timers → Peer × Timer → Type 0
-  IsItsFirst list it = (v : Alarms) × (lookup (is_peer it.0) list ≡ Some v) × (first_due v now every_timer ≡ Some it.1)
-
-  skipped : (one : Peer × Alarms) (rest : Timers) (it : Peer × Timer) → IsStrictlySortedBy peer_cmp (keys_of (one ∷ rest)) → (here : Bool)
+  skipped : (one : Peer × Upkeep) (rest : Upkeeps) (it : Peer × Due) → IsStrictlySortedBy peer_cmp (keys_of (one ∷ rest)) → (here : Bool)
       → is_peer it.0 one.0 ≡ here → IsItsFirst rest it → IsItsFirst (one ∷ rest) it
   unfolding IsStrictlySortedBy
   skipped one rest it ordered true is found =
@@ -163,42 +232,35 @@ module _ (now : ℕ) where
       absurd (false≢true (sym (not_among one.0 (keys_of rest) ordered.0) ∙ among))
   skipped one rest it ordered false is found = (found.0, ap (λ (b : Bool). cond b (Some one.1) (lookup (is_peer it.0) rest)) is ∙ found.1, found.2)
 
-  its-by : (one : Peer × Alarms) (rest : Timers) (it : Peer × Timer) → IsStrictlySortedBy peer_cmp (keys_of (one ∷ rest)) → (first : Option Timer)
-      → first_due one.1 now every_timer ≡ first → due_or one.0 first (first_due_flow now rest) ≡ Some it
+  its-by : (one : Peer × Upkeep) (rest : Upkeeps) (it : Peer × Due) → IsStrictlySortedBy peer_cmp (keys_of (one ∷ rest)) → (first : Option Due)
+      → first_due one.1 now every_due ≡ first → due_or one.0 first (first_due_flow now rest) ≡ Some it
       → (first_due_flow now rest ≡ Some it → IsItsFirst rest it) → IsItsFirst (one ∷ rest) it
-  its-by one rest it ordered (Some timer) is found later =
-      let same : (one.0, timer) ≡ it = ap (λ (x : Option (Peer × Timer)). unwrap_or x (one.0, timer)) found in
-      subst (λ (x : Peer × Timer). IsItsFirst (one ∷ rest) x) same
+  its-by one rest it ordered (Some first) is found later =
+      let same : (one.0, first) ≡ it = ap (λ (x : Option (Peer × Due)). unwrap_or x (one.0, first)) found in
+      subst (λ (x : Peer × Due). IsItsFirst (one ∷ rest) x) same
       (one.1, ap (λ (b : Bool). cond b (Some one.1) (lookup (is_peer one.0) rest)) (peers_alike.refl one.0), is)
   its-by one rest it ordered None is found later = skipped one rest it ordered (is_peer it.0 one.0) refl (later found)
 
-  its-first : (list : Timers) (it : Peer × Timer) → IsStrictlySortedBy peer_cmp (keys_of list) → first_due_flow now list ≡ Some it → IsItsFirst list it
+  its-first : (list : Upkeeps) (it : Peer × Due) → IsStrictlySortedBy peer_cmp (keys_of list) → first_due_flow now list ≡ Some it → IsItsFirst list it
   unfolding IsStrictlySortedBy
   its-first [] it ordered found = cc found
-  its-first (one ∷ rest) it ordered found = its-by one rest it ordered (first_due one.1 now every_timer) refl found (its-first rest it ordered.1)
+  its-first (one ∷ rest) it ordered found = its-by one rest it ordered (first_due one.1 now every_due) refl found (its-first rest it ordered.1)
 
-  abbrev total : Timers → ℕ
-  total list = sum_by due-count (values_of list)
+  abbrev total : Upkeeps → ℕ
+  total list = sum_by weight (values_of list)
 
-  -- the timers of a peer go, or are told
-  less-by : (list : Timers) (peer : Peer) (timer : Timer) (v : Alarms) (e next : FlowEnd) (over : Bool) → IsStrictlySortedBy peer_cmp (keys_of list)
-      → lookup (is_peer peer) list ≡ Some v → has_run_out (alarm_of v timer) now ≡ true → next ≡ (flow_step e (Calls (Fires timer))).after
-      → total (timers_then now list peer (if over then None else Some next) (rung v timer now)) + 1 ≤ total list
-  less-by list peer timer v e next true ordered found is same =
-      let s : TimedEnd = record { end = e; alarms = v } in
-      omega
-      (arith, less s timer is, sum_by-remove_entry due-count (is_peer peer) list, ap (λ (x : Option Alarms). unwrap_or (option_map due-count x) 0) found)
-  less-by list peer timer v e next false ordered found is same =
-      let s : TimedEnd = record { end = e; alarms = v } in
-      let then-told : told s timer ≡ arranged (rung v timer now) (condition_of kinds_control next) now =
-      told-so s timer is ∙ ap (λ (x : FlowEnd). arranged (rung v timer now) (condition_of kinds_control x) now) (sym same)
-      in
+  -- what is kept of a peer goes, or weighs less
+  less-by : (pace : Pace) (list : Upkeeps) (peer : Peer) (v : Upkeep) (it : Happening) (next : FlowEnd) (over : Bool) → IsStrictlySortedBy peer_cmp (keys_of list)
+      → lookup (is_peer peer) list ≡ Some v → weight (next_upkeep now pace v it next) + 1 ≤ weight v
+      → total (upkeeps_then now pace list peer (if over then None else Some next) v it) + 1 ≤ total list
+  less-by pace list peer v it next true ordered found falls =
+      omega (arith, falls, sum_by-remove_entry weight (is_peer peer) list, ap (λ (x : Option Upkeep). unwrap_or (option_map weight x) 0) found)
+  less-by pace list peer v it next false ordered found falls =
       omega (
         arith,
-        less s timer is,
-        ap due-count then-told,
-        sum_by-insert_entry due-count peers_total list peer (arranged (rung v timer now) (condition_of kinds_control next) now) ordered,
-        ap (λ (x : Option Alarms). unwrap_or (option_map due-count x) 0) found,
+        falls,
+        sum_by-insert_entry weight peers_total list peer (next_upkeep now pace v it next) ordered,
+        ap (λ (x : Option Upkeep). unwrap_or (option_map weight x) 0) found,
       )
 
   -- a call of a peer that has an end leaves what is left of it
@@ -208,81 +270,115 @@ module _ (now : ℕ) where
   is-stepped WasBusy = false
   is-stepped HadNoMemory = false
 
-  end-then : (l after : Listening) (peer : Peer) (timer : Timer) (e : FlowEnd) (frame : Option Outgoing) (turned told : CallTold)
+  end-then : (l after : Listening) (peer : Peer) (call : FlowCall) (e : FlowEnd) (frame : Option Outgoing) (turned told : CallTold)
       → end_of_peer l.flows peer ≡ Some e → is-stepped told ≡ true
-      → IsTurnSo l after (record { peer = peer; deed = Calls (Fires timer); frame = frame; told = turned }) told
+      → IsTurnSo l after (record { peer = peer; deed = Calls call; frame = frame; told = turned }) told
       → end_of_peer after.flows peer
-      ≡ (if is_given_up (flow_step e (Calls (Fires timer))).after.state.phase then None else Some (flow_step e (Calls (Fires timer))).after)
+      ≡ (if is_given_up (flow_step e (Calls call)).after.state.phase then None else Some (flow_step e (Calls call)).after)
   unfolding is-stepped
-  end-then l after peer timer e frame turned (Stepped it) found is step =
-      ap (λ (s : ChainStep). s.after) step.own ∙ ap (λ (x : Option FlowEnd). (chain_step l.config peer x (Calls (Fires timer))).after) found
-  end-then l after peer timer e frame turned WasBusy found is step = absurd (false≢true is)
-  end-then l after peer timer e frame turned HadNoMemory found is step = absurd (false≢true is)
+  end-then l after peer call e frame turned (Stepped it) found is step =
+      ap (λ (s : ChainStep). s.after) step.own ∙ ap (λ (x : Option FlowEnd). (chain_step l.config peer x (Calls call)).after) found
+  end-then l after peer call e frame turned WasBusy found is step = absurd (false≢true is)
+  end-then l after peer call e frame turned HadNoMemory found is step = absurd (false≢true is)
 
-  -- so each tick leaves fewer that have run out
+  -- so each tick leaves less that is due
 
   module _ (s : Served) (is : IsResting s) where
-    sorted : IsStrictlySortedBy peer_cmp (keys_of s.timers)
-    sorted = subst (IsStrictlySortedBy peer_cmp) (sym is.tied) is.ordered
+    sorted : IsStrictlySortedBy peer_cmp (keys_of s.upkeeps)
+    sorted = subst (IsStrictlySortedBy peer_cmp) (sym is.tied.same_peers) is.tied.ordered
 
-    fewer-by : (peer : Peer) (timer : Timer) (v : Alarms) (found : Option FlowEnd) → end_of_peer s.listening.flows peer ≡ found → IsSome found
-        → lookup (is_peer peer) s.timers ≡ Some v → first_due v now every_timer ≡ Some timer
-        → total (deed_served now s peer (Calls (Fires timer))).timers + 1 ≤ total s.timers
+    abbrev Left : Peer → FlowEnd → Option FlowCall → Type 0
+    Left peer e call =
+        end_of_peer (listening_if s.listening peer call).flows peer
+        ≡ (if is_given_up (flow_after e call).state.phase then None else Some (flow_after e call))
+
+    left : (peer : Peer) (e : FlowEnd) (call : Option FlowCall) → end_of_peer s.listening.flows peer ≡ Some e → Left peer e call
     unfolding is-stepped
-    fewer-by peer timer v None found there at due = absurd (false≢true there)
-    fewer-by peer timer v (Some e) found there at due =
-        let next : FlowEnd = (flow_step e (Calls (Fires timer))).after in
-        let over : Bool = is_given_up next.state.phase in
-        let run = computed_runs s.listening ((peer, Calls (Fires timer)) ∷ []) is.ordered in
-        let stepped : is-stepped (listens s.listening peer (Calls (Fires timer))).told ≡ true =
-        ap (λ (x : Option FlowEnd). is-stepped (listens_by s.listening peer x (Calls (Fires timer))).told) found
+    left peer e None found =
+        let live : is_given_up e.state.phase ≡ false =
+        subst (λ (x : Option FlowEnd). IfSome x (λ e. is_given_up e.state.phase ≡ false)) found (is.live peer)
         in
-        let left : end_of_peer (listening_after s.listening peer (Calls (Fires timer))).flows peer ≡ (if over then None else Some next) =
+        found ∙ sym (ap (λ (b : Bool). if b then None else Some e) live)
+    left peer e (Some call) found =
+        let run = computed_runs s.listening ((peer, Calls call) ∷ []) is.tied.ordered in
+        let stepped : is-stepped (listens s.listening peer (Calls call)).told ≡ true =
+        ap (λ (x : Option FlowEnd). is-stepped (listens_by s.listening peer x (Calls call)).told) found
+        in
         ap (λ (l : Listening). end_of_peer l.flows peer) run.0.2
-        ∙ end-then s.listening run.0.0 peer timer e _ (listens s.listening peer (Calls (Fires timer))).told
-        (listens s.listening peer (Calls (Fires timer))).told found stepped run.0.1
-        in
-        let of-v : timers_of s.timers peer ≡ v = ap (λ (x : Option Alarms). unwrap_or x no_alarms) at in
-        subst (λ (x : Option FlowEnd). total (timers_then now s.timers peer x (rung (timers_of s.timers peer) timer now)) + 1 ≤ total s.timers) (sym left)
-        (subst (λ (a : Alarms). total (timers_then now s.timers peer (if over then None else Some next) (rung a timer now)) + 1 ≤ total s.timers) (sym of-v)
-        (less-by s.timers peer timer v e next over sorted at (first-is-due v timer every_timer due) refl))
+        ∙ end-then s.listening run.0.0 peer call e _ (listens s.listening peer (Calls call)).told
+        (listens s.listening peer (Calls call)).told found stepped run.0.1
 
-    fewer : (it : Peer × Timer) → first_due_flow now s.timers ≡ Some it → total (deed_served now s it.0 (Calls (Fires it.1))).timers + 1 ≤ total s.timers
+    abbrev u : Peer → Upkeep
+    u peer = upkeep_at s.pace s.upkeeps peer
+
+    -- what happened to a flow's end, once a call that there may be was done
+    falls-by : (peer : Peer) (e : FlowEnd) (call : Option FlowCall) (it : Happening) → end_of_peer s.listening.flows peer ≡ Some e
+        → weight (next_upkeep now s.pace (u peer) it (flow_after e call)) + 1 ≤ weight (u peer)
+        → total (serves_on now s (listening_if s.listening peer call) peer it).upkeeps + 1 ≤ total s.upkeeps
+    falls-by peer e call it found falls =
+        subst (λ (x : Option FlowEnd). total (upkeeps_then now s.pace s.upkeeps peer x (u peer) it) + 1 ≤ total s.upkeeps) (sym (left peer e call found))
+        (less-by s.pace s.upkeeps peer (u peer) it (flow_after e call) (is_given_up (flow_after e call).state.phase) sorted
+        (kept_at s peer is.tied (ap is_some found)) falls)
+
+    fewer-by : (peer : Peer) (it : Due) (found : Option FlowEnd) → end_of_peer s.listening.flows peer ≡ found → IsSome found
+        → has_run_out (kept_alarm (u peer) it) now ≡ true
+        → total (served_by now s peer (doing_due it)).upkeeps + 1 ≤ total s.upkeeps
+    fewer-by peer it None found there at = absurd (false≢true there)
+    fewer-by peer (due.Timer timer) (Some e) found there at =
+        let told : is_refusal (listens s.listening peer (Calls (Fires timer))).told ≡ false =
+        ap (λ (x : Option FlowEnd). is_refusal (listens_by s.listening peer x (Calls (Fires timer))).told) found
+        in
+        subst (λ (b : Bool). total (serves_on now s (listening_after s.listening peer (Calls (Fires timer))) peer (called_so (Fires timer) b)).upkeeps + 1 ≤ total s.upkeeps)
+        (sym told)
+        (falls-by peer e (Some (Fires timer)) (happening.Rang timer) found (less e (u peer) (due.Timer timer) at))
+    fewer-by peer due.Rules (Some e) found there at =
+        let rule = due_rule (u peer).path now in
+        let lighter : weight (next_upkeep now s.pace (u peer) (happening.Ruled rule) (flow_after e (call_for_rule rule (u peer).path.aim (Some e)))) + 1 ≤ weight (u peer) =
+        subst (λ (x : Upkeep). weight x + 1 ≤ weight (u peer)) (sym (same_kept now e (u peer) rule)) (less e (u peer) due.Rules at)
+        in
+        subst (λ (x : Option FlowEnd). total (serves_on now s (listening_if s.listening peer (call_for_rule rule (u peer).path.aim x)) peer (happening.Ruled rule)).upkeeps + 1
+        ≤ total s.upkeeps)
+        (sym found)
+        (falls-by peer e (call_for_rule rule (u peer).path.aim (Some e)) (happening.Ruled rule) found lighter)
+
+    fewer : (it : Peer × Due) → first_due_flow now s.upkeeps ≡ Some it → total (served_by now s it.0 (doing_due it.1)).upkeeps + 1 ≤ total s.upkeeps
     fewer it found =
-        let first : IsItsFirst s.timers it = its-first s.timers it sorted found in
+        let first : IsItsFirst s.upkeeps it = its-first s.upkeeps it sorted found in
         let there : IsSome (end_of_peer s.listening.flows it.0) =
-        found_among (is_peer it.0) s.listening.flows ∙ ap (list_any (is_peer it.0)) (sym is.tied) ∙ sym (found_among (is_peer it.0) s.timers)
+        found_among (is_peer it.0) s.listening.flows ∙ ap (list_any (is_peer it.0)) (sym is.tied.same_peers) ∙ sym (found_among (is_peer it.0) s.upkeeps)
         ∙ ap is_some first.1
         in
-        fewer-by it.0 it.1 first.0 (end_of_peer s.listening.flows it.0) refl there first.1 first.2
+        let same : u it.0 ≡ first.0 = ap (λ (x : Option Upkeep). unwrap_or x (upkeep_begins s.pace)) first.1 in
+        fewer-by it.0 it.1 (end_of_peer s.listening.flows it.0) refl there
+        (subst (λ (x : Upkeep). has_run_out (kept_alarm x it.1) now ≡ true) (sym same) (first-is-due first.0 it.1 every_due first.2))
 
-  none-left : (s : Served) → IsResting s → (found : Option (Peer × Timer)) → first_due_flow now s.timers ≡ found → total s.timers ≤ 0 → found ≡ None
+  none-left : (s : Served) → IsResting s → (found : Option (Peer × Due)) → first_due_flow now s.upkeeps ≡ found → total s.upkeeps ≤ 0 → found ≡ None
   none-left s is None at most = refl
   none-left s is (Some it) at most = absurd (omega (arith, fewer s is it at, most))
 
-  quiet-stays : (n : ℕ) (s : Served) → first_due_flow now s.timers ≡ None → first_due_flow now (listener_ticked now n s).timers ≡ None
+  quiet-stays : (n : ℕ) (s : Served) → first_due_flow now s.upkeeps ≡ None → first_due_flow now (listener_ticked now n s).upkeeps ≡ None
   quiet-stays zero s none = none
   quiet-stays (suc n) s none =
-      subst (λ (x : Option (Peer × Timer)). first_due_flow now (listener_ticked now n (due_served now s x)).timers ≡ None) (sym none) (quiet-stays n s none)
+      subst (λ (x : Option (Peer × Due)). first_due_flow now (listener_ticked now n (due_served now s x)).upkeeps ≡ None) (sym none) (quiet-stays n s none)
 
-  ends-by : (n : ℕ) (s : Served) → IsResting s → (found : Option (Peer × Timer)) → first_due_flow now s.timers ≡ found → total s.timers ≤ suc n
-      → ((t : Served) → IsResting t → total t.timers ≤ n → first_due_flow now (listener_ticked now n t).timers ≡ None)
-      → first_due_flow now (listener_ticked now n (due_served now s found)).timers ≡ None
+  ends-by : (n : ℕ) (s : Served) → IsResting s → (found : Option (Peer × Due)) → first_due_flow now s.upkeeps ≡ found → total s.upkeeps ≤ suc n
+      → ((t : Served) → IsResting t → total t.upkeeps ≤ n → first_due_flow now (listener_ticked now n t).upkeeps ≡ None)
+      → first_due_flow now (listener_ticked now n (due_served now s found)).upkeeps ≡ None
   ends-by n s is None at most later = quiet-stays n s at
   ends-by n s is (Some it) at most later =
-      later (deed_served now s it.0 (Calls (Fires it.1))) (rests_after now s it.0 (Calls (Fires it.1)) is) (omega (arith, fewer s is it at, most))
+      later (served_by now s it.0 (doing_due it.1)) (rests_after now s it.0 (doing_due it.1) is) (omega (arith, fewer s is it at, most))
 
-  ends : (n : ℕ) (s : Served) → IsResting s → total s.timers ≤ n → first_due_flow now (listener_ticked now n s).timers ≡ None
-  ends zero s is most = none-left s is (first_due_flow now s.timers) refl most
-  ends (suc n) s is most = ends-by n s is (first_due_flow now s.timers) refl most (ends n)
+  ends : (n : ℕ) (s : Served) → IsResting s → total s.upkeeps ≤ n → first_due_flow now (listener_ticked now n s).upkeeps ≡ None
+  ends zero s is most = none-left s is (first_due_flow now s.upkeeps) refl most
+  ends (suc n) s is most = ends-by n s is (first_due_flow now s.upkeeps) refl most (ends n)
 
-  few : (list : Timers) → total list ≤ 6 * length list
+  few : (list : Upkeeps) → total list ≤ 13 * length list
   few [] = omega arith
-  few (one ∷ rest) = omega (arith, sum_by-cons due-count one.1 (values_of rest), at-most-six one.1, few rest)
+  few (one ∷ rest) = omega (arith, sum_by-cons weight one.1 (values_of rest), at-most-thirteen one.1, few rest)
 
 pub ticks_end : ListenerTicksEnd
-ticks_end config deeds now =
-    let s : Served = served_through (serving_begins config) deeds in
-    let is : IsResting s = resting config deeds in
-    let same : length s.timers ≡ length s.listening.flows = sym (length-keys_of s.timers) ∙ ap length is.tied ∙ length-keys_of s.listening.flows in
-    ends now (6 * length s.listening.flows) s is (omega (arith, few now s.timers, same))
+ticks_end config pace all now =
+    let s : Served = served_through (serving_begins config pace) all in
+    let is : IsResting s = resting config pace all in
+    let same : length s.upkeeps ≡ length s.listening.flows = sym (length-keys_of s.upkeeps) ∙ ap length is.tied.same_peers ∙ length-keys_of s.listening.flows in
+    ends now (13 * length s.listening.flows) s is (omega (arith, few now s.upkeeps, same))

@@ -1,42 +1,90 @@
--- The timers of a peer go on from its place as the definitions say.
-use Rattle.std.proofs.Common.{◌≡◌, ap, ◌∙◌, ℕ, Bool, List, Option}
+-- What is kept of a peer goes on from its place as the definitions say.
+use Rattle.std.proofs.Common.{◌≡◌, ap, ◌∙◌, ℕ, Bool, List, Option, is_some, not}
 use Rattle.dccp_packets.specs.Outgoing.{Outgoing}
-use Rattle.dccp_listener.specs.Chain.{Deed, Arrives, Calls, FlowCall}
-use Rattle.dccp_listener.specs.Listens.{listening_after}
+use Rattle.dccp_listener.specs.Chain.{Arrives, Calls, Deed, FlowCall}
+use Rattle.dccp_listener.specs.Listens.{listening_after, listens}
 use Rattle.dccp_listener.specs.Peers.{FlowEnd, Listening, end_of_peer}
 use Rattle.dccp_listener.specs.Runs.{CallTold}
 use Rattle.dccp_listener.specs.declared.peer.Peer.{Peer}
-use Rattle.ccid_two.specs.Kinds.{kinds_control}
-use Rattle.dccp_uses.specs.Alarms.{arranged}
-use Rattle.dccp_uses.specs.Session.{condition_of}
-use Rattle.dccp_uses.specs.declared.alarms.Alarms.{Alarms}
-use Rattle.dccp_server.specs.Serving.{IsDone, Timers, deed_served, served, timers_by, timers_called, timers_heard, timers_of, timers_then}
+use Rattle.dccp_uses.specs.Rules.{due_rule}
+use Rattle.dccp_uses.specs.declared.pace.Pace.{Pace}
+use Rattle.dccp_uses.specs.declared.rule.Rule.{Rule}
+use Rattle.dccp_uses.specs.declared.sight.Sight.{Sight}
+use Rattle.dccp_server.specs.Upkeeps.{arrived_so, call_for_rule, called_so, next_upkeep, sight_if}
+use Rattle.dccp_server.specs.Serving.{IsDone, Served, Upkeeps, call_by_rule, call_due, deed_served, rule_followed, frame_if, happening_by, is_refusal, listening_if, served, serves_on, upkeep_at, upkeeps_then}
 use Rattle.dccp_server.specs.Places.{IsPlaced}
+use Rattle.dccp_server.specs.declared.happening.Happening.{Happening}
+use Rattle.dccp_server.specs.declared.happening.Happening.TheVariants as happening
+use Rattle.dccp_server.specs.declared.upkeep.Upkeep.{Upkeep}
 use Rattle.dccp_server.proofs.Placing.{then_placed}
 
-served-as : (fresh : Alarms) (now : ℕ) (had : Bool) (before after : Listening) (timers placed then' : Timers) (peer : Peer) (deed : Deed) (alarms : Alarms)
-    → IsPlaced fresh had timers placed peer → after ≡ listening_after before peer deed → then' ≡ timers_then now placed peer (end_of_peer after.flows peer) alarms
-    → alarms ≡ timers_by now (served before timers) peer deed → served after then' ≡ deed_served now (served before timers) peer deed
-served-as fresh now had before after timers placed then' peer deed alarms is-placed is-after is-then is-alarms =
-    ap (λ (t : Timers). served after t) (is-then ∙ then_placed fresh had timers placed peer (λ e. arranged alarms (condition_of kinds_control e) now) (end_of_peer after.flows peer) is-placed)
-    ∙ ap (λ (l : Listening). served l (timers_then now timers peer (end_of_peer l.flows peer) alarms)) is-after
-    ∙ ap (λ (a : Alarms). served (listening_after before peer deed)
-    (timers_then now timers peer (end_of_peer (listening_after before peer deed).flows peer) a)) is-alarms
+module _ (fresh : Upkeep) (now : ℕ) (had : Bool) (before : Listening) (pace : Pace) (kept placed then' : Upkeeps) (peer : Peer) where
+  abbrev s : Served
+  s = served before pace kept
 
-pub heard_served : (fresh : Alarms) (now : ℕ) (had : Bool) (before after : Listening) (timers placed then' : Timers) (peer : Peer) (iss : ℕ) (bytes : List ℕ)
-    (frame : Option Outgoing) (told : CallTold) (alarms : Alarms) → IsPlaced fresh had timers placed peer → IsDone before after peer (Arrives iss bytes) frame told
-    → then' ≡ timers_then now placed peer (end_of_peer after.flows peer) alarms
-    → alarms ≡ timers_heard (timers_of timers peer) (end_of_peer before.flows peer) (end_of_peer after.flows peer) told
-    → served after then' ≡ deed_served now (served before timers) peer (Arrives iss bytes)
-heard_served fresh now had before after timers placed then' peer iss bytes frame told alarms is-placed done is-then is-alarms =
-    let was : Option FlowEnd = end_of_peer before.flows peer in
-    served-as fresh now had before after timers placed then' peer (Arrives iss bytes) alarms is-placed done.0 is-then
-    (is-alarms ∙ ap (λ (l : Listening). timers_heard (timers_of timers peer) was (end_of_peer l.flows peer) told) done.0
-    ∙ ap (timers_heard (timers_of timers peer) was (end_of_peer (listening_after before peer (Arrives iss bytes)).flows peer)) done.2)
+  -- the listener is this, and what is kept went on from a place
+  pub goes_on : (after next : Listening) (u : Upkeep) (it happening : Happening) → IsPlaced fresh had kept placed peer → after ≡ next
+      → then' ≡ upkeeps_then now pace placed peer (end_of_peer after.flows peer) u it → u ≡ upkeep_at pace kept peer → it ≡ happening
+      → served after pace then' ≡ serves_on now s next peer happening
+  goes_on after next u it happening is-placed is-next is-then is-u is-it =
+      ap (λ (t : Upkeeps). served after pace t)
+      (is-then ∙ then_placed fresh had kept placed peer (next_upkeep now pace u it) (end_of_peer after.flows peer) is-placed)
+      ∙ ap (λ (l : Listening). served l pace (upkeeps_then now pace kept peer (end_of_peer l.flows peer) u it)) is-next
+      ∙ ap (λ (v : Upkeep). served next pace (upkeeps_then now pace kept peer (end_of_peer next.flows peer) v it)) is-u
+      ∙ ap (λ (h : Happening). serves_on now s next peer h) is-it
 
-pub called_served : (fresh : Alarms) (now : ℕ) (had : Bool) (before after : Listening) (timers placed then' : Timers) (peer : Peer) (call : FlowCall)
-    (frame : Option Outgoing) (told : CallTold) (alarms : Alarms) → IsPlaced fresh had timers placed peer → IsDone before after peer (Calls call) frame told
-    → then' ≡ timers_then now placed peer (end_of_peer after.flows peer) alarms → alarms ≡ timers_called now (timers_of timers peer) call
-    → served after then' ≡ deed_served now (served before timers) peer (Calls call)
-called_served fresh now had before after timers placed then' peer call frame told alarms is-placed done is-then is-alarms =
-    served-as fresh now had before after timers placed then' peer (Calls call) alarms is-placed done.0 is-then is-alarms
+  -- a deed was done
+  pub deed_goes_on : (after : Listening) (deed : Deed) (frame : Option Outgoing) (told : CallTold) (u : Upkeep) (it : Happening)
+      → IsPlaced fresh had kept placed peer → IsDone before after peer deed frame told
+      → then' ≡ upkeeps_then now pace placed peer (end_of_peer after.flows peer) u it → u ≡ upkeep_at pace kept peer → it ≡ happening_by s peer deed
+      → served after pace then' ≡ deed_served now s peer deed
+  deed_goes_on after deed frame told u it is-placed done is-then is-u is-it =
+      goes_on after (listening_after before peer deed) u it (happening_by s peer deed) is-placed done.0 is-then is-u is-it
+
+  pub arrival_goes_on : (after : Listening) (iss : ℕ) (bytes : List ℕ) (frame : Option Outgoing) (told : CallTold) (u : Upkeep) (it : Happening)
+      (was : Option Sight) (silent : Bool)
+      → IsPlaced fresh had kept placed peer → IsDone before after peer (Arrives iss bytes) frame told
+      → then' ≡ upkeeps_then now pace placed peer (end_of_peer after.flows peer) u it → u ≡ upkeep_at pace kept peer
+      → was ≡ sight_if (end_of_peer before.flows peer) → silent ≡ not (is_some frame) → it ≡ arrived_so was told silent
+      → served after pace then' ≡ deed_served now s peer (Arrives iss bytes)
+  arrival_goes_on after iss bytes frame told u it was silent is-placed done is-then is-u is-was is-silent is-it =
+      deed_goes_on after (Arrives iss bytes) frame told u it is-placed done is-then is-u
+      (is-it ∙ ap (λ (x : Option Sight). arrived_so x told silent) is-was
+      ∙ ap (λ (t : CallTold). arrived_so (sight_if (end_of_peer before.flows peer)) t silent) done.2
+      ∙ ap (λ (b : Bool). arrived_so (sight_if (end_of_peer before.flows peer)) (listens before peer (Arrives iss bytes)).told b)
+      (is-silent ∙ ap (λ (f : Option Outgoing). not (is_some f)) done.1))
+
+  pub call_goes_on : (after : Listening) (call : FlowCall) (frame : Option Outgoing) (told : CallTold) (u : Upkeep) (it : Happening)
+      → IsPlaced fresh had kept placed peer → IsDone before after peer (Calls call) frame told
+      → then' ≡ upkeeps_then now pace placed peer (end_of_peer after.flows peer) u it → u ≡ upkeep_at pace kept peer
+      → it ≡ called_so call (is_refusal told)
+      → served after pace then' ≡ deed_served now s peer (Calls call)
+  call_goes_on after call frame told u it is-placed done is-then is-u is-it =
+      deed_goes_on after (Calls call) frame told u it is-placed done is-then is-u
+      (is-it ∙ ap (λ (t : CallTold). called_so call (is_refusal t)) done.2)
+
+  abbrev found : Option FlowEnd
+  found = end_of_peer before.flows peer
+
+  -- what a rule has the peer's end do, by what is kept of it
+  same-call : (u : Upkeep) (rule : Rule) → u ≡ upkeep_at pace kept peer → rule ≡ due_rule u.path now
+      → call_for_rule rule u.path.aim found ≡ call_due now s peer
+  same-call u rule is-u is-rule =
+      ap (λ (r : Rule). call_for_rule r u.path.aim found) is-rule ∙ ap (λ (v : Upkeep). call_by_rule now v found) is-u
+
+  pub rule_goes_on : (after : Listening) (u : Upkeep) (rule : Rule) → IsPlaced fresh had kept placed peer
+      → after ≡ listening_if before peer (call_for_rule rule u.path.aim found)
+      → then' ≡ upkeeps_then now pace placed peer (end_of_peer after.flows peer) u (happening.Ruled rule) → u ≡ upkeep_at pace kept peer
+      → rule ≡ due_rule u.path now → served after pace then' ≡ rule_followed now s peer
+  rule_goes_on after u rule is-placed is-after is-then is-u is-rule =
+      goes_on after (listening_if before peer (call_due now s peer)) u (happening.Ruled rule)
+      (happening.Ruled (due_rule (upkeep_at pace kept peer).path now)) is-placed
+      (is-after ∙ ap (listening_if before peer) (same-call u rule is-u is-rule)) is-then is-u
+      (ap (λ (r : Rule). happening.Ruled r) is-rule ∙ ap (λ (v : Upkeep). happening.Ruled (due_rule v.path now)) is-u)
+
+pub rule_sends : (now : ℕ) (before : Listening) (pace : Pace) (kept : Upkeeps) (peer : Peer) (frame : Option Outgoing) (u : Upkeep) (rule : Rule)
+    → frame ≡ frame_if before peer (call_for_rule rule u.path.aim (end_of_peer before.flows peer)) → u ≡ upkeep_at pace kept peer
+    → rule ≡ due_rule u.path now → frame ≡ frame_if before peer (call_due now (served before pace kept) peer)
+rule_sends now before pace kept peer frame u rule is is-u is-rule =
+    is ∙ ap (λ (r : Rule). frame_if before peer (call_for_rule r u.path.aim (end_of_peer before.flows peer))) is-rule
+    ∙ ap (λ (v : Upkeep). frame_if before peer (call_by_rule now v (end_of_peer before.flows peer))) is-u

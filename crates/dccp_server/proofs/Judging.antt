@@ -1,46 +1,73 @@
--- What the rules make of a datagram is a list of deeds.
-use Rattle.std.proofs.Common.{◌≡◌, refl, ℕ, List, [], ◌∷◌, Bool, true, false, Option, Some, None}
+-- What the rules make of a datagram is a list of doings.
+use Rattle.std.proofs.Common.{◌≡◌, refl, sym, ap, ◌∙◌, ℕ, List, [], ◌∷◌, Bool, true, false, if◌then◌else◌, Option, Some, None}
 use Rattle.dccp_listener.specs.Chain.{Aborts, Arrives, Calls, Deed, Fires}
 use Rattle.dccp_listener.specs.Listens.{listens}
 use Rattle.dccp_listener.specs.Runs.{CallTold, HadNoMemory, Stepped, WasBusy}
 use Rattle.dccp_listener.specs.declared.peer.Peer.{Peer}
 use Rattle.dccp_states.specs.declared.calls.Timer.TheVariants as timers
 use Rattle.dccp_server.specs.Lives.{life_of, signs_of}
-use Rattle.dccp_server.specs.Rooms.{Coming, LivesChangeNothing, Room, RulesAreDeeds, begun_anew, comes_by, does_all, heard_plainly, room_does, room_made, who_leaves}
-use Rattle.dccp_server.specs.Rules.{begins_anew}
-use Rattle.dccp_server.specs.Serving.{TimedDeed}
+use Rattle.dccp_server.specs.Rooms.{Coming, LivesChangeNothing, Room, Ruled, RulesAreDeeds, begun_anew, comes_by, comes_if, does_all, duty_done, heard_plainly, is_to_be_heard, room_does, room_made, who_leaves}
+use Rattle.dccp_server.specs.Rules.{begins_anew, refuses_last_sync}
+use Rattle.dccp_server.specs.Serving.{Does, Doing, Follows, Served, Spends, TimedDoing, served_by, served_through}
+use Rattle.dccp_server.specs.declared.duty.Duty.{Duty}
+use Rattle.dccp_server.specs.declared.duty.Duty.TheVariants.{Follow}
 use Rattle.dccp_server.specs.declared.rules.Rules.{Rules}
+use Rattle.dccp_uses.specs.declared.rule.Rule.{Rule}
 
-module _ (now : ℕ) (rules : Rules) (half : ℕ) (r : Room) (peer : Peer) (iss : ℕ) (bytes : List ℕ) where
-  abbrev plain : Coming
-  plain = heard_plainly now r peer iss bytes None
+abbrev IsByDoings : Room → Room → Type 0
+IsByDoings r after = (all : List TimedDoing) × (after ≡ does_all r all)
 
-  abbrev does : Peer → Deed → TimedDeed
-  does who deed = record { now = now; peer = who; deed = deed }
+module _ (now : ℕ) (rules : Rules) (half : ℕ) (peer : Peer) (iss : ℕ) (bytes : List ℕ) where
+  abbrev does : Peer → Deed → TimedDoing
+  does who deed = record { now = now; peer = who; doing = Does deed }
 
-  abbrev heard : TimedDeed
+  abbrev heard : TimedDoing
   heard = does peer (Arrives iss bytes)
 
-  abbrev IsByDeeds : Room → Type 0
-  IsByDeeds after = (deeds : List TimedDeed) × (after ≡ does_all r deeds)
+  module _ (r : Room) where
+    abbrev plain : Coming
+    plain = heard_plainly now r peer iss bytes None
 
-  by-leaving : (leaving : Option Peer) → IsByDeeds (room_made now plain.room peer iss bytes leaving plain).room
-  by-leaving None = (heard ∷ [], refl)
-  by-leaving (Some who) = (heard ∷ does who (Calls Aborts) ∷ does who (Calls (Fires timers.TimeWait)) ∷ heard ∷ [], refl)
+    by-leaving : (leaving : Option Peer) → IsByDoings r (room_made now plain.room peer iss bytes leaving plain).room
+    by-leaving None = (heard ∷ [], refl)
+    by-leaving (Some who) = (heard ∷ does who (Calls Aborts) ∷ does who (Calls (Fires timers.TimeWait)) ∷ heard ∷ [], refl)
 
-  by-anew : (anew : Bool) → IsByDeeds (begun_anew now peer plain anew).room
-  by-anew true = (heard ∷ does peer (Calls Aborts) ∷ does peer (Calls (Fires timers.TimeWait)) ∷ [], refl)
-  by-anew false = (heard ∷ [], refl)
+    by-anew : (anew : Bool) → IsByDoings r (begun_anew now peer plain anew).room
+    by-anew true = (heard ∷ does peer (Calls Aborts) ∷ does peer (Calls (Fires timers.TimeWait)) ∷ [], refl)
+    by-anew false = (heard ∷ [], refl)
 
-  by-told : (told : CallTold) → IsByDeeds (comes_by now rules half r peer iss bytes plain told).room
-  by-told WasBusy = by-leaving (who_leaves now rules half plain.room)
-  by-told HadNoMemory = (heard ∷ [], refl)
-  by-told (Stepped it) = by-anew (begins_anew rules (life_of r.lives peer) bytes (signs_of (Stepped it)))
+    by-told : (told : CallTold) → IsByDoings r (comes_by now rules half r peer iss bytes plain told).room
+    by-told WasBusy = by-leaving (who_leaves now rules half plain.room)
+    by-told HadNoMemory = (heard ∷ [], refl)
+    by-told (Stepped it) = by-anew (begins_anew rules (life_of r.lives peer) bytes (signs_of (Stepped it)))
+
+    by-hearing : (is : Bool) → IsByDoings r (comes_if now rules half r peer iss bytes is).room
+    by-hearing true = by-told (listens r.served.listening peer (Arrives iss bytes)).told
+    by-hearing false = ([], refl)
+
+  by-counting : (r : Room) (refuses is : Bool)
+      → IsByDoings r (comes_if now rules half (if refuses then r else room_does now r peer (Spends bytes)) peer iss bytes is).room
+  by-counting r true is = by-hearing r is
+  by-counting r false is =
+      let rest = by-hearing (room_does now r peer (Spends bytes)) is in
+      (record { now = now; peer = peer; doing = Spends bytes } ∷ rest.0, rest.1)
 
 pub rules_are_deeds : RulesAreDeeds
 rules_are_deeds now rules half r peer iss bytes =
-    by-told now rules half r peer iss bytes (listens r.served.listening peer (Arrives iss bytes)).told
+    by-counting now rules half peer iss bytes r (refuses_last_sync rules (life_of r.lives peer) bytes) (is_to_be_heard now rules r peer bytes)
+
+served-same : (now : ℕ) (r : Room) (peer : Peer) (doing : Doing) → (room_does now r peer doing).served ≡ served_by now r.served peer doing
+served-same now r peer (Does deed) = refl
+served-same now r peer (Spends bytes) = refl
+served-same now r peer Follows = refl
 
 pub lives_change_nothing : LivesChangeNothing
 lives_change_nothing r [] = refl
-lives_change_nothing r (it ∷ later) = lives_change_nothing (room_does it.now r it.peer it.deed) later
+lives_change_nothing r (it ∷ later) =
+    lives_change_nothing (room_does it.now r it.peer it.doing) later
+    ∙ ap (λ (s : Served). served_through s later) (served-same it.now r it.peer it.doing)
+
+-- to do a duty by which a rule is followed is to follow it
+pub duty_as : (now : ℕ) (s after : Ruled) (duty : Duty) (peer : Peer) (rule : Rule) → duty ≡ Follow peer rule
+    → after ≡ record s { room = room_does now s.room peer Follows } → after ≡ record s { room = duty_done now s.room (Some duty) }
+duty_as now s after duty peer rule is does = does ∙ ap (λ (d : Duty). record s { room = duty_done now s.room (Some d) }) (sym is)

@@ -6,5 +6,7 @@ pub mod Judging
 pub mod Living
 pub mod Placing
 pub mod Refusing
+mod Rows
 pub mod Through
+pub mod Timing
 pub mod Tying

@@ -1,5 +1,5 @@
 -- A place that was made for what is kept of a peer changes nothing of what that is then.
-use Rattle.std.proofs.Common.{◌≡◌, refl, sym, ap, ◌∙◌, subst, ℕ, Bool, true, false, cond, List, [], ◌∷◌, Option, Some, None, Result, Ok, Err, Ordering, Less, Equal, Greater, is_eq}
+use Rattle.std.proofs.Common.{◌≡◌, refl, sym, ap, ◌∙◌, subst, Bool, true, false, cond, List, [], ◌∷◌, Option, Some, None, Result, Ok, Err, Ordering, Less, Equal, Greater, is_eq}
 use Rattle.std.proofs.lemmas.Bool.{false≢true}
 use Rattle.std.specs.BTreeMap.{insert_entry}
 use Rattle.std.specs.Map.{lookup, remove_entry}
@@ -104,3 +104,9 @@ inserted {V} before after peer value found e written (Ok old) there put none is-
     put ∙ ap (λ (a : V). insert_entry peer_cmp before peer a) is-written ∙ sym (ap (λ (f : Option FlowEnd). kept_then before peer value f) is-end)
 inserted {V} before after peer value found e written (Err fault) there put none is-end is-written =
     absurd (false≢true (subst (λ (x : Option V). IsSome x) none there))
+
+pub put_there : {V X : Type 0} (before after : List (Peer × V)) (peer : Peer) (written : V) (result : Result (Option V) X)
+    → IsSome (lookup (is_peer peer) before) → OnOk result (after ≡ insert_entry peer_cmp before peer written)
+    → OnErr result (lookup (is_peer peer) before ≡ None) → after ≡ insert_entry peer_cmp before peer written
+put_there {V} before after peer written (Ok old) there put none = put
+put_there {V} before after peer written (Err fault) there put none = absurd (false≢true (subst (λ (x : Option V). IsSome x) none there))

@@ -1,5 +1,5 @@
--- The peers that have timers are those that have a flow, and who has timers has a place for them.
-use Rattle.std.proofs.Common.{◌≡◌, refl, sym, ap, ◌∙◌, subst, ℕ, Bool, true, false, cond, ◌||◌, if◌then◌else◌, List, [], ◌∷◌, Option, Some, None, is_some, IsSome, IfSome, inl, inr, Result, Ok, Err, OnOk, OnErr, Ordering, Less, Equal, Greater, is_eq}
+-- The peers of which something is kept are those that have a flow, and who has a flow has a place for it.
+use Rattle.std.proofs.Common.{◌≡◌, refl, sym, ap, ◌∙◌, subst, ℕ, Bool, true, false, cond, ◌||◌, if◌then◌else◌, List, [], ◌∷◌, Option, Some, None, is_some, IsSome, inl, inr, Result, Ok, Err, OnOk, OnErr, Ordering, Less, Equal, Greater, is_eq}
 use Rattle.std.proofs.lemmas.Bool.{false≢true}
 use Rattle.std.proofs.lemmas.Map.{keys-set_value, lookup-remove_entry, lookup-set_value}
 use Rattle.std.proofs.lemmas.Map.Keys.{IsDistinct-from_sorted}
@@ -8,7 +8,7 @@ use Rattle.std.specs.List.{AllByRecursion, list_any}
 use Rattle.std.specs.List.Sorted.{IsStrictlySortedBy}
 use Rattle.std.specs.Map.{keys_of, lookup, remove_entry, set_value}
 use Rattle.std.specs.Ordering.{match_ordering}
-use Rattle.ccid_two.specs.Kinds.{Both, kinds_control}
+use Rattle.ccid_two.specs.Kinds.{Both}
 use Rattle.dccp_endpoint.specs.Strangers.{stays_in}
 use Rattle.dccp_packets.specs.Outgoing.{Outgoing}
 use Rattle.dccp_endpoint.specs.Controlled.{EndStep}
@@ -23,14 +23,15 @@ use Rattle.dccp_listener.specs.Peers.{FlowEnd, Flows, Listening, end_of_peer, is
 use Rattle.dccp_listener.specs.declared.calls.Heard.{Heard}
 use Rattle.dccp_listener.specs.declared.config.ListenConfig.{ListenConfig}
 use Rattle.dccp_listener.specs.declared.peer.Peer.{Peer}
-use Rattle.dccp_uses.specs.Alarms.{arranged}
-use Rattle.dccp_uses.specs.Session.{condition_of, every_timer}
-use Rattle.dccp_uses.specs.declared.alarms.Alarms.{Alarms}
-use Rattle.dccp_states.specs.declared.calls.Timer.{Timer}
+use Rattle.dccp_uses.specs.Rules.{due_rule}
+use Rattle.dccp_uses.specs.declared.pace.Pace.{Pace}
 use Rattle.seq_circle.specs.declared.memory.NoMemory.{NoMemory}
-use Rattle.dccp_server.specs.Due.{first_due}
-use Rattle.dccp_server.specs.Places.{kept_then}
-use Rattle.dccp_server.specs.Serving.{CallsWantNoMemory, IsTied, OnlyStrangersWantMemory, Served, TimedDeed, Timers, TimersStandWithFlows, WantsMemory, deed_served, due_or, first_due_flow, served, served_through, serving_begins, timers_by}
+use Rattle.dccp_server.specs.Places.{HasPlaceIf, kept_then}
+use Rattle.dccp_server.specs.Serving.{CallsWantNoMemory, Does, Doing, Follows, IsTied, OnlyStrangersWantMemory, Served, Spends, TimedDoing, Upkeeps, UpkeepsStandWithFlows, WantsMemory, call_due, upkeep_counted, deed_served, happening_by, listening_if, served, served_by, served_through, serves_on, serving_begins, served_counted_by, upkeep_at}
+use Rattle.dccp_server.specs.Upkeeps.{next_upkeep}
+use Rattle.dccp_server.specs.declared.happening.Happening.{Happening}
+use Rattle.dccp_server.specs.declared.happening.Happening.TheVariants as happening
+use Rattle.dccp_server.specs.declared.upkeep.Upkeep.{Upkeep}
 use Rattle.dccp_server.proofs.Through.{none_in_order}
 
 -- peers with one less, and with one more
@@ -139,6 +140,14 @@ module _ {V : Type 0} (peer : Peer) (kept : List (Peer × V)) (value : FlowEnd �
       ∙ put e ∙ ap (λ (ks : List Peer). with-peer ks peer) tied ∙ once peer (keys_of flows) ordered (sym (found_among (is_peer peer) flows) ∙ there)
       ∙ sym (keys-set_value (is_peer peer) flows e)
 
+  -- so it is where the flows stay
+  pub kept_same : (flows : Flows) (found : Option FlowEnd) → end_of_peer flows peer ≡ found → keys_of kept ≡ keys_of flows → AreInOrder flows
+      → then' found ≡ keys_of flows
+  kept_same flows None is tied ordered = sym (ap then' is) ∙ untouched flows tied is
+  kept_same flows (Some e) is tied ordered =
+      put e ∙ ap (λ (ks : List Peer). with-peer ks peer) tied
+      ∙ once peer (keys_of flows) ordered (sym (found_among (is_peer peer) flows) ∙ ap is_some is)
+
   met : (l : Listening) (iss : ℕ) (bytes : List ℕ) (step : EndStep Both Answer) (stays full : Bool) → keys_of kept ≡ keys_of l.flows
       → end_of_peer l.flows peer ≡ None
       → then' (end_of_peer (fresh_met l peer iss bytes step stays full).flows peer) ≡ keys_of (fresh_met l peer iss bytes step stays full).flows
@@ -158,70 +167,108 @@ module _ {V : Type 0} (peer : Peer) (kept : List (Peer × V)) (value : FlowEnd �
       (stays_in (flow_step (fresh_end l.config peer iss bytes) (Arrives iss bytes)).after.state.phase) (is_table_full l) tied is
   tied_by l None (Calls call) is tied ordered = untouched l.flows tied is
 
-pub tied_after : (now : ℕ) (s : Served) (peer : Peer) (deed : Deed) → keys_of s.timers ≡ keys_of s.listening.flows → AreInOrder s.listening.flows
-    → keys_of (deed_served now s peer deed).timers ≡ keys_of (deed_served now s peer deed).listening.flows
+pub tied_after : (now : ℕ) (s : Served) (peer : Peer) (deed : Deed) → keys_of s.upkeeps ≡ keys_of s.listening.flows → AreInOrder s.listening.flows
+    → keys_of (deed_served now s peer deed).upkeeps ≡ keys_of (deed_served now s peer deed).listening.flows
 tied_after now s peer deed tied ordered =
-    tied_by peer s.timers (λ e. arranged (timers_by now s peer deed) (condition_of kinds_control e) now) s.listening (end_of_peer s.listening.flows peer) deed refl tied ordered
+    tied_by peer s.upkeeps (next_upkeep now s.pace (upkeep_at s.pace s.upkeeps peer) (happening_by s peer deed)) s.listening
+    (end_of_peer s.listening.flows peer) deed refl tied ordered
 
-pub tied_then : (now : ℕ) (s t : Served) (peer : Peer) (deed : Deed) → t ≡ deed_served now s peer deed → IsTied s → IsTied t
-tied_then now s t peer deed is tied =
-    subst IsTied (sym is)
-    (record {
+pub tied_deed : (now : ℕ) (s : Served) (peer : Peer) (deed : Deed) → IsTied s → IsTied (deed_served now s peer deed)
+tied_deed now s peer deed tied =
+    record {
       same_peers = tied_after now s peer deed tied.same_peers tied.ordered;
       ordered = (computed_runs s.listening ((peer, deed) ∷ []) tied.ordered).1;
-    })
+    }
 
-tied-through : (s : Served) (deeds : List TimedDeed) → keys_of s.timers ≡ keys_of s.listening.flows → AreInOrder s.listening.flows
-    → keys_of (served_through s deeds).timers ≡ keys_of (served_through s deeds).listening.flows
-tied-through s [] tied ordered = tied
-tied-through s (it ∷ later) tied ordered =
-    tied-through (deed_served it.now s it.peer it.deed) later (tied_after it.now s it.peer it.deed tied ordered)
-    (computed_runs s.listening ((it.peer, it.deed) ∷ []) ordered).1
+tied-spent : (now : ℕ) (s : Served) (peer : Peer) (bytes : List ℕ) (u : Upkeep) (found : Option FlowEnd) → end_of_peer s.listening.flows peer ≡ found
+    → IsTied s → IsTied (served_counted_by now s peer bytes u found)
+tied-spent now s peer bytes u None is tied = tied
+tied-spent now s peer bytes u (Some e) is tied =
+    record {
+      same_peers = kept_same peer s.upkeeps (upkeep_counted now bytes u) s.listening.flows (Some e) is tied.same_peers tied.ordered;
+      ordered = tied.ordered;
+    }
 
-pub timers_tied : TimersStandWithFlows
-timers_tied config deeds = tied-through (serving_begins config) deeds refl none_in_order
+tied-called : (now : ℕ) (s : Served) (peer : Peer) (call : Option FlowCall) (it : Happening) → IsTied s
+    → IsTied (serves_on now s (listening_if s.listening peer call) peer it)
+tied-called now s peer None it tied =
+    record {
+      same_peers = kept_same peer s.upkeeps (next_upkeep now s.pace (upkeep_at s.pace s.upkeeps peer) it) s.listening.flows
+          (end_of_peer s.listening.flows peer) refl tied.same_peers tied.ordered;
+      ordered = tied.ordered;
+    }
+tied-called now s peer (Some call) it tied =
+    record {
+      same_peers = tied_by peer s.upkeeps (next_upkeep now s.pace (upkeep_at s.pace s.upkeeps peer) it) s.listening
+          (end_of_peer s.listening.flows peer) (Calls call) refl tied.same_peers tied.ordered;
+      ordered = (computed_runs s.listening ((peer, Calls call) ∷ []) tied.ordered).1;
+    }
 
-pub no_flow : (s : Served) (peer : Peer) → keys_of s.timers ≡ keys_of s.listening.flows → lookup (is_peer peer) s.timers ≡ None
+pub tied_does : (now : ℕ) (s : Served) (peer : Peer) (doing : Doing) → IsTied s → IsTied (served_by now s peer doing)
+tied_does now s peer (Does deed) tied = tied_deed now s peer deed tied
+tied_does now s peer (Spends bytes) tied =
+    tied-spent now s peer bytes (upkeep_at s.pace s.upkeeps peer) (end_of_peer s.listening.flows peer) refl tied
+tied_does now s peer Follows tied =
+    tied-called now s peer (call_due now s peer) (happening.Ruled (due_rule (upkeep_at s.pace s.upkeeps peer).path now)) tied
+
+pub tied_then : (now : ℕ) (s t : Served) (peer : Peer) (doing : Doing) → t ≡ served_by now s peer doing → IsTied s → IsTied t
+tied_then now s t peer doing is tied = subst IsTied (sym is) (tied_does now s peer doing tied)
+
+tied-through : (s : Served) (all : List TimedDoing) → IsTied s → IsTied (served_through s all)
+tied-through s [] tied = tied
+tied-through s (it ∷ later) tied = tied-through (served_by it.now s it.peer it.doing) later (tied_does it.now s it.peer it.doing tied)
+
+pub begun_tied : (config : ListenConfig) (pace : Pace) → IsTied (serving_begins config pace)
+begun_tied config pace = record { same_peers = refl; ordered = none_in_order }
+
+pub through_tied : (config : ListenConfig) (pace : Pace) (all : List TimedDoing) → IsTied (served_through (serving_begins config pace) all)
+through_tied config pace all = tied-through (serving_begins config pace) all (begun_tied config pace)
+
+pub upkeeps_tied : UpkeepsStandWithFlows
+upkeeps_tied config pace all = (through_tied config pace all).same_peers
+
+pub no_flow : (s : Served) (peer : Peer) → keys_of s.upkeeps ≡ keys_of s.listening.flows → lookup (is_peer peer) s.upkeeps ≡ None
     → end_of_peer s.listening.flows peer ≡ None
 no_flow s peer tied none =
     none_from (end_of_peer s.listening.flows peer)
-    (found_among (is_peer peer) s.listening.flows ∙ ap (list_any (is_peer peer)) (sym tied) ∙ sym (found_among (is_peer peer) s.timers) ∙ ap is_some none)
+    (found_among (is_peer peer) s.listening.flows ∙ ap (list_any (is_peer peer)) (sym tied) ∙ sym (found_among (is_peer peer) s.upkeeps) ∙ ap is_some none)
 
-stranger-by : (s : Served) (peer : Peer) (iss : ℕ) (bytes : List ℕ) → keys_of s.timers ≡ keys_of s.listening.flows
+stranger-by : (s : Served) (peer : Peer) (iss : ℕ) (bytes : List ℕ) → keys_of s.upkeeps ≡ keys_of s.listening.flows
     → WantsMemory s peer (Arrives iss bytes) → end_of_peer s.listening.flows peer ≡ None
 stranger-by s peer iss bytes tied (inl none) = none
 stranger-by s peer iss bytes tied (inr none) = no_flow s peer tied none
 
 pub strangers : OnlyStrangersWantMemory
-strangers config deeds peer iss bytes wants =
-    stranger-by (served_through (serving_begins config) deeds) peer iss bytes (timers_tied config deeds) wants
+strangers config pace all peer iss bytes wants =
+    stranger-by (served_through (serving_begins config pace) all) peer iss bytes (upkeeps_tied config pace all) wants
+
+-- memory is wanting for no call
+pub calls_find_places : (s : Served) (peer : Peer) → IsTied s → IsSome (end_of_peer s.listening.flows peer) → lookup (is_peer peer) s.upkeeps ≡ None → ⊥
+calls_find_places s peer tied there none = false≢true (sym (ap is_some (no_flow s peer tied.same_peers none)) ∙ there)
 
 pub calls_want_none : CallsWantNoMemory
-calls_want_none config deeds peer call wants =
-    let s : Served = served_through (serving_begins config) deeds in
-    false≢true (sym (ap is_some (no_flow s peer (timers_tied config deeds) wants.1)) ∙ wants.0)
+calls_want_none config pace all peer call wants =
+    calls_find_places (served_through (serving_begins config pace) all) peer (through_tied config pace all) wants.0 wants.1
 
--- a peer of which a timer has run out has timers
+-- who has an end has a place
+place-by : {V : Type 0} (flows : Flows) (kept : List (Peer × V)) (peer : Peer) (found : Option FlowEnd) → keys_of kept ≡ keys_of flows
+    → end_of_peer flows peer ≡ found → HasPlaceIf found kept peer
+place-by {V} flows kept peer None tied is = tt
+place-by {V} flows kept peer (Some e) tied is =
+    found_among (is_peer peer) kept ∙ ap (list_any (is_peer peer)) tied ∙ sym (found_among (is_peer peer) flows) ∙ ap is_some is
 
-there-by : (alarms : Alarms) (rest : Option Alarms) (here : Bool) → IsSome rest → IsSome (cond here (Some alarms) rest)
-there-by alarms rest true is = refl
-there-by alarms rest false is = is
+pub place_if : {V : Type 0} (flows : Flows) (kept : List (Peer × V)) (peer : Peer) → keys_of kept ≡ keys_of flows
+    → HasPlaceIf (end_of_peer flows peer) kept peer
+place_if {V} flows kept peer tied = place-by flows kept peer (end_of_peer flows peer) tied refl
 
-due-by : (peer : Peer) (alarms : Alarms) (rest : Timers) (timer : Option Timer) (later : Option (Peer × Timer))
-    → IfSome later (λ due. IsSome (lookup (is_peer due.0) rest))
-    → IfSome (due_or peer timer later) (λ due. IsSome (lookup (is_peer due.0) ((peer, alarms) ∷ rest)))
-due-by peer alarms rest (Some timer) later is =
-    ap (λ (here : Bool). is_some (cond here (Some alarms) (lookup (is_peer peer) rest))) (peers_alike.refl peer)
-due-by peer alarms rest None None is = tt
-due-by peer alarms rest None (Some due) is = there-by alarms (lookup (is_peer due.0) rest) (is_peer due.0 peer) is
+pub has_place : {V : Type 0} (end : Option FlowEnd) (kept : List (Peer × V)) (peer : Peer) → IsSome (lookup (is_peer peer) kept) → HasPlaceIf end kept peer
+has_place {V} None kept peer there = tt
+has_place {V} (Some e) kept peer there = there
 
-due-there : (now : ℕ) (timers : Timers) → IfSome (first_due_flow now timers) (λ due. IsSome (lookup (is_peer due.0) timers))
-due-there now [] = tt
-due-there now (one ∷ rest) = due-by one.0 one.1 rest (first_due one.1 now every_timer) (first_due_flow now rest) (due-there now rest)
-
-pub there_from_due : (now : ℕ) (timers : Timers) (due : Option (Peer × Timer)) → due ≡ first_due_flow now timers
-    → IfSome due (λ it. IsSome (lookup (is_peer it.0) timers))
-there_from_due now timers due is = subst (λ (x : Option (Peer × Timer)). IfSome x (λ it. IsSome (lookup (is_peer it.0) timers))) (sym is) (due-there now timers)
+-- and whoever has none, and an end, has a place
+pub place_there_if : {V : Type 0} (found : Option FlowEnd) (e : FlowEnd) (kept : List (Peer × V)) (peer : Peer) → found ≡ Some e → HasPlaceIf found kept peer
+    → IsSome (lookup (is_peer peer) kept)
+place_there_if {V} found e kept peer is has = subst (λ (x : Option FlowEnd). HasPlaceIf x kept peer) is has
 
 -- memory for a datagram is wanting where it would open a flow
 pub stranger_from_arrived : (before after : Listening) (peer : Peer) (iss : ℕ) (bytes : List ℕ) (frame : Option Outgoing) (result : Result Heard NoMemory)
@@ -230,19 +277,14 @@ stranger_from_arrived before after peer iss bytes frame (Ok heard) is = tt
 stranger_from_arrived before after peer iss bytes frame (Err fault) is = is.0.has_none
 
 -- at first there are none
-pub tied_begins : (config : ListenConfig) (l : Listening) (timers : Timers) → l ≡ record { config = config; flows = [] } → timers ≡ []
-    → IsTied (served l timers)
-tied_begins config l timers begun none =
-    subst (λ (x : Listening). IsTied (served x timers)) (sym begun)
-    (subst (λ (t : Timers). IsTied (served (record { config = config; flows = [] }) t)) (sym none)
-    (record { same_peers = refl; ordered = none_in_order }))
+pub tied_begins : (config : ListenConfig) (pace : Pace) (l : Listening) (kept : Upkeeps) → l ≡ record { config = config; flows = [] } → kept ≡ []
+    → IsTied (served l pace kept)
+tied_begins config pace l kept begun none =
+    subst (λ (x : Listening). IsTied (served x pace kept)) (sym begun)
+    (subst (λ (t : Upkeeps). IsTied (served (record { config = config; flows = [] }) pace t)) (sym none) (begun_tied config pace))
 
 -- so it stays where memory was wanting and nothing has changed
-pub tied_if : {A B : Type 0} (now : ℕ) (s t : Served) (peer : Peer) (deed : Deed) (result : Result A B) → OnOk result (t ≡ deed_served now s peer deed)
+pub tied_if : {A B : Type 0} (now : ℕ) (s t : Served) (peer : Peer) (doing : Doing) (result : Result A B) → OnOk result (t ≡ served_by now s peer doing)
     → OnErr result (t ≡ s) → IsTied s → IsTied t
-tied_if now s t peer deed (Ok it) does same tied = tied_then now s t peer deed does tied
-tied_if now s t peer deed (Err fault) does same tied = subst IsTied (sym same) tied
-
--- and memory is wanting for no call
-pub calls_find_places : (s : Served) (peer : Peer) (call : FlowCall) → IsTied s → WantsMemory s peer (Calls call) → ⊥
-calls_find_places s peer call tied wants = false≢true (sym (ap is_some (no_flow s peer tied.same_peers wants.1)) ∙ wants.0)
+tied_if now s t peer doing (Ok it) does same tied = tied_then now s t peer doing does tied
+tied_if now s t peer doing (Err fault) does same tied = subst IsTied (sym same) tied

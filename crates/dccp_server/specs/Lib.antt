@@ -5,3 +5,6 @@ pub mod Places
 pub mod Rooms
 pub mod Rules
 pub mod Serving
+pub mod Strangers
+pub mod Timing
+pub mod Upkeeps

@@ -49,6 +49,10 @@ signs_in (Took delivered) = record { taken = true; synced = false }
 signs_in (Synced number) = record { taken = false; synced = true }
 signs_in _ = record { taken = false; synced = false }
 
+-- what tells nothing of a peer
+abbrev pub no_signs : Signs
+no_signs = record { taken = false; synced = false }
+
 -- what a deed tells of its peer
 abbrev pub signs_of : CallTold → Signs
 signs_of (Stepped (Some (Received outcome))) = signs_in outcome

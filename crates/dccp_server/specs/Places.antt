@@ -14,3 +14,8 @@ kept_then kept peer value (Some e) = insert_entry peer_cmp kept peer (value e)
 abbrev pub IsPlaced : {V : Type 0} → V → Bool → List (Peer × V) → List (Peer × V) → Peer → Type 0
 IsPlaced fresh true before after peer = IsSome (lookup (is_peer peer) before) × (after ≡ before)
 IsPlaced fresh false before after peer = (lookup (is_peer peer) before ≡ None) × (after ≡ insert_entry peer_cmp before peer fresh)
+
+-- a peer that has an end has a place
+abbrev pub HasPlaceIf : {V : Type 0} → Option FlowEnd → List (Peer × V) → Peer → Type 0
+HasPlaceIf None kept peer = Unit {0}
+HasPlaceIf (Some e) kept peer = IsSome (lookup (is_peer peer) kept)

@@ -1,27 +1,34 @@
--- A server in its owner's room: a listener with the timers and the lives of its flows, and what the rules make of it
+-- A server in its owner's room: a listener with what is kept of its flows and their lives, and what the rules make of it
 -- (own; the flows are the listener's).
-use Rattle.std.specs.Prelude.{◌≡◌, ◌/◌, ℕ, Bool, true, false, List, [], ◌∷◌, Option, Some, None, IsSome, Result, Ok, Err, if◌then◌else◌}
-use Rattle.std.specs.Map.{keys_of, lookup}
+use Rattle.std.specs.Prelude.{◌≡◌, ◌/◌, ◌&&◌, ◌||◌, ℕ, Bool, true, false, not, List, [], ◌∷◌, Option, Some, None, is_some, Result, Ok, Err, if◌then◌else◌}
+use Rattle.std.specs.Map.{keys_of}
 use Rattle.dccp_packets.specs.Outgoing.{Outgoing}
-use Rattle.dccp_listener.specs.Chain.{Deed, Arrives, Calls, FlowCall, Aborts, Fires}
-use Rattle.dccp_listener.specs.Listens.{listening_after, listens}
-use Rattle.dccp_listener.specs.Peers.{FlowEnd, end_of_peer, is_peer}
+use Rattle.dccp_listener.specs.Chain.{Deed, Arrives, Calls, Aborts, Fires}
+use Rattle.dccp_listener.specs.Listens.{listens}
+use Rattle.dccp_listener.specs.Peers.{Listening, end_of_peer}
 use Rattle.dccp_listener.specs.Runs.{CallTold, Stepped, WasBusy, HadNoMemory, told_of}
 use Rattle.dccp_listener.specs.declared.calls.Heard.{Heard}
 use Rattle.dccp_listener.specs.declared.calls.Heard.TheVariants as heard
 use Rattle.seq_circle.specs.declared.memory.NoMemory.{NoMemory}
 use Rattle.dccp_listener.specs.declared.config.ListenConfig.{ListenConfig}
 use Rattle.dccp_listener.specs.declared.peer.Peer.{Peer}
-use Rattle.dccp_states.specs.declared.calls.Timer.{Timer}
 use Rattle.dccp_states.specs.declared.calls.Timer.TheVariants as timers
+use Rattle.dccp_uses.specs.Rules.{due_rule}
+use Rattle.dccp_uses.specs.declared.pace.Pace.{Pace}
+use Rattle.dccp_uses.specs.declared.timed_end.Due.{Due}
+use Rattle.dccp_uses.specs.declared.timed_end.Due.TheVariants as due
 use Rattle.dccp_server.specs.Due.{never}
-use Rattle.dccp_server.specs.Lives.{Lives, life_of, life_then, signs_in, signs_of}
-use Rattle.dccp_server.specs.Rules.{begins_anew, first_given_up, has_more_half_open, makes_way, least_left}
-use Rattle.dccp_server.specs.Serving.{IsTied, Served, TimedDeed, deed_served, first_due_flow, least_wait, served_through, serving_begins}
+use Rattle.dccp_server.specs.Lives.{Lives, life_of, life_then, no_signs, signs_in, signs_of}
+use Rattle.dccp_server.specs.Rules.{begins_anew, first_given_up, has_more_half_open, makes_way, least_left, refuses_last_sync, signs_noted}
+use Rattle.dccp_server.specs.Serving.{Doing, Does, Follows, IsTied, Served, Spends, TimedDoing, first_due_flow, doing_frame, is_admitted, least_wait, served_by, served_through, serving_begins, upkeep_at}
+use Rattle.dccp_server.specs.Strangers.{frame_if_goes, spared_if, strangers_begin}
 use Rattle.dccp_server.specs.declared.duty.Duty.{Duty}
-use Rattle.dccp_server.specs.declared.duty.Duty.TheVariants.{Ring, GiveUp}
+use Rattle.dccp_server.specs.declared.duty.Duty.TheVariants.{Ring, Follow, GiveUp}
 use Rattle.dccp_server.specs.declared.life.Life.{Life}
+use Rattle.dccp_server.specs.declared.life.Signs.{Signs}
 use Rattle.dccp_server.specs.declared.rules.Rules.{Rules}
+use Rattle.dccp_server.specs.declared.strangers.Spared.{Spared}
+use Rattle.dccp_server.specs.declared.strangers.Strangers.{Strangers}
 
 -- the listener with the timers of its flows, and their lives
 pub record Room : Type 0 where
@@ -32,30 +39,35 @@ pub record Room : Type 0 where
 abbrev pub as_room : Served → Lives → Room
 as_room served lives = record { served = served; lives = lives }
 
--- each flow has timers and a life
+-- something is kept of each flow, and it has a life
 pub record IsLiving (r : Room) : Type 0 where
   pub tied : IsTied r.served
   pub same_peers : keys_of r.lives ≡ keys_of r.served.listening.flows
 
--- a peer that has an end has a life
-abbrev pub HasLifeIf : Option FlowEnd → Lives → Peer → Type 0
-HasLifeIf None lives peer = Unit {0}
-HasLifeIf (Some e) lives peer = IsSome (lookup (is_peer peer) lives)
-
 -- a room without flows
-abbrev pub room_begins : ListenConfig → Room
-room_begins config = as_room (serving_begins config) []
+abbrev pub room_begins : ListenConfig → Pace → Room
+room_begins config pace = as_room (serving_begins config pace) []
 
--- A deed of a peer, where memory is found: the listener and the timers do it, and the life of the peer's flow goes on.
-abbrev pub room_does : ℕ → Room → Peer → Deed → Room
-room_does now r peer deed =
-    as_room (deed_served now r.served peer deed)
-    (life_then now r.lives peer (end_of_peer (listening_after r.served.listening peer deed).flows peer) (signs_of (listens r.served.listening peer deed).told)
-    (life_of r.lives peer))
+-- what a deed tells of its peer, as far as it is kept
+abbrev pub signs_by : Listening → Peer → Deed → Signs
+signs_by l peer (Arrives iss bytes) = signs_noted bytes (signs_of (listens l peer (Arrives iss bytes)).told)
+signs_by l peer (Calls call) = signs_of (listens l peer (Calls call)).told
+
+-- once that was done with a peer, the life of its flow goes on
+abbrev pub room_then : ℕ → Room → Peer → Served → Signs → Room
+room_then now r peer after signs =
+    as_room after (life_then now r.lives peer (end_of_peer after.listening.flows peer) signs (life_of r.lives peer))
+
+-- Something is done with a peer, where memory is found: the listener and what is kept of the flow do it, and its life goes
+-- on. A datagram that is only counted is no part of its life.
+abbrev pub room_does : ℕ → Room → Peer → Doing → Room
+room_does now r peer (Does deed) = room_then now r peer (served_by now r.served peer (Does deed)) (signs_by r.served.listening peer deed)
+room_does now r peer (Spends bytes) = record r { served = served_by now r.served peer (Spends bytes) }
+room_does now r peer Follows = room_then now r peer (served_by now r.served peer Follows) no_signs
 
 -- A peer's flow is forgotten: its end aborts, and where it is in TIMEWAIT that is over. Neither frame is sent.
 abbrev pub forgets : ℕ → Room → Peer → Room
-forgets now r peer = room_does now (room_does now r peer (Calls Aborts)) peer (Calls (Fires timers.TimeWait))
+forgets now r peer = room_does now (room_does now r peer (Does (Calls Aborts))) peer (Does (Calls (Fires timers.TimeWait)))
 
 -- more flows than this are half open in the room
 abbrev pub is_crowded : ℕ → Room → Bool
@@ -69,12 +81,12 @@ who_leaves now rules half r = makes_way rules (is_crowded half r) now r.lives
 abbrev pub who_is_over : ℕ → Rules → ℕ → Room → Option Peer
 who_is_over now rules half r = first_given_up rules (is_crowded half r) now r.lives
 
--- What comes of a datagram: the room after it, the frame that goes to its peer, what was told, whose flow made room, and
--- whether the peer's old flow was ended.
+-- What comes of a datagram: the room after it, the frame that is for its peer, what was told, if it was heard, whose flow
+-- made room, and whether the peer's old flow was ended.
 pub record Coming : Type 0 where
   pub room : Room
   pub frame : Option Outgoing
-  pub told : CallTold
+  pub told : Option CallTold
   pub evicted : Option Peer
   pub anew : Bool
 
@@ -82,9 +94,9 @@ pub record Coming : Type 0 where
 abbrev pub heard_plainly : ℕ → Room → Peer → ℕ → List ℕ → Option Peer → Coming
 heard_plainly now r peer iss bytes evicted =
     record {
-      room = room_does now r peer (Arrives iss bytes);
+      room = room_does now r peer (Does (Arrives iss bytes));
       frame = (listens r.served.listening peer (Arrives iss bytes)).frame;
-      told = (listens r.served.listening peer (Arrives iss bytes)).told;
+      told = Some (listens r.served.listening peer (Arrives iss bytes)).told;
       evicted = evicted;
       anew = false;
     }
@@ -106,71 +118,101 @@ comes_by now rules half r peer iss bytes plain HadNoMemory = plain
 comes_by now rules half r peer iss bytes plain (Stepped it) =
     begun_anew now peer plain (begins_anew rules (life_of r.lives peer) bytes (signs_of (Stepped it)))
 
+-- What comes of a datagram that is heard, where memory is found.
+abbrev pub comes_heard : ℕ → Rules → ℕ → Room → Peer → ℕ → List ℕ → Coming
+comes_heard now rules half r peer iss bytes =
+    comes_by now rules half r peer iss bytes (heard_plainly now r peer iss bytes None) (listens r.served.listening peer (Arrives iss bytes)).told
+
+-- a datagram is left out: nothing is sent, and no number is used
+abbrev pub left_out : Room → Coming
+left_out r = record { room = r; frame = None; told = None; evicted = None; anew = false }
+
+-- the room once a datagram was counted; one that refuses the last Sync is not
+abbrev pub counted_room : ℕ → Rules → Room → Peer → List ℕ → Room
+counted_room now rules r peer bytes = if refuses_last_sync rules (life_of r.lives peer) bytes then r else room_does now r peer (Spends bytes)
+
+-- it is to be heard
+abbrev pub is_to_be_heard : ℕ → Rules → Room → Peer → List ℕ → Bool
+is_to_be_heard now rules r peer bytes = refuses_last_sync rules (life_of r.lives peer) bytes || is_admitted now r.served peer bytes
+
+-- it is heard, or left out
+abbrev pub comes_if : ℕ → Rules → ℕ → Room → Peer → ℕ → List ℕ → Bool → Coming
+comes_if now rules half r peer iss bytes true = comes_heard now rules half r peer iss bytes
+comes_if now rules half r peer iss bytes false = left_out r
+
 -- What comes of a datagram, where memory is found.
 abbrev pub comes : ℕ → Rules → ℕ → Room → Peer → ℕ → List ℕ → Coming
 comes now rules half r peer iss bytes =
-    comes_by now rules half r peer iss bytes (heard_plainly now r peer iss bytes None) (listens r.served.listening peer (Arrives iss bytes)).told
+    comes_if now rules half (counted_room now rules r peer bytes) peer iss bytes (is_to_be_heard now rules r peer bytes)
 
 -- where none is found, the room is as it was, or only without the flow that made room
 abbrev pub left_without_memory : ℕ → Room → Peer → ℕ → List ℕ → Option Peer → Room
 left_without_memory now r peer iss bytes None = r
-left_without_memory now r peer iss bytes (Some leaving) = forgets now (room_does now r peer (Arrives iss bytes)) leaving
+left_without_memory now r peer iss bytes (Some leaving) = forgets now (room_does now r peer (Does (Arrives iss bytes))) leaving
 
--- how long it is until a timer runs out or a flow is given up; 2^64 - 1 where there is no such time
+-- how long it is until something is due of a flow or one is given up; 2^64 - 1 where there is no such time
 abbrev pub room_waits : ℕ → Rules → ℕ → Room → ℕ
-room_waits now rules half r = least_left rules (is_crowded half r) now (least_wait now never r.served.timers) r.lives
+room_waits now rules half r = least_left rules (is_crowded half r) now (least_wait now never r.served.upkeeps) r.lives
 
--- what there is to do first: a timer that has run out is told, or else a flow that is over is given up
-abbrev pub duty_of : Option (Peer × Timer) → Option Peer → Option Duty
-duty_of (Some due) over = Some (Ring due.0 due.1)
-duty_of None (Some peer) = Some (GiveUp peer)
-duty_of None None = None
+-- what is due of a flow: a timer is told, or the first rule that is due is followed
+abbrev pub duty_due : ℕ → Served → Peer → Due → Duty
+duty_due now s peer (due.Timer timer) = Ring peer timer
+duty_due now s peer due.Rules = Follow peer (due_rule (upkeep_at s.pace s.upkeeps peer).path now)
+
+-- what there is to do first: what is due is done, or else a flow that is over is given up
+abbrev pub duty_of : ℕ → Served → Option (Peer × Due) → Option Peer → Option Duty
+duty_of now s (Some it) over = Some (duty_due now s it.0 it.1)
+duty_of now s None (Some peer) = Some (GiveUp peer)
+duty_of now s None None = None
 
 -- the same of a room
 abbrev pub duty_in : ℕ → Rules → ℕ → Room → Option Duty
-duty_in now rules half r = duty_of (first_due_flow now r.served.timers) (who_is_over now rules half r)
+duty_in now rules half r = duty_of now r.served (first_due_flow now r.served.upkeeps) (who_is_over now rules half r)
 
 -- whose it is
 abbrev pub duty_peer : Duty → Peer
 duty_peer (Ring peer timer) = peer
+duty_peer (Follow peer rule) = peer
 duty_peer (GiveUp peer) = peer
 
--- the call by which it is done: a flow is given up by aborting its end
-abbrev pub call_for : Duty → FlowCall
-call_for (Ring peer timer) = Fires timer
-call_for (GiveUp peer) = Aborts
+-- how it is done: a flow is given up by aborting its end
+abbrev pub doing_for : Duty → Doing
+doing_for (Ring peer timer) = Does (Calls (Fires timer))
+doing_for (Follow peer rule) = Follows
+doing_for (GiveUp peer) = Does (Calls Aborts)
 
 -- the room once it is done
 abbrev pub duty_done : ℕ → Room → Option Duty → Room
 duty_done now r None = r
-duty_done now r (Some duty) = room_does now r (duty_peer duty) (Calls (call_for duty))
+duty_done now r (Some duty) = room_does now r (duty_peer duty) (doing_for duty)
 
 -- the frame that then goes to its peer
-abbrev pub duty_frame : Room → Option Duty → Option Outgoing
-duty_frame r None = None
-duty_frame r (Some duty) = (listens r.served.listening (duty_peer duty) (Calls (call_for duty))).frame
+abbrev pub duty_frame : ℕ → Room → Option Duty → Option Outgoing
+duty_frame now r None = None
+duty_frame now r (Some duty) = doing_frame now r.served (duty_peer duty) (doing_for duty)
 
--- what a deed of a peer does to a room, and its times, one after another
-abbrev pub does_all : Room → List TimedDeed → Room
+-- what is done with peers, and its times, one after another
+abbrev pub does_all : Room → List TimedDoing → Room
 does_all r [] = r
-does_all r (it ∷ later) = does_all (room_does it.now r it.peer it.deed) later
+does_all r (it ∷ later) = does_all (room_does it.now r it.peer it.doing) later
 
--- a room with its rules, and half of how many flows may stand in it
+-- a room with its rules, half of how many flows may stand in it, and what is left of the limits for strangers
 pub record Ruled : Type 0 where
   pub room : Room
   pub rules : Rules
   pub half : ℕ
+  pub strangers : Strangers
 
 -- a room without flows that goes by these rules
-abbrev pub ruled_begins : ListenConfig → Rules → Ruled
-ruled_begins config rules = record { room = room_begins config; rules = rules; half = config.most / 2 }
+abbrev pub ruled_begins : ListenConfig → Pace → Rules → Ruled
+ruled_begins config pace rules = record { room = room_begins config pace; rules = rules; half = config.most / 2; strangers = strangers_begin }
 
 -- The listener was busy with a datagram, and is this then, and a frame was left. Who leaves is forgotten, and the
 -- datagram heard once more, if memory is found.
 abbrev pub IsRoomMade : ℕ → Room → Room → Peer → ℕ → List ℕ → Option Peer → Option Outgoing → Option Outgoing → Result Heard NoMemory → Type 0
 IsRoomMade now busy after peer iss bytes None left frame result = (after ≡ busy) × (frame ≡ left) × (result ≡ Ok heard.Busy)
 IsRoomMade now busy after peer iss bytes (Some leaving) left frame (Ok it) =
-    (after ≡ room_does now (forgets now busy leaving) peer (Arrives iss bytes))
+    (after ≡ room_does now (forgets now busy leaving) peer (Does (Arrives iss bytes)))
     × (frame ≡ (listens (forgets now busy leaving).served.listening peer (Arrives iss bytes)).frame)
     × (told_of (Ok it) ≡ (listens (forgets now busy leaving).served.listening peer (Arrives iss bytes)).told)
 IsRoomMade now busy after peer iss bytes (Some leaving) left frame (Err _) = after ≡ forgets now busy leaving
@@ -185,19 +227,92 @@ IsJudged now rules half life before after peer iss bytes (heard.Flow outcome) le
     (anew ≡ begins_anew rules life bytes (signs_in outcome)) × (after ≡ (if anew then forgets now before peer else before))
     × (frame ≡ (if anew then None else left)) × (evicted ≡ None) × (result ≡ Ok (heard.Flow outcome))
 
--- What `arrive` does, by its answer: what comes of the datagram; or no memory was found.
-abbrev pub HasArrived : ℕ → Rules → ℕ → Room → Room → Peer → ℕ → List ℕ → Option Outgoing → Result Heard NoMemory → Option Peer → Bool → Type 0
-HasArrived now rules half before after peer iss bytes frame (Ok it) evicted anew =
-    record { room = after; frame = frame; told = told_of (Ok it); evicted = evicted; anew = anew } ≡ comes now rules half before peer iss bytes
-HasArrived now rules half before after peer iss bytes frame (Err _) evicted anew =
+-- What hearing a datagram does, by its answer: what comes of it; or no memory was found.
+abbrev pub HasHeard : ℕ → Rules → ℕ → Room → Room → Peer → ℕ → List ℕ → Option Outgoing → Result Heard NoMemory → Option Peer → Bool → Type 0
+HasHeard now rules half before after peer iss bytes frame (Ok it) evicted anew =
+    record { room = after; frame = frame; told = Some (told_of (Ok it)); evicted = evicted; anew = anew } ≡ comes_heard now rules half before peer iss bytes
+HasHeard now rules half before after peer iss bytes frame (Err _) evicted anew =
     (after ≡ left_without_memory now before peer iss bytes evicted) × (anew ≡ false)
 
--- What comes of a datagram, whatever the rules, is a list of deeds: what a listener's own owner might have done.
+-- what was told of a datagram: nothing where it was left out, or no memory was found
+abbrev pub told_of_arrival : Result (Option Heard) NoMemory → Option CallTold
+told_of_arrival (Ok None) = None
+told_of_arrival (Ok (Some it)) = Some (told_of (Ok it))
+told_of_arrival (Err _) = None
+
+-- what a datagram that was heard comes to as one that might have been left out
+abbrev pub heard_or_fault : Result Heard NoMemory → Result (Option Heard) NoMemory
+heard_or_fault (Ok it) = Ok (Some it)
+heard_or_fault (Err fault) = Err fault
+
+-- the frame that was left, but none where there was no memory
+abbrev pub unless_fault : Result Heard NoMemory → Option Outgoing → Option Outgoing
+unless_fault (Ok it) left = left
+unless_fault (Err fault) left = None
+
+-- What a datagram does that may be left out, by its answer.
+abbrev pub HasArrived : ℕ → Rules → ℕ → Room → Room → Peer → ℕ → List ℕ → Option Outgoing → Result (Option Heard) NoMemory → Option Peer → Bool → Type 0
+HasArrived now rules half before after peer iss bytes frame (Ok it) evicted anew =
+    record { room = after; frame = frame; told = told_of_arrival (Ok it); evicted = evicted; anew = anew } ≡ comes now rules half before peer iss bytes
+HasArrived now rules half before after peer iss bytes frame (Err _) evicted anew =
+    (after ≡ left_without_memory now (counted_room now rules before peer bytes) peer iss bytes evicted) × (frame ≡ None) × (anew ≡ false)
+
+-- a frame goes to a stranger: its peer has no flow, and had none
+abbrev pub is_to_stranger : Room → Room → Peer → Option Outgoing → Bool
+is_to_stranger before after peer frame =
+    not (is_some (end_of_peer before.served.listening.flows peer))
+    && (not (is_some (end_of_peer after.served.listening.flows peer)) && is_some frame)
+
+-- whether the frame that was left goes out, and what is left of the limits
+abbrev pub reply_spared : ℕ → Ruled → Peer → Room → Option Outgoing → Option CallTold → Spared
+reply_spared now s peer after left told = spared_if now s.rules s.strangers (is_to_stranger s.room after peer left) told
+
+-- What a server makes of a datagram: itself after it, the frame that goes to the peer, what was told, if it was heard,
+-- whose flow made room, and whether the peer's old flow was ended.
+pub record Reception : Type 0 where
+  pub server : Ruled
+  pub frame : Option Outgoing
+  pub told : Option CallTold
+  pub evicted : Option Peer
+  pub anew : Bool
+
+-- the server with this room, and this left of its limits
+abbrev pub moved_on : Ruled → Room → Strangers → Ruled
+moved_on s room strangers = record s { room = room; strangers = strangers }
+
+-- what came of the datagram, but that its frame may be one too many for a stranger
+abbrev pub reception_of : ℕ → Ruled → Peer → Coming → Reception
+reception_of now s peer coming =
+    record {
+      server = moved_on s coming.room (reply_spared now s peer coming.room coming.frame coming.told).strangers;
+      frame = frame_if_goes (reply_spared now s peer coming.room coming.frame coming.told).goes coming.frame;
+      told = coming.told;
+      evicted = coming.evicted;
+      anew = coming.anew;
+    }
+
+-- What a server makes of a datagram, where memory is found.
+abbrev pub received_at : ℕ → Ruled → Peer → ℕ → List ℕ → Reception
+received_at now s peer iss bytes = reception_of now s peer (comes now s.rules s.half s.room peer iss bytes)
+
+-- where none is found
+abbrev pub unreceived_at : ℕ → Ruled → Peer → ℕ → List ℕ → Option Peer → Ruled
+unreceived_at now s peer iss bytes evicted =
+    moved_on s (left_without_memory now (counted_room now s.rules s.room peer bytes) peer iss bytes evicted) s.strangers
+
+-- What a datagram does at a server, by its answer.
+abbrev pub IsServed : ℕ → Ruled → Ruled → Peer → ℕ → List ℕ → Option Outgoing → Result (Option Heard) NoMemory → Option Peer → Bool → Type 0
+IsServed now s after peer iss bytes frame (Ok it) evicted anew =
+    record { server = after; frame = frame; told = told_of_arrival (Ok it); evicted = evicted; anew = anew } ≡ received_at now s peer iss bytes
+IsServed now s after peer iss bytes frame (Err _) evicted anew =
+    (after ≡ unreceived_at now s peer iss bytes evicted) × (frame ≡ None) × (anew ≡ false)
+
+-- What comes of a datagram, whatever the rules, is done by a list of doings: what a listener's own owner might have done.
 abbrev pub RulesAreDeeds : Type 0
 RulesAreDeeds =
     (now : ℕ) (rules : Rules) (half : ℕ) (r : Room) (peer : Peer) (iss : ℕ) (bytes : List ℕ)
-    → (deeds : List TimedDeed) × ((comes now rules half r peer iss bytes).room ≡ does_all r deeds)
+    → (all : List TimedDoing) × ((comes now rules half r peer iss bytes).room ≡ does_all r all)
 
--- Deeds in a room leave the listener and the timers that they leave without lives.
+-- What is done in a room leaves the listener and what is kept of its flows as it leaves them without lives.
 abbrev pub LivesChangeNothing : Type 0
-LivesChangeNothing = (r : Room) (deeds : List TimedDeed) → (does_all r deeds).served ≡ served_through r.served deeds
+LivesChangeNothing = (r : Room) (all : List TimedDoing) → (does_all r all).served ≡ served_through r.served all

@@ -1,6 +1,6 @@
 -- By which rules a server's owner gives flows up and makes room (own, but where a section of RFC 4340 is named). Times
 -- are in milliseconds.
-use Rattle.std.specs.Prelude.{◌==◌, ◌&&◌, ◌-◌, nat_lt, ℕ, Bool, true, false, List, [], ◌∷◌, Option, Some, None, Result, Ok, Err, min, unwrap_or, if◌then◌else◌}
+use Rattle.std.specs.Prelude.{◌==◌, ◌&&◌, ◌-◌, nat_lt, ℕ, Bool, true, false, not, List, [], ◌∷◌, Option, Some, None, is_some, Result, Ok, Err, min, unwrap_or, if◌then◌else◌}
 use Rattle.std.specs.Option.{option_map}
 use Rattle.dccp_listener.specs.declared.peer.Peer.{Peer}
 use Rattle.dccp_packets.specs.Grammar.{Parts, decoded}
@@ -9,6 +9,8 @@ use Rattle.dccp_packets.specs.declared.header.Kind.{Kind}
 use Rattle.dccp_packets.specs.declared.header.Kind.TheVariants as kind
 use Rattle.dccp_packets.specs.declared.reading.Malformed.{Malformed}
 use Rattle.dccp_packets.specs.declared.reset_code.ResetCode.TheVariants as codes
+use Rattle.path_rules.specs.Limits.{resets_to_strangers}
+use Rattle.path_rules.specs.declared.limits.Limit.{Limit}
 use Rattle.dccp_server.specs.Lives.{Lives}
 use Rattle.dccp_server.specs.declared.life.Life.{Life}
 use Rattle.dccp_server.specs.declared.life.Signs.{Signs}
@@ -18,16 +20,31 @@ use Rattle.dccp_server.specs.declared.rules.Rules.{Rules}
 use Rattle.dccp_states.specs.declared.phase.Phase.{Phase}
 use Rattle.dccp_states.specs.declared.phase.Phase.TheVariants as phases
 
+-- a hundred answers a second to all strangers together (own)
+abbrev pub answers_to_strangers : Limit
+answers_to_strangers = record { per_second = 100; burst = 100 }
+
 -- no rule at all: what a listener alone does
 abbrev pub no_rules : Rules
-no_rules = record { makes_room = false; ends_old_flows = false; respond = None; crowded = None; closing = None; idle = None }
+no_rules =
+    record { makes_room = false; ends_old_flows = false; respond = None; crowded = None; closing = None; idle = None; answers = None; resets = None }
 
 -- The rules by default: RESPOND for four minutes, two lifetimes of a segment (RFC 4340, section 8.1.3), and for ten
 -- seconds where it is crowded; CLOSEREQ and CLOSING for 64 seconds, the longest wait between two of their packets
--- (section 8.3); two minutes of silence.
+-- (section 8.3); two minutes of silence; a hundred answers a second to strangers, and eight of them Resets without a
+-- connection.
 abbrev pub usual_rules : Rules
 usual_rules =
-    record { makes_room = true; ends_old_flows = true; respond = Some 240000; crowded = Some 10000; closing = Some 64000; idle = Some 120000 }
+    record {
+      makes_room = true;
+      ends_old_flows = true;
+      respond = Some 240000;
+      crowded = Some 10000;
+      closing = Some 64000;
+      idle = Some 120000;
+      answers = Some answers_to_strangers;
+      resets = Some resets_to_strangers;
+    }
 
 -- a server that has sent its Response and heard nothing since
 abbrev pub is_half_open : Phase → Bool
@@ -119,7 +136,16 @@ abbrev pub is_same_number : Option ℕ → Option ℕ → Bool
 is_same_number (Some a) (Some b) = a == b
 is_same_number _ _ = false
 
--- The peer has begun anew: its packet was answered with a Sync, and is the Reset with which a client in REQUEST refuses
--- the very Sync that its old flow sent before. Nobody who does not see the flow's packets knows that number.
+-- The datagram is the Reset with which a client in REQUEST refuses the very Sync that its old flow sent last. Nobody who
+-- does not see the flow's packets knows that number.
+abbrev pub refuses_last_sync : Rules → Life → List ℕ → Bool
+refuses_last_sync rules life bytes = rules.ends_old_flows && is_same_number life.sync (sync_refused (decoded bytes))
+
+-- The peer has begun anew: it was heard, and answered with a Sync.
 abbrev pub begins_anew : Rules → Life → List ℕ → Signs → Bool
-begins_anew rules life bytes signs = rules.ends_old_flows && (signs.synced && is_same_number life.sync (sync_refused (decoded bytes)))
+begins_anew rules life bytes signs = signs.synced && refuses_last_sync rules life bytes
+
+-- What a datagram tells of its peer, as far as it is kept: a Sync that answers such a Reset is not noted, so that two
+-- exchanges at one time do not hide each other's numbers.
+abbrev pub signs_noted : List ℕ → Signs → Signs
+signs_noted bytes signs = record signs { synced = signs.synced && not (is_some (sync_refused (decoded bytes))) }

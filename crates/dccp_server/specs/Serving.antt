@@ -1,154 +1,53 @@
--- What a listener with the timers of its flows does with a peer (own; the flows are the listener's).
-use Rattle.std.specs.Prelude.{◌≡◌, ◌⊎◌, nat_lt, ℕ, Bool, true, false, List, [], ◌∷◌, map, Option, Some, None, IsSome, Err, min, unwrap_or}
+-- What a listener with the timers of its flows, and the rules of their paths, does with a peer (own; the flows are the
+-- listener's).
+use Rattle.std.specs.Prelude.{◌≡◌, ◌⊎◌, ◌++◌, ℕ, Bool, true, false, not, List, [], ◌∷◌, Option, Some, None, is_some, IsSome, Err, min, unwrap_or}
+use Rattle.std.specs.BTreeMap.{insert_entry}
 use Rattle.std.specs.Map.{keys_of, lookup}
-use Rattle.ccid_two.specs.Kinds.{kinds_control}
 use Rattle.dccp_packets.specs.Outgoing.{Outgoing}
-use Rattle.dccp_endpoint.specs.Controlled.{in_flight_of}
-use Rattle.dccp_listener.specs.Chain.{Deed, Arrives, Calls, FlowCall, Fires, Sends, Closes, Aborts}
+use Rattle.dccp_listener.specs.Chain.{Deed, Arrives, Calls, FlowCall}
 use Rattle.dccp_listener.specs.Listens.{AreInOrder, listening_after, listens, turns_of}
-use Rattle.dccp_listener.specs.Peers.{FlowEnd, Listening, end_of_peer, is_peer}
+use Rattle.dccp_listener.specs.Peers.{FlowEnd, Listening, end_of_peer, is_peer, peer_cmp}
 use Rattle.dccp_listener.specs.Runs.{CallTold, IsRunOfTurns, Stepped}
 use Rattle.dccp_listener.specs.declared.config.ListenConfig.{ListenConfig}
 use Rattle.dccp_listener.specs.declared.peer.Peer.{Peer}
-use Rattle.dccp_uses.specs.Alarms.{arranged, no_alarms, rung, until_first, with_delivery, with_progress}
-use Rattle.dccp_uses.specs.Session.{condition_of, every_timer, is_delivery}
-use Rattle.dccp_uses.specs.declared.alarms.Alarms.{Alarms}
-use Rattle.dccp_states.specs.declared.calls.Timer.{Timer}
-use Rattle.dccp_states.specs.declared.seen.Seen.TheVariants.{Called, Received}
-use Rattle.dccp_server.specs.Due.{first_due, never}
+use Rattle.dccp_uses.specs.Rules.{due_rule}
+use Rattle.dccp_uses.specs.Syncs.{admitted}
+use Rattle.dccp_uses.specs.Timed.{every_due}
+use Rattle.dccp_uses.specs.declared.pace.Pace.{Pace}
+use Rattle.dccp_uses.specs.declared.timed_end.Due.{Due}
+use Rattle.dccp_states.specs.declared.seen.Seen.TheVariants.{Called}
+use Rattle.dccp_server.specs.Due.{never}
 use Rattle.dccp_server.specs.Places.{kept_then}
+use Rattle.dccp_server.specs.Upkeeps.{arrived_so, call_for_rule, called_so, first_due, next_upkeep, sight_if, upkeep_begins, upkeep_wait}
+use Rattle.dccp_server.specs.declared.happening.Happening.{Happening}
+use Rattle.dccp_server.specs.declared.happening.Happening.TheVariants as happening
+use Rattle.dccp_server.specs.declared.upkeep.Upkeep.{Upkeep}
 
--- the timers of each peer that has a flow, in the order of the peers
-abbrev pub Timers : Type 0
-Timers = List (Peer × Alarms)
+-- what is kept of each peer that has a flow, in the order of the peers
+abbrev pub Upkeeps : Type 0
+Upkeeps = List (Peer × Upkeep)
 
--- a listener, and the timers of its flows
+-- a listener, the rules that the paths of its flows follow, and what is kept of each flow
 pub record Served : Type 0 where
   pub listening : Listening
-  pub timers : List (Peer × Alarms)
+  pub pace : Pace
+  pub upkeeps : List (Peer × Upkeep)
 
--- the two of them
-abbrev pub served : Listening → Timers → Served
-served listening timers = record { listening = listening; timers = timers }
+-- the three of them
+abbrev pub served : Listening → Pace → Upkeeps → Served
+served listening pace upkeeps = record { listening = listening; pace = pace; upkeeps = upkeeps }
 
 -- a listener without flows
-abbrev pub serving_begins : ListenConfig → Served
-serving_begins config = served (record { config = config; flows = [] }) []
+abbrev pub serving_begins : ListenConfig → Pace → Served
+serving_begins config pace = served (record { config = config; flows = [] }) pace []
 
--- the timers of a peer, none of which runs where it has no flow
-abbrev pub timers_of : Timers → Peer → Alarms
-timers_of timers peer = unwrap_or (lookup (is_peer peer) timers) no_alarms
+-- what is kept of a peer, where nothing is known of one that has no flow
+abbrev pub upkeep_at : Pace → Upkeeps → Peer → Upkeep
+upkeep_at pace upkeeps peer = unwrap_or (lookup (is_peer peer) upkeeps) (upkeep_begins pace)
 
--- the timers go on as the peer's end needs them, and go with it
-abbrev pub timers_then : ℕ → Timers → Peer → Option FlowEnd → Alarms → Timers
-timers_then now timers peer end alarms = kept_then timers peer (λ e. arranged alarms (condition_of kinds_control e) now) end
-
--- how many packets of a peer's end are in flight
-abbrev pub in_flight_if : Option FlowEnd → ℕ
-in_flight_if None = 0
-in_flight_if (Some e) = in_flight_of kinds_control e.congestion
-
--- data were delivered
-abbrev pub tells_data : CallTold → Bool
-tells_data (Stepped (Some (Received outcome))) = is_delivery outcome
-tells_data _ = false
-
--- a datagram that was heard, with the peer's end before and after it: the timers go on as those of a session do
-abbrev pub timers_heard : Alarms → Option FlowEnd → Option FlowEnd → CallTold → Alarms
-timers_heard alarms was is told = with_delivery (with_progress alarms (nat_lt (in_flight_if is) (in_flight_if was))) (tells_data told)
-
--- a timer that has run out is set back
-abbrev pub timers_called : ℕ → Alarms → FlowCall → Alarms
-timers_called now alarms (Fires timer) = rung alarms timer now
-timers_called now alarms (Sends payload) = alarms
-timers_called now alarms Closes = alarms
-timers_called now alarms Aborts = alarms
-
--- the timers from which a peer's go on behind a deed
-abbrev pub timers_by : ℕ → Served → Peer → Deed → Alarms
-timers_by now s peer (Arrives iss bytes) =
-    timers_heard (timers_of s.timers peer) (end_of_peer s.listening.flows peer)
-    (end_of_peer (listening_after s.listening peer (Arrives iss bytes)).flows peer) (listens s.listening peer (Arrives iss bytes)).told
-timers_by now s peer (Calls call) = timers_called now (timers_of s.timers peer) call
-
--- A deed of a peer, where memory is found: the listener does what is computed of it, and the peer's timers go on.
-abbrev pub deed_served : ℕ → Served → Peer → Deed → Served
-deed_served now s peer deed =
-    served (listening_after s.listening peer deed)
-    (timers_then now s.timers peer (end_of_peer (listening_after s.listening peer deed).flows peer) (timers_by now s peer deed))
-
--- Memory is wanting for a deed: a datagram of a peer that has no flow or no place for its timers, or a call of a flow
--- that has none.
-abbrev pub WantsMemory : Served → Peer → Deed → Type 0
-WantsMemory s peer (Arrives iss bytes) = (end_of_peer s.listening.flows peer ≡ None) ⊎ (lookup (is_peer peer) s.timers ≡ None)
-WantsMemory s peer (Calls call) = IsSome (end_of_peer s.listening.flows peer) × (lookup (is_peer peer) s.timers ≡ None)
-
--- the first of these timers that has run out, of this peer, else that of another
-abbrev pub due_or : Peer → Option Timer → Option (Peer × Timer) → Option (Peer × Timer)
-due_or peer None later = later
-due_or peer (Some timer) later = Some (peer, timer)
-
--- the first peer of which a timer has run out, and the first of its timers
-abbrev pub first_due_flow : ℕ → Timers → Option (Peer × Timer)
-first_due_flow now [] = None
-first_due_flow now (one ∷ rest) = due_or one.0 (first_due one.1 now every_timer) (first_due_flow now rest)
-
--- The peers that have timers are those that have a flow, and stand in order.
-pub record IsTied (s : Served) : Type 0 where
-  pub same_peers : keys_of s.timers ≡ keys_of s.listening.flows
-  pub ordered : AreInOrder s.listening.flows
-
--- how long it is until the first of all timers runs out, at most so long
-abbrev pub least_wait : ℕ → ℕ → Timers → ℕ
-least_wait now least [] = least
-least_wait now least (one ∷ rest) = least_wait now (min least (unwrap_or (until_first one.1 now) never)) rest
-
--- The listener has done what is computed of a deed.
-abbrev pub IsDone : Listening → Listening → Peer → Deed → Option Outgoing → CallTold → Type 0
-IsDone before after peer deed frame told =
-    (after ≡ listening_after before peer deed) × (frame ≡ (listens before peer deed).frame) × (told ≡ (listens before peer deed).told)
-
--- a deed of a peer at a time
-pub record TimedDeed : Type 0 where
-  pub now : ℕ
-  pub peer : Peer
-  pub deed : Deed
-
--- deeds one after another, where memory is found
-abbrev pub served_through : Served → List TimedDeed → Served
-served_through s [] = s
-served_through s (it ∷ later) = served_through (deed_served it.now s it.peer it.deed) later
-
--- the same without their times
-abbrev pub untimed : List TimedDeed → List (Peer × Deed)
-untimed deeds = map (λ it. (it.peer, it.deed)) deeds
-
--- Whatever the times, a list of deeds leads a listener that has begun through a run, of which each peer sees the chain
--- of its own deeds.
-abbrev pub CallsAreARun : Type 0
-CallsAreARun =
-    (config : ListenConfig) (deeds : List TimedDeed)
-    → IsRunOfTurns (serving_begins config).listening (served_through (serving_begins config) deeds).listening
-    (turns_of (serving_begins config).listening (untimed deeds))
-
--- Whatever the times, a list of deeds leaves timers to the peers that have a flow, and to no others.
-abbrev pub TimersStandWithFlows : Type 0
-TimersStandWithFlows =
-    (config : ListenConfig) (deeds : List TimedDeed)
-    → keys_of (served_through (serving_begins config) deeds).timers ≡ keys_of (served_through (serving_begins config) deeds).listening.flows
-
--- So memory is wanting only for a datagram of a peer that has no flow.
-abbrev pub OnlyStrangersWantMemory : Type 0
-OnlyStrangersWantMemory =
-    (config : ListenConfig) (deeds : List TimedDeed) (peer : Peer) (iss : ℕ) (bytes : List ℕ)
-    → WantsMemory (served_through (serving_begins config) deeds) peer (Arrives iss bytes)
-    → end_of_peer (served_through (serving_begins config) deeds).listening.flows peer ≡ None
-
--- And for no call.
-abbrev pub CallsWantNoMemory : Type 0
-CallsWantNoMemory =
-    (config : ListenConfig) (deeds : List TimedDeed) (peer : Peer) (call : FlowCall)
-    → WantsMemory (served_through (serving_begins config) deeds) peer (Calls call) → ⊥
+-- what is kept goes on with the peer's end, and goes with it
+abbrev pub upkeeps_then : ℕ → Pace → Upkeeps → Peer → Option FlowEnd → Upkeep → Happening → Upkeeps
+upkeeps_then now pace upkeeps peer end u it = kept_then upkeeps peer (next_upkeep now pace u it) end
 
 -- the peer's end has refused the call, or there is none
 abbrev pub is_refusal : CallTold → Bool
@@ -156,9 +55,174 @@ is_refusal (Stepped None) = true
 is_refusal (Stepped (Some (Called (Err fault)))) = true
 is_refusal _ = false
 
--- A call that is refused leaves the listener and the timers of all flows as they were, whatever was done before.
+-- what a deed is to the peer's end
+abbrev pub happening_by : Served → Peer → Deed → Happening
+happening_by s peer (Arrives iss bytes) =
+    arrived_so (sight_if (end_of_peer s.listening.flows peer)) (listens s.listening peer (Arrives iss bytes)).told
+    (not (is_some (listens s.listening peer (Arrives iss bytes)).frame))
+happening_by s peer (Calls call) = called_so call (is_refusal (listens s.listening peer (Calls call)).told)
+
+-- once the listener is this, and that has happened to the peer's end
+abbrev pub serves_on : ℕ → Served → Listening → Peer → Happening → Served
+serves_on now s after peer it =
+    served after s.pace (upkeeps_then now s.pace s.upkeeps peer (end_of_peer after.flows peer) (upkeep_at s.pace s.upkeeps peer) it)
+
+-- A deed of a peer, where memory is found: the listener does what is computed of it, and what is kept of the peer goes on.
+abbrev pub deed_served : ℕ → Served → Peer → Deed → Served
+deed_served now s peer deed = serves_on now s (listening_after s.listening peer deed) peer (happening_by s peer deed)
+
+-- what is kept of a flow once a datagram was counted: one that its numbers would have answered by a Sync takes a token
+abbrev pub upkeep_counted : ℕ → List ℕ → Upkeep → FlowEnd → Upkeep
+upkeep_counted now bytes u e = record u { path = (admitted e.state u.path bytes now).path }
+
+-- A datagram of a peer is counted.
+abbrev pub served_counted_by : ℕ → Served → Peer → List ℕ → Upkeep → Option FlowEnd → Served
+served_counted_by now s peer bytes u None = s
+served_counted_by now s peer bytes u (Some e) =
+    record s { upkeeps = insert_entry peer_cmp s.upkeeps peer (upkeep_counted now bytes u e) }
+
+-- of the limits of the peer's own flow
+abbrev pub served_counted : ℕ → Served → Peer → List ℕ → Served
+served_counted now s peer bytes = served_counted_by now s peer bytes (upkeep_at s.pace s.upkeeps peer) (end_of_peer s.listening.flows peer)
+
+-- a datagram is to be heard: there was a token, or none was wanted
+abbrev pub is_admitted_by : ℕ → List ℕ → Upkeep → Option FlowEnd → Bool
+is_admitted_by now bytes u None = true
+is_admitted_by now bytes u (Some e) = (admitted e.state u.path bytes now).heard
+
+-- by the limits of the peer's own flow
+abbrev pub is_admitted : ℕ → Served → Peer → List ℕ → Bool
+is_admitted now s peer bytes = is_admitted_by now bytes (upkeep_at s.pace s.upkeeps peer) (end_of_peer s.listening.flows peer)
+
+-- what the rule that is due has an end do, if there is one
+abbrev pub call_by_rule : ℕ → Upkeep → Option FlowEnd → Option FlowCall
+call_by_rule now u found = call_for_rule (due_rule u.path now) u.path.aim found
+
+-- and a peer's end
+abbrev pub call_due : ℕ → Served → Peer → Option FlowCall
+call_due now s peer = call_by_rule now (upkeep_at s.pace s.upkeeps peer) (end_of_peer s.listening.flows peer)
+
+-- the listener after a call that there may be
+abbrev pub listening_if : Listening → Peer → Option FlowCall → Listening
+listening_if l peer None = l
+listening_if l peer (Some call) = listening_after l peer (Calls call)
+
+-- and the frame that then goes to the peer
+abbrev pub frame_if : Listening → Peer → Option FlowCall → Option Outgoing
+frame_if l peer None = None
+frame_if l peer (Some call) = (listens l peer (Calls call)).frame
+
+-- the first rule of a peer's path that is due has its end do something
+abbrev pub rule_followed : ℕ → Served → Peer → Served
+rule_followed now s peer =
+    serves_on now s (listening_if s.listening peer (call_due now s peer)) peer (happening.Ruled (due_rule (upkeep_at s.pace s.upkeeps peer).path now))
+
+-- What is done with a peer: a deed; a datagram is counted that may be left out; or a rule of its path is followed.
+pub data Doing : Type 0 where
+  Does : (deed : Deed) → Doing
+  Spends : (bytes : List ℕ) → Doing
+  Follows : Doing
+
+-- that is done
+abbrev pub served_by : ℕ → Served → Peer → Doing → Served
+served_by now s peer (Does deed) = deed_served now s peer deed
+served_by now s peer (Spends bytes) = served_counted now s peer bytes
+served_by now s peer Follows = rule_followed now s peer
+
+-- the frame that then goes to the peer
+abbrev pub doing_frame : ℕ → Served → Peer → Doing → Option Outgoing
+doing_frame now s peer (Does deed) = (listens s.listening peer deed).frame
+doing_frame now s peer (Spends bytes) = None
+doing_frame now s peer Follows = frame_if s.listening peer (call_due now s peer)
+
+-- Memory is wanting for a deed: a datagram of a peer that has no flow or no place for what is kept of it, or a call of a
+-- flow that has none.
+abbrev pub WantsMemory : Served → Peer → Deed → Type 0
+WantsMemory s peer (Arrives iss bytes) = (end_of_peer s.listening.flows peer ≡ None) ⊎ (lookup (is_peer peer) s.upkeeps ≡ None)
+WantsMemory s peer (Calls call) = IsSome (end_of_peer s.listening.flows peer) × (lookup (is_peer peer) s.upkeeps ≡ None)
+
+-- what is due of this peer, else of another
+abbrev pub due_or : Peer → Option Due → Option (Peer × Due) → Option (Peer × Due)
+due_or peer None later = later
+due_or peer (Some it) later = Some (peer, it)
+
+-- the first peer of which something is due, and the first that is
+abbrev pub first_due_flow : ℕ → Upkeeps → Option (Peer × Due)
+first_due_flow now [] = None
+first_due_flow now (one ∷ rest) = due_or one.0 (first_due one.1 now every_due) (first_due_flow now rest)
+
+-- The peers of which something is kept are those that have a flow, and stand in order.
+pub record IsTied (s : Served) : Type 0 where
+  pub same_peers : keys_of s.upkeeps ≡ keys_of s.listening.flows
+  pub ordered : AreInOrder s.listening.flows
+
+-- how long it is until something is due of any flow, at most so long
+abbrev pub least_wait : ℕ → ℕ → Upkeeps → ℕ
+least_wait now least [] = least
+least_wait now least (one ∷ rest) = least_wait now (min least (unwrap_or (upkeep_wait one.1 now) never)) rest
+
+-- The listener has done what is computed of a deed.
+abbrev pub IsDone : Listening → Listening → Peer → Deed → Option Outgoing → CallTold → Type 0
+IsDone before after peer deed frame told =
+    (after ≡ listening_after before peer deed) × (frame ≡ (listens before peer deed).frame) × (told ≡ (listens before peer deed).told)
+
+-- something that is done with a peer at a time
+pub record TimedDoing : Type 0 where
+  pub now : ℕ
+  pub peer : Peer
+  pub doing : Doing
+
+-- one after another, where memory is found
+abbrev pub served_through : Served → List TimedDoing → Served
+served_through s [] = s
+served_through s (it ∷ later) = served_through (served_by it.now s it.peer it.doing) later
+
+-- a deed of the listener that there may be
+abbrev pub deed_if : Peer → Option FlowCall → List (Peer × Deed)
+deed_if peer None = []
+deed_if peer (Some call) = (peer, Calls call) ∷ []
+
+-- the deeds of the listener that something done comes to
+abbrev pub deeds_by : Served → TimedDoing → Doing → List (Peer × Deed)
+deeds_by s it (Does deed) = (it.peer, deed) ∷ []
+deeds_by s it (Spends bytes) = []
+deeds_by s it Follows = deed_if it.peer (call_due it.now s it.peer)
+
+-- all of them
+abbrev pub deeds_through : Served → List TimedDoing → List (Peer × Deed)
+deeds_through s [] = []
+deeds_through s (it ∷ later) = deeds_by s it it.doing ++ deeds_through (served_by it.now s it.peer it.doing) later
+
+-- Whatever the times and the rules, what is done leads a listener that has begun through a run of its deeds, of which each
+-- peer sees the chain of its own.
+abbrev pub CallsAreARun : Type 0
+CallsAreARun =
+    (config : ListenConfig) (pace : Pace) (all : List TimedDoing)
+    → IsRunOfTurns (serving_begins config pace).listening (served_through (serving_begins config pace) all).listening
+    (turns_of (serving_begins config pace).listening (deeds_through (serving_begins config pace) all))
+
+-- Whatever is done, something is kept of the peers that have a flow, and of no others.
+abbrev pub UpkeepsStandWithFlows : Type 0
+UpkeepsStandWithFlows =
+    (config : ListenConfig) (pace : Pace) (all : List TimedDoing)
+    → keys_of (served_through (serving_begins config pace) all).upkeeps ≡ keys_of (served_through (serving_begins config pace) all).listening.flows
+
+-- So memory is wanting only for a datagram of a peer that has no flow.
+abbrev pub OnlyStrangersWantMemory : Type 0
+OnlyStrangersWantMemory =
+    (config : ListenConfig) (pace : Pace) (all : List TimedDoing) (peer : Peer) (iss : ℕ) (bytes : List ℕ)
+    → WantsMemory (served_through (serving_begins config pace) all) peer (Arrives iss bytes)
+    → end_of_peer (served_through (serving_begins config pace) all).listening.flows peer ≡ None
+
+-- And for no call.
+abbrev pub CallsWantNoMemory : Type 0
+CallsWantNoMemory =
+    (config : ListenConfig) (pace : Pace) (all : List TimedDoing) (peer : Peer) (call : FlowCall)
+    → WantsMemory (served_through (serving_begins config pace) all) peer (Calls call) → ⊥
+
+-- A call that is refused leaves the listener and what is kept of all flows as they were, whatever was done before.
 abbrev pub RefusedCallsChangeNothing : Type 0
 RefusedCallsChangeNothing =
-    (config : ListenConfig) (deeds : List TimedDeed) (now : ℕ) (peer : Peer) (call : FlowCall)
-    → is_refusal (listens (served_through (serving_begins config) deeds).listening peer (Calls call)).told ≡ true
-    → deed_served now (served_through (serving_begins config) deeds) peer (Calls call) ≡ served_through (serving_begins config) deeds
+    (config : ListenConfig) (pace : Pace) (all : List TimedDoing) (now : ℕ) (peer : Peer) (call : FlowCall)
+    → is_refusal (listens (served_through (serving_begins config pace) all).listening peer (Calls call)).told ≡ true
+    → deed_served now (served_through (serving_begins config pace) all) peer (Calls call) ≡ served_through (serving_begins config pace) all

@@ -2,11 +2,11 @@
 ghost use Rattle.std.specs.Prelude.{◌≡◌, Ok};
 ghost use Rattle.dccp_listener.specs.Calls.{seen_if};
 ghost use Rattle.dccp_listener.specs.Runs.{Stepped, told_of};
-ghost use Rattle.dccp_server.specs.Lives.{lives_on, no_life, rank_of, signs_in, signs_of, stands_in};
+ghost use Rattle.dccp_server.specs.Lives.{lives_on, no_life, no_signs, rank_of, signs_in, signs_of, stands_in};
 
 use ccid_two::Kinds;
-use dccp_endpoint::{Endpoint, Outcome, Phase, Seq48};
-use dccp_listener::{Heard, NoFlow, Seen};
+use dccp_endpoint::{Endpoint, Outcome, Phase, Seen, Seq48};
+use dccp_listener::{Heard, NoFlow};
 
 /// What an owner knows of a flow beside its end. Times are in milliseconds from any beginning (own).
 #[derive(Clone, Copy, Debug, PartialEq, Eq)]
@@ -28,6 +28,18 @@ pub struct Signs {
     pub taken: bool,
     /// It was answered with a Sync.
     pub synced: bool,
+}
+
+impl Signs {
+    /// What tells nothing of a peer.
+    pub(crate) fn none() -> Signs
+        ensures { result ≡ no_signs }
+    {
+        Signs {
+            taken: false,
+            synced: false,
+        }
+    }
 }
 
 impl Life {
@@ -85,11 +97,9 @@ pub(crate) fn signs_in(outcome: &Outcome) -> Signs
             taken: false,
             synced: true,
         },
-        Outcome::Dropped(_) | Outcome::WasReset(_) | Outcome::SentReset { code: _, detail: _ } =>
-            Signs {
-                taken: false,
-                synced: false,
-            },
+        Outcome::Dropped(_) | Outcome::WasReset(_) | Outcome::SentReset { code: _, detail: _ } => {
+            Signs::none()
+        }
     }
 }
 
@@ -99,10 +109,7 @@ pub(crate) fn signs_heard(heard: &Heard) -> Signs
 {
     match heard {
         Heard::Flow(outcome) => signs_in(outcome),
-        Heard::Busy => Signs {
-            taken: false,
-            synced: false,
-        },
+        Heard::Busy => Signs::none(),
     }
 }
 
@@ -112,10 +119,7 @@ pub(crate) fn signs_answered(answer: &Result<Seen, NoFlow>) -> Signs
 {
     match answer {
         Ok(Seen::Received(outcome)) => signs_in(outcome),
-        Ok(Seen::Called(_) | Seen::Fired(_)) | Err(NoFlow) => Signs {
-            taken: false,
-            synced: false,
-        },
+        Ok(Seen::Called(_) | Seen::Fired(_)) | Err(NoFlow) => Signs::none(),
     }
 }
 

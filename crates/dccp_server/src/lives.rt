@@ -2,7 +2,7 @@
 ghost use Rattle.std.specs.Prelude.{◌≡◌};
 ghost use Rattle.dccp_listener.specs.Peers.{end_of_peer};
 ghost use Rattle.dccp_server.specs.Lives.{life_of, life_then};
-ghost use Rattle.dccp_server.specs.Rooms.{HasLifeIf};
+ghost use Rattle.dccp_server.specs.Places.{HasPlaceIf};
 
 use crate::life::{Life, Signs, lives_on};
 use crate::timed_listener::TimedListener;
@@ -28,7 +28,7 @@ pub(crate) fn go_on(
     signs: Signs,
     now: u64,
 )
-    requires { HasLifeIf (end_of_peer timed.now.listening.flows peer) lives.old.entries peer }
+    requires { HasPlaceIf (end_of_peer timed.now.listening.flows peer) lives.old.entries peer }
     ensures { lives.new.entries ≡ life_then now lives.old.entries peer (end_of_peer timed.now.listening.flows peer) signs life.now }
 {
     match timed.flow(peer) {

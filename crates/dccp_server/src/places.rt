@@ -1,7 +1,8 @@
 //! Places for what is kept of the peers that have a flow.
 ghost use Rattle.std.specs.Prelude.{◌≡◌, None, IfOk, OnOk, OnErr, IsSome, if◌then◌else◌};
+ghost use Rattle.std.specs.BTreeMap.{insert_entry};
 ghost use Rattle.std.specs.Map.{lookup, remove_entry};
-ghost use Rattle.dccp_listener.specs.Peers.{is_peer};
+ghost use Rattle.dccp_listener.specs.Peers.{is_peer, peer_cmp};
 ghost use Rattle.dccp_server.specs.Places.{IsPlaced};
 
 use dccp_endpoint::NoMemory;
@@ -35,4 +36,12 @@ pub(crate) fn take_back<V: Copy>(kept: &mut BTreeMap<Peer, V>, peer: Peer, had: 
     if !had {
         let _ = kept.remove(&peer);
     }
+}
+
+/// The peer, which has a place, has this there from now on.
+pub(crate) fn put<V: Copy>(kept: &mut BTreeMap<Peer, V>, peer: Peer, value: V)
+    requires { IsSome (lookup (is_peer peer) kept.old.entries) }
+    ensures { kept.new.entries ≡ insert_entry peer_cmp kept.old.entries peer value }
+{
+    let _ = kept.insert(peer, value);
 }

@@ -1,30 +1,42 @@
-//! What is done with a listener, the timers and the lives of its flows.
+//! What is done with a listener, what is kept of its flows and their lives.
 ghost use Rattle.std.specs.Prelude.{◌≡◌, ◌≤◌, None, Some, Ok, IfOk, OnOk, OnErr, length, if◌then◌else◌};
 ghost use Rattle.dccp_listener.specs.Calls.{seen_if};
-ghost use Rattle.dccp_listener.specs.Chain.{Arrives, Calls, call_of};
+ghost use Rattle.dccp_listener.specs.Chain.{Arrives, Calls, asked};
 ghost use Rattle.dccp_listener.specs.Listens.{listens};
 ghost use Rattle.dccp_listener.specs.Runs.{Stepped, told_of};
-ghost use Rattle.dccp_server.specs.Rooms.{HasArrived, IsJudged, IsLiving, IsRoomMade, forgets, room_does, as_room};
+ghost use Rattle.dccp_server.specs.Rooms.{HasArrived, HasHeard, IsJudged, IsLiving, IsRoomMade, as_room, counted_room, forgets, heard_or_fault, is_to_be_heard, room_does, unless_fault};
 ghost use Rattle.dccp_server.specs.Rules.{has_more_half_open, makes_way};
+ghost use Rattle.dccp_server.specs.Serving.{Does, Follows, doing_frame};
 
-use crate::life::{Life, signs_answered, signs_heard, signs_in};
+use crate::life::{Life, Signs, signs_answered, signs_heard, signs_in};
 use crate::lives::{go_on, life_of};
 use crate::places::{place_for, take_back};
-use crate::rules::{Rules, begins_anew, has_more_half_open, makes_way};
+use crate::rules::{
+    Rules, begins_anew, has_more_half_open, makes_way, refuses_last_sync, signs_noted,
+};
 use crate::timed_listener::TimedListener;
-use dccp_endpoint::{NoMemory, Outbox, Seq48, Timer};
-use dccp_listener::{Act, Heard, NoFlow, Peer, Seen};
+use dccp_endpoint::{NoMemory, Outbox, Seen, Seq48, Timer, UserCall};
+use dccp_listener::{Heard, NoFlow, Peer};
 use std::collections::BTreeMap;
 
 /// What came of a datagram (own).
 #[derive(Clone, Copy, Debug, PartialEq, Eq)]
 pub struct Arrival {
-    /// What became of it; NoMemory where it would have opened a flow and no memory was to be had.
-    pub heard: Result<Heard, NoMemory>,
+    /// What became of it, or None where it was left out, since it would have been answered by one Sync too many;
+    /// NoMemory where it would have opened a flow and no memory was to be had.
+    pub heard: Result<Option<Heard>, NoMemory>,
     /// The peer whose flow made room for it.
     pub evicted: Option<Peer>,
     /// Whether the flow that the peer had was ended, since the peer has begun anew.
     pub anew: bool,
+}
+
+// What came of a datagram that was heard.
+#[derive(Clone, Copy, Debug, PartialEq, Eq)]
+pub(crate) struct Judged {
+    pub(crate) heard: Result<Heard, NoMemory>,
+    pub(crate) evicted: Option<Peer>,
+    pub(crate) anew: bool,
 }
 
 /// A datagram of a peer is heard, without any rule.
@@ -39,7 +51,7 @@ pub(crate) fn hear(
 ) -> Result<Heard, NoMemory>
     requires short { length bytes.now ≤ 2044 }
     requires living { IsLiving (as_room timed.old lives.old.entries) }
-    ensures after { OnOk result (as_room timed.new lives.new.entries ≡ room_does now (as_room timed.old lives.old.entries) peer (Arrives iss bytes.now)) }
+    ensures after { OnOk result (as_room timed.new lives.new.entries ≡ room_does now (as_room timed.old lives.old.entries) peer (Does (Arrives iss bytes.now))) }
     ensures sent { OnOk result (out.new ≡ (listens timed.old.listening peer (Arrives iss bytes.now)).frame) }
     ensures told { IfOk result (λ heard. told_of (Ok heard) ≡ (listens timed.old.listening peer (Arrives iss bytes.now)).told) }
     ensures living { IsLiving (as_room timed.new lives.new.entries) }
@@ -49,7 +61,7 @@ pub(crate) fn hear(
     let had = place_for(lives, peer, Life::none())?;
     match timed.arrive(peer, iss, bytes, now, out) {
         Ok(heard) => {
-            let signs = signs_heard(&heard);
+            let signs = signs_noted(bytes, signs_heard(&heard));
             go_on(timed, lives, peer, &life, signs, now);
             Ok(heard)
         }
@@ -65,21 +77,39 @@ pub(crate) fn ask(
     timed: &mut TimedListener,
     lives: &mut BTreeMap<Peer, Life>,
     peer: Peer,
-    act: Act<'_>,
+    call: UserCall<'_>,
     now: u64,
     out: &mut Outbox,
 ) -> Result<Seen, NoFlow>
     requires { IsLiving (as_room timed.old lives.old.entries) }
     ensures living { IsLiving (as_room timed.new lives.new.entries) }
-    ensures after { as_room timed.new lives.new.entries ≡ room_does now (as_room timed.old lives.old.entries) peer (Calls (call_of act.entry)) }
-    ensures sent { out.new ≡ (listens timed.old.listening peer (Calls (call_of act.entry))).frame }
-    ensures told { Stepped (seen_if result) ≡ (listens timed.old.listening peer (Calls (call_of act.entry))).told }
+    ensures after { as_room timed.new lives.new.entries ≡ room_does now (as_room timed.old lives.old.entries) peer (Does (Calls (asked call.entry))) }
+    ensures sent { out.new ≡ (listens timed.old.listening peer (Calls (asked call.entry))).frame }
+    ensures told { Stepped (seen_if result) ≡ (listens timed.old.listening peer (Calls (asked call.entry))).told }
 {
     let life = life_of(lives, peer);
-    let answer = timed.act(peer, act, now, out);
+    let answer = timed.ask(peer, call, now, out);
     let signs = signs_answered(&answer);
     go_on(timed, lives, peer, &life, signs, now);
     answer
+}
+
+/// The first rule of a peer's path that is due has its end do something.
+pub(crate) fn follow(
+    timed: &mut TimedListener,
+    lives: &mut BTreeMap<Peer, Life>,
+    peer: Peer,
+    now: u64,
+    out: &mut Outbox,
+)
+    requires { IsLiving (as_room timed.old lives.old.entries) }
+    ensures living { IsLiving (as_room timed.new lives.new.entries) }
+    ensures after { as_room timed.new lives.new.entries ≡ room_does now (as_room timed.old lives.old.entries) peer Follows }
+    ensures sent { out.new ≡ doing_frame now timed.old peer Follows }
+{
+    let life = life_of(lives, peer);
+    timed.follow(peer, now, out);
+    go_on(timed, lives, peer, &life, Signs::none(), now);
 }
 
 /// A peer's flow is forgotten, and nothing is sent.
@@ -95,8 +125,15 @@ pub(crate) fn forget(
     ensures after { as_room timed.new lives.new.entries ≡ forgets now (as_room timed.old lives.old.entries) peer }
     ensures sent { out.new ≡ None }
 {
-    let _ = ask(timed, lives, peer, Act::Abort, now, out);
-    let _ = ask(timed, lives, peer, Act::Timer(Timer::TimeWait), now, out);
+    let _ = ask(timed, lives, peer, UserCall::Abort, now, out);
+    let _ = ask(
+        timed,
+        lives,
+        peer,
+        UserCall::Timer(Timer::TimeWait),
+        now,
+        out,
+    );
     out.clear();
 }
 
@@ -160,7 +197,7 @@ fn judge(
     bytes: &[u8],
     now: u64,
     out: &mut Outbox,
-) -> Arrival
+) -> Judged
     requires short { length bytes.now ≤ 2044 }
     requires living { IsLiving (as_room timed.old lives.old.entries) }
     ensures living { IsLiving (as_room timed.new lives.new.entries) }
@@ -168,12 +205,12 @@ fn judge(
 {
     match heard {
         Heard::Busy => match who_leaves(rules, half, lives, now) {
-            Some(leaving) => Arrival {
+            Some(leaving) => Judged {
                 heard: make_room(timed, lives, leaving, peer, iss, bytes, now, out),
                 evicted: Some(leaving),
                 anew: false,
             },
-            None => Arrival {
+            None => Judged {
                 heard: Ok(Heard::Busy),
                 evicted: None,
                 anew: false,
@@ -182,12 +219,83 @@ fn judge(
         Heard::Flow(outcome) => {
             let anew = begins_anew(rules, life, bytes, signs_in(&outcome));
             begin_anew(timed, lives, anew, peer, now, out);
-            Arrival {
+            Judged {
                 heard: Ok(Heard::Flow(outcome)),
                 evicted: None,
                 anew,
             }
         }
+    }
+}
+
+// A datagram that is heard, by these rules.
+fn hear_by(
+    timed: &mut TimedListener,
+    lives: &mut BTreeMap<Peer, Life>,
+    rules: &Rules,
+    half: u16,
+    peer: Peer,
+    iss: Seq48,
+    bytes: &[u8],
+    now: u64,
+    out: &mut Outbox,
+) -> Judged
+    requires short { length bytes.now ≤ 2044 }
+    requires living { IsLiving (as_room timed.old lives.old.entries) }
+    ensures living { IsLiving (as_room timed.new lives.new.entries) }
+    ensures heard { HasHeard now rules.now half (as_room timed.old lives.old.entries) (as_room timed.new lives.new.entries) peer iss bytes.now out.new result.heard result.evicted result.anew }
+{
+    let life = life_of(lives, peer);
+    match hear(timed, lives, peer, iss, bytes, now, out) {
+        Ok(heard) => judge(
+            timed, lives, rules, half, &life, heard, peer, iss, bytes, now, out,
+        ),
+        Err(fault) => Judged {
+            heard: Err(fault),
+            evicted: None,
+            anew: false,
+        },
+    }
+}
+
+// A datagram is counted. Whether it is to be heard.
+fn count(
+    timed: &mut TimedListener,
+    lives: &BTreeMap<Peer, Life>,
+    rules: &Rules,
+    peer: Peer,
+    bytes: &[u8],
+    now: u64,
+) -> bool
+    requires { IsLiving (as_room timed.old lives.now.entries) }
+    ensures living { IsLiving (as_room timed.new lives.now.entries) }
+    ensures room { as_room timed.new lives.now.entries ≡ counted_room now rules.now (as_room timed.old lives.now.entries) peer bytes.now }
+    ensures heard { result ≡ is_to_be_heard now rules.now (as_room timed.old lives.now.entries) peer bytes.now }
+{
+    if refuses_last_sync(rules, &life_of(lives, peer), bytes) {
+        return true;
+    }
+    timed.admits(peer, bytes, now)
+}
+
+// What came of a datagram that was heard, where it might have been left out. Nothing goes out where there was no memory.
+fn as_arrival(judged: &Judged, out: &mut Outbox) -> Arrival
+    ensures heard { result.heard ≡ heard_or_fault judged.now.heard }
+    ensures evicted { result.evicted ≡ judged.now.evicted }
+    ensures anew { result.anew ≡ judged.now.anew }
+    ensures frame { out.new ≡ unless_fault judged.now.heard out.old }
+{
+    let heard = match judged.heard {
+        Ok(heard) => Ok(Some(heard)),
+        Err(fault) => {
+            out.clear();
+            Err(fault)
+        }
+    };
+    Arrival {
+        heard,
+        evicted: judged.evicted,
+        anew: judged.anew,
     }
 }
 
@@ -208,15 +316,14 @@ pub(crate) fn arrive(
     ensures living { IsLiving (as_room timed.new lives.new.entries) }
     ensures arrived { HasArrived now rules.now half (as_room timed.old lives.old.entries) (as_room timed.new lives.new.entries) peer iss bytes.now out.new result.heard result.evicted result.anew }
 {
-    let life = life_of(lives, peer);
-    match hear(timed, lives, peer, iss, bytes, now, out) {
-        Ok(heard) => judge(
-            timed, lives, rules, half, &life, heard, peer, iss, bytes, now, out,
-        ),
-        Err(fault) => Arrival {
-            heard: Err(fault),
+    if !count(timed, lives, rules, peer, bytes, now) {
+        out.clear();
+        return Arrival {
+            heard: Ok(None),
             evicted: None,
             anew: false,
-        },
+        };
     }
+    let judged = hear_by(timed, lives, rules, half, peer, iss, bytes, now, out);
+    as_arrival(&judged, out)
 }

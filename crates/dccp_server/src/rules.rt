@@ -2,13 +2,24 @@
 ghost use Rattle.std.specs.Prelude.{◌≡◌, None, if◌then◌else◌};
 ghost use Rattle.std.specs.Option.{option_map};
 ghost use Rattle.dccp_packets.specs.Grammar.{decoded};
-ghost use Rattle.dccp_server.specs.Rules.{begins_anew, first_given_up, has_more_half_open, is_half_open, is_none_left, is_same_number, makes_way, least_left, life_left, limit_in, lingers, longer_of, longest, may_leave, refused_number, sync_refused};
+ghost use Rattle.dccp_server.specs.Rules.{answers_to_strangers, begins_anew, first_given_up, has_more_half_open, is_half_open, is_none_left, is_same_number, makes_way, least_left, life_left, limit_in, lingers, longer_of, longest, may_leave, refused_number, refuses_last_sync, signs_noted, sync_refused};
 
 use crate::life::{Life, Signs};
 use dccp_endpoint::{Phase, Seq48};
 use dccp_listener::Peer;
 use dccp_packets::{Kind, decode};
+use path_rules::{Limit, resets_to_strangers};
 use std::collections::BTreeMap;
+
+/// A hundred answers a second to all strangers together (own).
+pub fn answers_to_strangers() -> Limit
+    ensures { result ≡ answers_to_strangers }
+{
+    Limit {
+        per_second: 100,
+        burst: 100,
+    }
+}
 
 /// The rules of a server (own). Times are in milliseconds; None is for ever.
 #[derive(Clone, Copy, Debug, PartialEq, Eq)]
@@ -26,6 +37,10 @@ pub struct Rules {
     pub closing: Option<u64>,
     /// How long a flow in OPEN may take no packet.
     pub idle: Option<u64>,
+    /// How many answers go to strangers, peers without a flow, all together; None is as many as there are.
+    pub answers: Option<Limit>,
+    /// How many of them are Resets to packets that belong to no connection (RFC 4340, section 8.1.3).
+    pub resets: Option<Limit>,
 }
 
 impl Rules {
@@ -43,11 +58,13 @@ impl Rules {
             crowded: None,
             closing: None,
             idle: None,
+            answers: None,
+            resets: None,
         }
     }
 
-    /// Both rules, RESPOND for four minutes, or ten seconds in a crowd, CLOSEREQ and CLOSING for 64 seconds, and two
-    /// minutes of silence.
+    /// Both rules, RESPOND for four minutes, or ten seconds in a crowd, CLOSEREQ and CLOSING for 64 seconds, two minutes
+    /// of silence, and a hundred answers a second to strangers, of which eight are Resets without a connection.
     pub fn usual() -> Rules
         ensures { result ≡ usual_rules }
     {
@@ -58,6 +75,8 @@ impl Rules {
             crowded: Some(10_000),
             closing: Some(64_000),
             idle: Some(120_000),
+            answers: Some(answers_to_strangers()),
+            resets: Some(resets_to_strangers()),
         }
     }
 }
@@ -286,9 +305,26 @@ fn is_same_number(a: Option<Seq48>, b: Option<Seq48>) -> bool
     }
 }
 
+/// Whether the datagram is the Reset with which a client in REQUEST refuses the last Sync of its old flow.
+pub(crate) fn refuses_last_sync(rules: &Rules, life: &Life, bytes: &[u8]) -> bool
+    ensures { result ≡ refuses_last_sync rules.now life.now bytes.now }
+{
+    rules.ends_old_flows && is_same_number(life.sync, sync_refused(bytes))
+}
+
 /// Whether the peer has begun anew, by its life before the datagram and what the datagram told.
 pub(crate) fn begins_anew(rules: &Rules, life: &Life, bytes: &[u8], signs: Signs) -> bool
     ensures { result ≡ begins_anew rules.now life.now bytes.now signs }
 {
-    rules.ends_old_flows && (signs.synced && is_same_number(life.sync, sync_refused(bytes)))
+    signs.synced && refuses_last_sync(rules, life, bytes)
+}
+
+/// What a datagram tells of its peer, as far as it is kept.
+pub(crate) fn signs_noted(bytes: &[u8], signs: Signs) -> Signs
+    ensures { result ≡ signs_noted bytes.now signs }
+{
+    Signs {
+        taken: signs.taken,
+        synced: signs.synced && sync_refused(bytes).is_none(),
+    }
 }

@@ -1,29 +1,34 @@
-//! What is done with a listener and the timers of its flows.
-ghost use Rattle.std.specs.Prelude.{◌≡◌, ◌≤◌, nat_lt, None, Ok, IfOk, IfSome, OnOk, OnErr, IsSome, is_some, length, if◌then◌else◌};
-ghost use Rattle.std.specs.Map.{lookup, remove_entry};
-ghost use Rattle.dccp_uses.specs.Alarms.{with_delivery, with_progress};
+//! What is done with a listener and what is kept of its flows.
+ghost use Rattle.std.specs.Prelude.{◌≡◌, ◌≤◌, [], ◌∷◌, None, Ok, IfOk, OnOk, OnErr, IsSome, is_some, not, length};
+ghost use Rattle.std.specs.BTreeMap.{insert_entry};
+ghost use Rattle.std.specs.Map.{lookup};
 ghost use Rattle.dccp_listener.specs.Calls.{seen_if};
-ghost use Rattle.dccp_listener.specs.Chain.{Arrives, Calls, call_of};
-ghost use Rattle.dccp_listener.specs.Listens.{listens};
-ghost use Rattle.dccp_listener.specs.Peers.{end_of_peer, is_peer};
+ghost use Rattle.dccp_listener.specs.Chain.{Arrives, Calls, Prefers, asked};
+ghost use Rattle.dccp_listener.specs.Listens.{listening_after, listens};
+ghost use Rattle.dccp_listener.specs.Peers.{end_of_peer, is_peer, peer_cmp};
 ghost use Rattle.dccp_listener.specs.Runs.{Stepped, told_of};
+ghost use Rattle.dccp_uses.specs.Syncs.{admitted};
 ghost use Rattle.dccp_server.specs.Due.{never};
-ghost use Rattle.dccp_server.specs.Serving.{IsDone, WantsMemory, first_due_flow, in_flight_if, least_wait, served, deed_served, tells_data, timers_called, timers_of, timers_then};
+ghost use Rattle.dccp_server.specs.Places.{HasPlaceIf};
+ghost use Rattle.dccp_server.specs.Serving.{IsDone, WantsMemory, deed_served, call_due, upkeep_counted, first_due_flow, rule_followed, frame_if, is_admitted, least_wait, listening_if, served, served_counted, upkeep_at, upkeeps_then};
+ghost use Rattle.dccp_server.specs.Upkeeps.{call_for_rule, ratio_held, rule_call, sight_if};
 
-use crate::due::first_due;
-use crate::places::{place_for, take_back};
-use dccp_endpoint::{NoMemory, Outbox, Seq48, Timer};
-use dccp_listener::{Act, Heard, Listener, NoFlow, Peer, Seen};
-use dccp_uses::{Alarms, Condition, arranged, is_delivery, rung, with_delivery, with_progress};
+use crate::happening::{Happening, arrived_so, called_so};
+use crate::places::{place_for, put, take_back};
+use crate::upkeep::{Upkeep, next_upkeep};
+use ccid_two::Kinds;
+use dccp_endpoint::{Endpoint, Feature, NoMemory, Outbox, Place, Seen, Seq48, Timer, UserCall};
+use dccp_listener::{Heard, Listener, NoFlow, Peer};
+use dccp_uses::{Due, Pace, Rule, Sight, admit, due_rule};
 use std::collections::BTreeMap;
 
-// How many packets of the peer's end are in flight.
-fn in_flight(listener: &Listener, peer: Peer) -> u32
-    ensures { result ≡ in_flight_if (end_of_peer listener.now.flows peer) }
+// What there is to see of a peer's end, if it has one.
+fn sight_at(listener: &Listener, peer: Peer) -> Option<Sight>
+    ensures { result ≡ sight_if (end_of_peer listener.now.flows peer) }
 {
     match listener.flow(peer) {
-        Some(end) => end.in_flight(),
-        None => 0,
+        Some(end) => Some(Sight::of(end)),
+        None => None,
     }
 }
 
@@ -33,61 +38,43 @@ fn has_flow(listener: &Listener, peer: Peer) -> bool
     listener.flow(peer).is_some()
 }
 
-fn timers_of(timers: &BTreeMap<Peer, Alarms>, peer: Peer) -> Alarms
-    ensures { result ≡ timers_of timers.now.entries peer }
+fn is_silent(out: &Outbox) -> bool
+    ensures { result ≡ not (is_some out.now) }
 {
-    match timers.get(&peer) {
-        Some(alarms) => *alarms,
-        None => Alarms::none(),
+    out.frame().is_none()
+}
+
+/// What is kept of a peer.
+pub(crate) fn upkeep_at(upkeeps: &BTreeMap<Peer, Upkeep>, pace: Pace, peer: Peer) -> Upkeep
+    ensures { result ≡ upkeep_at pace upkeeps.now.entries peer }
+{
+    match upkeeps.get(&peer) {
+        Some(upkeep) => *upkeep,
+        None => Upkeep::begins(pace),
     }
 }
 
-// The peer's timers go on from these as its end needs them, and go with it.
+// What is kept of the peer goes on from this with its end, and goes with it.
 fn arrange(
     listener: &Listener,
-    timers: &mut BTreeMap<Peer, Alarms>,
+    upkeeps: &mut BTreeMap<Peer, Upkeep>,
     peer: Peer,
-    alarms: &Alarms,
+    upkeep: &Upkeep,
+    happening: &Happening,
+    pace: Pace,
     now: u64,
 )
-    requires { IsSome (lookup (is_peer peer) timers.old.entries) }
-    ensures { timers.new.entries ≡ timers_then now timers.old.entries peer (end_of_peer listener.now.flows peer) alarms.now }
+    requires { HasPlaceIf (end_of_peer listener.now.flows peer) upkeeps.old.entries peer }
+    ensures { upkeeps.new.entries ≡ upkeeps_then now pace upkeeps.old.entries peer (end_of_peer listener.now.flows peer) upkeep.now happening.now }
 {
     match listener.flow(peer) {
         Some(end) => {
-            let condition = Condition::of(end);
-            let alarms = arranged(alarms, &condition, now);
-            let _ = timers.insert(peer, alarms);
+            let next = next_upkeep(upkeep, happening, end, pace, now);
+            put(upkeeps, peer, next);
         }
         None => {
-            let _ = timers.remove(&peer);
+            let _ = upkeeps.remove(&peer);
         }
-    }
-}
-
-fn tells_data(heard: &Heard) -> bool
-    ensures { result ≡ tells_data (told_of (Ok heard.now)) }
-{
-    match heard {
-        Heard::Flow(outcome) => is_delivery(outcome),
-        Heard::Busy => false,
-    }
-}
-
-// The timers behind a datagram, with what was in flight before it and is now.
-fn timers_heard(alarms: &Alarms, was: u32, is: u32, heard: &Heard) -> Alarms
-    ensures { result ≡ with_delivery (with_progress alarms.now (nat_lt is was)) (tells_data (told_of (Ok heard.now))) }
-{
-    let alarms = with_progress(alarms, is < was);
-    with_delivery(&alarms, tells_data(heard))
-}
-
-fn timers_called(alarms: &Alarms, act: Act<'_>, now: u64) -> Alarms
-    ensures { result ≡ timers_called now alarms.now (call_of act.entry) }
-{
-    match act {
-        Act::Timer(timer) => rung(alarms, timer, now),
-        Act::Send(_) | Act::Close | Act::Abort => *alarms,
     }
 }
 
@@ -108,47 +95,85 @@ fn hear(
 }
 
 // The listener takes a call of a peer's end.
-fn ask(listener: &mut Listener, peer: Peer, act: Act<'_>, out: &mut Outbox) -> Result<Seen, NoFlow>
-    ensures { IsDone listener.old listener.new peer (Calls (call_of act.entry)) out.new (Stepped (seen_if result)) }
+fn ask(
+    listener: &mut Listener,
+    peer: Peer,
+    call: UserCall<'_>,
+    out: &mut Outbox,
+) -> Result<Seen, NoFlow>
+    ensures { IsDone listener.old listener.new peer (Calls (asked call.entry)) out.new (Stepped (seen_if result)) }
 {
-    listener.act(peer, act, out)
+    listener.ask(peer, call, out)
 }
 
-// The first peer of which a timer has run out, and the first of its timers.
-fn first_due_flow(timers: &BTreeMap<Peer, Alarms>, now: u64) -> Option<(Peer, Timer)>
-    ensures { result ≡ first_due_flow now timers.now.entries }
+/// The first peer of which something is due, and the first that is.
+pub(crate) fn first_due_flow(upkeeps: &BTreeMap<Peer, Upkeep>, now: u64) -> Option<(Peer, Due)>
+    ensures { result ≡ first_due_flow now upkeeps.now.entries }
 {
-    for (peer, alarms) in timers.iter() {
-        if let Some(timer) = first_due(alarms, now) {
-            return Some((*peer, timer));
+    for (peer, upkeep) in upkeeps.iter() {
+        if let Some(due) = upkeep.first_due(now) {
+            return Some((*peer, due));
         }
     }
     None
 }
 
-/// The same, whose peer has a place for its timers.
-pub(crate) fn due_flow(timers: &BTreeMap<Peer, Alarms>, now: u64) -> Option<(Peer, Timer)>
-    ensures value { result ≡ first_due_flow now timers.now.entries }
-    ensures there { IfSome result (λ due. IsSome (lookup (is_peer due.0) timers.now.entries)) }
-{
-    first_due_flow(timers, now)
-}
-
-/// How many milliseconds it is until the first of all timers runs out; 2^64 - 1 where none runs.
-pub(crate) fn least_wait(timers: &BTreeMap<Peer, Alarms>, now: u64) -> u64
-    ensures { result ≡ least_wait now never timers.now.entries }
+/// How many milliseconds it is until something is due of any flow; 2^64 - 1 where nothing will be.
+pub(crate) fn least_wait(upkeeps: &BTreeMap<Peer, Upkeep>, now: u64) -> u64
+    ensures { result ≡ least_wait now never upkeeps.now.entries }
 {
     let mut least = u64::MAX;
-    for (_, alarms) in timers.iter() {
-        least = least.min(alarms.until_first(now).unwrap_or(u64::MAX));
+    for (_, upkeep) in upkeeps.iter() {
+        least = least.min(upkeep.wait(now).unwrap_or(u64::MAX));
     }
     least
 }
 
-/// A datagram of a peer. NoMemory where it has no flow, or no place for its timers, and none is to be had.
+// A datagram of a flow is counted. Whether it is to be heard.
+fn count(
+    end: &Endpoint<Kinds>,
+    upkeeps: &mut BTreeMap<Peer, Upkeep>,
+    peer: Peer,
+    bytes: &[u8],
+    pace: Pace,
+    now: u64,
+) -> bool
+    requires { IsSome (lookup (is_peer peer) upkeeps.old.entries) }
+    ensures counted { upkeeps.new.entries ≡ insert_entry peer_cmp upkeeps.old.entries peer (upkeep_counted now bytes.now (upkeep_at pace upkeeps.old.entries peer) end.now) }
+    ensures heard { result ≡ (admitted end.now.state (upkeep_at pace upkeeps.old.entries peer).path bytes.now now).heard }
+{
+    let upkeep = upkeep_at(upkeeps, pace, peer);
+    let admission = admit(end, &upkeep.path, bytes, now);
+    let next = upkeep.on(&admission.path);
+    put(upkeeps, peer, next);
+    admission.heard
+}
+
+/// A datagram of a peer, of which something is kept where it has a flow, takes a token where its numbers would have it
+/// answered by a Sync. Whether it is to be heard.
+pub(crate) fn spend(
+    listener: &Listener,
+    upkeeps: &mut BTreeMap<Peer, Upkeep>,
+    pace: Pace,
+    peer: Peer,
+    bytes: &[u8],
+    now: u64,
+) -> bool
+    requires { HasPlaceIf (end_of_peer listener.now.flows peer) upkeeps.old.entries peer }
+    ensures counted { served listener.now pace upkeeps.new.entries ≡ served_counted now (served listener.now pace upkeeps.old.entries) peer bytes.now }
+    ensures heard { result ≡ is_admitted now (served listener.now pace upkeeps.old.entries) peer bytes.now }
+{
+    match listener.flow(peer) {
+        Some(end) => count(end, upkeeps, peer, bytes, pace, now),
+        None => true,
+    }
+}
+
+/// A datagram of a peer. NoMemory where it has no flow, or no place for what is kept of it, and none is to be had.
 pub(crate) fn arrive(
     listener: &mut Listener,
-    timers: &mut BTreeMap<Peer, Alarms>,
+    upkeeps: &mut BTreeMap<Peer, Upkeep>,
+    pace: Pace,
     peer: Peer,
     iss: Seq48,
     bytes: &[u8],
@@ -156,52 +181,133 @@ pub(crate) fn arrive(
     out: &mut Outbox,
 ) -> Result<Heard, NoMemory>
     requires { length bytes.now ≤ 2044 }
-    ensures after { OnOk result (served listener.new timers.new.entries ≡ deed_served now (served listener.old timers.old.entries) peer (Arrives iss bytes.now)) }
+    ensures after { OnOk result (served listener.new pace upkeeps.new.entries ≡ deed_served now (served listener.old pace upkeeps.old.entries) peer (Arrives iss bytes.now)) }
     ensures sent { OnOk result (out.new ≡ (listens listener.old peer (Arrives iss bytes.now)).frame) }
     ensures told { IfOk result (λ heard. told_of (Ok heard) ≡ (listens listener.old peer (Arrives iss bytes.now)).told) }
-    ensures unchanged { OnErr result (served listener.new timers.new.entries ≡ served listener.old timers.old.entries) }
-    ensures wanting { OnErr result (WantsMemory (served listener.old timers.old.entries) peer (Arrives iss bytes.now)) }
+    ensures unchanged { OnErr result (served listener.new pace upkeeps.new.entries ≡ served listener.old pace upkeeps.old.entries) }
+    ensures wanting { OnErr result (WantsMemory (served listener.old pace upkeeps.old.entries) peer (Arrives iss bytes.now)) }
 {
-    let was = in_flight(listener, peer);
-    let alarms = timers_of(timers, peer);
-    let had = place_for(timers, peer, Alarms::none())?;
+    let was = sight_at(listener, peer);
+    let upkeep = upkeep_at(upkeeps, pace, peer);
+    let had = place_for(upkeeps, peer, Upkeep::begins(pace))?;
     match hear(listener, peer, iss, bytes, out) {
         Ok(heard) => {
-            let is = in_flight(listener, peer);
-            let alarms = timers_heard(&alarms, was, is, &heard);
-            arrange(listener, timers, peer, &alarms, now);
+            let happening = arrived_so(was, &heard, is_silent(out));
+            arrange(listener, upkeeps, peer, &upkeep, &happening, pace, now);
             Ok(heard)
         }
         Err(fault) => {
-            take_back(timers, peer, had);
+            take_back(upkeeps, peer, had);
             Err(fault)
         }
     }
 }
 
-/// A call of a peer's end. NoMemory where it has a flow without a place for its timers, and none is to be had.
+/// A call of a peer's end. NoMemory where it has a flow without a place for what is kept of it, and none is to be had.
 pub(crate) fn act(
     listener: &mut Listener,
-    timers: &mut BTreeMap<Peer, Alarms>,
+    upkeeps: &mut BTreeMap<Peer, Upkeep>,
+    pace: Pace,
     peer: Peer,
-    act: Act<'_>,
+    call: UserCall<'_>,
     now: u64,
     out: &mut Outbox,
 ) -> Result<Result<Seen, NoFlow>, NoMemory>
-    ensures after { OnOk result (served listener.new timers.new.entries ≡ deed_served now (served listener.old timers.old.entries) peer (Calls (call_of act.entry))) }
-    ensures sent { OnOk result (out.new ≡ (listens listener.old peer (Calls (call_of act.entry))).frame) }
-    ensures told { IfOk result (λ answer. Stepped (seen_if answer) ≡ (listens listener.old peer (Calls (call_of act.entry))).told) }
-    ensures unchanged { OnErr result (served listener.new timers.new.entries ≡ served listener.old timers.old.entries) }
-    ensures wanting { OnErr result (WantsMemory (served listener.old timers.old.entries) peer (Calls (call_of act.entry))) }
+    ensures after { OnOk result (served listener.new pace upkeeps.new.entries ≡ deed_served now (served listener.old pace upkeeps.old.entries) peer (Calls (asked call.entry))) }
+    ensures sent { OnOk result (out.new ≡ (listens listener.old peer (Calls (asked call.entry))).frame) }
+    ensures told { IfOk result (λ answer. Stepped (seen_if answer) ≡ (listens listener.old peer (Calls (asked call.entry))).told) }
+    ensures unchanged { OnErr result (served listener.new pace upkeeps.new.entries ≡ served listener.old pace upkeeps.old.entries) }
+    ensures wanting { OnErr result (WantsMemory (served listener.old pace upkeeps.old.entries) peer (Calls (asked call.entry))) }
 {
     if !has_flow(listener, peer) {
-        let refused = ask(listener, peer, act, out);
-        let _ = timers.remove(&peer);
+        let refused = ask(listener, peer, call, out);
+        let _ = upkeeps.remove(&peer);
         return Ok(refused);
     }
-    let alarms = timers_called(&timers_of(timers, peer), act, now);
-    place_for(timers, peer, Alarms::none())?;
-    let answer = ask(listener, peer, act, out);
-    arrange(listener, timers, peer, &alarms, now);
+    let upkeep = upkeep_at(upkeeps, pace, peer);
+    place_for(upkeeps, peer, Upkeep::begins(pace))?;
+    let answer = ask(listener, peer, call, out);
+    let happening = called_so(call, &answer);
+    arrange(listener, upkeeps, peer, &upkeep, &happening, pace, now);
     Ok(answer)
+}
+
+// The Ack Ratio is asked for.
+fn ask_ratio(listener: &mut Listener, peer: Peer, ratio: u64, out: &mut Outbox)
+    ensures after { listener.new ≡ listening_after listener.old peer (Calls (Prefers Feature.AckRatio Place.Here (ratio ∷ []))) }
+    ensures sent { out.new ≡ (listens listener.old peer (Calls (Prefers Feature.AckRatio Place.Here (ratio ∷ [])))).frame }
+{
+    let call = UserCall::Prefer {
+        feature: Feature::AckRatio,
+        place: Place::Here,
+        values: &[ratio],
+    };
+    let _ = ask(listener, peer, call, out);
+}
+
+// The peer's end does what a rule says, where this Ack Ratio is held and that one wanted.
+fn obey(listener: &mut Listener, peer: Peer, rule: Rule, held: u64, aim: u64, out: &mut Outbox)
+    ensures after { listener.new ≡ listening_if listener.old peer (rule_call rule held aim) }
+    ensures sent { out.new ≡ frame_if listener.old peer (rule_call rule held aim) }
+{
+    match rule {
+        Rule::Nothing => out.clear(),
+        Rule::GiveUp => {
+            let _ = ask(listener, peer, UserCall::Abort, out);
+        }
+        Rule::TimeOut => {
+            let _ = ask(listener, peer, UserCall::Timer(Timer::Rto), out);
+        }
+        Rule::Probe | Rule::Ask => ask_ratio(listener, peer, held, out),
+        Rule::Ratio => ask_ratio(listener, peer, aim, out),
+    }
+}
+
+// The Ack Ratio that a peer's end holds, if it has one.
+fn held_at(listener: &Listener, peer: Peer) -> Option<u64>
+    ensures { result ≡ ratio_held (end_of_peer listener.now.flows peer) }
+{
+    match listener.flow(peer) {
+        Some(end) => Some(end.held(Feature::AckRatio, Place::Here).value),
+        None => None,
+    }
+}
+
+// The peer's end, if it has one, does what a rule says, where this Ack Ratio is wanted.
+fn obey_at(listener: &mut Listener, peer: Peer, rule: Rule, aim: u64, out: &mut Outbox)
+    ensures after { listener.new ≡ listening_if listener.old peer (call_for_rule rule aim (end_of_peer listener.old.flows peer)) }
+    ensures sent { out.new ≡ frame_if listener.old peer (call_for_rule rule aim (end_of_peer listener.old.flows peer)) }
+{
+    match held_at(listener, peer) {
+        Some(held) => obey(listener, peer, rule, held, aim, out),
+        None => out.clear(),
+    }
+}
+
+/// The first rule of a peer's path that is due has its end do something. NoMemory where it has a flow without a place for
+/// what is kept of it, and none is to be had.
+pub(crate) fn follow(
+    listener: &mut Listener,
+    upkeeps: &mut BTreeMap<Peer, Upkeep>,
+    pace: Pace,
+    peer: Peer,
+    now: u64,
+    out: &mut Outbox,
+) -> Result<(), NoMemory>
+    ensures after { OnOk result (served listener.new pace upkeeps.new.entries ≡ rule_followed now (served listener.old pace upkeeps.old.entries) peer) }
+    ensures sent { OnOk result (out.new ≡ frame_if listener.old peer (call_due now (served listener.old pace upkeeps.old.entries) peer)) }
+    ensures wanting { OnErr result (IsSome (end_of_peer listener.old.flows peer) × (lookup (is_peer peer) upkeeps.old.entries ≡ None)) }
+{
+    if !has_flow(listener, peer) {
+        out.clear();
+        let _ = upkeeps.remove(&peer);
+        return Ok(());
+    }
+    let upkeep = upkeep_at(upkeeps, pace, peer);
+    let rule = due_rule(&upkeep.path, now);
+    place_for(upkeeps, peer, Upkeep::begins(pace))?;
+    obey_at(listener, peer, rule, upkeep.path.aim, out);
+    let happening = Happening::Ruled(rule);
+    arrange(listener, upkeeps, peer, &upkeep, &happening, pace, now);
+    Ok(())
 }

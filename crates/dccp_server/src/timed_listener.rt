@@ -1,24 +1,27 @@
-//! A listener with the timers of its flows.
+//! A listener with the timers of its flows and the rules of their paths.
 ghost use Rattle.std.specs.Prelude.{◌≡◌};
 
-use crate::serving::{act, arrive, due_flow, least_wait};
+use crate::serving::{act, arrive, first_due_flow, follow, least_wait, spend, upkeep_at};
+use crate::upkeep::Upkeep;
 use ccid_two::Kinds;
-use dccp_endpoint::{Endpoint, NoMemory, Outbox, Seq48, Timer};
-use dccp_listener::{Act, Heard, ListenConfig, Listener, NoFlow, Peer, Seen};
-use dccp_uses::Alarms;
+use dccp_endpoint::{Endpoint, NoMemory, Outbox, Seen, Seq48, UserCall};
+use dccp_listener::{Heard, ListenConfig, Listener, NoFlow, Peer};
+use dccp_uses::{Due, Pace};
 use std::alloc::Global;
 use std::collections::BTreeMap;
 use std::marker::Model;
 
-/// A listener with the timers that its owner keeps for its flows. Each call takes the time, in milliseconds from any
-/// beginning, and leaves at most one frame in the Outbox, which goes to the peer of the call.
+/// A listener with what its owner keeps of its flows: their timers, and the rules of their paths. Each call takes the
+/// time, in milliseconds from any beginning, and leaves at most one frame in the Outbox, which goes to the peer of the
+/// call. Each flow does what an end of its own with its timers would do (`TimedEnd` of dccp_uses).
 ///
-/// Datagrams go into `arrive` and the owner's calls into `act`, as those of a `Listener`. `tick` is called as soon as
-/// `until_first` has gone by, until it tells no timer any more.
+/// A datagram is counted by `admits`, and where that says so heard by `arrive`; the owner's calls go into `ask`. What is
+/// `due` is told as soon as `until_first` has gone by: a timer by `ask`, the rules by `follow`.
 #[derive(Drop)]
 pub struct TimedListener {
     listener: Listener,
-    timers: BTreeMap<Peer, Alarms>,
+    pace: Pace,
+    upkeeps: BTreeMap<Peer, Upkeep>,
 }
 
 impl Model for TimedListener {
@@ -26,36 +29,54 @@ impl Model for TimedListener {
 
     ghost Value = { Served };
 
-    ghost view = { λ s. served s.listener s.timers.entries };
+    ghost view = { λ s. served s.listener s.pace s.upkeeps.entries };
 
-    ghost invariant = { λ s. IsTied (served s.listener s.timers.entries) };
+    ghost invariant = { λ s. IsTied (served s.listener s.pace s.upkeeps.entries) };
 }
 
 impl TimedListener {
-    ghost use Rattle.std.specs.Prelude.{◌≡◌, ◌≤◌, Ok, IfOk, IfSome, OnOk, OnErr, MatchOption, None, Some, length, slice_get};
+    ghost use Rattle.std.specs.Prelude.{◌≡◌, ◌≤◌, Ok, IfOk, OnOk, OnErr, MatchOption, None, Some, length, slice_get};
     ghost use Rattle.std.specs.Map.{keys_of};
     ghost use Rattle.dccp_listener.specs.Calls.{seen_if};
-    ghost use Rattle.dccp_listener.specs.Chain.{Arrives, Calls, call_of};
+    ghost use Rattle.dccp_listener.specs.Chain.{Arrives, Calls, asked};
     ghost use Rattle.dccp_listener.specs.Listens.{listens};
     ghost use Rattle.dccp_listener.specs.Peers.{end_of_peer};
     ghost use Rattle.dccp_listener.specs.Runs.{Stepped, told_of};
     ghost use Rattle.dccp_listener.specs.Standing.{IsListening};
     ghost use Rattle.dccp_server.specs.Due.{never};
-    ghost use Rattle.dccp_server.specs.Serving.{WantsMemory, deed_served, first_due_flow, least_wait, serving_begins, timers_of};
+    ghost use Rattle.dccp_server.specs.Serving.{WantsMemory, call_due, deed_served, first_due_flow, rule_followed, frame_if, is_admitted, least_wait, serving_begins, served_counted, upkeep_at};
 
-    /// A listener without flows. It takes no memory.
-    pub fn new(alloc: Global, config: ListenConfig) -> TimedListener
+    /// A listener without flows, whose ends make the offers of its lists, and follow these rules. It takes no memory.
+    pub fn new(alloc: Global, config: ListenConfig, pace: Pace) -> TimedListener
         requires { IsListening config }
-        ensures { result ≡ serving_begins config }
+        ensures { result ≡ serving_begins config pace }
     {
         TimedListener {
-            listener: Listener::new(alloc, config),
-            timers: BTreeMap::new(alloc),
+            listener: Listener::offering(alloc, config),
+            pace,
+            upkeeps: BTreeMap::new(alloc),
         }
     }
 
-    /// A datagram of a peer has arrived, at most 2,044 bytes: `Listener::arrive`, and the timers of its flow go on.
-    /// NoMemory comes only where the peer has no flow, or no place for its timers; then nothing changes.
+    /// Counts a datagram of a peer, which takes a token where its numbers would have it answered by a Sync. False where
+    /// there was none: then it is left out, and no number is used (RFC 4340, section 7.5.4; own). The datagrams of peers
+    /// without a flow are not counted.
+    pub fn admits(&mut self, peer: Peer, bytes: &[u8], now: u64) -> bool
+        ensures counted { self.new ≡ served_counted now self.old peer bytes.now }
+        ensures heard { result ≡ is_admitted now self.old peer bytes.now }
+    {
+        spend(
+            &self.listener,
+            &mut self.upkeeps,
+            self.pace,
+            peer,
+            bytes,
+            now,
+        )
+    }
+
+    /// A datagram of a peer has arrived, at most 2,044 bytes: `Listener::arrive`, and what is kept of its flow goes on.
+    /// NoMemory comes only where the peer has no flow, or no place for that; then nothing changes.
     pub fn arrive(
         &mut self,
         peer: Peer,
@@ -73,7 +94,8 @@ impl TimedListener {
     {
         arrive(
             &mut self.listener,
-            &mut self.timers,
+            &mut self.upkeeps,
+            self.pace,
             peer,
             iss,
             bytes,
@@ -82,39 +104,64 @@ impl TimedListener {
         )
     }
 
-    /// The owner calls a peer's end: `Listener::act`, and the timers of its flow go on. NoFlow comes exactly where the
+    /// The owner calls a peer's end: `Listener::ask`, and what is kept of its flow goes on. NoFlow comes exactly where the
     /// peer has none. It takes no memory, and where it is refused nothing changes (`refused_calls_change_nothing`).
-    pub fn act(
+    pub fn ask(
         &mut self,
         peer: Peer,
-        call: Act<'_>,
+        call: UserCall<'_>,
         now: u64,
         out: &mut Outbox,
     ) -> Result<Seen, NoFlow>
-        ensures after { self.new ≡ deed_served now self.old peer (Calls (call_of call.entry)) }
-        ensures sent { out.new ≡ (listens self.old.listening peer (Calls (call_of call.entry))).frame }
-        ensures told { Stepped (seen_if result) ≡ (listens self.old.listening peer (Calls (call_of call.entry))).told }
+        ensures after { self.new ≡ deed_served now self.old peer (Calls (asked call.entry)) }
+        ensures sent { out.new ≡ (listens self.old.listening peer (Calls (asked call.entry))).frame }
+        ensures told { Stepped (seen_if result) ≡ (listens self.old.listening peer (Calls (asked call.entry))).told }
     {
-        match act(&mut self.listener, &mut self.timers, peer, call, now, out) {
+        match act(
+            &mut self.listener,
+            &mut self.upkeeps,
+            self.pace,
+            peer,
+            call,
+            now,
+            out,
+        ) {
             Ok(answer) => answer,
-            // Each flow has a place for its timers.
+            // Each flow has a place for what is kept of it.
             Err(_) => unreachable!(),
         }
     }
 
-    /// The first peer, in the order of peers, of which a timer has run out, and the first of its timers. `act` with
-    /// `Act::Timer` tells it.
-    pub fn due(&self, now: u64) -> Option<(Peer, Timer)>
-        ensures { result ≡ first_due_flow now self.now.timers }
+    /// The first rule of a peer's path that is due has its end do something. It takes no memory.
+    pub fn follow(&mut self, peer: Peer, now: u64, out: &mut Outbox)
+        ensures after { self.new ≡ rule_followed now self.old peer }
+        ensures sent { out.new ≡ frame_if self.old.listening peer (call_due now self.old peer) }
     {
-        due_flow(&self.timers, now)
+        match follow(
+            &mut self.listener,
+            &mut self.upkeeps,
+            self.pace,
+            peer,
+            now,
+            out,
+        ) {
+            Ok(()) => {}
+            Err(_) => unreachable!(),
+        }
     }
 
-    /// How many milliseconds it is until the first of all timers runs out; 2^64 - 1 where none runs.
-    pub fn until_first(&self, now: u64) -> u64
-        ensures { result ≡ least_wait now never self.now.timers }
+    /// The first peer, in the order of peers, of which something is due, and the first that is.
+    pub fn due(&self, now: u64) -> Option<(Peer, Due)>
+        ensures { result ≡ first_due_flow now self.now.upkeeps }
     {
-        least_wait(&self.timers, now)
+        first_due_flow(&self.upkeeps, now)
+    }
+
+    /// How many milliseconds it is until something is due of any flow; 2^64 - 1 where nothing will be.
+    pub fn until_first(&self, now: u64) -> u64
+        ensures { result ≡ least_wait now never self.now.upkeeps }
+    {
+        least_wait(&self.upkeeps, now)
     }
 
     /// A peer's end, or None exactly where it has none.
@@ -122,6 +169,13 @@ impl TimedListener {
         ensures { MatchOption result (end_of_peer self.now.listening.flows peer ≡ None) (λ end. end_of_peer self.now.listening.flows peer ≡ Some end.now) }
     {
         self.listener.flow(peer)
+    }
+
+    /// What is kept of a peer's flow; where it has none, what is kept of one that begins.
+    pub fn upkeep(&self, peer: Peer) -> Upkeep
+        ensures { result ≡ upkeep_at self.now.pace self.now.upkeeps peer }
+    {
+        upkeep_at(&self.upkeeps, self.pace, peer)
     }
 
     /// How many flows stand.

@@ -108,6 +108,8 @@ pub struct FlowRules {
     pub crowded: u64,
     pub closing: u64,
     pub idle: u64,
+    pub answers: u16,
+    pub resets: u16,
     pub makes_room: bool,
     pub ends_old_flows: bool,
 }
@@ -122,6 +124,7 @@ pub struct FlowLife {
 pub const MOST_FRAME_BYTES: usize = 2044;
 pub const MOST_DATA_BYTES: usize = 1024;
 pub const NEVER: u64 = u64::MAX;
+pub const UNLIMITED: u16 = u16::MAX;
 
 pub const DONE: u32 = 0;
 pub const NO_MEMORY: u32 = 2;
@@ -244,6 +247,23 @@ unsafe extern "C" {
         peer: *const PeerAddress,
         now: u64,
         frame: *mut Frame,
+    ) -> u32;
+    pub fn dccp_listener_prefer(
+        listener: *mut ListenerHandle,
+        peer: *const PeerAddress,
+        feature: u32,
+        at_peer: bool,
+        values: *const u64,
+        values_count: usize,
+        now: u64,
+        frame: *mut Frame,
+    ) -> u32;
+    pub fn dccp_listener_feature(
+        listener: *mut ListenerHandle,
+        peer: *const PeerAddress,
+        feature: u32,
+        at_peer: bool,
+        state: *mut FeatureState,
     ) -> u32;
     pub fn dccp_listener_tick(
         listener: *mut ListenerHandle,

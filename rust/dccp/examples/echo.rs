@@ -2,8 +2,8 @@
 //!
 //!     cargo run --example echo -- PORT
 //!
-//! The client of `talk`, in Rust or in C, may speak to it. One that is silent for two minutes is given up, by the listener. It runs until
-//! it is stopped.
+//! The client of `talk`, in Rust or in C, may speak to it. The listener gives up one that is silent for two minutes, and limits what strangers
+//! call forth. It runs until it is stopped.
 
 use dccp::{ArriveError, Change, Config, Event, Listener, MOST_FRAME_BYTES};
 use std::collections::{BTreeMap, VecDeque};
@@ -18,7 +18,6 @@ const SERVICE: u32 = 42;
 const MOST_PEERS: u16 = 1_000;
 /// What is kept for a peer while its window is full; what is more is dropped.
 const MOST_WAITING: usize = 64;
-const ANSWERS_A_SECOND: u32 = 20;
 
 /// A number that nobody can guess, for the first packet (RFC 4340, section 7.2).
 fn first_number(random: &mut File) -> u64 {
@@ -42,22 +41,6 @@ fn receive(
             Ok(None)
         }
         Err(fault) => Err(fault),
-    }
-}
-
-/// The Syncs and Resets of this second, which anybody may call forth (RFC 4340, sections 7.5.4 and 8.3.1).
-struct Answers {
-    second: Instant,
-    count: u32,
-}
-
-impl Answers {
-    fn may_answer(&mut self) -> bool {
-        if Duration::from_secs(1) < self.second.elapsed() {
-            (self.second, self.count) = (Instant::now(), 0);
-        }
-        self.count += 1;
-        self.count <= ANSWERS_A_SECOND
     }
 }
 
@@ -97,11 +80,9 @@ fn send_back(server: &mut Listener, waiting: &mut Waiting, now: Instant) {
 }
 
 /// Sends each frame to its peer. One that the socket does not take is lost.
-fn hand_over(server: &mut Listener, socket: &UdpSocket, answers: &mut Answers) {
+fn hand_over(server: &mut Listener, socket: &UdpSocket) {
     while let Some((address, frame)) = server.poll_transmit() {
-        if !frame.is_answer || answers.may_answer() {
-            let _ = socket.send_to(&frame.bytes, address);
-        }
+        let _ = socket.send_to(&frame.bytes, address);
     }
 }
 
@@ -112,10 +93,6 @@ fn main() -> Result<(), Box<dyn Error>> {
     let mut random = File::open("/dev/urandom")?;
     let mut server = Listener::new(&Config::listener(own, SERVICE), MOST_PEERS)?;
     let (mut room, mut waiting) = ([0; MOST_FRAME_BYTES + 1], Waiting::new());
-    let mut answers = Answers {
-        second: Instant::now(),
-        count: 0,
-    };
     loop {
         let soon = Instant::now() + Duration::from_secs(1);
         let due = server.poll_timeout().map_or(soon, |it| it.min(soon));
@@ -133,6 +110,6 @@ fn main() -> Result<(), Box<dyn Error>> {
         server.handle_timeout(now);
         take_news(&mut server, &mut waiting);
         send_back(&mut server, &mut waiting, now);
-        hand_over(&mut server, &socket, &mut answers);
+        hand_over(&mut server, &socket);
     }
 }

@@ -66,7 +66,7 @@ impl Config {
         self
     }
 
-    /// Does not follow this rule of the path. The ends of a listener follow none.
+    /// Does not follow this rule of the path; nor do the connections of a listener that is made from this.
     pub fn without(mut self, rule: PathRule) -> Config {
         let settings = &mut self.settings;
         match rule {

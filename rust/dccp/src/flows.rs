@@ -117,7 +117,38 @@ impl Flows {
         self.call(|it, frame| unsafe { sys::dccp_listener_abort(it, &peer, now, frame) })
     }
 
-    /// Tells the first timer that has run out, and whose it is, by `DONE`; or gives a flow up, by `GAVE_UP`.
+    pub fn prefer(
+        &mut self,
+        peer: SocketAddrV4,
+        feature: u32,
+        at_peer: bool,
+        values: &[u64],
+        now: u64,
+    ) -> (u32, &[u8]) {
+        let peer = address_of(peer);
+        // SAFETY: as the head of this module says.
+        self.call(|it, frame| unsafe {
+            let (first, count) = (values.as_ptr(), values.len());
+            sys::dccp_listener_prefer(it, &peer, feature, at_peer, first, count, now, frame)
+        })
+    }
+
+    /// What the end of a peer holds for a feature, if it has one.
+    pub fn feature(
+        &mut self,
+        peer: SocketAddrV4,
+        feature: u32,
+        at_peer: bool,
+    ) -> Option<sys::FeatureState> {
+        let (peer, mut state) = (address_of(peer), sys::FeatureState::default());
+        // SAFETY: as the head of this module says.
+        let status = unsafe {
+            sys::dccp_listener_feature(&mut self.handle, &peer, feature, at_peer, &mut state)
+        };
+        (status == sys::DONE).then_some(state)
+    }
+
+    /// Does what is due first of a flow, and tells whose it is, by `DONE`; or gives a flow up, by `GAVE_UP`.
     pub fn tick(&mut self, now: u64) -> (u32, SocketAddrV4, &[u8]) {
         let mut peer = sys::PeerAddress::default();
         // SAFETY: as the head of this module says.
@@ -126,7 +157,7 @@ impl Flows {
         (status, peer_of(&peer), frame)
     }
 
-    /// How many milliseconds it is until a timer runs out, or None where none runs.
+    /// How many milliseconds it is until something is due, or None where nothing will be.
     pub fn until_first(&mut self, now: u64) -> Option<u64> {
         // SAFETY: as the head of this module says.
         let left = unsafe { sys::dccp_listener_until_first(&mut self.handle, now) };

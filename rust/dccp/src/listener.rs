@@ -1,7 +1,10 @@
 //! A server of many peers by one value of the library.
 
 use crate::flows::Flows;
-use crate::{ArriveError, Config, Event, FlowError, FlowRules, ListenError, Phase, Transmit, sys};
+use crate::{
+    ArriveError, Config, Event, Feature, FlowError, FlowRules, Held, ListenError, Phase, Place,
+    Transmit, sys,
+};
 use std::collections::{BTreeMap, VecDeque};
 use std::net::SocketAddrV4;
 use std::time::{Duration, Instant};
@@ -50,16 +53,14 @@ pub enum Cause {
 /// only waits, and a peer that begins anew from its port is served anew; [`poll_change`](Listener::poll_change) tells of it.
 ///
 /// ```
-/// use dccp::{ArriveError, Config, Connection, Event, Feature, Listener, Place};
+/// use dccp::{ArriveError, Config, Connection, Event, Listener};
 /// use std::net::SocketAddrV4;
 /// use std::time::Instant;
 ///
 /// let (here, there): (SocketAddrV4, SocketAddrV4) = ("192.0.2.1:40000".parse()?, "192.0.2.2:5001".parse()?);
 /// let now = Instant::now();
 /// let mut server = Listener::new(&Config::listener(there, 42), 1)?;
-/// // The server's end asks for nothing, and sends data only to a peer that sends Ack Vectors: the client offers them.
-/// let config = Config::client(here.into(), there.into(), 42, 1_000);
-/// let mut client = Connection::new(&config.offer(Feature::SendAckVector, Place::Here, &[1]))?;
+/// let mut client = Connection::new(&Config::client(here.into(), there.into(), 42, 1_000))?;
 /// client.open(now)?;
 /// loop {
 ///     while let Some(frame) = client.poll_transmit() {
@@ -91,9 +92,6 @@ pub enum Cause {
 pub struct Listener {
     flows: Flows,
     changes: VecDeque<(SocketAddrV4, Change)>,
-    /// How many Resets may go to strangers in a second, and since when how many went.
-    most_answers: Option<u32>,
-    answers: (u64, u32),
     /// The owner's numbers, which outlive a flow until its end is told.
     users: BTreeMap<SocketAddrV4, u64>,
     /// The flows' time is counted in milliseconds from the first call that has one.
@@ -114,8 +112,6 @@ impl Listener {
             flows,
             changes: VecDeque::new(),
             users: BTreeMap::new(),
-            most_answers: FlowRules::default().answers_to_strangers,
-            answers: (0, 0),
             begun: None,
             time: 0,
             accepted: VecDeque::new(),
@@ -137,10 +133,7 @@ impl Listener {
         let (status, frame, told) = self.flows.arrive(peer, first_number, datagram, time);
         let is_answer =
             status == sys::BUSY || matches!(told.kind, sys::TOLD_SYNCED | sys::TOLD_SENT_RESET);
-        let is_to_stranger = is_answer && was.is_none();
-        if !is_to_stranger || may_answer(&mut self.answers, self.most_answers, time) {
-            queue(&mut self.frames, peer, frame, is_answer);
-        }
+        queue(&mut self.frames, peer, frame, is_answer);
         let is = self.phase(peer);
         if was.is_none() && is.is_some() {
             self.accepted.push_back(peer);
@@ -160,8 +153,8 @@ impl Listener {
         ArriveError::answer(status)
     }
 
-    /// Sends data to a peer, 0 to 1,024 bytes, in one packet. It has to send Ack Vectors, for which the end here does not ask: the peer
-    /// offers them (`SendAckVector`, [`Place::Here`](crate::Place::Here), 1). A refused call changes nothing.
+    /// Sends data to a peer, 0 to 1,024 bytes, in one packet. It has to send Ack Vectors, for which the end here asks unless its
+    /// configuration is plain. A refused call changes nothing.
     ///
     /// ```
     /// use dccp::{Config, FlowError, Listener};
@@ -177,6 +170,41 @@ impl Listener {
         let (status, frame) = self.flows.send(peer, data, time);
         queue(&mut self.frames, peer, frame, false);
         FlowError::answer(status)
+    }
+
+    /// Asks for these values of a feature of the connection to a peer, as [`Connection::prefer`](crate::Connection::prefer).
+    ///
+    /// ```
+    /// use dccp::{Config, Feature, FlowError, Listener, Place};
+    /// use std::time::Instant;
+    ///
+    /// let mut server = Listener::new(&Config::listener("192.0.2.2:5001".parse()?, 42), 1_024)?;
+    /// let stranger = "192.0.2.1:40000".parse()?;
+    /// let asked = server.prefer(stranger, Feature::AckRatio, Place::Here, &[4], Instant::now());
+    /// assert_eq!(asked, Err(FlowError::NoFlow));
+    /// assert_eq!(server.feature(stranger, Feature::AckRatio, Place::Here), None);
+    /// # Ok::<(), Box<dyn std::error::Error>>(())
+    /// ```
+    pub fn prefer(
+        &mut self,
+        peer: SocketAddrV4,
+        feature: Feature,
+        place: Place,
+        values: &[u64],
+        now: Instant,
+    ) -> Result<(), FlowError> {
+        let time = self.time(now);
+        let (status, frame) =
+            self.flows
+                .prefer(peer, feature as u32, place.is_peer(), values, time);
+        queue(&mut self.frames, peer, frame, false);
+        FlowError::answer(status)
+    }
+
+    /// What the connection to a peer holds for a feature; None where there is none.
+    pub fn feature(&mut self, peer: SocketAddrV4, feature: Feature, place: Place) -> Option<Held> {
+        let state = self.flows.feature(peer, feature as u32, place.is_peer())?;
+        Some(Held::of(&state))
     }
 
     /// Closes the connection to a peer in order, as [`Connection::close`](crate::Connection::close).
@@ -266,7 +294,6 @@ impl Listener {
     /// ```
     pub fn set_rules(&mut self, rules: FlowRules) {
         self.flows.rules(&rules.for_c());
-        self.most_answers = rules.answers_to_strangers;
     }
 
     /// Ends the connection to a peer at once, whatever its phase, also in TIMEWAIT, and sends nothing. Refused where there is none.
@@ -395,13 +422,4 @@ fn cause_of(was: Option<Phase>, told: &sys::Told) -> Cause {
         (sys::TOLD_SENT_RESET, _) if told.code != 1 => Cause::Fault,
         _ => Cause::Peer,
     }
-}
-
-/// Whether another Reset may go to a stranger in this second: its beginning, in milliseconds, and how many went are counted.
-fn may_answer((begun, count): &mut (u64, u32), most: Option<u32>, time: u64) -> bool {
-    if time < *begun || 1_000 <= time - *begun {
-        (*begun, *count) = (time, 0);
-    }
-    *count = count.saturating_add(1);
-    most.is_none_or(|it| *count <= it)
 }

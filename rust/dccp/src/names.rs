@@ -276,5 +276,9 @@ refusals! {
         NotNegotiated = NOT_NEGOTIATED, "the peer sends no Ack Vectors yet";
         /// As many packets are in flight as may be: offer the data again, or drop them.
         WindowFull = WINDOW_FULL, "as many packets are in flight as may be";
+        /// `prefer`: the values are none, over eight, twice the same, not permitted, or not just one where one is due.
+        BadList = BAD_LIST, "values that a feature may not have";
+        /// `prefer`: the Sequence Window or Ack Ratio of the peer, which it alone sets.
+        NotOurs = NOT_OURS, "a feature that the peer alone sets";
     }
 }

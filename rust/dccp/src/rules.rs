@@ -1,10 +1,10 @@
-//! By which rules a listener makes room and gives connections up.
+//! By which rules a listener makes room, gives connections up and answers strangers.
 
 use crate::sys;
 use std::time::Duration;
 
-/// By which rules a [`Listener`](crate::Listener) makes room and gives connections up; None is for ever. The default is what a listener
-/// that was just made goes by.
+/// By which rules a [`Listener`](crate::Listener) makes room, gives connections up and answers strangers; None is for ever, or without a
+/// limit. The default is what a listener that was just made goes by.
 #[derive(Clone, Copy, Debug, PartialEq, Eq)]
 #[non_exhaustive]
 pub struct FlowRules {
@@ -20,8 +20,10 @@ pub struct FlowRules {
     pub makes_room: bool,
     /// Whether a peer that begins anew from its port ends its old connection.
     pub ends_old_flows: bool,
-    /// How many Resets go to strangers in a second, all together: 100 (own). One that is left out is a lost frame.
-    pub answers_to_strangers: Option<u32>,
+    /// How many answers go in a second to peers without a connection, all together: 100 (own); 65,534 at most.
+    pub answers_to_strangers: Option<u16>,
+    /// How many of them are Resets to packets that belong to no connection (RFC 4340, section 8.1.3): 8 (own); 65,534 at most.
+    pub resets_to_strangers: Option<u16>,
 }
 
 impl Default for FlowRules {
@@ -34,6 +36,7 @@ impl Default for FlowRules {
             makes_room: true,
             ends_old_flows: true,
             answers_to_strangers: Some(100),
+            resets_to_strangers: Some(8),
         }
     }
 }
@@ -49,6 +52,7 @@ impl FlowRules {
             makes_room: false,
             ends_old_flows: false,
             answers_to_strangers: None,
+            resets_to_strangers: None,
         }
     }
 
@@ -58,6 +62,8 @@ impl FlowRules {
             crowded: wait(self.crowded),
             closing: wait(self.closing),
             idle: wait(self.idle),
+            answers: self.answers_to_strangers.unwrap_or(sys::UNLIMITED),
+            resets: self.resets_to_strangers.unwrap_or(sys::UNLIMITED),
             makes_room: self.makes_room,
             ends_old_flows: self.ends_old_flows,
         }

@@ -1,8 +1,8 @@
-use Rattle.dccp_server.proofs.Tying.{calls_want_none, strangers, timers_tied}
+use Rattle.dccp_server.proofs.Tying.{calls_want_none, strangers, upkeeps_tied}
 use Rattle.dccp_server.proofs.laws.only_strangers_want_memory.Goals as goal
 
-pub returns-clause-timers : goal.returns-clause-timers
-returns-clause-timers c = timers_tied
+pub returns-clause-kept : goal.returns-clause-kept
+returns-clause-kept c = upkeeps_tied
 
 pub returns-clause-memory : goal.returns-clause-memory
 returns-clause-memory c = strangers

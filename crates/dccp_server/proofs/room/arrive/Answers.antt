@@ -1,10 +1,13 @@
+use Rattle.std.proofs.Common.{◌≡◌, true, sym, ◌∙◌, rules}
 use Rattle.dccp_server.specs.Rooms.{as_room}
-use Rattle.dccp_server.proofs.Arriving.{arrived_so}
+use Rattle.dccp_server.proofs.Arriving.{come_as}
 use Rattle.dccp_server.proofs.room.arrive.Goals as goal
 
-pub returns-in-Ok-clause-arrived : goal.returns-in-Ok-clause-arrived
-returns-in-Ok-clause-arrived c =
-    arrived_so c.args.now c.args.rules.now c.args.half (as_room c.args.timed.now c.args.lives.now.entries) c.args.peer c.args.iss c.args.bytes.now
-    (as_room c.hear.new.timed c.hear.new.lives.entries) (as_room c.judge.new.timed c.judge.new.lives.entries) c.hear.new.out c.judge.new.out
-    c.life_of-life.result c.in-Ok.heard c.judge.result.heard c.judge.result.evicted c.judge.result.anew c.in-Ok.ensures.after c.in-Ok.ensures.sent
-    c.in-Ok.ensures.told c.life_of-life.ensures c.judge.ensures.judged
+pub returns-clause-arrived : goal.returns-clause-arrived
+returns-clause-arrived c =
+    let heard : c.count.result ≡ true = search rules in
+    come_as c.args.now c.args.rules.now c.args.half (as_room c.args.timed.now c.args.lives.now.entries) c.args.peer c.args.iss c.args.bytes.now
+    (as_room c.count.new.timed c.args.lives.now.entries) (as_room c.hear_by-judged.new.timed c.hear_by-judged.new.lives.entries) c.hear_by-judged.new.out
+    c.as_arrival.new.out c.hear_by-judged.result.heard c.as_arrival.result.heard c.hear_by-judged.result.evicted c.as_arrival.result.evicted
+    c.hear_by-judged.result.anew c.as_arrival.result.anew c.count.ensures.room (sym heard ∙ c.count.ensures.heard) c.hear_by-judged.ensures.heard
+    c.as_arrival.ensures.frame c.as_arrival.ensures.heard c.as_arrival.ensures.evicted c.as_arrival.ensures.anew

@@ -1,25 +1,28 @@
-use Rattle.std.proofs.Common.{◌≡◌, ap, ◌∙◌}
-use Rattle.dccp_listener.specs.Chain.{Calls, call_of}
+use Rattle.std.proofs.Common.{ap, ◌∙◌}
+use Rattle.dccp_listener.specs.Chain.{Calls, asked}
 use Rattle.dccp_server.specs.Lives.{signs_of}
-use Rattle.dccp_server.specs.Rooms.{as_room}
+use Rattle.dccp_server.specs.Rooms.{as_room, signs_by}
+use Rattle.dccp_server.specs.Serving.{Does}
 use Rattle.dccp_server.proofs.Living.{called_has_life, living_then, room_as}
 use Rattle.dccp_server.proofs.room.ask.Goals as goal
 
 pub go_on-requires : goal.go_on-requires
 go_on-requires c =
-    called_has_life c.args.now (as_room c.args.timed.now c.args.lives.now.entries) c.act-answer.new.self c.args.peer (call_of c.args.act) c.requires
-    c.act-answer.ensures.after
+    called_has_life c.args.now (as_room c.args.timed.now c.args.lives.now.entries) c.ask-answer.new.self c.args.peer (asked c.args.call) c.requires
+    c.ask-answer.ensures.after
 
 pub returns-clause-after : goal.returns-clause-after
 returns-clause-after c =
-    room_as c.args.now c.args.timed.now c.act-answer.new.self c.args.lives.now.entries c.go_on.new.lives.entries c.args.peer (Calls (call_of c.args.act))
-    c.signs_answered-signs.result c.life_of-life.result c.act-answer.ensures.after c.go_on.ensures
-    (c.signs_answered-signs.ensures ∙ ap signs_of c.act-answer.ensures.told) c.life_of-life.ensures
+    room_as c.args.now c.args.timed.now c.ask-answer.new.self _ c.args.lives.now.entries c.go_on.new.lives.entries c.args.peer
+    c.signs_answered-signs.result (signs_by c.args.timed.now.listening c.args.peer (Calls (asked c.args.call))) c.life_of-life.result
+    c.ask-answer.ensures.after c.go_on.ensures
+    (c.signs_answered-signs.ensures ∙ ap signs_of c.ask-answer.ensures.told) c.life_of-life.ensures
 
 pub returns-clause-living : goal.returns-clause-living
 returns-clause-living c =
-    living_then c.args.now _ _ c.args.peer (Calls (call_of c.args.act))
-    (room_as c.args.now c.args.timed.now c.act-answer.new.self c.args.lives.now.entries c.go_on.new.lives.entries c.args.peer (Calls (call_of c.args.act))
-    c.signs_answered-signs.result c.life_of-life.result c.act-answer.ensures.after c.go_on.ensures
-    (c.signs_answered-signs.ensures ∙ ap signs_of c.act-answer.ensures.told) c.life_of-life.ensures)
+    living_then c.args.now _ _ c.args.peer (Does (Calls (asked c.args.call)))
+    (room_as c.args.now c.args.timed.now c.ask-answer.new.self _ c.args.lives.now.entries c.go_on.new.lives.entries c.args.peer
+    c.signs_answered-signs.result (signs_by c.args.timed.now.listening c.args.peer (Calls (asked c.args.call))) c.life_of-life.result
+    c.ask-answer.ensures.after c.go_on.ensures
+    (c.signs_answered-signs.ensures ∙ ap signs_of c.ask-answer.ensures.told) c.life_of-life.ensures)
     c.requires

@@ -1,27 +1,33 @@
-use Rattle.std.proofs.Common.{◌≡◌, refl, ap, ◌∙◌}
+use Rattle.std.proofs.Common.{ap, ◌∙◌}
 use Rattle.dccp_listener.specs.Chain.{Arrives}
 use Rattle.dccp_server.specs.Lives.{Lives, signs_of}
-use Rattle.dccp_server.specs.Rooms.{as_room}
-use Rattle.dccp_server.specs.Serving.{Served}
-use Rattle.dccp_server.proofs.Living.{has_life, living_then, living_same, room_placed}
+use Rattle.dccp_server.specs.Rooms.{as_room, signs_by}
+use Rattle.dccp_server.specs.Rules.{signs_noted}
+use Rattle.dccp_server.specs.Serving.{Does, Served}
+use Rattle.dccp_server.proofs.Living.{living_then, living_same, room_placed}
 use Rattle.dccp_server.proofs.Placing.{taken_back}
+use Rattle.dccp_server.proofs.Tying.{has_place}
 use Rattle.dccp_server.proofs.room.hear.Goals as goal
 
 pub go_on-requires : goal.go_on-requires
-go_on-requires c = has_life _ c.place_for.new.kept.entries c.args.peer c.in_ok-had.ensures.there
+go_on-requires c = has_place _ c.place_for.new.kept.entries c.args.peer c.in_ok-had.ensures.there
 
 pub returns-in-Ok-clause-after : goal.returns-in-Ok-clause-after
 returns-in-Ok-clause-after c =
-    room_placed _ c.args.now c.in_ok-had.had c.args.timed.now c.arrive.new.self c.args.lives.now.entries c.place_for.new.kept.entries
-    c.go_on.new.lives.entries c.args.peer (Arrives c.args.iss c.args.bytes.now) c.signs_heard-signs.result c.life_of-life.result c.in_ok-had.ensures.placed
-    c.in-Ok.ensures.after c.go_on.ensures (c.signs_heard-signs.ensures ∙ ap signs_of c.in-Ok.ensures.told) c.life_of-life.ensures
+    room_placed _ c.args.now c.in_ok-had.had c.args.timed.now c.arrive.new.self _ c.args.lives.now.entries c.place_for.new.kept.entries
+    c.go_on.new.lives.entries c.args.peer c.signs_noted-signs.result
+    (signs_by c.args.timed.now.listening c.args.peer (Arrives c.args.iss c.args.bytes.now)) c.life_of-life.result c.in_ok-had.ensures.placed
+    c.in-Ok.ensures.after c.go_on.ensures
+    (c.signs_noted-signs.ensures ∙ ap (signs_noted c.args.bytes.now) (c.signs_heard.ensures ∙ ap signs_of c.in-Ok.ensures.told)) c.life_of-life.ensures
 
 pub returns-in-Ok-clause-living : goal.returns-in-Ok-clause-living
 returns-in-Ok-clause-living c =
-    living_then c.args.now _ _ c.args.peer (Arrives c.args.iss c.args.bytes.now)
-    (room_placed _ c.args.now c.in_ok-had.had c.args.timed.now c.arrive.new.self c.args.lives.now.entries c.place_for.new.kept.entries
-    c.go_on.new.lives.entries c.args.peer (Arrives c.args.iss c.args.bytes.now) c.signs_heard-signs.result c.life_of-life.result c.in_ok-had.ensures.placed
-    c.in-Ok.ensures.after c.go_on.ensures (c.signs_heard-signs.ensures ∙ ap signs_of c.in-Ok.ensures.told) c.life_of-life.ensures)
+    living_then c.args.now _ _ c.args.peer (Does (Arrives c.args.iss c.args.bytes.now))
+    (room_placed _ c.args.now c.in_ok-had.had c.args.timed.now c.arrive.new.self _ c.args.lives.now.entries c.place_for.new.kept.entries
+    c.go_on.new.lives.entries c.args.peer c.signs_noted-signs.result
+    (signs_by c.args.timed.now.listening c.args.peer (Arrives c.args.iss c.args.bytes.now)) c.life_of-life.result c.in_ok-had.ensures.placed
+    c.in-Ok.ensures.after c.go_on.ensures
+    (c.signs_noted-signs.ensures ∙ ap (signs_noted c.args.bytes.now) (c.signs_heard.ensures ∙ ap signs_of c.in-Ok.ensures.told)) c.life_of-life.ensures)
     c.requires.living
 
 pub returns-in-Err-clause-unchanged : goal.returns-in-Err-clause-unchanged

@@ -1,16 +1,18 @@
-use Rattle.std.proofs.Common.{ap, ◌∙◌}
-use Rattle.ccid_two.specs.Kinds.{kinds_control}
-use Rattle.dccp_uses.specs.Alarms.{arranged}
-use Rattle.dccp_uses.specs.Session.{condition_of}
-use Rattle.dccp_uses.specs.declared.alarms.Condition.{Condition}
-use Rattle.dccp_listener.specs.Peers.{end_of_peer}
-use Rattle.dccp_server.proofs.Placing.{inserted}
+use Rattle.std.proofs.Common.{ap, sym, ◌∙◌, Option}
+use Rattle.std.specs.BTreeMap.{insert_entry}
+use Rattle.dccp_listener.specs.Peers.{FlowEnd, peer_cmp}
+use Rattle.dccp_server.specs.Places.{kept_then}
+use Rattle.dccp_server.specs.Upkeeps.{next_upkeep}
+use Rattle.dccp_server.specs.declared.upkeep.Upkeep.{Upkeep}
+use Rattle.dccp_server.proofs.Tying.{place_there_if}
 use Rattle.dccp_server.proofs.serving.arrange.Goals as goal
 
--- the peer has a place, so that no memory is wanting
+pub put-requires : goal.put-requires
+put-requires c = place_there_if _ c.in-Some.end.now c.args.upkeeps.now.entries c.args.peer c.in-Some.ensures.value c.requires
+
 pub returns-in-Some : goal.returns-in-Some
 returns-in-Some c =
-    inserted c.args.timers.now.entries c.insert.new.self.entries c.args.peer (λ e. arranged c.args.alarms.now (condition_of kinds_control e) c.args.now)
-    (end_of_peer c.args.listener.now.flows c.args.peer) c.in-Some.end.now c.arranged-alarms.result c.insert.result c.requires c.insert.ensures.entries
-    c.insert.ensures.absent c.in-Some.ensures.value
-    (c.arranged-alarms.ensures ∙ ap (λ (k : Condition). arranged c.args.alarms.now k c.args.now) c.of-condition.ensures)
+    c.put.ensures ∙ ap (λ (u : Upkeep). insert_entry peer_cmp c.args.upkeeps.now.entries c.args.peer u) c.next_upkeep-next.ensures
+    ∙ sym
+    (ap (λ (found : Option FlowEnd). kept_then c.args.upkeeps.now.entries c.args.peer
+    (next_upkeep c.args.now c.args.pace c.args.upkeep.now c.args.happening.now) found) c.in-Some.ensures.value)

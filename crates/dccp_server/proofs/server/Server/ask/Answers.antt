@@ -1,4 +1,4 @@
-use Rattle.dccp_server.proofs.server.Server.act.Goals as goal
+use Rattle.dccp_server.proofs.server.Server.ask.Goals as goal
 
 pub invariant_of-self : goal.invariant_of-self
 invariant_of-self c = c.ask.ensures.living

@@ -1,0 +1,58 @@
+-- How many answers go to strangers: peers that have no flow (RFC 4340, section 8.1.3; own).
+use Rattle.std.specs.Prelude.{ℕ, ◌==◌, Bool, true, false, Option, Some, None, if◌then◌else◌}
+use Rattle.dccp_packets.specs.Outgoing.{Outgoing}
+use Rattle.dccp_packets.specs.ResetCodes.{number_of_code}
+use Rattle.dccp_packets.specs.declared.reset_code.ResetCode.TheVariants as codes
+use Rattle.dccp_listener.specs.Runs.{CallTold, Stepped}
+use Rattle.dccp_states.specs.declared.outcome.Outcome.TheVariants.{SentReset}
+use Rattle.dccp_states.specs.declared.seen.Seen.TheVariants.{Received}
+use Rattle.path_rules.specs.Limits.{full, resets_to_strangers, token_taken}
+use Rattle.path_rules.specs.declared.limits.Bucket.{Bucket}
+use Rattle.path_rules.specs.declared.limits.Limit.{Limit}
+use Rattle.path_rules.specs.declared.limits.Taking.{Taking}
+use Rattle.dccp_server.specs.Rules.{answers_to_strangers}
+use Rattle.dccp_server.specs.declared.rules.Rules.{Rules}
+use Rattle.dccp_server.specs.declared.strangers.Spared.{Spared}
+use Rattle.dccp_server.specs.declared.strangers.Strangers.{Strangers}
+
+-- no answer has gone out yet
+abbrev pub strangers_begin : Strangers
+strangers_begin = record { answers = full answers_to_strangers 0; resets = full resets_to_strangers 0 }
+
+-- a token is taken, or none is wanted where there is no limit
+abbrev pub taken_if : Option Limit → Bucket → ℕ → Taking
+taken_if None bucket now = record { granted = true; bucket = bucket }
+taken_if (Some limit) bucket now = token_taken limit bucket now
+
+-- what was told is a Reset to a packet that belongs to no connection (RFC 4340, section 5.6: No Connection)
+abbrev pub is_no_connection : Option CallTold → Bool
+is_no_connection (Some (Stepped (Some (Received (SentReset code detail))))) = code == number_of_code codes.NoConnection
+is_no_connection _ = false
+
+-- with what is left of the limit on all answers
+abbrev pub answers_spared : Strangers → Taking → Spared
+answers_spared it taking = record { goes = taking.granted; strangers = record it { answers = taking.bucket } }
+
+-- an answer takes one token
+abbrev pub answer_spared : ℕ → Rules → Strangers → Spared
+answer_spared now rules it = answers_spared it (taken_if rules.answers it.answers now)
+
+-- a Reset without a connection takes one of its own first, and where there is none does not go out
+abbrev pub reset_spared : ℕ → Rules → Strangers → Taking → Spared
+reset_spared now rules it taking =
+    if taking.granted then answer_spared now rules (record it { resets = taking.bucket })
+    else record { goes = false; strangers = record it { resets = taking.bucket } }
+
+-- whether an answer to a stranger goes out, by what was told
+abbrev pub spared : ℕ → Rules → Strangers → Bool → Spared
+spared now rules it true = reset_spared now rules it (taken_if rules.resets it.resets now)
+spared now rules it false = answer_spared now rules it
+
+-- whether a frame goes out, and what is left of the limits: those to peers with a flow do
+abbrev pub spared_if : ℕ → Rules → Strangers → Bool → Option CallTold → Spared
+spared_if now rules it true told = spared now rules it (is_no_connection told)
+spared_if now rules it false told = record { goes = true; strangers = it }
+
+-- the frame, if it goes out
+abbrev pub frame_if_goes : Bool → Option Outgoing → Option Outgoing
+frame_if_goes goes frame = if goes then frame else None

@@ -1,0 +1,41 @@
+-- What is kept of a flow is what an end with its timers would keep (own).
+use Rattle.std.specs.Prelude.{◌≡◌, ℕ, not, is_some, List, Option, Some, None}
+use Rattle.ccid_two.specs.Kinds.{kinds_control}
+use Rattle.dccp_endpoint.specs.Controlled.{with_control}
+use Rattle.dccp_endpoint.specs.Receiving.{receives}
+use Rattle.dccp_listener.specs.Chain.{Calls, Fires, FlowCall, flow_step}
+use Rattle.dccp_listener.specs.Peers.{FlowEnd}
+use Rattle.dccp_listener.specs.Runs.{Stepped}
+use Rattle.dccp_states.specs.declared.calls.Timer.{Timer}
+use Rattle.dccp_states.specs.declared.seen.Seen.TheVariants.{Received}
+use Rattle.dccp_uses.specs.Path.{sight_of}
+use Rattle.dccp_uses.specs.Rules.{due_rule}
+use Rattle.dccp_uses.specs.Timed.{tells_rules, timed_fires, timed_hears}
+use Rattle.dccp_uses.specs.declared.pace.Pace.{Pace}
+use Rattle.dccp_server.specs.Upkeeps.{arrived_so, call_for_rule, next_upkeep, timed_flow, upkeep_of}
+use Rattle.dccp_server.specs.declared.happening.Happening.TheVariants as happening
+use Rattle.dccp_server.specs.declared.upkeep.Upkeep.{Upkeep}
+
+-- an end after a call that there may be
+abbrev pub flow_after : FlowEnd → Option FlowCall → FlowEnd
+flow_after e None = e
+flow_after e (Some call) = (flow_step e (Calls call)).after
+
+-- Whatever is kept, whatever the time: a datagram that is heard, a timer that is told, and a rule that is followed.
+pub record KeepsAsTimedEnds (now : ℕ) (pace : Pace) (e : FlowEnd) (u : Upkeep) : Type 0 where
+  pub hears : (bytes : List ℕ)
+      → next_upkeep now pace u
+      (arrived_so (Some (sight_of kinds_control e)) (Stepped (Some (Received (with_control kinds_control e.congestion (receives e.state bytes)).answer)))
+      (not (is_some (with_control kinds_control e.congestion (receives e.state bytes)).frame)))
+      (with_control kinds_control e.congestion (receives e.state bytes)).after
+      ≡ upkeep_of (timed_hears kinds_control now (timed_flow e u) bytes).timed
+  pub fires : (timer : Timer)
+      → next_upkeep now pace u (happening.Rang timer) (flow_after e (Some (Fires timer)))
+      ≡ upkeep_of (timed_fires kinds_control now (timed_flow e u) timer).timed
+  pub follows : next_upkeep now pace u (happening.Ruled (due_rule u.path now)) (flow_after e (call_for_rule (due_rule u.path now) u.path.aim (Some e)))
+      ≡ upkeep_of (tells_rules kinds_control now (timed_flow e u)).timed
+  pub same_ends : flow_after e (call_for_rule (due_rule u.path now) u.path.aim (Some e)) ≡ (tells_rules kinds_control now (timed_flow e u)).timed.end
+
+-- of each flow
+abbrev pub FlowsAreTimedEnds : Type 0
+FlowsAreTimedEnds = (now : ℕ) (pace : Pace) (e : FlowEnd) (u : Upkeep) → KeepsAsTimedEnds now pace e u

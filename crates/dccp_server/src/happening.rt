@@ -1,0 +1,114 @@
+//! What may happen to a flow's end, as far as its timers and its path go by it.
+ghost use Rattle.std.specs.Prelude.{◌≡◌, Ok};
+ghost use Rattle.dccp_listener.specs.Chain.{asked};
+ghost use Rattle.dccp_listener.specs.Calls.{seen_if};
+ghost use Rattle.dccp_listener.specs.Runs.{Stepped, told_of};
+ghost use Rattle.dccp_server.specs.Serving.{is_refusal};
+ghost use Rattle.dccp_server.specs.Upkeeps.{arrived_so, called_so, call_happening, tells_data, tells_taken};
+
+use dccp_endpoint::{Seen, Timer, UserCall};
+use dccp_listener::{Heard, NoFlow};
+use dccp_uses::{Rule, Sight, is_delivery, is_taken};
+
+/// A datagram that a flow's end has heard.
+#[derive(Clone, Copy, Debug, PartialEq, Eq)]
+pub struct Hearing {
+    /// What there was to see of the end before.
+    pub was: Sight,
+    /// The packet was taken.
+    pub taken: bool,
+    /// It has brought data.
+    pub delivered: bool,
+    /// Nothing went out for it.
+    pub silent: bool,
+}
+
+/// What happened to a flow's end.
+#[derive(Clone, Copy, Debug, PartialEq, Eq)]
+pub enum Happening {
+    /// It was made, and has answered a Request.
+    Opened,
+    /// It has heard a datagram.
+    Heard(Hearing),
+    /// Data went out.
+    Sent,
+    /// It was told this timer.
+    Rang(Timer),
+    /// It began to close.
+    Closed,
+    /// It took a call that shows in its phase alone.
+    Called,
+    /// It took a wish for a feature.
+    Preferred,
+    /// It refused a call.
+    Refused,
+    /// A rule of its path had it do something.
+    Ruled(Rule),
+}
+
+fn tells_taken(heard: &Heard) -> bool
+    ensures { result ≡ tells_taken (told_of (Ok heard.now)) }
+{
+    match heard {
+        Heard::Flow(outcome) => is_taken(outcome),
+        Heard::Busy => false,
+    }
+}
+
+fn tells_data(heard: &Heard) -> bool
+    ensures { result ≡ tells_data (told_of (Ok heard.now)) }
+{
+    match heard {
+        Heard::Flow(outcome) => is_delivery(outcome),
+        Heard::Busy => false,
+    }
+}
+
+/// A datagram was heard, by an end of which there was this to see, if there was one; whether nothing went out.
+pub(crate) fn arrived_so(was: Option<Sight>, heard: &Heard, silent: bool) -> Happening
+    ensures { result ≡ arrived_so was (told_of (Ok heard.now)) silent }
+{
+    let taken = tells_taken(heard);
+    let delivered = tells_data(heard);
+    match was {
+        None => Happening::Opened,
+        Some(was) => Happening::Heard(Hearing {
+            was,
+            taken,
+            delivered,
+            silent,
+        }),
+    }
+}
+
+// A call that was not refused.
+fn call_happening(call: UserCall<'_>) -> Happening
+    ensures { result ≡ call_happening (asked call.entry) }
+{
+    match call {
+        UserCall::Send(_) | UserCall::SendEarly(_) => Happening::Sent,
+        UserCall::Timer(timer) => Happening::Rang(timer),
+        UserCall::Close => Happening::Closed,
+        UserCall::Prefer { .. } => Happening::Preferred,
+        UserCall::Open | UserCall::Abort => Happening::Called,
+    }
+}
+
+fn is_refusal(answer: &Result<Seen, NoFlow>) -> bool
+    ensures { result ≡ is_refusal (Stepped (seen_if answer.now)) }
+{
+    match answer {
+        Ok(Seen::Called(Err(_))) | Err(NoFlow) => true,
+        Ok(Seen::Called(Ok(())) | Seen::Fired(_) | Seen::Received(_)) => false,
+    }
+}
+
+/// A call was answered so.
+pub(crate) fn called_so(call: UserCall<'_>, answer: &Result<Seen, NoFlow>) -> Happening
+    ensures { result ≡ called_so (asked call.entry) (is_refusal (Stepped (seen_if answer.now))) }
+{
+    if is_refusal(answer) {
+        return Happening::Refused;
+    }
+    call_happening(call)
+}
