@@ -1,17 +1,18 @@
 -- Worked packets under the rules of a path: those that would be answered by a Sync, of which few are heard, and an end that nobody answers. The
 -- packets and numbers were worked out by hand; the server has received up to 1001 and sent up to 2001, with windows of 100, so that SWL is 1000
 -- and SWH 1076.
-use Rattle.std.proofs.Common.{◌≡◌, refl, ℕ, zero, suc, Bool, true, false, List, [], ◌∷◌, ◌++◌, replicate, Option, Some, None, is_some, codes}
+use Rattle.std.proofs.Common.{◌≡◌, refl, ℕ, zero, suc, Bool, true, false, List, [], ◌∷◌, ◌++◌, replicate, Option, Some, None, codes}
 use Prim.Native.String.{String}
 use Rattle.dccp_packets.specs.Outgoing.{bytes_sent}
 use Rattle.ccid_two.specs.Kinds.{Both, at_first, kinds_control}
-use Rattle.dccp_endpoint.specs.Calling.{closes, fires, opens, prefers, sends_payload}
+use Rattle.dccp_endpoint.specs.Calling.{aborts, closes, fires, opens, prefers, sends_payload}
 use Rattle.dccp_endpoint.specs.Controlled.{begins}
 use Rattle.dccp_endpoint.specs.Drafts.{framed}
 use Rattle.dccp_endpoint.specs.Early.{sends_early}
 use Rattle.dccp_endpoint.specs.End.{EndState}
 use Rattle.dccp_endpoint.specs.Receiving.{receives}
 use Rattle.dccp_endpoint.specs.Steps.{in_phase}
+use Rattle.dccp_states.specs.declared.calls.Timer.TheVariants as timers
 use Rattle.dccp_states.specs.declared.phase.Phase.TheVariants as phase
 use Rattle.dccp_states.specs.declared.phase.Role.TheVariants.{Client, Server}
 use Rattle.feature_lists.specs.declared.features.Feature.TheVariants.{ShortSeqnos}
@@ -81,6 +82,7 @@ few_are_heard :
     × (heard_by open_server ((1000, first_far) ∷ (1999, first_far) ∷ (2000, first_far) ∷ (2000, after_it) ∷ []) ≡ true ∷ false ∷ true ∷ true ∷ [])
     × (heard_by open_server (replicate 30 (1000, inside) ++ (1000, proper_ack) ∷ (1000, sync) ∷ (1000, "") ∷ replicate 20 (1000, after_it))
     ≡ replicate 53 true)
+unfolding receives
 few_are_heard = (refl, refl, refl, refl)
 
 -- Nothing is left out where that rule is not followed, and in the phases in which no windows judge.
@@ -94,6 +96,7 @@ all_are_heard :
     × (heard_by (in_phase open_server phase.PartOpen) (replicate 21 (1000, after_it)) ≡ replicate 20 true ++ false ∷ [])
     × (heard_by (in_phase open_server phase.CloseReq) (replicate 21 (1000, after_it)) ≡ replicate 20 true ++ false ∷ [])
     × (heard_by (in_phase open_server phase.Closing) (replicate 21 (1000, after_it)) ≡ replicate 20 true ++ false ∷ [])
+unfolding receives
 all_are_heard = (refl, refl, refl, refl, refl, refl, refl, refl, refl)
 
 -- A short number counts as the one that it stands for, where the end takes such; else its packet is dropped, and no Sync answers it.
@@ -101,6 +104,7 @@ short_numbers_count :
     (heard_by (holding ShortSeqnos There 1 open_server) (replicate 21 (1000, short_after)) ≡ replicate 20 true ++ false ∷ [])
     × (heard_by (holding ShortSeqnos There 1 open_server) (replicate 21 (1000, short_inside)) ≡ replicate 21 true)
     × (heard_by open_server (replicate 21 (1000, short_after)) ≡ replicate 21 true)
+unfolding receives
 short_numbers_count = (refl, refl, refl)
 
 -- that server with its timers, and the same after so many packets of somebody who knows its ports
@@ -131,20 +135,27 @@ heard_once = takes 1000 (opened usual_pace) proper_ack
 abbrev told : ℕ → TimedState Both → TimedState Both
 told now s = (rings_due kinds_control now s due.Rules).timed
 
+abbrev asked : TimedState Both
+asked = told 61000 heard_once
+
 abbrev told_frame : ℕ → TimedState Both → Option (List ℕ)
 told_frame now s = bytes_sent (rings_due kinds_control now s due.Rules).frame
 
 -- A client asks for three minutes, and then falls silent. An open end that hears nothing for a minute asks its peer for the Ack Ratio that it
--- holds, which its peer has to confirm, and again after ten seconds; after three minutes it ends the connection by a Reset with code 2.
+-- holds, which its peer has to confirm. The timer Negotiate repeats that question from a second later on; the rule begins its waits anew each
+-- ten seconds. After three minutes the end ends the connection by a Reset with code 2.
 the_silent_are_given_up :
     ((told 184999 asking).end.state.phase ≡ phase.Request) × ((told 185000 asking).end.state.phase ≡ phase.Closed)
     × (told_frame 185000 asking ≡ None)
     × (told_frame 60999 heard_once ≡ None)
     × (told_frame 61000 heard_once ≡ sent "13899c400800fa3007000000000007d200000000000003ea2005050002000000")
-    × (told_frame 70999 (told 61000 heard_once) ≡ None)
-    × (is_some (told_frame 71000 (told 61000 heard_once)) ≡ true)
+    × (asked.alarms.negotiate ≡ Some (record { since = 61000; wait = 1000 }))
+    × (bytes_sent (rings_due kinds_control 62000 asked (due.Timer timers.Negotiate)).frame ≡ sent "13899c400800fa2f07000000000007d300000000000003ea2005050002000000")
+    × (asked.path.silence ≡ Some (record { since = 61000; wait = 10000 }))
+    × ((told 71000 asked).path.silence ≡ Some (record { since = 71000; wait = 10000 }))
+    × ((told 71000 asked).alarms.negotiate ≡ Some (record { since = 71000; wait = 1000 }))
     × ((told 180999 heard_once).end.state.phase ≡ phase.Open)
     × ((told 181000 heard_once).end.state.phase ≡ phase.Closed)
     × (told_frame 181000 heard_once ≡ sent "13899c400700183a0f000000000007d200000000000003ea02000000")
-unfolding receives opens closes prefers fires sends_payload sends_early framed until_first
-the_silent_are_given_up = (refl, refl, refl, refl, refl, refl, refl, refl, refl, refl)
+unfolding aborts receives opens closes prefers fires sends_payload sends_early framed until_first
+the_silent_are_given_up = (refl, refl, refl, refl, refl, refl, refl, refl, refl, refl, refl, refl, refl)
