@@ -127,7 +127,7 @@ frames_work = record {
   begun = λ s nanos. passed_over s;
   passed = λ s e. framed_record s (record_behind e);
   told = flow_packet_text;
-  closing = λ untold records end. unwrap_closing false records end;
+  closing = λ job untold records end. unwrap_closing false records end;
 }
 
 -- what the pieces of an input come to, for this flow and side

@@ -24,7 +24,7 @@ json_work = record {
   begun = λ job nanos. record { deed = None; next = job };
   passed = λ job e. record { deed = Some e; next = job };
   told = record_line;
-  closing = λ untold records end. json_closing records end;
+  closing = λ job untold records end. json_closing records end;
 }
 
 -- what the pieces of an input come to

@@ -64,7 +64,7 @@ unwrap_work = record {
   begun = λ job nanos. record { deed = Some (Begins nanos); next = job };
   passed = λ job e. record { deed = Some (Holds (unwrapped_entry e)); next = job };
   told = capture_part_text;
-  closing = unwrap_closing;
+  closing = λ job untold records end. unwrap_closing untold records end;
 }
 
 -- what the pieces of an input come to

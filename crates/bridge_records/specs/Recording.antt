@@ -16,13 +16,13 @@ pub record RecordStep (P V : Type 0) : Type 0 where
   pub next : V
 
 -- A job over the records of a capture: what it does where the capture begins, whose fractions are nanoseconds or
--- microseconds, and what with a record; the text of what it does; and the text behind the last of so many records, at
--- the end of a capture that told of its fractions or did not, or for a fault.
+-- microseconds, and what with a record; the text of what it does; and the text behind the last of so many records, by
+-- the job's state, at the end of a capture that told of its fractions or did not, or for a fault.
 pub record RecordWork (P V : Type 0) : Type 0 where
   pub begun : V → Bool → RecordStep P V
   pub passed : V → RecordParts → RecordStep P V
   pub told : P → List ℕ
-  pub closing : Bool → ℕ → Option PieceFault → List ℕ
+  pub closing : V → Bool → ℕ → Option PieceFault → List ℕ
 
 -- Where reading stands, whether fractions are nanoseconds, how many records came, and the job's state. (No capture has
 -- so many that their count would stay at its end.)
@@ -72,7 +72,7 @@ records_work work = record {
   may_end = λ s. is_between s.file.place;
   judged = λ s piece. by_judged work s piece (file_judged s.file piece);
   told = work.told;
-  closing = λ s end. work.closing (is_untold s.file) s.records end;
+  closing = λ s end. work.closing s.job (is_untold s.file) s.records end;
 }
 
 -- What the records of an input come to, from the job's first state.

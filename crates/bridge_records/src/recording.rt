@@ -46,7 +46,7 @@ pub trait RecordJob {
         end: Option<PieceFault>,
         text: &mut Vec<u8>,
     ) -> Result<(), NoMemory>
-        ensures { OnOk result (text.new.items ≡ text.old.items ++ work.closing untold records end) };
+        ensures { OnOk result (text.new.items ≡ text.old.items ++ work.closing self.now untold records end) };
 }
 
 /// A capture while a job goes over its records.

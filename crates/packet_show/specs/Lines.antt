@@ -65,6 +65,13 @@ abbrev pub packet_line : RecordParts → DatagramParts → Parts → ℕ → Lis
 packet_line entry there packet flow =
     stamp_text entry ++ sender_text there packet.header.from flow ++ receiver_text there packet.header.to ++ header_text packet.header ++ rest_text there packet
 
+-- what a packet says: its header, its options, of which some are ignored on Data packets, and how many bytes of data
+-- are there
+abbrev pub words_text : Parts → List ℕ
+words_text packet =
+    header_text packet.header ++ options_text (options_of packet.options (is_data (packet_type packet.header.kind))) ++ codes " data "
+    ++ decimal (length packet.payload)
+
 -- the line of bytes that are no packet: their record, and what is wrong with them
 abbrev pub malformed_line : RecordParts → Malformed → List ℕ
 malformed_line entry why = stamp_text entry ++ codes " malform" ++ codes "ed " ++ malformed_name why ++ codes "\n"

@@ -22,5 +22,5 @@ pub use crate::names::{sum_name, type_name};
 pub use crate::network::{Datagram, carried};
 pub use crate::numbers::{put_from, put_to};
 pub use crate::options::{put_mark, put_option};
-pub use crate::packet::put_packet;
+pub use crate::packet::{put_packet, put_words};
 pub use crate::show::show_capture;

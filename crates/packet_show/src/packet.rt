@@ -7,7 +7,7 @@ ghost use Rattle.capture_reader.specs.Records.{entry_of};
 ghost use Rattle.tool_text.specs.Text.{Keeps};
 ghost use Rattle.packet_show.specs.Network.{carried_by};
 ghost use Rattle.packet_show.specs.Text.{ack_text, service_text, code_text, kind_text};
-ghost use Rattle.packet_show.specs.Lines.{stamp_text, sender_text, receiver_text, header_text, sum_text, rest_text, packet_line, malformed_line, parts_by};
+ghost use Rattle.packet_show.specs.Lines.{stamp_text, sender_text, receiver_text, header_text, sum_text, rest_text, packet_line, malformed_line, parts_by, words_text};
 
 use crate::names::{sum_name, type_name};
 use crate::network::Datagram;
@@ -177,6 +177,22 @@ pub fn put_packet(
     put_header(text, &packet.header)?;
     put_rest(text, there, packet)?;
     Ok(())
+}
+
+/// Puts what a packet says (own): its type and its numbers, what the type carries, its options, and how many bytes of
+/// data are there, each behind a space. NoMemory comes where the text could not grow.
+pub fn put_words(text: &mut Vec<u8>, packet: &Packet<'_>) -> Result<(), NoMemory>
+    requires options { length packet.now.options.now ≤ 1008 }
+    ensures ok { OnOk result (text.new.items ≡ text.old.items ++ words_text (parts_by packet.now)) }
+    ensures front { Keeps text.old.items text.new.items }
+{
+    put_header(text, &packet.header)?;
+    put_options(
+        text,
+        packet.options,
+        packet.header.kind.packet_type().is_data(),
+    )?;
+    put_counted(text, b" data ", packet.payload.len() as u64)
 }
 
 /// Puts the line of bytes that are no packet.
