@@ -18,7 +18,7 @@ use Rattle.dccp_states.specs.declared.phase.Role.TheVariants.{Client, Server}
 use Rattle.feature_lists.specs.declared.features.Feature.TheVariants.{ShortSeqnos}
 use Rattle.feature_lists.specs.declared.features.Place.TheVariants.{There}
 use Rattle.dccp_uses.specs.Alarms.{until_first}
-use Rattle.dccp_uses.specs.Path.{classic_pace, path_begins, usual_pace}
+use Rattle.dccp_uses.specs.Path.{classic_pace, path_begins, usual_pace, widened}
 use Rattle.dccp_uses.specs.Sessions.{rings_due}
 use Rattle.dccp_uses.specs.Syncs.{admitted}
 use Rattle.dccp_uses.specs.Timed.{TimedState, timed_begins, timed_opens, timed_takes}
@@ -159,3 +159,21 @@ the_silent_are_given_up :
     × (told_frame 181000 heard_once ≡ sent "13899c400700183a0f000000000007d200000000000003ea02000000")
 unfolding aborts receives opens closes prefers fires sends_payload sends_early framed until_first
 the_silent_are_given_up = (refl, refl, refl, refl, refl, refl, refl, refl, refl, refl, refl, refl, refl)
+
+-- The offer that a rule makes: the Request of a client that offers nothing else asks for a Sequence Window of 10,000, in six bytes.
+a_wide_window_is_offered :
+    bytes_sent (timed_opens kinds_control 5000 (timed_begins kinds_control (widened (plain Client)) at_first usual_pace)).frame
+    ≡ sent "9c4013890800fbaf01000000000003e80000002a200903000000002710000000"
+unfolding receives opens closes prefers fires sends_payload sends_early framed until_first
+a_wide_window_is_offered = refl
+
+-- Two rules are due at one time: one goes, and the other a millisecond later.
+abbrev both_due : TimedState Both
+both_due = record heard_once { path = record heard_once.path { ratio = Some (record { since = 1000; wait = 0 }); aim = 2 } }
+
+one_rule_acts_in_a_millisecond :
+    ((told 61000 both_due).path.rules ≡ Some (record { since = 61000; wait = 1 }))
+    × ((told 61000 both_due).path.silence ≡ Some (record { since = 61000; wait = 10000 }))
+    × ((told 61001 (told 61000 both_due)).path.ratio ≡ None) × ((told 61001 (told 61000 both_due)).path.asked ≡ Some 61001)
+unfolding receives opens closes prefers fires sends_payload sends_early framed until_first
+one_rule_acts_in_a_millisecond = (refl, refl, refl, refl)
