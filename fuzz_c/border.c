@@ -9,7 +9,7 @@
 
 #include "dccp.h"
 
-enum { CLIENT = 0, SERVER = 1, LISTENER = 2, CALLS = 16, PHASES = 9, STATUSES = 20, CAUSES = 13, PEERS = 4 };
+enum { CLIENT = 0, SERVER = 1, LISTENER = 2, CALLS = 18, PHASES = 9, STATUSES = 20, CAUSES = 13, PEERS = 4 };
 
 __attribute__((section("__libfuzzer_extra_counters"))) static uint8_t answered[CALLS * PHASES * STATUSES], was_told[3 * PHASES * 6 * CAUSES];
 
@@ -207,10 +207,19 @@ static void call_listener(int call, struct input *in) {
         case 9: (void)dccp_listener_forget(&s.listener, &peer, s.now); return;
         case 10:
             rules = (dccp_flow_rules){.respond = draw(in, 2), .crowded = draw(in, 2), .closing = draw(in, 2), .idle = draw(in, 2)};
+            rules.answers = (uint16_t)draw(in, 2);
+            rules.resets = (uint16_t)draw(in, 2);
             rules.makes_room = draw(in, 1) & 1;
             rules.ends_old_flows = draw(in, 1) & 1;
             (void)dccp_listener_rules(&s.listener, &rules);
             return;
+        case 11: {
+            uint32_t feature = (uint32_t)draw(in, 1);
+            uint64_t values[2] = {draw(in, 2), draw(in, 2)};
+            judge(16, LISTENER, dccp_listener_prefer(&s.listener, &peer, feature, draw(in, 1) & 1, values, draw(in, 1) % 3, s.now, &s.frame), NULL);
+            judge(17, LISTENER, dccp_listener_feature(&s.listener, &peer, feature, draw(in, 1) & 1, &(dccp_feature_state){0}), NULL);
+            return;
+        }
         default: judge(15, LISTENER, dccp_listener_tick(&s.listener, s.now, &peer, &s.frame), NULL); return;
     }
 }
@@ -223,7 +232,7 @@ int LLVMFuzzerTestOneInput(const uint8_t *data, size_t size) {
         s.now += call >> 7 ? draw(&in, 2) : 1;
         int who = (call & 0x7f) % 3;
         if (who == LISTENER)
-            call_listener((call & 0x7f) / 3 % 12, &in);
+            call_listener((call & 0x7f) / 3 % 13, &in);
         else
             call_end((call & 0x7f) / 3 % 11, who, &in);
         (void)dccp_until_first(&s.ends[CLIENT], s.now);

@@ -2,7 +2,8 @@
 ghost use Rattle.std.specs.Prelude.{◌≡◌, unwrap_or};
 ghost use Rattle.std.specs.Option.{option_map};
 ghost use Rattle.dccp_listener.specs.Peers.{end_of_peer};
-ghost use Rattle.dccp_c.specs.Codes.{feature_numbered, place_by};
+ghost use Rattle.feature_lists.specs.Features.{feature_numbered};
+ghost use Rattle.dccp_c.specs.Codes.{place_by};
 ghost use Rattle.dccp_c.specs.FlowFeatures.{PrefersAt, flow_feature, flow_feature_code};
 ghost use Rattle.dccp_c.specs.Framing.{handed_in};
 ghost use Rattle.dccp_c.specs.Listening.{peer_named, served_in};
