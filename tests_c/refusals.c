@@ -363,6 +363,9 @@ static void without_a_listener(void) {
     dccp_frame frame;
     dccp_told told;
     dccp_view view;
+    dccp_feature_state state;
+    dccp_flow_rules rules = DCCP_USUAL_RULES;
+    uint64_t ratio = 1;
     uint8_t byte = 0;
     same("a datagram without a listener", DCCP_NOT_MADE, dccp_listener_arrive(&none, &guest, 0, &byte, 1, 0, &frame, &told));
     same("send without one", DCCP_NOT_MADE, dccp_listener_send(&none, &guest, &byte, 1, 0, &frame));
@@ -372,6 +375,10 @@ static void without_a_listener(void) {
     same("the time until then", DCCP_NEVER, dccp_listener_until_first(&none, 0));
     same("a look without one", DCCP_NOT_MADE, dccp_listener_look(&none, &guest, &view));
     same("a peer without one", DCCP_NOT_MADE, dccp_listener_peer(&none, 0, &peer));
+    same("a wish without one", DCCP_NOT_MADE, dccp_listener_prefer(&none, &guest, DCCP_FEATURE_ACK_RATIO, false, &ratio, 1, 0, &frame));
+    same("a feature without one", DCCP_NOT_MADE, dccp_listener_feature(&none, &guest, DCCP_FEATURE_ACK_RATIO, false, &state));
+    same("rules without one", DCCP_NOT_MADE, dccp_listener_rules(&none, &rules));
+    same("forgetting without one", DCCP_NOT_MADE, dccp_listener_forget(&none, &guest, 0));
     same("its frame", 0, frame.length);
     dccp_listener_free(&none);
 }
@@ -390,14 +397,17 @@ static void limits_of_a_listener(void) {
     same("blocks that are kept", 0, held);
 }
 
-/* A listener of at most one peer. */
-static dccp_listener begun(void) {
+/* A listener of at most one peer, whose flows make the usual offers, or none. */
+static dccp_listener begun_as(bool is_plain) {
     dccp_listener listener = DCCP_NO_LISTENER;
     dccp_settings settings = server();
     dccp_wish none = {.count = 0};
+    settings.is_plain = is_plain;
     same("a listener", DCCP_OK, dccp_listener_make(&listener, &settings, &none, 0, 1));
     return listener;
 }
+
+static dccp_listener begun(void) { return begun_as(false); }
 
 /* A datagram of a client, from this address. */
 static uint32_t arrives(dccp_listener *listener, uint8_t last, const dccp_frame *datagram, dccp_frame *frame, dccp_told *told) {
@@ -466,13 +476,52 @@ static void a_listener(void) {
     same("blocks behind free", 0, held);
 }
 
-/* A client and its flow: an Ack of the flow waits for 200 milliseconds (RFC 4340, section 8.1.5), and data that arrive are told. */
+/* What a flow holds and takes: a Sequence Window of 10,000 that it has offered, a wish for its Ack Ratio, and no wish of another's. */
+static void features_of_a_flow(dccp_listener *listener) {
+    dccp_peer stranger = {.address = {10, 0, 0, 9}, .port = 40000};
+    dccp_feature_state state = {0};
+    dccp_frame frame;
+    uint64_t one = 1, none[1] = {70000};
+    same("its Sequence Window", DCCP_OK, dccp_listener_feature(listener, &guest, DCCP_FEATURE_SEQUENCE_WINDOW, false, &state));
+    same("the value", 10000, state.value);
+    same("a feature of no number", DCCP_NO_FEATURE, dccp_listener_feature(listener, &guest, 10, false, &state));
+    same("a stranger's", DCCP_NO_FLOW, dccp_listener_feature(listener, &stranger, DCCP_FEATURE_ACK_RATIO, false, &state));
+    same("a wish of no number", DCCP_NO_FEATURE, dccp_listener_prefer(listener, &guest, 10, false, &one, 1, 0, &frame));
+    same("a wish for the peer's", DCCP_NOT_OURS, dccp_listener_prefer(listener, &guest, DCCP_FEATURE_ACK_RATIO, true, &one, 1, 0, &frame));
+    same("a ratio of 70,000", DCCP_BAD_LIST, dccp_listener_prefer(listener, &guest, DCCP_FEATURE_ACK_RATIO, false, none, 1, 0, &frame));
+    same("its frame", 0, frame.length);
+    same("a stranger's wish", DCCP_NO_FLOW, dccp_listener_prefer(listener, &stranger, DCCP_FEATURE_ACK_RATIO, false, &one, 1, 0, &frame));
+    same("a wish", DCCP_OK, dccp_listener_prefer(listener, &guest, DCCP_FEATURE_ACK_RATIO, false, &one, 1, 0, &frame));
+    same("its Ack", 3, (frame.bytes[8] >> 1) & 15);
+    same("its Ack Ratio", DCCP_OK, dccp_listener_feature(listener, &guest, DCCP_FEATURE_ACK_RATIO, false, &state));
+    same("where it stands", DCCP_STAND_CHANGING, state.stand);
+}
+
+/* Packets that belong to no connection: eight Resets go out in a second (own), one in 125 milliseconds. */
+static void packets_of_no_flow(dccp_listener *listener, const dccp_frame *datagram) {
+    dccp_frame frame;
+    dccp_told told;
+    same("the flow goes", DCCP_OK, dccp_listener_forget(listener, &guest, 0));
+    same("and is there no more", DCCP_NO_FLOW, dccp_listener_forget(listener, &guest, 0));
+    for (unsigned count = 0; count < 9; count++) {
+        same("a stranger's packet", DCCP_OK, arrives(listener, 1, datagram, &frame, &told));
+        same("what became of it", DCCP_TOLD_SENT_RESET, told.kind);
+        same("the code: No Connection", 3, told.code);
+        same("whether its Reset goes out", count < 8, frame.length != 0);
+    }
+    dccp_listener_arrive(listener, &guest, 2000, datagram->bytes, datagram->length, 124, &frame, &told);
+    same("a Reset 124 milliseconds later", 0, frame.length);
+    dccp_listener_arrive(listener, &guest, 2000, datagram->bytes, datagram->length, 125, &frame, &told);
+    same("a Reset a millisecond after that", 7, (frame.bytes[8] >> 1) & 15);
+}
+
+/* A client and its flow: an Ack of the flow waits for 50 milliseconds (own; RFC 4340, section 8.1.5), and data that arrive are told. */
 static void a_flow(void) {
     static const uint8_t many[DCCP_MOST_DATA_BYTES + 1];
     dccp_listener listener = begun();
     dccp_end end = DCCP_NONE;
     dccp_wish vectors = {.values = {1}, .count = 1, .feature = DCCP_FEATURE_SEND_ACK_VECTOR, .is_offered = true};
-    dccp_frame frame, answer;
+    dccp_frame frame, answer, datum;
     dccp_peer peer;
     dccp_told told;
     same("a client", DCCP_OK, dccp_make(&end, &client, &vectors, 1));
@@ -484,6 +533,7 @@ static void a_flow(void) {
     }
     same("the client's phase", DCCP_PHASE_OPEN, look(&end).phase);
     same("data", DCCP_OK, dccp_send(&end, (const uint8_t *)"abc", 3, 0, &frame));
+    datum = frame;
     same("their arrival", DCCP_OK, arrives(&listener, 1, &frame, &answer, &told));
     same("what became of them", DCCP_TOLD_DATA, told.kind);
     same("the data themselves", 0, memcmp(frame.bytes + told.first, "abc", 3) != 0);
@@ -495,20 +545,22 @@ static void a_flow(void) {
         same("data in the window of four", DCCP_OK, dccp_listener_send(&listener, &guest, many, 1, 0, &answer));
     same("one more than the window", DCCP_WINDOW_FULL, dccp_listener_send(&listener, &guest, many, 1, 0, &answer));
     same("its frame", 0, answer.length);
-    same("the time until a timer", 200, dccp_listener_until_first(&listener, 0));
-    same("a tick before that", DCCP_NOTHING_DUE, dccp_listener_tick(&listener, 199, &peer, &frame));
-    same("a tick", DCCP_OK, dccp_listener_tick(&listener, 200, &peer, &frame));
+    same("the time until a timer", 50, dccp_listener_until_first(&listener, 0));
+    same("a tick before that", DCCP_NOTHING_DUE, dccp_listener_tick(&listener, 49, &peer, &answer));
+    same("a tick", DCCP_OK, dccp_listener_tick(&listener, 50, &peer, &answer));
     same("whose timer it was", guest.port, peer.port);
-    same("its Ack", 3, (frame.bytes[8] >> 1) & 15);
-    same("close", DCCP_OK, dccp_listener_close(&listener, &guest, 200, &frame));
+    same("its Ack", 3, (answer.bytes[8] >> 1) & 15);
+    features_of_a_flow(&listener);
+    same("close", DCCP_OK, dccp_listener_close(&listener, &guest, 50, &answer));
+    packets_of_no_flow(&listener, &datum);
     dccp_free(&end);
     dccp_listener_free(&listener);
     same("blocks behind free", 0, held);
 }
 
-/* What a flow refuses whose client sends no Ack Vectors, and behind that client's Reset. */
+/* What a flow that makes no offers refuses, whose client sends no Ack Vectors, and after that client's Reset. */
 static void refusals_of_a_flow(void) {
-    dccp_listener listener = begun();
+    dccp_listener listener = begun_as(true);
     dccp_end end = DCCP_NONE;
     dccp_wish none = {.count = 0};
     dccp_frame frame, answer;
