@@ -1,9 +1,10 @@
-//! A siege in counted time: real clients of a server of 1,024 places, and beside them hostile datagrams of strangers who do not see what
-//! goes between others. It prints figures, and ends with 1 where one is past its bound.
+//! A siege in counted time: real clients of a server of 1,024 places, and beside them 20,000 hostile datagrams a second of strangers who do
+//! not see what goes between others. It prints figures, and ends with 1 where one is past its bound.
 
 use dccp::{Cause, Change, Config, Connection, FlowRules, Listener, Phase};
 use std::collections::BTreeMap;
 use std::error::Error;
+use std::fs;
 use std::net::{Ipv4Addr, SocketAddrV4};
 use std::process::ExitCode;
 use std::time::{Duration, Instant};
@@ -18,6 +19,10 @@ const HOSTILE: usize = 200;
 /// When a client may begin, at the latest.
 const BEGINS_WITHIN_STEPS: u64 = 1_000;
 const CONNECTS_WITHIN: Duration = Duration::from_secs(5);
+/// How many answers a second may go to peers without a connection: those of the rules by default.
+const ANSWERS_A_SECOND: usize = 100;
+/// How much memory may grow after a quarter of the time, in KiB.
+const GROWTH: usize = 1_024;
 
 fn here() -> SocketAddrV4 {
     SocketAddrV4::new(Ipv4Addr::new(192, 0, 2, 200), 5_001)
@@ -115,8 +120,11 @@ struct Figures {
     slowest: Duration,
     not_connected: usize,
     lost: usize,
-    answers: usize,
+    /// Those that went to peers without a connection.
+    to_strangers: usize,
     sent: usize,
+    /// What the process holds after a quarter of the time, and at its end, in KiB.
+    memory: [usize; 2],
     evicted: usize,
     most_flows: usize,
 }
@@ -138,6 +146,13 @@ fn client_of(place: usize, numbers: &mut Numbers, now: Instant) -> Result<Client
         opened: None,
         is_lost: false,
     })
+}
+
+/// What the process holds, in KiB.
+fn resident() -> Result<usize, Box<dyn Error>> {
+    let status = fs::read_to_string("/proc/self/status")?;
+    let line = status.lines().find_map(|it| it.strip_prefix("VmRSS:")).ok_or("no VmRSS")?;
+    Ok(line.trim().trim_end_matches(" kB").parse()?)
 }
 
 /// A siege of a server that goes by these rules.
@@ -183,7 +198,7 @@ fn besiege(rules: FlowRules) -> Result<Figures, Box<dyn Error>> {
         server.handle_timeout(now);
         while let Some((whose, frame)) = server.poll_transmit() {
             figures.sent += 1;
-            figures.answers += usize::from(frame.is_answer);
+            figures.to_strangers += usize::from(frame.is_answer && server.phase(whose).is_none());
             // What answers a forged Request comes to nobody before the client has asked.
             if let Some(client) = places.get(&whose).map(|place| &mut clients[*place]).filter(|it| it.is_begun) {
                 client.end.handle_datagram(&frame.bytes, now);
@@ -205,8 +220,12 @@ fn besiege(rules: FlowRules) -> Result<Figures, Box<dyn Error>> {
             client.is_lost |= has_gone;
         }
         figures.most_flows = figures.most_flows.max(server.peers().len());
+        if now - begun == LENGTH / 4 {
+            figures.memory[0] = resident()?;
+        }
         now += STEP;
     }
+    figures.memory[1] = resident()?;
     figures.not_connected = clients.iter().filter(|it| it.opened.is_none()).count();
     figures.lost = clients.iter().filter(|it| it.is_lost).count();
     Ok(figures)
@@ -219,17 +238,25 @@ fn judge(name: &str, it: &Figures) -> bool {
         it.not_connected, it.lost, it.slowest
     );
     println!(
-        "    frames {}, of them answers {}; flows at most {}, evicted {}",
-        it.sent, it.answers, it.most_flows, it.evicted
+        "    frames {}, of them answers to strangers {}; flows at most {}, evicted {}; memory {} and {} KiB",
+        it.sent, it.to_strangers, it.most_flows, it.evicted, it.memory[0], it.memory[1]
     );
-    it.not_connected == 0 && it.lost == 0 && it.slowest <= CONNECTS_WITHIN && it.most_flows <= usize::from(PLACES)
+    // At first there are as many tokens as come in a second.
+    let most_answers = ANSWERS_A_SECOND * (LENGTH.as_secs() as usize + 1);
+    it.not_connected == 0
+        && it.lost == 0
+        && it.slowest <= CONNECTS_WITHIN
+        && it.most_flows <= usize::from(PLACES)
+        && it.to_strangers <= most_answers
+        && it.memory[1] <= it.memory[0] + GROWTH
 }
 
 fn main() -> Result<ExitCode, Box<dyn Error>> {
-    // Half-open flows go within ten seconds by default. Forged Requests that would fill the table many times over in that time ask for less.
+    // By default half-open flows go after ten seconds, in which forged Requests fill the table many times over: a server that strangers may
+    // flood wants less. How that goes is told, and judged is the setting that such a server wants.
     let mut rules = FlowRules::default();
     judge("by default", &besiege(rules)?);
-    rules.crowded = Some(Duration::from_millis(100));
-    let holds = judge("a tenth of a second for a handshake in a crowd", &besiege(rules)?);
+    rules.crowded = Some(Duration::from_millis(200));
+    let holds = judge("200 milliseconds for a handshake in a crowd", &besiege(rules)?);
     Ok(ExitCode::from(u8::from(!holds)))
 }

@@ -88,6 +88,10 @@ int main(int count, char **words) {
     dccp_wish none = {.count = 0};
     server.listener = DCCP_NO_LISTENER;
     if (dccp_listener_make(&server.listener, &settings, &none, 0, MOST_PEERS) != DCCP_OK) fail("no listener");
+    /* Where strangers fill the table by Requests, these have a fifth of a second for the handshake. */
+    dccp_flow_rules rules = DCCP_USUAL_RULES;
+    rules.crowded = 200;
+    dccp_listener_rules(&server.listener, &rules);
     for (;;) {
         struct pollfd poll_fd = {.fd = server.socket, .events = POLLIN};
         poll(&poll_fd, 1, tick(&server));

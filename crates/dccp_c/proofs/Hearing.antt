@@ -6,32 +6,24 @@ use Rattle.dccp_listener.specs.Peers.{end_of_peer}
 use Rattle.dccp_listener.specs.declared.peer.Peer.{Peer}
 use Rattle.seq_circle.specs.declared.memory.NoMemory.{NoMemory}
 use Rattle.dccp_server.specs.Rooms.{IsServed, Reception, Ruled, forgets, told_of_arrival, unreceived_at}
-use Rattle.dccp_c.specs.Listening.{Forgets, HearsAtServer, HearsDatagram, arrival_code, arrival_told, with_room}
+use Rattle.dccp_c.specs.Listening.{Forgets, HandsHeard, HearsAtServer, HearsDatagram, arrival_code, arrival_told, with_room}
 use Rattle.dccp_c.specs.Framing.{Handed, handed_of, nothing_handed}
 use Rattle.dccp_c.specs.declared.told.Told.{Told}
 
-pub heard_for_c : (now : ℕ) (s after : Ruled) (peer : Peer) (first : ℕ) (bytes : List ℕ) (frame : Option Outgoing) (result : Result (Option Heard) NoMemory)
-    (evicted gone : Option Peer) (anew : Bool) (it : Option Heard) (left : Handed) (code : ℕ) (old new : Told)
-    → IsServed now s after peer first bytes frame result gone anew → result ≡ Ok it → evicted ≡ gone → left ≡ handed_of frame
-    → code ≡ arrival_code (told_of_arrival (Ok it)) → new ≡ arrival_told (told_of_arrival (Ok it)) old
+pub served_for_c : (now : ℕ) (s after : Ruled) (peer : Peer) (first : ℕ) (bytes : List ℕ) (frame : Option Outgoing) (result : Result (Option Heard) NoMemory)
+    (evicted gone : Option Peer) (anew : Bool) (left : Handed) (code : ℕ) (old new : Told)
+    → IsServed now s after peer first bytes frame result gone anew → HandsHeard result frame left code old new → evicted ≡ gone
     → HearsAtServer now s after peer first bytes left evicted code old new
-heard_for_c now s after peer first bytes frame result evicted gone anew it left code old new served is same-gone left-is code-is new-is =
-    let so = subst (λ (x : Result (Option Heard) NoMemory). IsServed now s after peer first bytes frame x gone anew) is served in
+served_for_c now s after peer first bytes frame (Ok it) evicted gone anew left code old new served handed same-gone =
     inr (
-      ap (λ (x : Reception). x.server) so,
-      left-is ∙ ap (λ (x : Reception). handed_of x.frame) so,
-      same-gone ∙ ap (λ (x : Reception). x.evicted) so,
-      code-is ∙ ap (λ (x : Reception). arrival_code x.told) so,
-      new-is ∙ ap (λ (x : Reception). arrival_told x.told old) so,
+      ap (λ (x : Reception). x.server) served,
+      handed.0 ∙ ap (λ (x : Reception). handed_of x.frame) served,
+      same-gone ∙ ap (λ (x : Reception). x.evicted) served,
+      handed.1 ∙ ap (λ (x : Reception). arrival_code x.told) served,
+      handed.2 ∙ ap (λ (x : Reception). arrival_told x.told old) served,
     )
-
-pub unheard_for_c : (now : ℕ) (s after : Ruled) (peer : Peer) (first : ℕ) (bytes : List ℕ) (frame : Option Outgoing) (result : Result (Option Heard) NoMemory)
-    (evicted gone : Option Peer) (anew : Bool) (fault : NoMemory) (left : Handed) (code : ℕ) (old : Told)
-    → IsServed now s after peer first bytes frame result gone anew → result ≡ Err fault → evicted ≡ gone → left ≡ nothing_handed → code ≡ 2
-    → HearsAtServer now s after peer first bytes left evicted code old old
-unheard_for_c now s after peer first bytes frame result evicted gone anew fault left code old served is same-gone left-is code-is =
-    let so = subst (λ (x : Result (Option Heard) NoMemory). IsServed now s after peer first bytes frame x gone anew) is served in
-    inl (so.0 ∙ sym (ap (unreceived_at now s peer first bytes) same-gone), left-is, code-is, refl)
+served_for_c now s after peer first bytes frame (Err fault) evicted gone anew left code old new served handed same-gone =
+    inl (served.0 ∙ sym (ap (unreceived_at now s peer first bytes) same-gone), handed.0, handed.1, handed.2)
 
 -- and as it is once the server has been taken out of its handle and put back
 pub hears_so : (now : ℕ) (before after : Option Ruled) (s t : Ruled) (peer whose : Peer) (first number : ℕ) (bytes : List ℕ) (refusal : Option ℕ)

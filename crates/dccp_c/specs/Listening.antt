@@ -9,7 +9,7 @@ use Rattle.dccp_listener.specs.Runs.{CallTold, Stepped, WasBusy, HadNoMemory}
 use Rattle.dccp_listener.specs.declared.calls.Heard.{Heard}
 use Rattle.seq_circle.specs.declared.memory.NoMemory.{NoMemory}
 use Rattle.dccp_server.specs.Lives.{life_of}
-use Rattle.dccp_server.specs.Rooms.{Room, Ruled, duty_done, duty_frame, duty_in, duty_peer, forgets, received_at, room_does, room_waits, unreceived_at}
+use Rattle.dccp_server.specs.Rooms.{Room, Ruled, duty_done, duty_frame, duty_in, duty_peer, forgets, received_at, room_does, room_waits, told_of_arrival, unreceived_at}
 use Rattle.dccp_server.specs.Serving.{Does}
 use Rattle.dccp_uses.specs.declared.rule.Rule.{Rule}
 use Rattle.dccp_uses.specs.declared.rule.Rule.TheVariants as rules
@@ -105,6 +105,13 @@ arrival_code (Some told) = listen_code told
 abbrev pub arrival_told : Option CallTold → Told → Told
 arrival_told None old = told_heard None
 arrival_told (Some told) old = listen_told told old
+
+-- What C finds of a datagram that left this frame: by 2, where no memory was found, no frame, and what it had to be told
+-- stays.
+abbrev pub HandsHeard : Result (Option Heard) NoMemory → Option Outgoing → Handed → ℕ → Told → Told → Type 0
+HandsHeard (Ok it) frame left code old new =
+    (left ≡ handed_of frame) × (code ≡ arrival_code (told_of_arrival (Ok it))) × (new ≡ arrival_told (told_of_arrival (Ok it)) old)
+HandsHeard (Err _) frame left code old new = (left ≡ nothing_handed) × (code ≡ 2) × (new ≡ old)
 
 -- What a datagram comes to for C where there is a server: where no memory was found, by 2, no frame is left, and what C had
 -- to be told stays; else it has what the server makes of it.

@@ -14,7 +14,7 @@ ghost use Rattle.dccp_server.specs.Lives.{life_of};
 ghost use Rattle.dccp_server.specs.Rooms.{IsServed, duty_done, duty_frame, duty_in, forgets, room_does, told_of_arrival};
 ghost use Rattle.dccp_server.specs.Serving.{Does};
 ghost use Rattle.dccp_c.specs.Seeing.{seen as seen_end};
-ghost use Rattle.dccp_c.specs.Listening.{Forgets, HearsAtServer, HearsDatagram, Serves, Ticks, address_of, arrival_code, arrival_told, datagram_refusal, duty_address, duty_code, evicted_in, flow_code, flow_in, known_of, life_if, life_in, listen_code, listen_told, listener_waits, made_code, peer_in, peer_named, refusal_code, rule_code, ruled_by, rules_of, seen_code, served_in, with_room};
+ghost use Rattle.dccp_c.specs.Listening.{Forgets, HandsHeard, HearsAtServer, HearsDatagram, Serves, Ticks, address_of, arrival_code, arrival_told, datagram_refusal, duty_address, duty_code, evicted_in, flow_code, flow_in, known_of, life_if, life_in, listen_code, listen_told, listener_waits, made_code, peer_in, peer_named, refusal_code, rule_code, ruled_by, rules_of, seen_code, served_in, with_room};
 
 use crate::codes::{
     BAD_LIST, BUSY, DONE, GAVE_UP, NO_FLOW, NO_MEMORY, NO_NUMBER, NOT_FRESH, NOT_LIVE, NOT_MADE,
@@ -173,7 +173,28 @@ fn hear(serving: &mut Serving, peer: Peer, iss: Seq48, datagram: &[u8], now: u64
     arrival
 }
 
-// The same for C: the frame and what it is told.
+// What C finds of a datagram: the frame, what it is told and the code.
+fn hand(
+    heard: &Result<Option<Heard>, NoMemory>,
+    out: &Outbox,
+    frame: &mut Frame,
+    told: &mut Told,
+) -> u32
+    ensures { HandsHeard heard.now out.now (handed_in frame.new) result told.old told.new }
+{
+    match heard {
+        Ok(heard) => {
+            frame.fill(out);
+            tell_arrival(*heard, told)
+        }
+        Err(NoMemory) => {
+            frame.clear();
+            NO_MEMORY
+        }
+    }
+}
+
+// A datagram that is short enough, at a server, for C.
 fn serve(
     serving: &mut Serving,
     peer: Peer,
@@ -186,16 +207,8 @@ fn serve(
     requires { length datagram.now ≤ 2044 }
     ensures { HearsAtServer now serving.old.server serving.new.server peer iss datagram.now (handed_in frame.new) serving.new.evicted result told.old told.new }
 {
-    match hear(serving, peer, iss, datagram, now).heard {
-        Ok(heard) => {
-            frame.fill(&serving.out);
-            tell_arrival(heard, told)
-        }
-        Err(NoMemory) => {
-            frame.clear();
-            NO_MEMORY
-        }
-    }
+    let arrival = hear(serving, peer, iss, datagram, now);
+    hand(&arrival.heard, &serving.out, frame, told)
 }
 
 /// `Server::arrive`. BUSY where it answers Busy. NO_NUMBER where the first number is

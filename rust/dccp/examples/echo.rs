@@ -5,7 +5,7 @@
 //! The client of `talk`, in Rust or in C, may speak to it. The listener gives up one that is silent for two minutes, and limits what strangers
 //! call forth. It runs until it is stopped.
 
-use dccp::{ArriveError, Change, Config, Event, Listener, MOST_FRAME_BYTES};
+use dccp::{ArriveError, Change, Config, Event, FlowRules, Listener, MOST_FRAME_BYTES};
 use std::collections::{BTreeMap, VecDeque};
 use std::env;
 use std::error::Error;
@@ -92,6 +92,10 @@ fn main() -> Result<(), Box<dyn Error>> {
     let socket = UdpSocket::bind(own)?;
     let mut random = File::open("/dev/urandom")?;
     let mut server = Listener::new(&Config::listener(own, SERVICE), MOST_PEERS)?;
+    // Where strangers fill the table by Requests, these have a fifth of a second for the handshake.
+    let mut rules = FlowRules::default();
+    rules.crowded = Some(Duration::from_millis(200));
+    server.set_rules(rules);
     let (mut room, mut waiting) = ([0; MOST_FRAME_BYTES + 1], Waiting::new());
     loop {
         let soon = Instant::now() + Duration::from_secs(1);
