@@ -46,7 +46,8 @@ static dccp_told told;
 static uint8_t data[DCCP_MOST_DATA_BYTES];
 
 static void make(dccp_end *end, bool is_server) {
-    dccp_settings settings = {.own_address = {192, 0, 2, 1},
+    dccp_settings settings = {.size = sizeof settings,
+                              .own_address = {192, 0, 2, 1},
                               .peer_address = {192, 0, 2, 1},
                               .first_number = 1000,
                               .service = 42,
@@ -68,7 +69,7 @@ static void connect_both(void) {
 }
 
 static void look(void) {
-    dccp_view view;
+    dccp_view view = DCCP_VIEW_INIT;
     check(dccp_look(&client, &view));
 }
 
@@ -131,7 +132,7 @@ static void *make_alone(void *none) {
 }
 
 static void *every_call(void *none) {
-    dccp_view view;
+    dccp_view view = DCCP_VIEW_INIT;
     dccp_feature_state state;
     uint64_t width = 500;
     connect_both();

@@ -86,7 +86,8 @@ static uint64_t first_number(void) {
 }
 
 static dccp_settings settings_of(unsigned own_port, unsigned peer_port) {
-    return (dccp_settings){.own_address = {127, 0, 0, 1},
+    return (dccp_settings){.size = sizeof(dccp_settings),
+                           .own_address = {127, 0, 0, 1},
                            .peer_address = {127, 0, 0, 1},
                            .first_number = first_number(),
                            .service = SERVICE,
@@ -127,7 +128,7 @@ static double send_all(struct pair pair) {
     static const uint8_t data[BYTES];
     dccp_end end = DCCP_NONE;
     dccp_frame frame;
-    dccp_view view = {.in_flight = 0};
+    dccp_view view = DCCP_VIEW_INIT;
     dccp_settings settings = settings_of(pair.sender_port, pair.receiver_port);
     dccp_wish wide = {.values = {WIDTH}, .count = 1, .feature = DCCP_FEATURE_SEQUENCE_WINDOW, .is_offered = true};
     if (dccp_make(&end, &settings, &wide, 1) != DCCP_OK || dccp_open(&end, now(), &frame) != DCCP_OK) fail("open");

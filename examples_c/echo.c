@@ -84,7 +84,7 @@ int main(int count, char **words) {
     struct sockaddr_in own = {.sin_family = AF_INET, .sin_port = htons(port)};
     own.sin_addr.s_addr = htonl(INADDR_LOOPBACK);
     if (server.socket < 0 || bind(server.socket, (struct sockaddr *)&own, sizeof own) != 0) fail("bind");
-    dccp_settings settings = {.own_address = {127, 0, 0, 1}, .service = SERVICE, .own_port = port};
+    dccp_settings settings = {.size = sizeof settings, .own_address = {127, 0, 0, 1}, .service = SERVICE, .own_port = port};
     dccp_wish none = {.count = 0};
     server.listener = DCCP_NO_LISTENER;
     if (dccp_listener_make(&server.listener, &settings, &none, 0, MOST_PEERS) != DCCP_OK) fail("no listener");

@@ -57,7 +57,7 @@ static void hand_over(struct talk *talk, const dccp_frame *frame) {
 }
 
 static dccp_view look(struct talk *talk) {
-    dccp_view view;
+    dccp_view view = DCCP_VIEW_INIT;
     if (dccp_look(&talk->end, &view) != DCCP_OK) fail("look");
     return view;
 }
@@ -139,6 +139,7 @@ static const dccp_wish vectors = {.values = {1}, .count = 1, .feature = DCCP_FEA
 
 static dccp_settings settings_of(unsigned own_port, unsigned peer_port) {
     return (dccp_settings){
+        .size = sizeof(dccp_settings),
         .own_address = {127, 0, 0, 1},
         .peer_address = {127, 0, 0, 1},
         .first_number = first_number(),

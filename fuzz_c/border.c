@@ -9,7 +9,7 @@
 
 #include "dccp.h"
 
-enum { CLIENT = 0, SERVER = 1, LISTENER = 2, CALLS = 18, PHASES = 9, STATUSES = 20, CAUSES = 13, PEERS = 4 };
+enum { CLIENT = 0, SERVER = 1, LISTENER = 2, CALLS = 18, PHASES = 9, STATUSES = 21, CAUSES = 13, PEERS = 4 };
 
 __attribute__((section("__libfuzzer_extra_counters"))) static uint8_t answered[CALLS * PHASES * STATUSES], was_told[3 * PHASES * 6 * CAUSES];
 
@@ -57,7 +57,7 @@ static void mend(uint8_t *bytes, size_t length, bool to_client, unsigned port) {
 }
 
 static dccp_settings settings_of(bool is_server, struct input *in) {
-    dccp_settings it = {.own_address = {10, 0, 0, 1}, .peer_address = {10, 0, 0, 1}, .service = 42, .is_server = is_server};
+    dccp_settings it = {.size = sizeof it, .own_address = {10, 0, 0, 1}, .peer_address = {10, 0, 0, 1}, .service = 42, .is_server = is_server};
     it.first_number = draw(in, 1) == 255 ? draw(in, 8) : 1000;
     it.own_port = is_server ? 2 : 1;
     it.peer_port = is_server ? 1 : 2;
@@ -85,7 +85,7 @@ static size_t wishes_of(struct input *in, dccp_wish *wishes) {
 }
 
 static uint32_t phase_of(int who) {
-    dccp_view view = {0};
+    dccp_view view = DCCP_VIEW_INIT;
     if (who != LISTENER && dccp_look(&s.ends[who], &view) == DCCP_OK) require(view.phase < PHASES, "a phase that is none");
     return view.phase;
 }
@@ -96,7 +96,7 @@ static void judge(int call, int who, dccp_status status, const dccp_view *before
     answered[(call * PHASES + (int)phase_of(who)) * STATUSES + (int)status] = 1;
     if (status == DCCP_OK && s.frame.length != 0) s.last[who] = s.frame;
     if (status == DCCP_OK || who == LISTENER) return;
-    dccp_view after = {0};
+    dccp_view after = DCCP_VIEW_INIT;
     (void)dccp_look(&s.ends[who], &after);
     require(s.frame.length == 0 && memcmp(before, &after, sizeof after) == 0, "a refused call that changed something");
 }
@@ -133,7 +133,7 @@ static void call_end(int call, int who, struct input *in) {
     dccp_wish wishes[2] = {0};
     dccp_settings settings;
     dccp_told told = {0};
-    dccp_view before = {0};
+    dccp_view before = DCCP_VIEW_INIT;
     uint64_t values[9];
     size_t length;
     s.frame.length = 0;
@@ -161,7 +161,11 @@ static void call_end(int call, int who, struct input *in) {
             return;
         case 6: judge(6, who, dccp_tick(end, s.now, &s.frame), &before); return;
         case 7: judge(7, who, dccp_timer(end, (uint32_t)draw(in, 1), s.now, &s.frame), &before); return;
-        case 8: judge(8, who, dccp_feature(end, (uint32_t)draw(in, 1), draw(in, 1) & 1, &(dccp_feature_state){0}), &before); return;
+        case 8:
+            judge(8, who, dccp_feature(end, (uint32_t)draw(in, 1), draw(in, 1) & 1, &(dccp_feature_state){0}), &before);
+            require(dccp_fate_of(end, before.gss - draw(in, 1)) <= DCCP_FATE_LOST, "a fate that is none");
+            require(dccp_longest_data(end, draw(in, 2)) <= DCCP_MOST_DATA_BYTES, "data that are too long");
+            return;
         case 9: dccp_free(end); return;
         default:
             settings = settings_of(true, in);
@@ -202,11 +206,12 @@ static void call_listener(int call, struct input *in) {
         case 8:
             (void)dccp_listener_peer(&s.listener, (uint16_t)draw(in, 2), &peer);
             (void)dccp_listener_evicted(&s.listener, &peer);
-            (void)dccp_listener_life(&s.listener, &peer, &(dccp_flow_life){0});
+            (void)dccp_listener_life(&s.listener, &peer, &(dccp_flow_life)DCCP_FLOW_LIFE_INIT);
             return;
         case 9: (void)dccp_listener_forget(&s.listener, &peer, s.now); return;
         case 10:
-            rules = (dccp_flow_rules){.respond = draw(in, 2), .crowded = draw(in, 2), .closing = draw(in, 2), .idle = draw(in, 2)};
+            rules = (dccp_flow_rules){.size = sizeof rules, .respond = draw(in, 2), .crowded = draw(in, 2), .closing = draw(in, 2)};
+            rules.idle = draw(in, 2);
             rules.answers = (uint16_t)draw(in, 2);
             rules.resets = (uint16_t)draw(in, 2);
             rules.makes_room = draw(in, 1) & 1;

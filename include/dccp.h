@@ -27,6 +27,9 @@
  *     a bool is 0 or 1.
  *   - No call comes from a signal handler.
  * Any number in place of a feature, a timer or a value, and any bytes, are answered by a status.
+ *
+ * Structs that may grow begin with their size, which the caller sets: dccp_settings, dccp_flow_rules, dccp_view, dccp_round_trip and
+ * dccp_flow_life, of which each has an initialiser. One of another header is answered by DCCP_OTHER_SIZE, and neither read nor written.
  */
 #ifndef DCCP_H
 #define DCCP_H
@@ -40,7 +43,7 @@ extern "C" {
 #endif
 
 #define DCCP_VERSION 100 /* 10,000 times the major number, 100 times the minor one, and the patch: 0.1.0; see dccp_version */
-#define DCCP_ABI 1       /* rises with every change of a function, a struct or a number here; see dccp_abi */
+#define DCCP_ABI 2       /* rises with every change of a function, a struct or a number here; see dccp_abi */
 
 #define DCCP_MOST_FRAME_BYTES 2044 /* the longest frame, and the longest datagram that is taken */
 #define DCCP_MOST_DATA_BYTES 1024  /* the most data of one packet */
@@ -68,7 +71,8 @@ typedef enum dccp_status {
     DCCP_NO_TIMER = 16,      /* no timer has this number */
     DCCP_NO_NUMBER = 17,     /* the number of a first packet is not below 2^48 */
     DCCP_NO_SUCH_LISTENER = 18, /* dccp_listener_make: no listener is of IPv6, or for none or over 1,024 flows */
-    DCCP_GAVE_UP = 19        /* dccp_listener_tick: a flow was given up */
+    DCCP_GAVE_UP = 19,       /* dccp_listener_tick: a flow was given up */
+    DCCP_OTHER_SIZE = 20     /* a struct that begins with its size has another than the library knows */
 } dccp_status;
 
 /* Where a connection stands (RFC 4340, section 8.4). */
@@ -112,6 +116,15 @@ typedef enum dccp_stand {
     DCCP_STAND_CHANGING = 1,
     DCCP_STAND_UNSTABLE = 2
 } dccp_stand;
+
+/* What became of data that were sent. */
+typedef enum dccp_fate {
+    DCCP_FATE_UNKNOWN = 0,   /* none were sent under this number; or no more is known of them: of the last 2,048 packets of data it is, those
+                                aside that were in flight, or before, when a timeout took all for lost, or when another CCID began */
+    DCCP_FATE_IN_FLIGHT = 1, /* they are on their way */
+    DCCP_FATE_DELIVERED = 2, /* the peer has reported that they came */
+    DCCP_FATE_LOST = 3       /* three later ones were reported and they were not (RFC 4341, section 5): a report may still come */
+} dccp_fate;
 
 /* What became of a datagram. */
 typedef enum dccp_told_kind {
@@ -180,6 +193,7 @@ typedef struct dccp_peer {
 /* By which rules a listener makes room, gives flows up and answers strangers. Waits are in milliseconds, and DCCP_NEVER is for ever.
  * DCCP_USUAL_RULES are those of a listener that was just made, DCCP_NO_RULES leave all to the owner. */
 typedef struct dccp_flow_rules {
+    size_t size;         /* sizeof(dccp_flow_rules) */
     uint64_t respond;    /* how long a flow may stand in DCCP_PHASE_RESPOND (RFC 4340, section 8.1.3) */
     uint64_t crowded;    /* the same where more than half of the table is in DCCP_PHASE_RESPOND */
     uint64_t closing;    /* how long one may stand in DCCP_PHASE_CLOSEREQ and in DCCP_PHASE_CLOSING */
@@ -191,17 +205,21 @@ typedef struct dccp_flow_rules {
     bool ends_old_flows; /* a peer that begins anew from its port ends its old flow */
 } dccp_flow_rules;
 
-#define DCCP_USUAL_RULES {240000, 10000, 64000, 120000, 100, 8, true, true}
-#define DCCP_NO_RULES {UINT64_MAX, UINT64_MAX, UINT64_MAX, UINT64_MAX, DCCP_UNLIMITED, DCCP_UNLIMITED, false, false}
+#define DCCP_USUAL_RULES {sizeof(dccp_flow_rules), 240000, 10000, 64000, 120000, 100, 8, true, true}
+#define DCCP_NO_RULES {sizeof(dccp_flow_rules), UINT64_MAX, UINT64_MAX, UINT64_MAX, UINT64_MAX, DCCP_UNLIMITED, DCCP_UNLIMITED, false, false}
 
 /* What is known of a flow beside its end. Times are those of the calls. */
 typedef struct dccp_flow_life {
+    size_t size;    /* sizeof(dccp_flow_life) */
     uint64_t since; /* since when it stands in its phase */
     uint64_t taken; /* when its end last took a packet: what was dropped, or answered with a Sync, is no sign of life */
 } dccp_flow_life;
 
-/* What an end is made from. */
+#define DCCP_FLOW_LIFE_INIT {sizeof(dccp_flow_life), 0, 0}
+
+/* What an end is made from; begun as DCCP_SETTINGS_INIT, or with its `size` and the fields that are not 0. */
 typedef struct dccp_settings {
+    size_t size;              /* sizeof(dccp_settings) */
     uint8_t own_address[16];  /* in network order; of an IPv4 address the first four bytes */
     uint8_t peer_address[16];
     uint64_t first_number;    /* of its first packet, below 2^48: one that nobody can guess (RFC 4340, section 7.2) */
@@ -221,6 +239,9 @@ typedef struct dccp_settings {
                                    far from them */
     bool without_giving_up;     /* it waits for a silent peer for ever, else some minutes */
 } dccp_settings;
+
+#define DCCP_SETTINGS_INIT \
+    {sizeof(dccp_settings), {0}, {0}, 0, 0, 0, 0, false, false, false, false, false, false, false, false, false, false}
 
 /* What an end wishes for a feature when the connection begins, in place of what is usual. */
 typedef struct dccp_wish {
@@ -254,6 +275,7 @@ typedef struct dccp_told {
 /* An end as it may be read: the numbers that RFC 4340, section 7.1, calls ISS, GSS, GAR, ISR and GSR (0 before the first packet
  * was received), how many packets were taken, its phase, and in packets its window and what of it is in flight. */
 typedef struct dccp_view {
+    size_t size; /* sizeof(dccp_view) */
     uint64_t iss;
     uint64_t gss;
     uint64_t gar;
@@ -265,13 +287,18 @@ typedef struct dccp_view {
     uint32_t in_flight;
 } dccp_view;
 
+#define DCCP_VIEW_INIT {sizeof(dccp_view), 0, 0, 0, 0, 0, 0, 0, 0, 0}
+
 /* What an end has measured of its path, with the times of its own calls: the round trip and its variance in microseconds (RFC 6298's SRTT
  * and RTTVAR), 0 before there was a sample, and how many milliseconds a report is waited for (RTO). */
 typedef struct dccp_round_trip {
+    size_t size; /* sizeof(dccp_round_trip) */
     uint64_t timeout;
     uint32_t smoothed;
     uint32_t variance;
 } dccp_round_trip;
+
+#define DCCP_ROUND_TRIP_INIT {sizeof(dccp_round_trip), 0, 0, 0}
 
 /* What an end holds for a feature. */
 typedef struct dccp_feature_state {
@@ -282,6 +309,7 @@ typedef struct dccp_feature_state {
 /* Makes an end in the handle. An end that the handle held is freed first, also where making fails; then the handle holds none. The
  * wishes are taken in their order. Nothing that is passed is kept.
  *     DCCP_OK
+ *     DCCP_OTHER_SIZE  that of the settings
  *     DCCP_NO_NUMBER   the first number is not below 2^48
  *     DCCP_NO_FEATURE  a wish is for no feature; of the first wish that is refused, as the next two
  *     DCCP_BAD_LIST    its values are none, over eight, twice the same, not permitted, or not just one where one is due
@@ -301,6 +329,15 @@ void dccp_free(dccp_end *end);
  *     a status of dccp_make */
 dccp_status dccp_accept(dccp_end *end, const dccp_settings *settings, const dccp_wish *wishes, size_t count, const uint8_t *datagram,
                         size_t length, uint64_t now, dccp_frame *frame, dccp_told *told);
+
+/* Turns the first datagram of a peer away without an end, and takes no memory: by the usual server of these settings, with `is_server` taken
+ * for true. `code` is a Reset Code (RFC 4340, section 5.6), as 9, Too Busy, or 7, Connection Refused.
+ *     DCCP_OK             a Request that would open a connection: the frame is a Reset with this code
+ *     DCCP_NO_CONNECTION  it opens none, and the frame answers it, if there is an answer
+ *     DCCP_OTHER_SIZE     that of the settings; with this and the next two nothing is left
+ *     DCCP_NO_NUMBER      the first number is not below 2^48
+ *     DCCP_TOO_LONG       over 2,044 bytes */
+dccp_status dccp_refuse(const dccp_settings *settings, const uint8_t *datagram, size_t length, uint8_t code, dccp_frame *frame);
 
 /* A client asks for its service, once: its Request is left.
  *     DCCP_OK
@@ -364,13 +401,23 @@ dccp_status dccp_receive(dccp_end *end, const uint8_t *datagram, size_t length, 
 
 /* Reads an end.
  *     DCCP_OK
- *     DCCP_NOT_MADE  `view` is as it was */
+ *     DCCP_OTHER_SIZE  that of `view`, which is as it was
+ *     DCCP_NOT_MADE    `view` is as it was */
 dccp_status dccp_look(dccp_end *end, dccp_view *view);
 
 /* Reads what an end has measured of its path.
  *     DCCP_OK
- *     DCCP_NOT_MADE  `trip` is as it was */
+ *     DCCP_OTHER_SIZE  that of `trip`, which is as it was
+ *     DCCP_NOT_MADE    `trip` is as it was */
 dccp_status dccp_look_path(dccp_end *end, dccp_round_trip *trip);
+
+/* What became of the data that dccp_send sent under this number, that of its frame; DCCP_FATE_UNKNOWN where there is no end. Ask after
+ * dccp_receive, and before dccp_tick, which may tell a timeout. */
+dccp_fate dccp_fate_of(dccp_end *end, uint64_t number);
+
+/* The longest data, 0 to 1,024 bytes, whose frame surely has no more than `most` bytes now: beside them stand a header and, where the end sends
+ * Ack Vectors, one that may grow with what comes. Over IPv6 paths of 1,280 bytes UDP leaves 1,232. 0 where there is no end. */
+size_t dccp_longest_data(dccp_end *end, size_t most);
 
 /* Reads what an end holds for a feature.
  *     DCCP_OK
@@ -464,8 +511,9 @@ uint64_t dccp_listener_until_first(dccp_listener *listener, uint64_t now);
 
 /* Reads the end of a peer.
  *     DCCP_OK
- *     DCCP_NOT_MADE  `view` is as it was
- *     DCCP_NO_FLOW   `view` is as it was */
+ *     DCCP_OTHER_SIZE  that of `view`, which is as it was, and so with the next two
+ *     DCCP_NOT_MADE
+ *     DCCP_NO_FLOW */
 dccp_status dccp_listener_look(dccp_listener *listener, const dccp_peer *peer, dccp_view *view);
 
 /* Names the peer at this place, from 0, among those that have a flow, in the order of their addresses and ports.
@@ -488,13 +536,15 @@ dccp_status dccp_listener_forget(dccp_listener *listener, const dccp_peer *peer,
 
 /* The listener goes by these rules from now on.
  *     DCCP_OK
+ *     DCCP_OTHER_SIZE  that of the rules
  *     DCCP_NOT_MADE */
 dccp_status dccp_listener_rules(dccp_listener *listener, const dccp_flow_rules *rules);
 
 /* Reads what is known of a peer's flow beside its end.
  *     DCCP_OK
- *     DCCP_NOT_MADE  `life` is as it was
- *     DCCP_NO_FLOW   `life` is as it was */
+ *     DCCP_OTHER_SIZE  that of `life`, which is as it was, and so with the next two
+ *     DCCP_NOT_MADE
+ *     DCCP_NO_FLOW */
 dccp_status dccp_listener_life(dccp_listener *listener, const dccp_peer *peer, dccp_flow_life *life);
 
 /* DCCP_ABI and DCCP_VERSION of the library that was linked: a program whose header has another DCCP_ABI does not fit it. */
@@ -524,6 +574,7 @@ static inline const char *dccp_status_text(dccp_status status) {
         case DCCP_NO_NUMBER: return "a first number that is not below 2^48";
         case DCCP_NO_SUCH_LISTENER: return "no listener is of IPv6, or for so many connections";
         case DCCP_GAVE_UP: return "a connection was given up";
+        case DCCP_OTHER_SIZE: return "a struct of another size than the library's";
     }
     return "no status of DCCP";
 }

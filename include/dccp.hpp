@@ -110,17 +110,26 @@ class connection {
         return state;
     }
     dccp_view look() const {
-        dccp_view view{};
+        dccp_view view DCCP_VIEW_INIT;
         check(dccp_connection_look(it_, &view));
         return view;
     }
 
     dccp_round_trip look_path() const {
-        dccp_round_trip trip{};
+        dccp_round_trip trip DCCP_ROUND_TRIP_INIT;
         check(dccp_connection_look_path(it_, &trip));
         return trip;
     }
-    dccp_statistics statistics() const { return dccp_connection_statistics(it_); }
+    dccp_statistics statistics() const {
+        dccp_statistics counted DCCP_STATISTICS_INIT;
+        dccp_connection_statistics(it_, &counted);
+        return counted;
+    }
+    // The number of the packet that was sent last, and what became of one.
+    uint64_t last_sent() const { return dccp_connection_last_sent(it_); }
+    dccp_fate fate(uint64_t number) const { return dccp_connection_fate(it_, number); }
+    // The longest data that fit a frame of so many bytes now.
+    std::size_t longest_data(std::size_t most) const { return dccp_connection_longest_data(it_, most); }
 
     template <typename T>
     T *user() const {
@@ -259,12 +268,12 @@ class end {
         return std::chrono::milliseconds(left);
     }
     dccp_view look() {
-        dccp_view view{};
+        dccp_view view DCCP_VIEW_INIT;
         check(dccp_look(&it_, &view));
         return view;
     }
     dccp_round_trip look_path() {
-        dccp_round_trip trip{};
+        dccp_round_trip trip DCCP_ROUND_TRIP_INIT;
         check(dccp_look_path(&it_, &trip));
         return trip;
     }
@@ -274,8 +283,12 @@ class end {
         return state;
     }
 
-    // What the last call has left for the peer, until the next call.
+    dccp_fate fate(uint64_t number) { return dccp_fate_of(&it_, number); }
+    std::size_t longest_data(std::size_t most) { return dccp_longest_data(&it_, most); }
+
+    // What the last call has left for the peer, until the next call, and its number.
     bytes frame() const { return {frame_.bytes, frame_.length}; }
+    uint64_t number() const { return frame_.number; }
     explicit operator bool() const { return it_.made; }
 
   private:
@@ -326,7 +339,7 @@ class listener {
     }
     // None: the peer has no flow.
     std::optional<dccp_view> look(const dccp_peer &peer) {
-        dccp_view view{};
+        dccp_view view DCCP_VIEW_INIT;
         if (dccp_listener_look(&it_, &peer, &view) != DCCP_OK) return std::nullopt;
         return view;
     }

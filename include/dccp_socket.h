@@ -63,13 +63,17 @@ typedef struct dccp_traffic {
     uint64_t others;     /* Request, Response, CloseReq and Close */
 } dccp_traffic;
 
-/* What a connection has counted. */
+/* What a connection has counted; begun as DCCP_STATISTICS_INIT. */
 typedef struct dccp_statistics {
+    size_t size;               /* sizeof(dccp_statistics): later versions have more fields */
     dccp_traffic sent;         /* handed to the system; a network may lose them */
     dccp_traffic received;     /* taken */
     uint64_t not_taken;        /* datagrams that were dropped, or answered by a Sync, or by a Reset for a fault */
     uint64_t answers_left_out; /* Syncs and Resets that were left out, since as many as may be had gone out */
+    uint64_t lost;             /* packets of data that were taken for lost: three later ones were reported, or a timeout came */
 } dccp_statistics;
+
+#define DCCP_STATISTICS_INIT {sizeof(dccp_statistics), {0, 0, 0, 0, 0, 0}, {0, 0, 0, 0, 0, 0}, 0, 0, 0}
 
 /* What a socket is made from; begun as DCCP_SOCKET_OPTIONS_INIT. A number of 0 is the usual one. */
 typedef struct dccp_socket_options {
@@ -79,7 +83,7 @@ typedef struct dccp_socket_options {
     const char *client_name; /* names that both ends have agreed on, "ADDRESS PORT", as "192.0.2.1 1": they stand in each packet and its */
     const char *server_name; /* checksum, in place of addresses and ports that are translated on the way. NULL: the addresses themselves */
     uint32_t most;           /* connections of a server at a time: 1,000. A Request beyond them takes the place of one that has ended or not
-                                opened for a second, or is passed over */
+                                opened for a second; a Reset with code 9, Too Busy, answers it where all are open */
     uint32_t patience;       /* milliseconds in which a connection has to open, and a close to be answered: 30,000 */
     uint32_t idle;           /* milliseconds of silence after which a connection is given up: 180,000, when an end gives up by itself */
 } dccp_socket_options;
@@ -128,8 +132,14 @@ dccp_status dccp_connection_feature(dccp_connection *connection, dccp_feature_ki
 dccp_status dccp_connection_look(dccp_connection *connection, dccp_view *view);
 dccp_status dccp_connection_look_path(dccp_connection *connection, dccp_round_trip *trip);
 
-/* What was counted. */
-dccp_statistics dccp_connection_statistics(const dccp_connection *connection);
+/* The sequence number of the packet that dccp_connection_send sent last; 0 before the first. What became of it is told as by dccp_fate_of: after
+ * its report, and before a timeout. And the longest data that fit a frame of `most` bytes now, as dccp_longest_data has it. */
+uint64_t dccp_connection_last_sent(const dccp_connection *connection);
+dccp_fate dccp_connection_fate(dccp_connection *connection, uint64_t number);
+size_t dccp_connection_longest_data(dccp_connection *connection, size_t most);
+
+/* What was counted. Of a struct of an earlier version the fields that it has are written. */
+void dccp_connection_statistics(const dccp_connection *connection, dccp_statistics *statistics);
 
 /* A pointer of the owner's, NULL at first. */
 void dccp_connection_set_user(dccp_connection *connection, void *user);

@@ -2,6 +2,9 @@
 #ifndef _POSIX_C_SOURCE
 #define _POSIX_C_SOURCE 200809L
 #endif
+#if defined(__linux__) && !defined(_GNU_SOURCE)
+#define _GNU_SOURCE /* recvmmsg */
+#endif
 #include "dccp_socket.h"
 
 #include <arpa/inet.h>
@@ -22,7 +25,14 @@
  * which one that has not opened may make room, and after which timers are looked at although datagrams come; places of the table; the buffer
  * asked of the system. */
 enum { ANSWERS = 20, STRANGERS = 100, LINGER = 2000, STAY = 1000, TICK = 5, PLACES = 512, BUFFER = 1 << 21 };
-enum { MOST_WISHES = 16, MOST_SERVICES = 16 };
+enum { MOST_WISHES = 16, MOST_SERVICES = 16, MOST_IN_FLIGHT = 1024, TOO_BUSY = 9 };
+
+/* How many datagrams are taken with one call of the system. */
+#if defined(__linux__)
+enum { BATCH = 32 };
+#else
+enum { BATCH = 1 };
+#endif
 
 /* An address of the system's, of IPv4 or IPv6. */
 typedef union address {
@@ -51,6 +61,9 @@ struct dccp_connection {
     dccp_end_cause cause;
     uint8_t code;
     dccp_statistics statistics;
+    uint64_t unsettled[MOST_IN_FLIGHT]; /* a ring of the numbers of packets of data that are in flight, the oldest at `oldest` */
+    uint32_t oldest, unsettled_count;
+    uint64_t last_sent; /* the number of the last of them */
     bool has_ended, is_opened, wants_room;
     bool is_told; /* that it has ended, or that this is told to nobody */
 };
@@ -69,7 +82,12 @@ struct dccp_socket {
     dccp_connection *places[PLACES], *newest;
     dccp_socket_event data; /* told after the opening that the same datagram is */
     bool has_data;
-    uint8_t room[DCCP_MOST_FRAME_BYTES + 1];
+    const uint8_t *room; /* the datagram that is looked at */
+    /* Those that the system gave last, of which the next is looked at. */
+    uint8_t rooms[BATCH][DCCP_MOST_FRAME_BYTES + 1];
+    size_t lengths[BATCH];
+    address from[BATCH];
+    int heard, next;
 };
 
 static uint64_t now(void) {
@@ -176,7 +194,7 @@ static bool settle(const dccp_socket *udp, const address *peer, uint32_t service
     } else if (!own_towards(udp, peer, &own)) {
         return false;
     }
-    memset(settings, 0, sizeof *settings);
+    *settings = (dccp_settings)DCCP_SETTINGS_INIT;
     settings->is_v6 = own.any.sa_family == AF_INET6 || other.any.sa_family == AF_INET6;
     spell(&own, settings->is_v6, settings->own_address);
     spell(&other, settings->is_v6, settings->peer_address);
@@ -258,10 +276,29 @@ static void send_frame(dccp_connection *it, const dccp_frame *frame) {
 }
 
 static dccp_view seen(dccp_connection *it) {
-    dccp_view view;
-    memset(&view, 0, sizeof view);
+    dccp_view view = DCCP_VIEW_INIT;
     (void)dccp_look(&it->end, &view);
     return view;
+}
+
+/* The place of a number in the ring. */
+static uint64_t *unsettled_at(dccp_connection *it, uint32_t place) { return &it->unsettled[(it->oldest + place) % MOST_IN_FLIGHT]; }
+
+/* Looks what became of packets that are in flight no more, as the oldest mostly are, and counts those that are lost. After a timeout nothing is
+ * known of any: then all are. */
+static void settle_fates(dccp_connection *it, uint32_t in_flight) {
+    uint32_t left = 0, seen_of = 0;
+    while (seen_of < it->unsettled_count && in_flight + seen_of < it->unsettled_count + left) {
+        uint64_t number = *unsettled_at(it, seen_of++);
+        dccp_fate fate = dccp_fate_of(&it->end, number);
+        if (fate == DCCP_FATE_IN_FLIGHT)
+            *unsettled_at(it, left++) = number;
+        else if (fate != DCCP_FATE_DELIVERED)
+            it->statistics.lost++;
+    }
+    for (uint32_t at = left; at-- != 0;) *unsettled_at(it, seen_of - left + at) = *unsettled_at(it, at);
+    it->oldest = (it->oldest + seen_of - left) % MOST_IN_FLIGHT;
+    it->unsettled_count -= seen_of - left;
 }
 
 static bool is_open(const dccp_view *view) { return view->phase == DCCP_PHASE_PARTOPEN || view->phase == DCCP_PHASE_OPEN; }
@@ -306,6 +343,7 @@ static int next_event(dccp_connection *it, dccp_socket_event *event) {
 static void take(dccp_connection *it, const dccp_told *told, const dccp_frame *frame) {
     bool is_answer = told->kind == DCCP_TOLD_SYNCED || told->kind == DCCP_TOLD_SENT_RESET;
     dccp_view view = seen(it);
+    settle_fates(it, view.in_flight);
     if (!is_answer || may(&it->answers, ANSWERS))
         send_frame(it, frame);
     else
@@ -360,55 +398,105 @@ static uint64_t idle_since(const dccp_connection *it) {
     return it->is_opened ? 0 : it->heard;
 }
 
-/* Lets the connection go that has stood the longest without being open, if it has for a second at least. */
-static bool makes_room(dccp_socket *udp) {
+/* The connection that has stood the longest without being open, if there is one. */
+static dccp_connection *longest_idle(const dccp_socket *udp) {
     dccp_connection *found = NULL;
     for (dccp_connection *it = udp->newest; it != NULL; it = it->older)
         if (idle_since(it) != 0 && (found == NULL || idle_since(it) < idle_since(found))) found = it;
-    if (found == NULL || now() < idle_since(found) + STAY) return false;
-    part(found);
-    discard(found);
-    return true;
+    return found;
 }
 
-/* Whether a stranger's datagram is looked at: a Request where there is a place, and others as many as may be answered. To look for a place takes
- * a look at each connection, which anybody can ask for. */
-static bool may_meet(dccp_socket *udp, bool is_request) {
-    if (!udp->is_server) return false;
-    if (udp->count < udp->most) return is_request || may(&udp->strangers, STRANGERS);
-    return is_request && may(&udp->strangers, STRANGERS) && makes_room(udp);
+/* Answers a stranger's datagram without a connection: a Request by a Reset that says that there is no place. */
+static void turn_away(dccp_socket *udp, const address *peer, const dccp_settings *settings, size_t length) {
+    dccp_frame frame;
+    (void)dccp_refuse(settings, udp->room, length, TOO_BUSY, &frame);
+    hand_over(udp, peer, &frame);
 }
 
-/* Hears a datagram of a peer without a connection. It may open one, of which nothing is told yet. */
-static void meet(dccp_socket *udp, const address *peer, size_t length) {
-    bool is_request;
-    uint32_t service = asked_service(udp, length, &is_request);
-    if (!may_meet(udp, is_request)) return;
-    dccp_settings settings;
-    dccp_connection *it = settle(udp, peer, service, &settings) ? add(udp, peer) : NULL;
+/* Hears a Request of a stranger for whom there is a place. */
+static void take_in(dccp_socket *udp, const address *peer, const dccp_settings *settings, size_t length) {
+    dccp_connection *it = add(udp, peer);
     if (it == NULL) return; /* It asks again. */
     dccp_frame frame;
     dccp_told told;
-    dccp_status status = dccp_accept(&it->end, &settings, udp->wishes, udp->wish_count, udp->room, length, now(), &frame, &told);
+    dccp_status status = dccp_accept(&it->end, settings, udp->wishes, udp->wish_count, udp->room, length, now(), &frame, &told);
     if (status == DCCP_OK) note(it, &told, length);
     if (status == DCCP_OK) take(it, &told, &frame);
-    if (status == DCCP_NO_CONNECTION) hand_over(udp, peer, &frame);
+    if (status == DCCP_NO_CONNECTION && may(&udp->strangers, STRANGERS)) hand_over(udp, peer, &frame);
     if (status == DCCP_OK && seen(it).phase != DCCP_PHASE_CLOSED) return;
     part(it);
     discard(it);
 }
 
-/* Takes the next datagram that has come: 1 with an event, 0 without, -1 where there is none, and -2 for a fault. */
-static int take_datagram(dccp_socket *udp, dccp_socket_event *event) {
-    address from;
-    memset(&from, 0, sizeof from);
-    socklen_t size = sizeof from;
-    ssize_t length = recvfrom(udp->descriptor, udp->room, sizeof udp->room, MSG_DONTWAIT, &from.any, &size);
-    if (length < 0) {
-        bool is_none = errno == EAGAIN || errno == EWOULDBLOCK;
-        bool is_lost = errno == ECONNREFUSED || errno == EHOSTUNREACH || errno == ENETUNREACH || errno == EINTR;
-        return is_none ? -1 : is_lost ? 0 : -2;
+/* Hears a datagram of a peer without a connection. It may open one, of which nothing is told yet. All but Requests that find a place are looked
+ * at as often as strangers may be answered. A Request that finds none takes that of a connection that has not been open for a second; where there
+ * may be such a one soon it asks again, and else it is told that there is none. */
+static void meet(dccp_socket *udp, const address *peer, size_t length) {
+    bool is_request, has_place = udp->count < udp->most;
+    uint32_t service = asked_service(udp, length, &is_request);
+    if (!(is_request && has_place) && !may(&udp->strangers, STRANGERS)) return;
+    dccp_connection *idle = is_request && !has_place ? longest_idle(udp) : NULL;
+    if (idle != NULL && now() < idle_since(idle) + STAY) return;
+    if (idle != NULL) {
+        part(idle);
+        discard(idle);
     }
+    dccp_settings settings;
+    if (!settle(udp, peer, service, &settings)) return; /* It asks again. */
+    if (is_request && (has_place || idle != NULL))
+        take_in(udp, peer, &settings, length);
+    else
+        turn_away(udp, peer, &settings, length);
+}
+
+/* Takes datagrams that have come: how many, or -1 and errno. */
+#if defined(__linux__)
+static int take_batch(dccp_socket *udp) {
+    struct mmsghdr messages[BATCH];
+    struct iovec places[BATCH];
+    memset(messages, 0, sizeof messages);
+    memset(udp->from, 0, sizeof udp->from);
+    for (int at = 0; at < BATCH; at++) {
+        places[at] = (struct iovec){.iov_base = udp->rooms[at], .iov_len = sizeof udp->rooms[at]};
+        messages[at].msg_hdr.msg_iov = &places[at];
+        messages[at].msg_hdr.msg_iovlen = 1;
+        messages[at].msg_hdr.msg_name = &udp->from[at];
+        messages[at].msg_hdr.msg_namelen = sizeof udp->from[at];
+    }
+    int count = recvmmsg(udp->descriptor, messages, BATCH, MSG_DONTWAIT, NULL);
+    for (int at = 0; at < count; at++) udp->lengths[at] = messages[at].msg_len;
+    return count;
+}
+#else
+static int take_batch(dccp_socket *udp) {
+    memset(udp->from, 0, sizeof udp->from);
+    socklen_t size = sizeof udp->from[0];
+    ssize_t length = recvfrom(udp->descriptor, udp->rooms[0], sizeof udp->rooms[0], MSG_DONTWAIT, &udp->from[0].any, &size);
+    if (length < 0) return -1;
+    udp->lengths[0] = (size_t)length;
+    return 1;
+}
+#endif
+
+/* Whether there is a datagram to be looked at: 1, 0 where one was lost, -1 where there is none, and -2 for a fault. */
+static int refill(dccp_socket *udp) {
+    if (udp->next < udp->heard) return 1;
+    udp->next = 0;
+    udp->heard = take_batch(udp);
+    if (0 < udp->heard) return 1;
+    udp->heard = 0;
+    bool is_none = errno == EAGAIN || errno == EWOULDBLOCK;
+    bool is_lost = errno == ECONNREFUSED || errno == EHOSTUNREACH || errno == ENETUNREACH || errno == EINTR;
+    return is_none ? -1 : is_lost ? 0 : -2;
+}
+
+/* Looks at the next datagram that has come: 1 with an event, 0 without, -1 where there is none, and -2 for a fault. */
+static int take_datagram(dccp_socket *udp, dccp_socket_event *event) {
+    int found = refill(udp);
+    if (found != 1) return found;
+    const address from = udp->from[udp->next];
+    const size_t length = udp->lengths[udp->next];
+    udp->room = udp->rooms[udp->next++];
     dccp_connection *it = udp->is_server ? find(udp, &from) : udp->newest;
     bool is_request = 9 <= length && ((udp->room[8] >> 1) & 15) == 0;
     /* One that has ended, and was told of, stands in no way of a new Request. */
@@ -417,8 +505,8 @@ static int take_datagram(dccp_socket *udp, dccp_socket_event *event) {
         discard(it);
         it = NULL;
     }
-    if (it != NULL) return hear(it, (size_t)length, event);
-    if (udp->is_server) meet(udp, &from, (size_t)length);
+    if (it != NULL) return hear(it, length, event);
+    if (udp->is_server) meet(udp, &from, length);
     return 0;
 }
 
@@ -439,6 +527,7 @@ static void tick(dccp_connection *it) {
     dccp_view view;
     while (dccp_tick(&it->end, now(), &frame) == DCCP_OK) send_frame(it, &frame);
     view = seen(it);
+    settle_fates(it, view.in_flight);
     if (view.phase == DCCP_PHASE_CLOSED) finish(it, DCCP_END_SILENT, 0); /* The end gave up by itself. */
     if (it->has_ended || now() < it->heard + (is_open(&view) ? it->udp->idle : it->udp->patience)) return;
     if (dccp_abort(&it->end, now(), &frame) == DCCP_OK) send_frame(it, &frame);
@@ -461,7 +550,7 @@ static int tick_all(dccp_socket *udp, dccp_socket_event *event) {
 
 int dccp_socket_wait(dccp_socket *udp) {
     uint64_t least = DCCP_NEVER;
-    if (udp->has_data) return 0;
+    if (udp->has_data || udp->next < udp->heard) return 0;
     for (dccp_connection *it = udp->newest; it != NULL; it = it->older) {
         uint64_t left = (it->has_ended && !it->is_told) ? 0 : due_in(it);
         if (left < least) least = left;
@@ -567,8 +656,7 @@ static bool arrange(dccp_socket *udp, const dccp_socket_options *given) {
 /* Whether an end can be made with these wishes; else errno says why not. */
 static bool try_wishes(const dccp_socket *udp) {
     dccp_end end = DCCP_NONE;
-    dccp_settings settings;
-    memset(&settings, 0, sizeof settings);
+    dccp_settings settings = DCCP_SETTINGS_INIT;
     dccp_status status = dccp_make(&end, &settings, udp->wishes, udp->wish_count);
     dccp_free(&end);
     errno = status == DCCP_NO_MEMORY ? ENOMEM : EINVAL;
@@ -656,7 +744,10 @@ dccp_status dccp_connection_send(dccp_connection *it, const void *data, size_t l
     if (it->has_ended) return DCCP_NOT_MADE;
     dccp_status status = dccp_send(&it->end, length == 0 ? nothing : data, length, now(), &frame);
     send_frame(it, &frame);
-    if (status == DCCP_OK) it->statistics.sent.data_bytes += length;
+    if (status == DCCP_OK) {
+        it->statistics.sent.data_bytes += length;
+        it->last_sent = *unsettled_at(it, it->unsettled_count++) = frame.number;
+    }
     it->wants_room = status == DCCP_WINDOW_FULL || status == DCCP_NOT_NEGOTIATED;
     return status;
 }
@@ -694,7 +785,17 @@ dccp_status dccp_connection_look(dccp_connection *it, dccp_view *view) { return 
 
 dccp_status dccp_connection_look_path(dccp_connection *it, dccp_round_trip *trip) { return dccp_look_path(&it->end, trip); }
 
-dccp_statistics dccp_connection_statistics(const dccp_connection *it) { return it->statistics; }
+uint64_t dccp_connection_last_sent(const dccp_connection *it) { return it->last_sent; }
+
+dccp_fate dccp_connection_fate(dccp_connection *it, uint64_t number) { return dccp_fate_of(&it->end, number); }
+
+size_t dccp_connection_longest_data(dccp_connection *it, size_t most) { return dccp_longest_data(&it->end, most); }
+
+void dccp_connection_statistics(const dccp_connection *it, dccp_statistics *statistics) {
+    const size_t size = statistics->size;
+    memcpy(statistics, &it->statistics, size < sizeof it->statistics ? size : sizeof it->statistics);
+    statistics->size = size;
+}
 
 void dccp_connection_set_user(dccp_connection *it, void *user) { it->user = user; }
 

@@ -38,11 +38,17 @@ static void same(const char *what, unsigned long long wanted, unsigned long long
     wrong = 1;
 }
 
-static const dccp_settings client = {
-    .own_address = {10, 0, 0, 1}, .peer_address = {10, 0, 0, 2}, .first_number = 1000, .service = 42, .own_port = 40000, .peer_port = 5001};
+static const dccp_settings client = {.size = sizeof(dccp_settings),
+                                     .own_address = {10, 0, 0, 1},
+                                     .peer_address = {10, 0, 0, 2},
+                                     .first_number = 1000,
+                                     .service = 42,
+                                     .own_port = 40000,
+                                     .peer_port = 5001};
 
 static dccp_settings server(void) {
-    return (dccp_settings){.own_address = {10, 0, 0, 2},
+    return (dccp_settings){.size = sizeof(dccp_settings),
+                           .own_address = {10, 0, 0, 2},
                            .peer_address = {10, 0, 0, 1},
                            .first_number = 2000,
                            .service = 42,
@@ -65,7 +71,7 @@ static void exchange(dccp_end *to, dccp_end *from, dccp_frame *frame) {
 }
 
 static dccp_view look(dccp_end *end) {
-    dccp_view view;
+    dccp_view view = DCCP_VIEW_INIT;
     same("a look", DCCP_OK, dccp_look(end, &view));
     return view;
 }
@@ -74,7 +80,7 @@ static void without_an_end(void) {
     dccp_end none = DCCP_NONE;
     dccp_frame frame;
     dccp_told told;
-    dccp_view view;
+    dccp_view view = DCCP_VIEW_INIT;
     dccp_feature_state state;
     uint8_t byte = 0;
     uint64_t value = 2;
@@ -320,6 +326,95 @@ static void without_vectors(void) {
     dccp_free(&other);
 }
 
+/* Structs of another size than the library's are neither read nor written. */
+static void sizes(void) {
+    dccp_end end = DCCP_NONE;
+    dccp_listener listener = DCCP_NO_LISTENER;
+    dccp_settings settings = client;
+    dccp_view view = DCCP_VIEW_INIT;
+    dccp_round_trip trip = DCCP_ROUND_TRIP_INIT;
+    dccp_flow_rules rules = DCCP_USUAL_RULES;
+    dccp_flow_life life = DCCP_FLOW_LIFE_INIT;
+    const dccp_peer peer = {.port = 1};
+    settings.size -= 8;
+    same("older settings", DCCP_OTHER_SIZE, dccp_make(&end, &settings, NULL, 0));
+    same("an end of them", false, end.made);
+    same("a listener of them", DCCP_OTHER_SIZE, dccp_listener_make(&listener, &settings, NULL, 0, 1));
+    settings.size += 16;
+    same("newer settings", DCCP_OTHER_SIZE, dccp_make(&end, &settings, NULL, 0));
+    same("settings as they are", DCCP_OK, dccp_make(&end, &client, NULL, 0));
+    view.size -= 8;
+    view.iss = 7;
+    same("an older view", DCCP_OTHER_SIZE, dccp_look(&end, &view));
+    same("what stood in it", 7, view.iss);
+    same("an older view of a flow", DCCP_OTHER_SIZE, dccp_listener_look(&listener, &peer, &view));
+    same("what is measured", DCCP_OK, dccp_look_path(&end, &trip));
+    trip.size = 0;
+    same("a round trip of no size", DCCP_OTHER_SIZE, dccp_look_path(&end, &trip));
+    rules.size++;
+    same("newer rules", DCCP_OTHER_SIZE, dccp_listener_rules(&listener, &rules));
+    life.size++;
+    same("a newer life", DCCP_OTHER_SIZE, dccp_listener_life(&listener, &peer, &life));
+    dccp_free(&end);
+}
+
+/* Four packets, of which the first is lost and the others are reported, and a fifth that is on its way until a timeout. RFC 4341, section 5,
+ * takes the first for lost once three later ones were reported. */
+static void fates(void) {
+    dccp_end one = DCCP_NONE, other = DCCP_NONE;
+    dccp_settings settings = server();
+    dccp_frame frames[5], frame;
+    dccp_told told;
+    same("no end", DCCP_FATE_UNKNOWN, dccp_fate_of(&one, 1000));
+    same("a client", DCCP_OK, dccp_make(&one, &client, NULL, 0));
+    same("a server", DCCP_OK, dccp_make(&other, &settings, NULL, 0));
+    same("its open", DCCP_OK, dccp_open(&one, 0, &frame));
+    exchange(&other, &one, &frame);
+    for (unsigned at = 0; at < 4; at++) same("a packet", DCCP_OK, dccp_send(&one, NULL, 0, 0, &frames[at]));
+    same("on its way", DCCP_FATE_IN_FLIGHT, dccp_fate_of(&one, frames[3].number));
+    for (unsigned at = 1; at < 4; at++) {
+        same("its arrival", DCCP_OK, dccp_receive(&other, frames[at].bytes, frames[at].length, 0, &frame, &told));
+        exchange(&one, &other, &frame);
+    }
+    same("not passed by three", DCCP_FATE_IN_FLIGHT, dccp_fate_of(&one, frames[0].number));
+    same("the timer Ack", DCCP_OK, dccp_timer(&other, DCCP_TIMER_ACK, 0, &frame));
+    exchange(&one, &other, &frame);
+    same("passed by three", DCCP_FATE_LOST, dccp_fate_of(&one, frames[0].number));
+    for (unsigned at = 1; at < 4; at++) same("reported", DCCP_FATE_DELIVERED, dccp_fate_of(&one, frames[at].number));
+    same("a Request", DCCP_FATE_UNKNOWN, dccp_fate_of(&one, client.first_number));
+    same("not sent yet", DCCP_FATE_UNKNOWN, dccp_fate_of(&one, look(&one).gss + 1));
+    same("no number", DCCP_FATE_UNKNOWN, dccp_fate_of(&one, ((uint64_t)1 << 48) + frames[1].number));
+    same("a fifth", DCCP_OK, dccp_send(&one, NULL, 0, 0, &frames[4]));
+    same("the fifth", DCCP_FATE_IN_FLIGHT, dccp_fate_of(&one, frames[4].number));
+    same("a timeout", DCCP_OK, dccp_timer(&one, DCCP_TIMER_RTO, 0, &frame));
+    same("after it", DCCP_FATE_UNKNOWN, dccp_fate_of(&one, frames[4].number));
+    dccp_free(&one);
+    dccp_free(&other);
+}
+
+/* The longest data in frames of some lengths: 24 bytes are the header of a DataAck (RFC 4340, section 5.3). An Ack Vector tells of one number
+ * at first, that of the Response, in three bytes and a fourth that pads them. */
+static void longest_data(void) {
+    dccp_end one = DCCP_NONE, other = DCCP_NONE;
+    dccp_settings settings = server();
+    dccp_feature_state vectors;
+    dccp_frame frame;
+    dccp_told told;
+    same("no end", 0, dccp_longest_data(&one, 2044));
+    same("a client", DCCP_OK, dccp_make(&one, &client, NULL, 0));
+    same("a server", DCCP_OK, dccp_make(&other, &settings, NULL, 0));
+    same("its open", DCCP_OK, dccp_open(&one, 0, &frame));
+    same("a Request", DCCP_OK, dccp_receive(&other, frame.bytes, frame.length, 0, &frame, &told));
+    same("its Response", DCCP_OK, dccp_receive(&one, frame.bytes, frame.length, 0, &frame, &told));
+    same("whether Ack Vectors go out", DCCP_OK, dccp_feature(&one, DCCP_FEATURE_SEND_ACK_VECTOR, false, &vectors));
+    same("in a long frame", 1024, dccp_longest_data(&one, 2044));
+    same("in 1,052 bytes", 1024, dccp_longest_data(&one, 1052));
+    same("in a hundred", vectors.value == 1 ? 72 : 76, dccp_longest_data(&one, 100));
+    same("in 24", 0, dccp_longest_data(&one, 24));
+    dccp_free(&one);
+    dccp_free(&other);
+}
+
 static void a_connection(void) {
     dccp_end one = DCCP_NONE, other = DCCP_NONE;
     dccp_settings settings = server();
@@ -362,7 +457,7 @@ static void without_a_listener(void) {
     dccp_peer peer = guest;
     dccp_frame frame;
     dccp_told told;
-    dccp_view view;
+    dccp_view view = DCCP_VIEW_INIT;
     dccp_feature_state state;
     dccp_flow_rules rules = DCCP_USUAL_RULES;
     uint64_t ratio = 1;
@@ -434,7 +529,7 @@ static void a_listener(void) {
     dccp_frame frame, first = request(client.service), second = other_request(3), elsewhere = request(client.service + 1);
     dccp_peer peer = {.port = 1};
     dccp_told told;
-    dccp_view view;
+    dccp_view view = DCCP_VIEW_INIT;
     static uint8_t bytes[DCCP_MOST_FRAME_BYTES + 1];
     same("2^48", DCCP_NO_NUMBER, dccp_listener_arrive(&listener, &guest, (uint64_t)1 << 48, bytes, 0, 0, &frame, &told));
     same("2,045 bytes", DCCP_TOO_LONG, dccp_listener_arrive(&listener, &guest, 0, bytes, sizeof bytes, 0, &frame, &told));
@@ -565,7 +660,7 @@ static void refusals_of_a_flow(void) {
     dccp_wish none = {.count = 0};
     dccp_frame frame, answer;
     dccp_told told;
-    dccp_view view = {.phase = DCCP_PHASE_CLOSED};
+    dccp_view view = DCCP_VIEW_INIT;
     uint8_t byte = 0;
     same("a client", DCCP_OK, dccp_make(&end, &client, &none, 0));
     same("its open", DCCP_OK, dccp_open(&end, 0, &frame));
@@ -590,7 +685,7 @@ static void refusals_of_a_flow(void) {
  * maps, those of lives and of timers, which are allocated first. */
 static void memory_of_a_flow(void) {
     dccp_frame datagram = request(client.service), frame;
-    dccp_view view;
+    dccp_view view = DCCP_VIEW_INIT;
     dccp_told told;
     for (unsigned at = 1;; at++) {
         dccp_listener listener = begun();
@@ -622,6 +717,9 @@ int main(void) {
     memory(make);
     memory(accept);
     a_connection();
+    sizes();
+    fates();
+    longest_data();
     without_vectors();
     without_a_listener();
     limits_of_a_listener();

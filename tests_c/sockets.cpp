@@ -81,6 +81,10 @@ static void a_conversation() {
     both.settle();
     same("a wider one", 900, static_cast<long long>(client->feature(DCCP_FEATURE_SEQUENCE_WINDOW, true).value));
     same("nothing in flight", 0, client->look().in_flight);
+    same("what became of the last packet", DCCP_FATE_DELIVERED, client->fate(client->last_sent()));
+    same("and of none", DCCP_FATE_UNKNOWN, client->fate(client->last_sent() + 1));
+    same("what was lost", 0, static_cast<long long>(client->statistics().lost));
+    same("the longest data", 1024, static_cast<long long>(client->longest_data(1232)));
     client->close();
     both.settle();
     same("the client's end", true, both.of_client.back().kind == DCCP_EVENT_ENDED && both.of_client.back().is_orderly());
@@ -102,6 +106,113 @@ static void a_full_window() {
     both.settle();
     same("the end of the client", DCCP_END_ABORTED, both.of_client.back().cause);
     same("the code at the server", 2, both.of_server.back().code);
+}
+
+// A server whose one place is taken by a connection that is open: another client is told so, and a third gets the place once it is free.
+static void a_full_server() {
+    dccp::options one;
+    one.most = 1;
+    pair both = open_pair(one);
+    same("the first opens", DCCP_EVENT_OPENED, both.of_client.at(0).kind);
+    same("its word, by which it opens there too", DCCP_OK, both.client.connection()->send("x"));
+    both.settle();
+    const std::string port = std::to_string(both.server.port());
+    pair late{std::move(both.server), dccp::socket::connect("127.0.0.1", port, 42)};
+    late.settle();
+    same("the second ends", DCCP_EVENT_ENDED, late.of_client.at(0).kind);
+    same("the code: Too Busy", 9, late.of_client.at(0).code);
+    both.client.connection()->abort();
+    late.settle();
+    pair next{std::move(late.server), dccp::socket::connect("127.0.0.1", port, 42)};
+    for (int turn = 0; turn < 60 && next.of_client.empty(); turn++) next.settle();
+    same("the third opens", DCCP_EVENT_OPENED, next.of_client.at(0).kind);
+}
+
+// A relay between a client and a server of this process, which loses every fifth packet of data that goes to the server.
+class relay {
+  public:
+    explicit relay(uint16_t server) : front_(::socket(AF_INET, SOCK_DGRAM, 0)), back_(::socket(AF_INET, SOCK_DGRAM, 0)) {
+        sockaddr_in here = loopback(0), there = loopback(server);
+        socklen_t size = sizeof here;
+        same("a front", 0, ::bind(front_, reinterpret_cast<sockaddr *>(&here), sizeof here));
+        same("its name", 0, ::getsockname(front_, reinterpret_cast<sockaddr *>(&here), &size));
+        same("a back", 0, ::connect(back_, reinterpret_cast<sockaddr *>(&there), sizeof there));
+        port = ntohs(here.sin_port);
+    }
+    ~relay() {
+        ::close(front_);
+        ::close(back_);
+    }
+
+    // Hands over what has come.
+    void pump() {
+        uint8_t room[2048];
+        socklen_t size = sizeof client_;
+        ssize_t length;
+        while (0 < (length = ::recvfrom(front_, room, sizeof room, MSG_DONTWAIT, reinterpret_cast<sockaddr *>(&client_), &size))) {
+            const int kind = room[8] >> 1 & 15;
+            const bool is_data = kind == 2 || kind == 4;
+            if (is_data && ++data_ % 5 == 0)
+                lost++;
+            else
+                (void)!::send(back_, room, static_cast<size_t>(length), 0);
+        }
+        while (0 < (length = ::recv(back_, room, sizeof room, MSG_DONTWAIT)))
+            (void)!::sendto(front_, room, static_cast<size_t>(length), 0, reinterpret_cast<sockaddr *>(&client_), sizeof client_);
+    }
+
+    uint16_t port;
+    int lost = 0;
+
+  private:
+    static sockaddr_in loopback(uint16_t port) {
+        sockaddr_in it{};
+        it.sin_family = AF_INET;
+        it.sin_port = htons(port);
+        it.sin_addr.s_addr = htonl(INADDR_LOOPBACK);
+        return it;
+    }
+
+    int front_, back_, data_ = 0;
+    sockaddr_in client_{};
+};
+
+// What became of two hundred packets, of which every fifth is lost: after each that is lost, three later ones come, so all are known but
+// the last few.
+static void losses() {
+    dccp::options named;
+    named.client_name = "192.0.2.1 1";
+    named.server_name = "192.0.2.2 2";
+    named.wishes = {dccp::offer(DCCP_FEATURE_CCID, {248}), dccp::offer(DCCP_FEATURE_CCID, {248}, true)};
+    auto server = dccp::socket::listen("127.0.0.1", "0", {42}, named);
+    relay between(server.port());
+    auto client = dccp::socket::connect("127.0.0.1", std::to_string(between.port), 42, named);
+    std::map<uint64_t, dccp_fate> fates;
+    int got = 0, sent = 0;
+    const auto step = [&] {
+        between.pump();
+        while (auto event = server.poll(0ms)) got += event->kind == DCCP_EVENT_DATA;
+        between.pump();
+        while (client.poll(0ms).has_value()) continue;
+        for (auto &[number, fate] : fates)
+            if (fate == DCCP_FATE_IN_FLIGHT) fate = client.connection()->fate(number);
+    };
+    const auto last = std::chrono::steady_clock::now() + 30s;
+    while (sent < 200 && std::chrono::steady_clock::now() < last) {
+        step();
+        if (client.connection()->send("x") != DCCP_OK) continue;
+        fates[client.connection()->last_sent()] = DCCP_FATE_IN_FLIGHT;
+        sent++;
+    }
+    while (client.connection()->look().in_flight != 0 && std::chrono::steady_clock::now() < last) step();
+    std::map<dccp_fate, int> counts;
+    for (const auto &[number, fate] : fates) counts[fate]++;
+    same("packets", 200, sent);
+    same("those that were lost", 40, between.lost);
+    same("those that came", 160, got);
+    same("those that are told delivered", 160, counts[DCCP_FATE_DELIVERED]);
+    same("those that are told lost, or not any more", 40, counts[DCCP_FATE_LOST] + counts[DCCP_FATE_UNKNOWN]);
+    same("those that are counted lost", 40, static_cast<long long>(client.connection()->statistics().lost));
 }
 
 static void refusals() {
@@ -141,7 +252,7 @@ static void a_silent_client() {
     const int silent = ::socket(AF_INET, SOCK_DGRAM, 0);
     same("a socket", 0, ::connect(silent, reinterpret_cast<sockaddr *>(&there), sizeof there));
     same("its name", 0, ::getsockname(silent, reinterpret_cast<sockaddr *>(&here), &size));
-    dccp_settings settings{};
+    dccp_settings settings DCCP_SETTINGS_INIT;
     settings.own_address[0] = settings.peer_address[0] = 127;
     settings.own_address[3] = settings.peer_address[3] = 1;
     settings.own_port = ntohs(here.sin_port);
@@ -160,7 +271,7 @@ static void a_silent_client() {
 
 // Two ends without sockets, one of which is moved.
 static void ends() {
-    dccp_settings here{}, there{};
+    dccp_settings here DCCP_SETTINGS_INIT, there DCCP_SETTINGS_INIT;
     here.own_address[0] = here.peer_address[0] = there.own_address[0] = there.peer_address[0] = 10;
     here.own_port = there.peer_port = 1;
     here.peer_port = there.own_port = 2;
@@ -178,7 +289,7 @@ static void ends() {
 
 // A listener of one flow without a socket, and two clients: the second finds no room until the first is forgotten.
 static void a_listener() {
-    dccp_settings here{}, other{}, there{};
+    dccp_settings here DCCP_SETTINGS_INIT, other DCCP_SETTINGS_INIT, there DCCP_SETTINGS_INIT;
     here.own_address[0] = here.peer_address[0] = there.own_address[0] = other.own_address[0] = other.peer_address[0] = 10;
     here.own_port = 1;
     other.own_port = 3;
@@ -205,6 +316,8 @@ static void a_listener() {
 int main() {
     a_conversation();
     a_full_window();
+    a_full_server();
+    losses();
     refusals();
     a_silent_client();
     ends();

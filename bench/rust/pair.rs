@@ -19,6 +19,7 @@ const OPEN: u32 = 5;
 /// What a server for the peer at this address is made from.
 pub fn server_settings(peer: [u8; 4]) -> Settings {
     Settings {
+        size: size_of::<Settings>(),
         own_address: padded(SERVER_ADDRESS),
         peer_address: padded(peer),
         first_number: 2_000,
@@ -40,6 +41,7 @@ pub fn server_settings(peer: [u8; 4]) -> Settings {
 
 fn client_settings() -> Settings {
     Settings {
+        size: size_of::<Settings>(),
         own_address: padded(CLIENT_ADDRESS),
         peer_address: padded(SERVER_ADDRESS),
         first_number: 1_000,

@@ -5,7 +5,7 @@ use std::fs;
 use std::path::Path;
 
 /// The number of the border for which this crate is written: that of its `include/dccp.h`.
-const ABI: &str = "1";
+const ABI: &str = "2";
 
 /// The number of the border of the library under a folder, by its header.
 fn abi_of(prefix: &Path) -> Option<String> {

@@ -1,6 +1,7 @@
 pub mod Accepting
 pub mod Codes
 pub mod Doing
+pub mod Fates
 pub mod FlowFeatures
 pub mod Founding
 pub mod Framing
@@ -9,6 +10,7 @@ pub mod KeepingListener
 pub mod Listening
 pub mod Making
 pub mod Outcomes
+pub mod Refusing
 pub mod Seeing
 pub mod Stepping
 pub mod Telling

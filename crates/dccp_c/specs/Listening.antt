@@ -229,7 +229,7 @@ ruled_by rules (Some s) = Some (record s { rules = rules })
 
 -- what C may know of a peer's flow beside its end, where it has one
 abbrev pub known_of : Life → FlowLife
-known_of life = record { since = life.since; taken = life.taken }
+known_of life = record { size = 24; since = life.since; taken = life.taken }
 
 -- its life, where there is a flow
 abbrev pub life_if : Option FlowEnd → Life → Option Life

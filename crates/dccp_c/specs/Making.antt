@@ -106,9 +106,10 @@ abbrev pub wished_from : Option Config → List Wish → Result Config ℕ
 wished_from None wishes = Err 17
 wished_from (Some config) wishes = wished_all config wishes
 
--- the configuration of these settings and wishes, or the code by which they are refused
+-- The configuration of these settings and wishes, or the code by which they are refused: settings of another size than the
+-- library's by 20.
 abbrev pub configured_by : Settings → List Wish → Result Config ℕ
-configured_by s wishes = wished_from (config_by s) wishes
+configured_by s wishes = if s.size == 72 then wished_from (config_by s) wishes else Err 20
 
 -- The end that was made: a new one where the code says so, else none.
 abbrev pub made_from : Bool → Pace → Result Config ℕ → Option CEnd

@@ -1,5 +1,5 @@
 -- What C may read of an end (own).
-use Rattle.std.specs.Prelude.{ℕ, Option, Some, None}
+use Rattle.std.specs.Prelude.{ℕ, Bool, true, false, Option, Some, None}
 use Rattle.ccid_two.specs.Kinds.{Both, kinds_control}
 use Rattle.dccp_endpoint.specs.Controlled.{End, in_flight_of, window_of}
 use Rattle.dccp_endpoint.specs.End.{held_of, marked_of}
@@ -19,6 +19,7 @@ use Rattle.dccp_c.specs.declared.readers.View.{View}
 abbrev pub seen : End Both → View
 seen e =
     record {
+      size = 72;
       iss = e.state.marks.iss;
       gss = e.state.marks.gss;
       gar = e.state.marks.gar;
@@ -36,8 +37,8 @@ seen_feature feature place e = record { value = (held_of e.state feature place).
 
 -- what was measured of its path, and the timeout with which the timer rto would begin
 abbrev pub trip_seen : Option RoundTrip → ℕ → RoundTripView
-trip_seen None timeout = record { timeout = timeout; smoothed = 0; variance = 0 }
-trip_seen (Some trip) timeout = record { timeout = timeout; smoothed = trip.smoothed; variance = trip.variance }
+trip_seen None timeout = record { size = 24; timeout = timeout; smoothed = 0; variance = 0 }
+trip_seen (Some trip) timeout = record { size = 24; timeout = timeout; smoothed = trip.smoothed; variance = trip.variance }
 
 -- of an end with its timers
 abbrev pub seen_path : CEnd → RoundTripView
@@ -52,6 +53,16 @@ path_after (Some s) old = seen_path s
 abbrev pub seen_after : {Seen : Type 0} → (End Both → Seen) → Option CEnd → Seen → Seen
 seen_after see None old = old
 seen_after see (Some s) old = see s.end
+
+-- What C finds where its struct has the library's size, and else what stood there.
+abbrev pub if_sized : {Read : Type 0} → Bool → Read → Read → Read
+if_sized true read old = read
+if_sized false read old = old
+
+-- the code of reading into a struct: 20 where it has another size than the library's
+abbrev pub sized_code : Bool → ℕ → ℕ
+sized_code true code = code
+sized_code false code = 20
 
 -- the code of a reading: 1 where there is no end
 abbrev pub look_code : Option CEnd → ℕ

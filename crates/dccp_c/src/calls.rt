@@ -1,24 +1,25 @@
 //! The functions that C calls: each does one step of the end that its handle holds, and of its timers.
-ghost use Rattle.std.specs.Prelude.{◌≡◌, None, Ok};
+ghost use Rattle.std.specs.Prelude.{◌≡◌, ◌==◌, None, Ok};
 ghost use Rattle.feature_lists.specs.Features.{feature_numbered};
 ghost use Rattle.dccp_c.specs.Framing.{handed_in};
 ghost use Rattle.dccp_c.specs.Codes.{abort_code, close_code, open_code, place_by, send_code, timer_code, timer_coded, wish_code};
 ghost use Rattle.dccp_c.specs.Accepting.{AcceptsCode, accepted_end, as_server, accept_step, step_frame, step_told};
 ghost use Rattle.dccp_c.specs.Doing.{c_ticks, c_waits, code_after, code_if_known, end_if_known, end_in, frame_after, frame_if_known, kept_after};
 ghost use Rattle.dccp_c.specs.Making.{MakesCode, configured_by, made_of, pace_by};
-ghost use Rattle.dccp_c.specs.Seeing.{path_after, feature_after, feature_code, look_code, seen_after, seen};
+ghost use Rattle.dccp_c.specs.Seeing.{path_after, feature_after, feature_code, if_sized, look_code, seen_after, seen, sized_code};
 ghost use Rattle.dccp_c.specs.Stepping.{c_aborts, c_closes, c_fires, c_opens, c_prefers, c_sends};
 ghost use Rattle.dccp_c.specs.Telling.{hear_code, hear_frame, hear_told, hears_if_short};
 
 use crate::codes::{
-    DONE, NO_CONNECTION, NO_FEATURE, NO_MEMORY, NO_TIMER, NOT_MADE, NOTHING_DUE, TOO_LONG,
-    abort_code, close_code, feature_of, open_code, place_of, send_code, timer_code, timer_of,
-    wish_code,
+    DONE, NO_CONNECTION, NO_FEATURE, NO_MEMORY, NO_TIMER, NOT_MADE, NOTHING_DUE, OTHER_SIZE,
+    TOO_LONG, abort_code, close_code, feature_of, open_code, place_of, send_code, timer_code,
+    timer_of, wish_code,
 };
 use crate::end::End;
 use crate::frame::Frame;
 use crate::making::{as_server, configured_by, pace_by};
 use crate::readers::{seen, seen_feature, seen_path};
+use crate::sizes::{ROUND_TRIP_VIEW_BYTES, VIEW_BYTES};
 use crate::steps::{
     abort, close, fire, is_listening, new_end, open, prefer, receive, send, tell_due,
 };
@@ -28,8 +29,9 @@ use dccp_endpoint::{Config, MOST_FRAME_BYTES};
 use dccp_uses::Pace;
 use std::alloc::Global;
 
-/// Makes an end, in place of what the handle held, which is freed first. Refused as `Config::set` refuses a wish,
-/// with NO_FEATURE where a wish names none, NO_NUMBER where the first number is none, and NO_MEMORY; then it holds nothing.
+/// Makes an end, in place of what the handle held, which is freed first. Refused with OTHER_SIZE where the settings begin
+/// with another size, NO_NUMBER where the first number is none, as `Config::set` refuses a wish, with NO_FEATURE where a
+/// wish names none, and with NO_MEMORY; then it holds nothing.
 #[unsafe(no_mangle)]
 pub extern "C" fn dccp_make(
     end: &mut End,
@@ -321,13 +323,16 @@ pub extern "C" fn dccp_receive(
     DONE
 }
 
-/// The numbers of an end, its phase and its window.
+/// The numbers of an end, its phase and its window. Answers DONE, OTHER_SIZE or NOT_MADE.
 #[unsafe(no_mangle)]
 pub extern "C" fn dccp_look(end: &mut End, alloc: Global, view: &mut View) -> u32
     ensures end { end.new.kept.value ≡ end.old.kept.value }
-    ensures view { view.new ≡ seen_after seen (end_in end.old.kept.value) view.old }
-    ensures code { result ≡ look_code (end_in end.old.kept.value) }
+    ensures view { view.new ≡ if_sized (view.old.size == 72) (seen_after seen (end_in end.old.kept.value) view.old) view.old }
+    ensures code { result ≡ sized_code (view.old.size == 72) (look_code (end_in end.old.kept.value)) }
 {
+    if view.size != VIEW_BYTES {
+        return OTHER_SIZE;
+    }
     let Some(held) = end.take(alloc) else {
         return NOT_MADE;
     };
@@ -336,13 +341,16 @@ pub extern "C" fn dccp_look(end: &mut End, alloc: Global, view: &mut View) -> u3
     DONE
 }
 
-/// What an end has measured of its path.
+/// What an end has measured of its path. Answers DONE, OTHER_SIZE or NOT_MADE.
 #[unsafe(no_mangle)]
 pub extern "C" fn dccp_look_path(end: &mut End, alloc: Global, trip: &mut RoundTripView) -> u32
     ensures end { end.new.kept.value ≡ end.old.kept.value }
-    ensures trip { trip.new ≡ path_after (end_in end.old.kept.value) trip.old }
-    ensures code { result ≡ look_code (end_in end.old.kept.value) }
+    ensures trip { trip.new ≡ if_sized (trip.old.size == 24) (path_after (end_in end.old.kept.value) trip.old) trip.old }
+    ensures code { result ≡ sized_code (trip.old.size == 24) (look_code (end_in end.old.kept.value)) }
 {
+    if trip.size != ROUND_TRIP_VIEW_BYTES {
+        return OTHER_SIZE;
+    }
     let Some(held) = end.take(alloc) else {
         return NOT_MADE;
     };

@@ -67,6 +67,9 @@ pub const NO_SUCH_LISTENER: u32 = 18;
 /// A tick has given a flow up.
 pub const GAVE_UP: u32 = 19;
 
+/// A struct begins with another size than the library's: that of another header.
+pub const OTHER_SIZE: u32 = 20;
+
 pub(crate) fn open_code(answer: &Result<(), OpenFault>) -> u32
     ensures { result ≡ open_code answer.now }
 {

@@ -2,6 +2,7 @@
 ghost use Rattle.std.specs.Prelude.{◌≡◌};
 ghost use Rattle.dccp_c.specs.Listening.{known_of, limit_of, rules_of, wait_of};
 
+use crate::sizes::FLOW_LIFE_BYTES;
 use dccp_server::{Life, Rules};
 use path_rules::Limit;
 
@@ -9,6 +10,8 @@ use path_rules::Limit;
 #[repr(C)]
 #[derive(Clone, Copy)]
 pub struct FlowRules {
+    /// How many bytes this struct has, as its caller knows it.
+    pub size: usize,
     /// How long a flow may stand in RESPOND.
     pub respond: u64,
     /// The same where more than half of the table is in RESPOND.
@@ -31,6 +34,8 @@ pub struct FlowRules {
 #[repr(C)]
 #[derive(Clone, Copy)]
 pub struct FlowLife {
+    /// How many bytes this struct has, as its caller knows it.
+    pub size: usize,
     /// Since when its connection stands where it does.
     pub since: u64,
     /// When its end last took a packet.
@@ -74,6 +79,7 @@ pub(crate) fn known_of(life: &Life) -> FlowLife
     ensures { result ≡ known_of life.now }
 {
     FlowLife {
+        size: FLOW_LIFE_BYTES,
         since: life.since,
         taken: life.taken,
     }

@@ -17,6 +17,7 @@
 mod calls;
 mod codes;
 mod end;
+mod fates;
 mod flow_features;
 mod flow_rules;
 mod founding;
@@ -30,7 +31,9 @@ mod listener_calls;
 mod making;
 mod peer;
 mod readers;
+mod refusing;
 mod serving;
+mod sizes;
 mod steps;
 mod told;
 mod version;

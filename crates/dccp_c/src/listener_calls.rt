@@ -1,5 +1,5 @@
 //! The functions of a listener that C calls: each does one deed of a peer with the listener that its handle holds.
-ghost use Rattle.std.specs.Prelude.{◌≡◌, ◌≢◌, ◌≤◌, None, Ok, if◌then◌else◌, is_some, length, slice_get, unwrap_or};
+ghost use Rattle.std.specs.Prelude.{◌≡◌, ◌==◌, ◌≢◌, ◌≤◌, None, Ok, if◌then◌else◌, is_some, length, slice_get, unwrap_or};
 ghost use Rattle.dccp_listener.specs.Calls.{seen_if};
 ghost use Rattle.dccp_listener.specs.Chain.{Calls, Sends, Closes, Aborts, asked};
 ghost use Rattle.dccp_listener.specs.Listens.{listens};
@@ -13,12 +13,12 @@ ghost use Rattle.dccp_listener.specs.Peers.{end_of_peer};
 ghost use Rattle.dccp_server.specs.Lives.{life_of};
 ghost use Rattle.dccp_server.specs.Rooms.{IsServed, duty_done, duty_frame, duty_in, forgets, room_does, told_of_arrival};
 ghost use Rattle.dccp_server.specs.Serving.{Does};
-ghost use Rattle.dccp_c.specs.Seeing.{seen as seen_end};
+ghost use Rattle.dccp_c.specs.Seeing.{if_sized, seen as seen_end, sized_code};
 ghost use Rattle.dccp_c.specs.Listening.{Forgets, HandsHeard, HearsAtServer, HearsDatagram, Serves, Ticks, address_of, arrival_code, arrival_told, datagram_refusal, duty_address, duty_code, evicted_in, flow_code, flow_in, known_of, life_if, life_in, listen_code, listen_told, listener_waits, made_code, peer_in, peer_named, refusal_code, rule_code, ruled_by, rules_of, seen_code, served_in, with_room};
 
 use crate::codes::{
     BAD_LIST, BUSY, DONE, GAVE_UP, NO_FLOW, NO_MEMORY, NO_NUMBER, NOT_FRESH, NOT_LIVE, NOT_MADE,
-    NOT_NEGOTIATED, NOT_OPEN, NOT_OURS, NOTHING_DUE, TOO_LONG, WINDOW_FULL, timer_code,
+    NOT_NEGOTIATED, NOT_OPEN, NOT_OURS, NOTHING_DUE, OTHER_SIZE, TOO_LONG, WINDOW_FULL, timer_code,
 };
 use crate::flow_rules::{known_of, rules_of};
 use crate::founding::listening_by;
@@ -27,6 +27,7 @@ use crate::making::pace_by;
 use crate::peer::{address_of, peer_named};
 use crate::readers::seen;
 use crate::serving::Serving;
+use crate::sizes::{FLOW_LIFE_BYTES, FLOW_RULES_BYTES, VIEW_BYTES};
 use crate::told::{Told, tell, tell_heard as tell_left_out};
 use crate::{FlowLife, FlowRules, ListenerHandle, PeerAddress, Settings, View, Wish};
 use dccp_endpoint::{MOST_FRAME_BYTES, NoMemory, Outbox, Refusal, Seen, Seq48, UserCall};
@@ -450,7 +451,7 @@ pub extern "C" fn dccp_listener_until_first(
     left
 }
 
-/// The numbers of a peer's end, its phase and its window. Answers DONE, NOT_MADE or NO_FLOW.
+/// The numbers of a peer's end, its phase and its window. Answers DONE, OTHER_SIZE, NOT_MADE or NO_FLOW.
 #[unsafe(no_mangle)]
 pub extern "C" fn dccp_listener_look(
     listener: &mut ListenerHandle,
@@ -459,9 +460,12 @@ pub extern "C" fn dccp_listener_look(
     view: &mut View,
 ) -> u32
     ensures listener { listener.new.kept.value ≡ listener.old.kept.value }
-    ensures view { view.new ≡ unwrap_or (flow_in (served_in listener.old.kept.value) (peer_named peer.now)) view.old }
-    ensures code { result ≡ flow_code (served_in listener.old.kept.value) (flow_in (served_in listener.old.kept.value) (peer_named peer.now)) }
+    ensures view { view.new ≡ if_sized (view.old.size == 72) (unwrap_or (flow_in (served_in listener.old.kept.value) (peer_named peer.now)) view.old) view.old }
+    ensures code { result ≡ sized_code (view.old.size == 72) (flow_code (served_in listener.old.kept.value) (flow_in (served_in listener.old.kept.value) (peer_named peer.now))) }
 {
+    if view.size != VIEW_BYTES {
+        return OTHER_SIZE;
+    }
     let Some(serving) = listener.take(alloc) else {
         return NOT_MADE;
     };
@@ -542,16 +546,19 @@ pub extern "C" fn dccp_listener_forget(
     had_code(had)
 }
 
-/// The listener goes by these rules from now on. Answers DONE or NOT_MADE.
+/// The listener goes by these rules from now on. Answers DONE, OTHER_SIZE or NOT_MADE.
 #[unsafe(no_mangle)]
 pub extern "C" fn dccp_listener_rules(
     listener: &mut ListenerHandle,
     alloc: Global,
     rules: &FlowRules,
 ) -> u32
-    ensures listener { served_in listener.new.kept.value ≡ ruled_by (rules_of rules.now) (served_in listener.old.kept.value) }
-    ensures code { result ≡ made_code (served_in listener.old.kept.value) }
+    ensures listener { served_in listener.new.kept.value ≡ if_sized (rules.now.size == 48) (ruled_by (rules_of rules.now) (served_in listener.old.kept.value)) (served_in listener.old.kept.value) }
+    ensures code { result ≡ sized_code (rules.now.size == 48) (made_code (served_in listener.old.kept.value)) }
 {
+    if rules.size != FLOW_RULES_BYTES {
+        return OTHER_SIZE;
+    }
     let Some(mut serving) = listener.take(alloc) else {
         return NOT_MADE;
     };
@@ -569,7 +576,8 @@ fn life_of(server: &Server, peer: Peer) -> Option<FlowLife>
     }
 }
 
-/// Since when a peer's flow stands where it does, and when it last took a packet. Answers DONE, NOT_MADE or NO_FLOW.
+/// Since when a peer's flow stands where it does, and when it last took a packet. Answers DONE, OTHER_SIZE, NOT_MADE or
+/// NO_FLOW.
 #[unsafe(no_mangle)]
 pub extern "C" fn dccp_listener_life(
     listener: &mut ListenerHandle,
@@ -578,9 +586,12 @@ pub extern "C" fn dccp_listener_life(
     life: &mut FlowLife,
 ) -> u32
     ensures listener { listener.new.kept.value ≡ listener.old.kept.value }
-    ensures life { life.new ≡ unwrap_or (life_in (served_in listener.old.kept.value) (peer_named peer.now)) life.old }
-    ensures code { result ≡ flow_code (served_in listener.old.kept.value) (life_in (served_in listener.old.kept.value) (peer_named peer.now)) }
+    ensures life { life.new ≡ if_sized (life.old.size == 24) (unwrap_or (life_in (served_in listener.old.kept.value) (peer_named peer.now)) life.old) life.old }
+    ensures code { result ≡ sized_code (life.old.size == 24) (flow_code (served_in listener.old.kept.value) (life_in (served_in listener.old.kept.value) (peer_named peer.now))) }
 {
+    if life.size != FLOW_LIFE_BYTES {
+        return OTHER_SIZE;
+    }
     let Some(serving) = listener.take(alloc) else {
         return NOT_MADE;
     };

@@ -4,7 +4,10 @@ ghost use Rattle.feature_lists.specs.Wishes.{wish_of};
 ghost use Rattle.dccp_c.specs.Accepting.{as_server};
 ghost use Rattle.dccp_c.specs.Making.{configured_by, first_four, pace_by, pseudo_of, config_by, offered_so, unless_narrow, wished, wished_all, wished_list, wished_so};
 
-use crate::codes::{BAD_LIST, NO_FEATURE, NO_NUMBER, NOT_OURS, feature_of, place_of, wish_code};
+use crate::codes::{
+    BAD_LIST, NO_FEATURE, NO_NUMBER, NOT_OURS, OTHER_SIZE, feature_of, place_of, wish_code,
+};
+use crate::sizes::SETTINGS_BYTES;
 use dccp_endpoint::{Config, Feature, Place, Ports, Pseudo, Seq48};
 use dccp_uses::{Pace, widened};
 
@@ -12,6 +15,8 @@ use dccp_uses::{Pace, widened};
 #[repr(C)]
 #[derive(Clone, Copy)]
 pub struct Settings {
+    /// How many bytes this struct has, as its caller knows it.
+    pub size: usize,
     /// The address from which it sends, in the order of the network; of an IPv4 address the first four bytes.
     pub own_address: [u8; 16],
     /// The address to which it sends.
@@ -71,7 +76,7 @@ pub(crate) fn first_four(address: &[u8; 16]) -> [u8; 4]
     [address[0], address[1], address[2], address[3]]
 }
 
-fn pseudo_of(settings: &Settings) -> Pseudo
+pub(crate) fn pseudo_of(settings: &Settings) -> Pseudo
     ensures { result ≡ pseudo_of settings.now }
 {
     if settings.is_v6 {
@@ -199,6 +204,9 @@ pub(crate) fn as_server(settings: &Settings) -> Settings
 pub(crate) fn configured_by(settings: &Settings, wishes: &[Wish]) -> Result<Config, u32>
     ensures { result ≡ configured_by settings.now wishes.now }
 {
+    if settings.size != SETTINGS_BYTES {
+        return Err(OTHER_SIZE);
+    }
     let Some(config) = settled(settings) else {
         return Err(NO_NUMBER);
     };

@@ -3,6 +3,7 @@ ghost use Rattle.std.specs.Prelude.{◌≡◌};
 ghost use Rattle.dccp_c.specs.Seeing.{seen, seen_feature, seen_path, trip_seen};
 
 use crate::codes::{phase_code, stand_code};
+use crate::sizes::{ROUND_TRIP_VIEW_BYTES, VIEW_BYTES};
 use ccid_two::Kinds;
 use dccp_endpoint::{Endpoint, Feature, Place};
 use dccp_uses::TimedEnd;
@@ -12,6 +13,8 @@ use path_rules::RoundTrip;
 #[repr(C)]
 #[derive(Clone, Copy)]
 pub struct View {
+    /// How many bytes this struct has, as its caller knows it.
+    pub size: usize,
     /// The first number sent.
     pub iss: u64,
     /// The greatest number sent.
@@ -36,6 +39,8 @@ pub struct View {
 #[repr(C)]
 #[derive(Clone, Copy)]
 pub struct RoundTripView {
+    /// How many bytes this struct has, as its caller knows it.
+    pub size: usize,
     /// How long a report is waited for, in milliseconds.
     pub timeout: u64,
     /// The round trip, in microseconds; 0 before a sample.
@@ -59,6 +64,7 @@ pub(crate) fn seen(end: &Endpoint<Kinds>) -> View
 {
     let marks = end.marks();
     View {
+        size: VIEW_BYTES,
         iss: marks.iss.get(),
         gss: marks.gss.get(),
         gar: marks.gar.get(),
@@ -86,11 +92,13 @@ fn trip_seen(trip: Option<RoundTrip>, timeout: u64) -> RoundTripView
 {
     match trip {
         Some(trip) => RoundTripView {
+            size: ROUND_TRIP_VIEW_BYTES,
             timeout,
             smoothed: trip.smoothed,
             variance: trip.variance,
         },
         None => RoundTripView {
+            size: ROUND_TRIP_VIEW_BYTES,
             timeout,
             smoothed: 0,
             variance: 0,

@@ -25,6 +25,7 @@ pub struct PeerAddress {
 #[repr(C)]
 #[derive(Clone, Debug)]
 pub struct Settings {
+    pub size: usize,
     pub own_address: [u8; 16],
     pub peer_address: [u8; 16],
     pub first_number: u64,
@@ -74,8 +75,9 @@ pub struct Told {
 }
 
 #[repr(C)]
-#[derive(Clone, Copy, Debug, Default)]
+#[derive(Clone, Copy, Debug)]
 pub struct View {
+    pub size: usize,
     pub iss: u64,
     pub gss: u64,
     pub gar: u64,
@@ -88,8 +90,8 @@ pub struct View {
 }
 
 #[repr(C)]
-#[derive(Default)]
 pub struct RoundTripView {
+    pub size: usize,
     pub timeout: u64,
     pub smoothed: u32,
     pub variance: u32,
@@ -104,6 +106,7 @@ pub struct FeatureState {
 
 #[repr(C)]
 pub struct FlowRules {
+    pub size: usize,
     pub respond: u64,
     pub crowded: u64,
     pub closing: u64,
@@ -115,10 +118,27 @@ pub struct FlowRules {
 }
 
 #[repr(C)]
-#[derive(Default)]
 pub struct FlowLife {
+    pub size: usize,
     pub since: u64,
     pub taken: u64,
+}
+
+/// A struct that begins with its size, and has nothing else in it yet.
+macro_rules! empty {
+    ($($name:ident { $($field:ident)* })+) => {
+        $(impl Default for $name {
+            fn default() -> $name {
+                $name { size: size_of::<$name>(), $($field: 0),* }
+            }
+        })+
+    };
+}
+
+empty! {
+    View { iss gss gar isr gsr marked phase window in_flight }
+    RoundTripView { timeout smoothed variance }
+    FlowLife { since taken }
 }
 
 pub const MOST_FRAME_BYTES: usize = 2044;
@@ -142,6 +162,12 @@ pub const NO_FLOW: u32 = 15;
 pub const NO_NUMBER: u32 = 17;
 pub const NO_SUCH_LISTENER: u32 = 18;
 pub const GAVE_UP: u32 = 19;
+pub const OTHER_SIZE: u32 = 20;
+
+pub const FATE_UNKNOWN: u32 = 0;
+pub const FATE_IN_FLIGHT: u32 = 1;
+pub const FATE_DELIVERED: u32 = 2;
+pub const FATE_LOST: u32 = 3;
 
 pub const TOLD_TOOK: u32 = 0;
 pub const TOLD_DATA: u32 = 1;
@@ -203,6 +229,15 @@ unsafe extern "C" {
         told: *mut Told,
     ) -> u32;
     pub fn dccp_look(end: *mut End, view: *mut View) -> u32;
+    pub fn dccp_refuse(
+        settings: *const Settings,
+        datagram: *const u8,
+        datagram_count: usize,
+        code: u8,
+        frame: *mut Frame,
+    ) -> u32;
+    pub fn dccp_fate_of(end: *mut End, number: u64) -> u32;
+    pub fn dccp_longest_data(end: *mut End, most: usize) -> usize;
     pub fn dccp_look_path(end: *mut End, trip: *mut RoundTripView) -> u32;
     pub fn dccp_feature(
         end: *mut End,

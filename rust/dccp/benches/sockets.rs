@@ -100,7 +100,7 @@ fn between(
 fn one_by_one() -> Answer<f64> {
     let packet = [7; MOST_DATA_BYTES];
     between(
-        move |client| Ok((0..PACKETS).try_for_each(|_| client.send(&packet))?),
+        move |client| Ok((0..PACKETS).try_for_each(|_| client.send(&packet).map(drop))?),
         |server| Ok(server.recv().map(|_| 1)?),
     )
 }

@@ -37,6 +37,7 @@ impl Config {
     ) -> Config {
         let is_v6 = own.is_ipv6() || peer.is_ipv6();
         let settings = sys::Settings {
+            size: size_of::<sys::Settings>(),
             own_address: address(own.ip(), is_v6),
             peer_address: address(peer.ip(), is_v6),
             first_number,

@@ -1,9 +1,10 @@
 //! A connection: an end, the frames that wait to be sent, and what its owner is told.
 
 use crate::end::End;
+use crate::fates::InFlight;
 use crate::{
-    AbortError, CloseError, Config, Feature, Held, MakeError, Numbers, OpenError, Phase, Place,
-    PreferError, SendError, Statistics, Timer, sys,
+    AbortError, CloseError, Config, Fate, Feature, Held, MakeError, Numbers, OpenError, Phase,
+    Place, PreferError, SendError, Statistics, Timer, sys,
 };
 use std::collections::VecDeque;
 use std::time::{Duration, Instant};
@@ -16,6 +17,18 @@ pub struct Transmit {
     pub bytes: Vec<u8>,
     /// Whether it is a Sync or a Reset that answers a packet, as anybody may call them forth: limit how many go out in a second
     /// (RFC 4340, sections 7.5.4 and 8.3.1). One that is left out is a lost frame.
+    pub is_answer: bool,
+}
+
+/// Frames for the peer in a buffer, each a datagram of its own: as UDP_SEGMENT of Linux wants them.
+#[derive(Clone, Copy, Debug, PartialEq, Eq)]
+#[non_exhaustive]
+pub struct Segments {
+    /// How many bytes they have together.
+    pub length: usize,
+    /// How many each of them has; the last may have fewer.
+    pub segment: usize,
+    /// Whether it is one frame, which answers a packet, as [`Transmit::is_answer`] has it.
     pub is_answer: bool,
 }
 
@@ -87,13 +100,27 @@ pub struct Connection {
     has_ended: bool,
 }
 
-/// The frames that wait for the peer, and what was counted.
+/// The frames that wait for the peer, the packets of data that are in flight, and what was counted.
 #[derive(Debug, Default)]
 struct Outgoing {
     frames: VecDeque<Transmit>,
     /// Rooms of frames that were sent.
     spare: Vec<Vec<u8>>,
+    in_flight: InFlight,
     counts: Statistics,
+}
+
+impl Outgoing {
+    /// The next frame, and its room for another.
+    fn write(&mut self, buffer: &mut [u8]) -> Option<usize> {
+        let frame = self.frames.pop_front()?;
+        let length = frame.bytes.len();
+        buffer[..length].copy_from_slice(&frame.bytes);
+        if self.spare.len() < MOST_SPARE {
+            self.spare.push(frame.bytes);
+        }
+        Some(length)
+    }
 }
 
 /// How many rooms of frames are kept.
@@ -164,11 +191,39 @@ impl Connection {
                 MakeError::answer(status)?;
                 let mut connection = Connection::of(end);
                 connection.outgoing = outgoing;
-                connection.hear(&told, datagram, Phase::Listen);
+                // A Request has no data that are delivered.
+                let _ = connection.hear(&told, datagram, Phase::Listen);
                 connection.called(now);
                 Ok(Accepted::Connection(Box::new(connection)))
             }
         }
+    }
+
+    /// Turns the first datagram of a peer away, and takes no memory but for the frame: a Request that [`Connection::accept`] would make
+    /// a connection of is answered by a Reset with this code (RFC 4340, section 5.6), as 9, Too Busy, or 7, Connection Refused; any
+    /// other datagram as that call answers it. Wishes make no difference.
+    ///
+    /// ```
+    /// use dccp::{Config, Connection, Event};
+    /// use std::time::Instant;
+    ///
+    /// let (here, there) = ("192.0.2.1:40000".parse()?, "192.0.2.2:5001".parse()?);
+    /// let now = Instant::now();
+    /// let mut client = Connection::new(&Config::client(here, there, 42, 1_000))?;
+    /// client.open(now)?;
+    /// let request = client.poll_transmit().ok_or("a Request")?;
+    /// let reset = Connection::refuse(&Config::server(there, here, 42, 2_000), &request.bytes, 9);
+    /// client.handle_datagram(&reset.ok_or("a Reset")?.bytes, now);
+    /// assert_eq!(client.poll_event(), Some(Event::Ended { code: 9 }));
+    /// # Ok::<(), Box<dyn std::error::Error>>(())
+    /// ```
+    pub fn refuse(config: &Config, datagram: &[u8], code: u8) -> Option<Transmit> {
+        let mut end = End::none();
+        let (_, frame) = end.refuse(config.settings(), datagram, code);
+        (!frame.is_empty()).then(|| Transmit {
+            bytes: frame.to_vec(),
+            is_answer: true,
+        })
     }
 
     /// A client asks for its service, once: its Request goes out.
@@ -195,7 +250,8 @@ impl Connection {
         OpenError::answer(status)
     }
 
-    /// Sends data, 0 to 1,024 bytes, in one packet; in [`Phase::PartOpen`] a client speaks first. A refused call changes nothing.
+    /// Sends data, 0 to 1,024 bytes, in one packet, and answers its sequence number; in [`Phase::PartOpen`] a client speaks first. A
+    /// refused call changes nothing. What became of the packet is told by [`Connection::fate`].
     ///
     /// ```
     /// use dccp::{Config, Connection, SendError};
@@ -206,13 +262,50 @@ impl Connection {
     /// assert_eq!(client.send(b"early", Instant::now()), Err(SendError::NotOpen));
     /// # Ok::<(), Box<dyn std::error::Error>>(())
     /// ```
-    pub fn send(&mut self, data: &[u8], now: Instant) -> Result<(), SendError> {
+    pub fn send(&mut self, data: &[u8], now: Instant) -> Result<u64, SendError> {
         let time = self.time(now);
         let status = queue(&mut self.outgoing, self.end.send(data, time), false);
+        let number = self.end.number();
+        if status == sys::DONE {
+            self.outgoing.in_flight.note(number);
+            self.outgoing.counts.sent.count_bytes(data);
+        }
         self.called(now);
         SendError::answer(status)?;
-        self.outgoing.counts.sent.count_bytes(data);
-        Ok(())
+        Ok(number)
+    }
+
+    /// What became of the packet of data with this number, which [`Connection::send`] has answered. Ask after
+    /// [`Connection::handle_datagram`], and before [`Connection::handle_timeout`], which may tell a timeout.
+    ///
+    /// ```
+    /// use dccp::{Config, Connection, Fate};
+    ///
+    /// let (own, peer) = ("192.0.2.1:40000".parse()?, "192.0.2.2:5001".parse()?);
+    /// let mut client = Connection::new(&Config::client(own, peer, 42, 1_000))?;
+    /// // It has sent nothing yet.
+    /// assert_eq!(client.fate(1_001), Fate::Unknown);
+    /// # Ok::<(), Box<dyn std::error::Error>>(())
+    /// ```
+    pub fn fate(&mut self, number: u64) -> Fate {
+        self.end.fate(number)
+    }
+
+    /// The longest data, 0 to 1,024 bytes, whose frame surely has no more than `most` bytes now. Beside them stand a header and,
+    /// where the end sends Ack Vectors, one that may grow with what comes. Over IPv6 paths of 1,280 bytes UDP leaves 1,232.
+    ///
+    /// ```
+    /// use dccp::{Config, Connection};
+    ///
+    /// let (own, peer) = ("192.0.2.1:40000".parse()?, "192.0.2.2:5001".parse()?);
+    /// let mut client = Connection::new(&Config::client(own, peer, 42, 1_000))?;
+    /// assert_eq!(client.longest_data(1_232), 1_024);
+    /// // A DataAck with a long number has a header of 24 bytes (RFC 4340, section 5.3).
+    /// assert_eq!(client.longest_data(24), 0);
+    /// # Ok::<(), Box<dyn std::error::Error>>(())
+    /// ```
+    pub fn longest_data(&mut self, most: usize) -> usize {
+        self.end.longest_data(most)
     }
 
     /// Asks for these values of a feature, best first. What comes of it is seen by [`Connection::feature`].
@@ -297,11 +390,28 @@ impl Connection {
     /// # Ok::<(), Box<dyn std::error::Error>>(())
     /// ```
     pub fn handle_datagram(&mut self, datagram: &[u8], now: Instant) {
+        if let Some(data) = self.receive(datagram, now) {
+            self.events.push_back(Event::Data(data.to_vec()));
+        }
+    }
+
+    /// The same, but data are given where they stand in the datagram, and make no event.
+    ///
+    /// ```
+    /// use dccp::{Config, Connection};
+    /// use std::time::Instant;
+    ///
+    /// let (own, peer) = ("192.0.2.1:40000".parse()?, "192.0.2.2:5001".parse()?);
+    /// let mut client = Connection::new(&Config::client(own, peer, 42, 1_000))?;
+    /// assert_eq!(client.receive(b"no packet", Instant::now()), None);
+    /// # Ok::<(), Box<dyn std::error::Error>>(())
+    /// ```
+    pub fn receive<'a>(&mut self, datagram: &'a [u8], now: Instant) -> Option<&'a [u8]> {
         let (was, time) = (self.phase(), self.time(now));
         let (status, frame, told) = self.end.receive(datagram, time);
         queue(&mut self.outgoing, (status, frame), is_answer(&told));
         self.called(now);
-        self.hear(&told, datagram, was);
+        self.hear(&told, datagram, was)
     }
 
     /// Tells each timer that has run out. Calling it early does nothing.
@@ -363,6 +473,50 @@ impl Connection {
     /// The next frame for the peer.
     pub fn poll_transmit(&mut self) -> Option<Transmit> {
         self.outgoing.frames.pop_front()
+    }
+
+    /// Writes frames for the peer into a buffer, one after another: as many as have one length, except that the last may have fewer
+    /// bytes, at most `most` of them, and as the buffer has room for. None where none waits, or the next has no room; a buffer of
+    /// 2,044 bytes has room for any.
+    ///
+    /// ```
+    /// use dccp::{Config, Connection};
+    /// use std::time::Instant;
+    ///
+    /// let (own, peer) = ("192.0.2.1:40000".parse()?, "192.0.2.2:5001".parse()?);
+    /// let mut client = Connection::new(&Config::client(own, peer, 42, 1_000))?;
+    /// client.open(Instant::now())?;
+    /// let mut buffer = [0; 2_044];
+    /// let request = client.poll_transmit_into(&mut buffer, 64).ok_or("a Request")?;
+    /// assert_eq!((request.length, request.is_answer), (request.segment, false));
+    /// assert_eq!((buffer[8] >> 1) & 15, 0);
+    /// assert_eq!(client.poll_transmit_into(&mut buffer, 64), None);
+    /// # Ok::<(), Box<dyn std::error::Error>>(())
+    /// ```
+    pub fn poll_transmit_into(&mut self, buffer: &mut [u8], most: usize) -> Option<Segments> {
+        let next = self.outgoing.frames.front()?;
+        let (segment, is_answer) = (next.bytes.len(), next.is_answer);
+        if most == 0 || buffer.len() < segment {
+            return None;
+        }
+        let mut length = self.outgoing.write(buffer)?;
+        let mut count = 1;
+        while !is_answer && count < most && length == count * segment {
+            let fits = |it: &Transmit| {
+                let own = it.bytes.len();
+                !it.is_answer && own <= segment && own <= buffer.len() - length
+            };
+            if !self.outgoing.frames.front().is_some_and(fits) {
+                break;
+            }
+            length += self.outgoing.write(&mut buffer[length..])?;
+            count += 1;
+        }
+        Some(Segments {
+            length,
+            segment,
+            is_answer,
+        })
     }
 
     /// The next that the owner is told.
@@ -455,19 +609,17 @@ impl Connection {
         now.saturating_duration_since(begun).as_millis() as u64
     }
 
-    /// Tells the owner what became of a datagram, by the phase before it.
-    fn hear(&mut self, told: &sys::Told, datagram: &[u8], was: Phase) {
+    /// Tells the owner what became of a datagram, by the phase before it, and answers the data.
+    fn hear<'a>(&mut self, told: &sys::Told, datagram: &'a [u8], was: Phase) -> Option<&'a [u8]> {
         self.outgoing.counts.heard(told, datagram);
         let has_closed = was != Phase::Closed && self.phase() == Phase::Closed;
         match told.kind {
-            sys::TOLD_DATA => {
-                let data = datagram[told.first..told.past].to_vec();
-                self.events.push_back(Event::Data(data));
-            }
+            sys::TOLD_DATA => return Some(&datagram[told.first..told.past]),
             sys::TOLD_WAS_RESET => self.ended(told.code),
             sys::TOLD_SENT_RESET if has_closed => self.ended(told.code),
             _ => {}
         }
+        None
     }
 
     fn ended(&mut self, code: u8) {
@@ -480,6 +632,11 @@ impl Connection {
     /// Looks what a call has made of the end, and when its next timer runs out.
     fn called(&mut self, now: Instant) {
         self.view = self.end.look();
+        let left = self.view.in_flight;
+        self.outgoing.counts.lost += self
+            .outgoing
+            .in_flight
+            .settle(left, |number| self.end.fate(number));
         let time = self.time(now);
         let left = self.end.until_first(time);
         self.due = self

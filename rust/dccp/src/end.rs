@@ -5,7 +5,7 @@
 //! and length; `bool`s are Rust's; and `&mut self` gives the handle to one call at a time. It asks nothing of values, and
 //! what a call then does is proved (`docs/LIBRARY.md`).
 
-use crate::sys;
+use crate::{Fate, sys};
 use std::fmt;
 use std::ptr;
 
@@ -74,6 +74,30 @@ impl End {
             }
         });
         (status, frame, told)
+    }
+
+    /// Turns a datagram away with this code, without an end, and answers the status and the frame that it leaves.
+    pub fn refuse(&mut self, settings: &sys::Settings, datagram: &[u8], code: u8) -> (u32, &[u8]) {
+        self.call(|_, frame| {
+            let (bytes, length) = (datagram.as_ptr(), datagram.len());
+            // SAFETY: as the head of this module says.
+            unsafe { sys::dccp_refuse(settings, bytes, length, code, frame) }
+        })
+    }
+
+    /// The number of the frame that the last call has left; 0 where it left none.
+    pub fn number(&self) -> u64 {
+        self.frame.number
+    }
+
+    pub fn fate(&mut self, number: u64) -> Fate {
+        // SAFETY: as the head of this module says.
+        Fate::of(unsafe { sys::dccp_fate_of(&mut self.handle, number) })
+    }
+
+    pub fn longest_data(&mut self, most: usize) -> usize {
+        // SAFETY: as the head of this module says.
+        unsafe { sys::dccp_longest_data(&mut self.handle, most) }
     }
 
     /// Does a call, and answers its status and the frame that it leaves, which may be of no bytes.

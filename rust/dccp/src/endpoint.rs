@@ -7,6 +7,9 @@ use std::iter;
 use std::net::SocketAddr;
 use std::time::Instant;
 
+/// The Reset Code of a server that has no place (RFC 4340, section 5.6).
+pub(crate) const TOO_BUSY: u8 = 9;
+
 /// What makes the configuration of a connection to a peer.
 type Configure = Box<dyn FnMut(SocketAddr) -> Config + Send>;
 
@@ -78,8 +81,8 @@ impl Endpoint {
     }
 
     /// A datagram has arrived from this address. Of a peer that is not known it may be a Request, which makes a connection, but for one
-    /// with a fault in its options, which is answered alone; where there are as many connections as may be, it is passed over. Refused
-    /// as [`Connection::accept`] is.
+    /// with a fault in its options, which is answered alone; where there are as many connections as may be, a Reset with code 9, Too
+    /// Busy, answers it. Refused as [`Connection::accept`] is.
     pub fn handle_datagram(
         &mut self,
         peer: SocketAddr,
@@ -102,6 +105,9 @@ impl Endpoint {
                 Accepted::Answer(frame) => self.frames.push_back((peer, frame)),
                 Accepted::Nothing => {}
             }
+        } else {
+            let refused = Connection::refuse(&(self.configure)(peer), datagram, TOO_BUSY);
+            self.frames.extend(refused.map(|frame| (peer, frame)));
         }
         self.gather(peer);
         Ok(())

@@ -45,6 +45,7 @@ mod config;
 mod connection;
 mod end;
 mod endpoint;
+mod fates;
 mod flows;
 mod listener;
 mod names;
@@ -55,12 +56,12 @@ mod statistics;
 use dccp_sys as sys;
 
 pub use crate::config::{Config, PathRule};
-pub use crate::connection::{Accepted, Connection, Event, RoundTrip, Transmit};
+pub use crate::connection::{Accepted, Connection, Event, RoundTrip, Segments, Transmit};
 pub use crate::endpoint::Endpoint;
 pub use crate::listener::{Cause, Change, Listener};
 pub use crate::names::{
-    AbortError, ArriveError, CloseError, Feature, FlowError, Held, ListenError, MakeError, Numbers,
-    OpenError, Phase, Place, PreferError, SendError, Timer,
+    AbortError, ArriveError, CloseError, Fate, Feature, FlowError, Held, ListenError, MakeError,
+    Numbers, OpenError, Phase, Place, PreferError, SendError, Timer,
 };
 pub use crate::rules::FlowRules;
 pub use crate::statistics::{Statistics, Traffic};

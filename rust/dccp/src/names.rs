@@ -44,6 +44,32 @@ impl Phase {
     }
 }
 
+/// What became of a packet of data that was sent.
+#[derive(Clone, Copy, Debug, PartialEq, Eq)]
+pub enum Fate {
+    /// None was sent under this number; or no more is known of it: 2,048 later ones were sent, a timeout took all that was in flight
+    /// for lost, or another CCID has begun.
+    Unknown,
+    /// It is on its way.
+    InFlight,
+    /// The peer has reported that it came. Whether its owner has read the data is not known.
+    Delivered,
+    /// Three later ones were reported and it was not (RFC 4341, section 5). A report may still come.
+    Lost,
+}
+
+impl Fate {
+    pub(crate) fn of(number: u32) -> Fate {
+        match number {
+            0 => Fate::Unknown,
+            1 => Fate::InFlight,
+            2 => Fate::Delivered,
+            3 => Fate::Lost,
+            _ => unreachable!("the library has four fates"),
+        }
+    }
+}
+
 /// A feature (RFC 4340, section 6.4), with the values that may be wished for.
 #[derive(Clone, Copy, Debug, PartialEq, Eq)]
 #[non_exhaustive]

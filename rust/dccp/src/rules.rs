@@ -58,6 +58,7 @@ impl FlowRules {
 
     pub(crate) fn for_c(self) -> sys::FlowRules {
         sys::FlowRules {
+            size: size_of::<sys::FlowRules>(),
             respond: wait(self.respond),
             crowded: wait(self.crowded),
             closing: wait(self.closing),

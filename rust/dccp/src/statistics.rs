@@ -48,6 +48,8 @@ pub struct Statistics {
     pub received: Traffic,
     /// Datagrams that were dropped, or answered by a Sync, or by a Reset for a fault.
     pub not_taken: u64,
+    /// Packets of data that were taken for lost: three later ones were reported, or a timeout came. A late report changes nothing here.
+    pub lost: u64,
     /// Of a socket: Syncs and Resets that were left out, since as many as may be had gone out.
     pub answers_left_out: u64,
     /// Of a socket: packets of data that were dropped, since as many as may be waited to be read.

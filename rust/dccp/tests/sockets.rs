@@ -1,7 +1,7 @@
 //! Sockets over the system's UDP on this machine: what a client and a server see, and how connections end.
 
 use dccp::net::{End, Error, Listener, Options, Sender, Socket};
-use dccp::{Config, Connection, Feature, MOST_DATA_BYTES, Place};
+use dccp::{Config, Connection, Fate, Feature, MOST_DATA_BYTES, Place};
 use std::net::{SocketAddr, UdpSocket};
 use std::sync::Arc;
 use std::sync::atomic::{AtomicBool, Ordering};
@@ -223,10 +223,30 @@ fn who_does_not_open_makes_room() -> Outcome {
     client.send(b"first")?;
     let server = listener.accept_timeout(LONG)?;
     assert_eq!(server.recv_timeout(LONG)?, b"first");
-    // One that is open keeps its place.
-    let patience = options.patience(Duration::from_secs(3));
-    let late = patience.connect(address, SERVICE);
-    assert!(matches!(late, Err(Error::TimedOut)), "{late:?}");
+    // One that is open keeps its place, and others are told so: 9 is Too Busy (RFC 4340, section 5.6).
+    let late = options.connect(address, SERVICE);
+    assert!(
+        matches!(late, Err(Error::Ended(End::Reset { code: 9 }))),
+        "{late:?}"
+    );
+    Ok(())
+}
+
+/// What became of packets is told by their numbers, and no number is given twice.
+#[test]
+fn what_became_of_a_packet_is_told() -> Outcome {
+    let (client, server) = pair(&Options::new(), "127.0.0.1:0")?;
+    let numbers = [client.send(b"one")?, client.send(b"two")?];
+    assert!(numbers[0] < numbers[1]);
+    assert_eq!(server.recv_timeout(LONG)?, b"one");
+    let until = Instant::now() + LONG;
+    while client.fate(numbers[1]) == Fate::InFlight && Instant::now() < until {
+        thread::sleep(Duration::from_millis(10));
+    }
+    assert_eq!(numbers.map(|it| client.fate(it)), [Fate::Delivered; 2]);
+    assert_eq!(client.fate(numbers[1] + 1), Fate::Unknown);
+    assert_eq!(client.longest_data(1_232), MOST_DATA_BYTES);
+    assert_eq!(client.statistics().lost, 0);
     Ok(())
 }
 

@@ -1,8 +1,8 @@
 //! Connections in one process, whose time is counted on and whose frames are lost by number.
 
 use dccp::{
-    Accepted, ArriveError, Config, Connection, Endpoint, Event, Feature, FlowError, ListenError,
-    Listener, MOST_FRAME_BYTES, Phase, Place, Transmit,
+    Accepted, ArriveError, Config, Connection, Endpoint, Event, Fate, Feature, FlowError,
+    ListenError, Listener, MOST_FRAME_BYTES, Phase, Place, Timer, Transmit,
 };
 use std::error::Error;
 use std::net::{SocketAddr, SocketAddrV4};
@@ -91,6 +91,95 @@ fn a_request_waits_twice_as_long_each_time() -> Result<(), Box<dyn Error>> {
         one.handle_timeout(now);
     }
     assert_eq!(one.phase(), Phase::Closed);
+    Ok(())
+}
+
+/// Four packets, of which the first is lost and the others arrive; RFC 4341, section 5, takes the first for lost once three later ones
+/// were reported. A fifth is on its way until a timeout, which takes it for lost.
+#[test]
+fn what_became_of_packets_is_told() -> Result<(), Box<dyn Error>> {
+    let (mut one, mut other, now) = open_pair()?;
+    while one.poll_transmit().is_some() {}
+    let numbers = [0; 4].map(|_| one.send(b"x", now));
+    let numbers: Vec<u64> = numbers.into_iter().collect::<Result<_, _>>()?;
+    assert!(one.poll_transmit().is_some());
+    while let Some(frame) = one.poll_transmit() {
+        other.handle_datagram(&frame.bytes, now);
+    }
+    assert!(numbers.iter().all(|it| one.fate(*it) == Fate::InFlight));
+    // What is not acknowledged at once is after a while.
+    other.handle_timeout(now + Duration::from_secs(1));
+    while let Some(frame) = other.poll_transmit() {
+        one.handle_datagram(&frame.bytes, now);
+    }
+    let fates: Vec<Fate> = numbers.iter().map(|it| one.fate(*it)).collect();
+    assert_eq!(fates[0], Fate::Lost);
+    assert_eq!(fates[1..], [Fate::Delivered; 3]);
+    assert_eq!((one.statistics().lost, one.in_flight()), (1, 0));
+    let fifth = one.send(b"x", now)?;
+    assert_eq!(one.fate(fifth), Fate::InFlight);
+    assert!(one.handle_timer(Timer::Rto, now));
+    assert_eq!((one.fate(fifth), one.statistics().lost), (Fate::Unknown, 2));
+    Ok(())
+}
+
+/// Frames of one length are written one after another, and a shorter one ends them; each is taken by the other end, where its data
+/// stand in the datagram.
+#[test]
+fn frames_are_written_into_a_buffer() -> Result<(), Box<dyn Error>> {
+    let (mut one, mut other, now) = open_pair()?;
+    // What is owed is acknowledged first, so that all that follow are Data, with headers of 16 bytes (RFC 4340, section 5.2).
+    one.handle_timer(Timer::Ack, now);
+    while one.poll_transmit().is_some() {}
+    for length in [100, 100, 100, 7] {
+        one.send(&vec![length as u8; length], now)?;
+    }
+    let mut buffer = [0; 4_096];
+    assert_eq!(one.poll_transmit_into(&mut buffer[..115], 64), None);
+    let two = one.poll_transmit_into(&mut buffer, 2).ok_or("two")?;
+    assert_eq!((two.length, two.segment, two.is_answer), (232, 116, false));
+    let rest = one
+        .poll_transmit_into(&mut buffer[232..], 64)
+        .ok_or("two")?;
+    assert_eq!((rest.length, rest.segment), (116 + 23, 116));
+    assert_eq!(one.poll_transmit_into(&mut buffer, 64), None);
+    let frames = buffer[..232 + 139].chunks(116);
+    let lengths: Vec<usize> = frames
+        .map(|it| other.receive(it, now).map_or(0, <[u8]>::len))
+        .collect();
+    assert_eq!(
+        (lengths, other.poll_event()),
+        (vec![100, 100, 100, 7], None)
+    );
+    Ok(())
+}
+
+/// Data that should fit frames of 180 bytes do, whatever was lost of what came: every third frame goes one way, and two in three the
+/// other, so that Ack Vectors grow.
+#[test]
+fn data_of_the_longest_length_fit_their_frames() -> Result<(), Box<dyn Error>> {
+    const MOST: usize = 180;
+    let (mut one, mut other, mut now) = open_pair()?;
+    let (mut count, mut least, mut sent) = (0_u32, MOST, 0);
+    for _ in 0..400 {
+        for every in [3, 2] {
+            one.handle_timeout(now);
+            let length = one.longest_data(MOST);
+            least = least.min(length);
+            sent += u32::from(one.send(&vec![0; length], now).is_ok());
+            while let Some(frame) = one.poll_transmit() {
+                count += 1;
+                assert!(![2, 4].contains(&kind(&frame)) || frame.bytes.len() <= MOST);
+                if count.is_multiple_of(every) {
+                    other.handle_datagram(&frame.bytes, now);
+                }
+            }
+            while other.poll_event().is_some() {}
+            std::mem::swap(&mut one, &mut other);
+        }
+        now += Duration::from_millis(100);
+    }
+    assert!(100 < sent && least < MOST - 40, "{sent} {least}");
     Ok(())
 }
 
@@ -270,9 +359,12 @@ fn a_server_has_a_connection_for_each_peer_and_no_more_than_it_may() -> Result<(
     many.exchange()?;
     assert_eq!(
         many.phases(),
-        [Phase::Open, Phase::Open, Phase::Request],
-        "the third is passed over"
+        [Phase::Open, Phase::Open, Phase::TimeWait],
+        "the third is told that there is no room"
     );
+    // Too Busy (RFC 4340, section 5.6).
+    let told = many.clients[2].1.poll_event();
+    assert_eq!(told, Some(Event::Ended { code: 9 }));
     let peers: Vec<SocketAddr> = many.clients.iter().map(|(here, _)| *here).collect();
     assert_eq!(
         [many.server.poll_accept(), many.server.poll_accept()],
@@ -286,14 +378,14 @@ fn a_server_has_a_connection_for_each_peer_and_no_more_than_it_may() -> Result<(
         let wanted = (*peer, Event::Data(vec![number as u8]));
         assert_eq!(many.server.poll_event(), Some(wanted));
     }
-    // Once one has gone there is room for the third, whose Request comes again after a second.
+    // Once one has gone there is room for the third, if it asks anew.
     assert_eq!(
         many.server.call(peers[0], |it| it.abort(many.now)),
         Some(Ok(()))
     );
     assert_eq!(many.server.connections().count(), 1);
-    many.now += Duration::from_secs(1);
-    many.clients[2].1.handle_timeout(many.now);
+    many.clients[2].1 = Connection::new(&Config::client(peers[2], addresses().1, SERVICE, 9_000))?;
+    many.clients[2].1.open(many.now)?;
     many.exchange()?;
     assert_eq!(many.phases(), [Phase::TimeWait, Phase::Open, Phase::Open]);
     assert_eq!(many.server.poll_accept(), Some(peers[2]));

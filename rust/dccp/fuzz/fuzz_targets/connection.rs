@@ -5,7 +5,7 @@
 //! An input is a list of calls, each a byte that names it and what it needs; where the bytes end, the rest is 0.
 #![no_main]
 
-use dccp::{Accepted, Config, Connection, Event, Feature, Listener, MOST_FRAME_BYTES, Place};
+use dccp::{Accepted, Config, Connection, Event, Fate, Feature, Listener, MOST_FRAME_BYTES, Place};
 use libfuzzer_sys::fuzz_target;
 use std::net::{SocketAddr, SocketAddrV4};
 use std::time::{Duration, Instant};
@@ -51,11 +51,26 @@ fn addresses() -> (SocketAddr, SocketAddr) {
     )
 }
 
+/// Sends data. Those that should fit a frame of some length do.
+fn send(end: &mut Connection, length: usize, last: &mut Vec<u8>, now: Instant) {
+    let most = length + 100;
+    let fits = length <= end.longest_data(most);
+    if let Ok(number) = end.send(&vec![7; length], now) {
+        assert_eq!(end.fate(number), Fate::InFlight);
+        let mut buffer = [0; MOST_FRAME_BYTES];
+        while let Some(run) = end.poll_transmit_into(&mut buffer, 1) {
+            *last = buffer[..run.length].to_vec();
+        }
+        assert!(!fits || last.len() <= most);
+    }
+}
+
 /// Does a call of an end, and takes what it leaves.
 fn call(end: &mut Connection, input: &mut Input, heard: &[u8], last: &mut Vec<u8>, now: Instant) {
     match input.byte() % 8 {
-        0..=2 => end.handle_datagram(&input.datagram(heard), now),
-        3 => drop(end.send(&vec![7; input.number() % 1_026], now)),
+        0 | 1 => end.handle_datagram(&input.datagram(heard), now),
+        2 => drop(end.receive(&input.datagram(heard), now)),
+        3 => send(end, input.number() % 1_026, last, now),
         4 => drop(end.prefer(
             Feature::SequenceWindow,
             Place::Here,

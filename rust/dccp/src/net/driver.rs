@@ -8,7 +8,8 @@ use super::random::Random;
 use super::system::CAN_LOOK;
 use super::wire::{Batch, Wire};
 use super::{Error, Socket};
-use crate::{Accepted, Connection, Phase};
+use crate::endpoint::TOO_BUSY;
+use crate::{Accepted, Config, Connection, Phase};
 use std::collections::HashMap;
 use std::io;
 use std::net::{IpAddr, SocketAddr};
@@ -159,36 +160,47 @@ impl Driver {
             return self.tell(&line, &[(peer, datagram)]);
         }
         let asked = asked_service(datagram);
-        if !self.may_meet(asked.is_some()) {
-            return;
-        }
+        let place = self.place_for(asked.is_some());
         let Some(reception) = &mut self.reception else {
             return;
         };
         // Where the system gives no number, or no address, the peer asks again.
-        if let Ok(accepted) = accept(reception, &self.wire, peer, asked, datagram) {
+        let Ok(config) = config_for(reception, &self.wire, peer, asked) else {
+            return;
+        };
+        let met = match place {
+            Room::Free => Connection::accept(&config, datagram, Instant::now()),
+            Room::Full => Ok(Connection::refuse(&config, datagram, TOO_BUSY)
+                .map_or(Accepted::Nothing, Accepted::Answer)),
+            Room::Closed => return,
+        };
+        if let Ok(accepted) = met {
             self.take_in(peer, accepted);
         }
     }
 
-    /// Whether a stranger's datagram is looked at: a Request where there is a place, and others as many as may be answered.
-    fn may_meet(&mut self, is_request: bool) -> bool {
+    /// What a stranger's datagram finds. A Request where there is a place is looked at, and others as many as may be answered.
+    fn place_for(&mut self, is_request: bool) -> Room {
         let now = Instant::now();
         let Some(reception) = &mut self.reception else {
-            return false;
+            return Room::Closed;
         };
-        if !reception.door.is_open() {
-            return false;
+        let has_place = self.lines.len() < reception.options.most_connections;
+        let is_looked_at = (is_request && has_place) || reception.answers.may(now);
+        if !reception.door.is_open() || !is_looked_at {
+            Room::Closed
+        } else if !is_request {
+            Room::Full
+        } else if has_place {
+            Room::Free
+        } else {
+            self.make_room(now)
         }
-        if self.lines.len() < reception.options.most_connections {
-            return is_request || reception.answers.may(now);
-        }
-        // To look for a place takes a look at each connection, which anybody can ask for.
-        is_request && reception.answers.may(now) && self.makes_room(now)
     }
 
-    /// Lets the connection go that has been there the longest without being open, if it has been for long enough.
-    fn makes_room(&mut self, now: Instant) -> bool {
+    /// Lets the connection go that has been there the longest without being open, if it has been for long enough. Where it has not, the
+    /// peer had better ask again.
+    fn make_room(&mut self, now: Instant) -> Room {
         let idle = self
             .lines
             .iter()
@@ -196,9 +208,10 @@ impl Driver {
         match idle.min() {
             Some((since, peer)) if since + SHORTEST_STAY <= now => {
                 self.lines.remove(&peer);
-                true
+                Room::Free
             }
-            _ => false,
+            Some(_) => Room::Closed,
+            None => Room::Full,
         }
     }
 
@@ -254,14 +267,23 @@ impl Driver {
     }
 }
 
-/// What the listener makes of a datagram of this peer, which asks for this service, or for none.
-fn accept(
+/// What a stranger's datagram finds at a listener.
+enum Room {
+    /// A place, if it is a Request.
+    Free,
+    /// No place, and none will be free soon: it is turned away.
+    Full,
+    /// Nobody looks at it.
+    Closed,
+}
+
+/// The configuration of a connection to this peer, which asks for this service, or for none.
+fn config_for(
     reception: &mut Reception,
     wire: &Wire,
     peer: SocketAddr,
     asked: Option<u32>,
-    datagram: &[u8],
-) -> Result<Accepted, Error> {
+) -> Result<Config, Error> {
     let served = asked.filter(|it| reception.services.contains(it));
     // One that is not served is told so by any end.
     let service = served.or(reception.services.first().copied()).unwrap_or(0);
@@ -271,8 +293,6 @@ fn accept(
         own => own,
     };
     debug_assert!(matches!(named.ip(), IpAddr::V4(_)) == matches!(own.ip(), IpAddr::V4(_)));
-    let config = reception
-        .options
-        .server(own, named, service, reception.random.first_number()?);
-    Ok(Connection::accept(&config, datagram, Instant::now())?)
+    let number = reception.random.first_number()?;
+    Ok(reception.options.server(own, named, service, number))
 }

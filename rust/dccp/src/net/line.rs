@@ -62,9 +62,48 @@ impl Wait {
     }
 }
 
+/// The data that have come and wait to be read.
+#[derive(Default)]
+pub(super) struct Inbox {
+    packets: VecDeque<Vec<u8>>,
+    /// Rooms of packets that were read.
+    spare: Vec<Vec<u8>>,
+}
+
+/// How many rooms of packets are kept.
+const MOST_SPARE: usize = 64;
+
+impl Inbox {
+    fn keep(&mut self, data: &[u8]) {
+        let mut room = self.spare.pop().unwrap_or_default();
+        room.clear();
+        room.extend_from_slice(data);
+        self.packets.push_back(room);
+    }
+
+    /// The next packet.
+    pub(super) fn take(&mut self) -> Option<Vec<u8>> {
+        self.packets.pop_front()
+    }
+
+    /// Puts the next packet in place of these data, whose room is kept.
+    pub(super) fn exchange(&mut self, data: &mut Vec<u8>) -> Option<()> {
+        let read = std::mem::replace(data, self.packets.pop_front()?);
+        if self.spare.len() < MOST_SPARE {
+            self.spare.push(read);
+        }
+        Some(())
+    }
+
+    /// All packets.
+    pub(super) fn drain(&mut self) -> impl ExactSizeIterator<Item = Vec<u8>> {
+        self.packets.drain(..)
+    }
+}
+
 struct State {
     connection: Connection,
-    inbox: VecDeque<Vec<u8>>,
+    inbox: Inbox,
     most_waiting: usize,
     end: Option<(End, Instant)>,
     /// When something was taken of the peer last, or this end began to wait for it.
@@ -96,7 +135,9 @@ impl State {
     fn hear(&mut self, datagrams: &[(SocketAddr, &[u8])], now: Instant) {
         let taken = self.connection.taken();
         for (_, datagram) in datagrams {
-            self.connection.handle_datagram(datagram, now);
+            if let Some(data) = self.connection.receive(datagram, now) {
+                self.keep(data);
+            }
         }
         if self.connection.taken() != taken {
             self.heard = now;
@@ -107,15 +148,15 @@ impl State {
     fn gather(&mut self, now: Instant) {
         while let Some(event) = self.connection.poll_event() {
             match event {
-                Event::Data(data) => self.keep(data),
+                Event::Data(data) => self.keep(&data),
                 Event::Ended { code } => self.ended(End::Reset { code }, now),
             }
         }
     }
 
-    fn keep(&mut self, data: Vec<u8>) {
-        if self.inbox.len() < self.most_waiting {
-            self.inbox.push_back(data);
+    fn keep(&mut self, data: &[u8]) {
+        if self.inbox.packets.len() < self.most_waiting {
+            self.inbox.keep(data);
         } else {
             self.unread_dropped += 1;
         }
@@ -222,7 +263,7 @@ impl Line {
         let now = Instant::now();
         let state = State {
             connection,
-            inbox: VecDeque::new(),
+            inbox: Inbox::default(),
             most_waiting: options.most_waiting,
             end: None,
             heard: now,
@@ -283,7 +324,7 @@ impl Line {
             self.agenda.note(at, self.peer);
         }
         let is_over = state.end.is_some();
-        let wakes_readers = state.readers != 0 && (is_over || !state.inbox.is_empty());
+        let wakes_readers = state.readers != 0 && (is_over || !state.inbox.packets.is_empty());
         let wakes_writers = state.writers != 0 && (is_over || state.has_room());
         let has_frames = state.connection.has_frames();
         // Where nobody hands frames over, these are taken before the state is free for others.
@@ -345,7 +386,7 @@ impl Line {
     pub(super) fn read<T>(
         &self,
         wait: Wait,
-        mut take: impl FnMut(&mut VecDeque<Vec<u8>>) -> Option<T>,
+        mut take: impl FnMut(&mut Inbox) -> Option<T>,
     ) -> Result<T, Error> {
         let (mut state, mut has_yielded) = (self.state(), matches!(wait, Wait::Not));
         loop {
@@ -380,7 +421,7 @@ impl Line {
     pub(super) fn write<T>(
         &self,
         wait: Wait,
-        mut doing: impl FnMut(&mut dyn FnMut(&[u8]) -> Result<(), SendError>) -> Result<T, SendError>,
+        mut doing: impl FnMut(&mut dyn FnMut(&[u8]) -> Result<u64, SendError>) -> Result<T, SendError>,
     ) -> Result<T, Error> {
         let mut state = self.state();
         loop {
@@ -465,7 +506,7 @@ impl Line {
     pub(super) fn hear(&self, datagrams: &[(SocketAddr, &[u8])]) -> bool {
         let (mut state, now) = (self.state(), Instant::now());
         state.hear(datagrams, now);
-        let is_much = MUCH <= state.inbox.len();
+        let is_much = MUCH <= state.inbox.packets.len();
         let wakes = self.finish_quietly(state, now);
         if wakes && is_much {
             self.wake_readers();

@@ -2,12 +2,12 @@
 
 use super::agenda::Agenda;
 use super::driver::Driver;
-use super::line::{Line, Wait};
+use super::line::{Inbox, Line, Wait};
 use super::options::Options;
 use super::random::Random;
 use super::wire::{Wire, any_address};
 use super::{End, Error};
-use crate::{Connection, Feature, Held, Place, PreferError, SendError, Statistics};
+use crate::{Connection, Fate, Feature, Held, Place, PreferError, SendError, Statistics};
 use std::fmt;
 use std::io;
 use std::net::{SocketAddr, ToSocketAddrs, UdpSocket};
@@ -118,18 +118,18 @@ impl Socket {
         &self.owned.line
     }
 
-    /// Sends data, waiting for room.
-    pub fn send(&self, data: &[u8]) -> Result<(), Error> {
+    /// Sends data, waiting for room, and answers the packet's sequence number, for [`Socket::fate`].
+    pub fn send(&self, data: &[u8]) -> Result<u64, Error> {
         send(self.line(), data, Wait::Ever)
     }
 
     /// Sends data, waiting for room for so long at most; then [`Error::TimedOut`].
-    pub fn send_timeout(&self, data: &[u8], wait: Duration) -> Result<(), Error> {
+    pub fn send_timeout(&self, data: &[u8], wait: Duration) -> Result<u64, Error> {
         send(self.line(), data, Wait::of(wait))
     }
 
     /// Sends data if there is room now, else [`Error::WouldBlock`].
-    pub fn try_send(&self, data: &[u8]) -> Result<(), Error> {
+    pub fn try_send(&self, data: &[u8]) -> Result<u64, Error> {
         send(self.line(), data, Wait::Not)
     }
 
@@ -140,17 +140,23 @@ impl Socket {
 
     /// The data of the next packet, waiting for them. [`Error::Ended`] once the connection has ended and all was read.
     pub fn recv(&self) -> Result<Vec<u8>, Error> {
-        self.line().read(Wait::Ever, |it| it.pop_front())
+        self.line().read(Wait::Ever, Inbox::take)
+    }
+
+    /// Puts the data of the next packet in place of these, waiting for them; the room of these is used for a later packet, so that no
+    /// memory is taken for each. [`Error::Ended`] as [`Socket::recv`], and then these stay.
+    pub fn recv_into(&self, data: &mut Vec<u8>) -> Result<(), Error> {
+        recv_into(self.line(), data)
     }
 
     /// The data of the next packet, if one comes in this time; else [`Error::TimedOut`].
     pub fn recv_timeout(&self, wait: Duration) -> Result<Vec<u8>, Error> {
-        self.line().read(Wait::of(wait), |it| it.pop_front())
+        self.line().read(Wait::of(wait), Inbox::take)
     }
 
     /// The data of the next packet, if one has come; else [`Error::WouldBlock`].
     pub fn try_recv(&self) -> Result<Vec<u8>, Error> {
-        self.line().read(Wait::Not, |it| it.pop_front())
+        self.line().read(Wait::Not, Inbox::take)
     }
 
     /// Puts the data of all packets that have come after `packets`, waiting for one. It answers how many.
@@ -187,6 +193,16 @@ impl Socket {
         self.line().statistics()
     }
 
+    /// What became of the packet with this number, as [`Connection::fate`].
+    pub fn fate(&self, number: u64) -> Fate {
+        self.line().call(|it| it.fate(number))
+    }
+
+    /// The longest data that fit a frame of so many bytes now, as [`Connection::longest_data`].
+    pub fn longest_data(&self, most: usize) -> usize {
+        self.line().call(|it| it.longest_data(most))
+    }
+
     /// Asks for these values of a feature, as [`Connection::prefer`].
     pub fn prefer(
         &self,
@@ -216,17 +232,17 @@ impl Socket {
 
 impl Sender {
     /// As [`Socket::send`].
-    pub fn send(&self, data: &[u8]) -> Result<(), Error> {
+    pub fn send(&self, data: &[u8]) -> Result<u64, Error> {
         send(&self.owned.line, data, Wait::Ever)
     }
 
     /// As [`Socket::send_timeout`].
-    pub fn send_timeout(&self, data: &[u8], wait: Duration) -> Result<(), Error> {
+    pub fn send_timeout(&self, data: &[u8], wait: Duration) -> Result<u64, Error> {
         send(&self.owned.line, data, Wait::of(wait))
     }
 
     /// As [`Socket::try_send`].
-    pub fn try_send(&self, data: &[u8]) -> Result<(), Error> {
+    pub fn try_send(&self, data: &[u8]) -> Result<u64, Error> {
         send(&self.owned.line, data, Wait::Not)
     }
 
@@ -240,6 +256,11 @@ impl Sender {
         self.owned.line.statistics()
     }
 
+    /// As [`Socket::fate`].
+    pub fn fate(&self, number: u64) -> Fate {
+        self.owned.line.call(|it| it.fate(number))
+    }
+
     /// As [`Socket::close`], while the other half may still read what has come.
     pub fn close(&self, wait: Duration) -> Result<End, Error> {
         self.owned.line.close(wait)
@@ -249,17 +270,22 @@ impl Sender {
 impl Receiver {
     /// As [`Socket::recv`].
     pub fn recv(&self) -> Result<Vec<u8>, Error> {
-        self.owned.line.read(Wait::Ever, |it| it.pop_front())
+        self.owned.line.read(Wait::Ever, Inbox::take)
+    }
+
+    /// As [`Socket::recv_into`].
+    pub fn recv_into(&self, data: &mut Vec<u8>) -> Result<(), Error> {
+        recv_into(&self.owned.line, data)
     }
 
     /// As [`Socket::recv_timeout`].
     pub fn recv_timeout(&self, wait: Duration) -> Result<Vec<u8>, Error> {
-        self.owned.line.read(Wait::of(wait), |it| it.pop_front())
+        self.owned.line.read(Wait::of(wait), Inbox::take)
     }
 
     /// As [`Socket::try_recv`].
     pub fn try_recv(&self) -> Result<Vec<u8>, Error> {
-        self.owned.line.read(Wait::Not, |it| it.pop_front())
+        self.owned.line.read(Wait::Not, Inbox::take)
     }
 
     /// As [`Socket::recv_batch`].
@@ -268,7 +294,7 @@ impl Receiver {
     }
 }
 
-fn send(line: &Line, data: &[u8], wait: Wait) -> Result<(), Error> {
+fn send(line: &Line, data: &[u8], wait: Wait) -> Result<u64, Error> {
     line.write(wait, |send| send(data))
 }
 
@@ -276,7 +302,7 @@ fn send_batch<T: AsRef<[u8]>>(line: &Line, packets: &[T]) -> Result<usize, Error
     line.write(Wait::Ever, |send| {
         for (count, packet) in packets.iter().enumerate() {
             match send(packet.as_ref()) {
-                Ok(()) => {}
+                Ok(_) => {}
                 Err(SendError::WindowFull) if count != 0 => return Ok(count),
                 Err(fault) if count == 0 => return Err(fault),
                 // What was sent counts; the next call is told.
@@ -287,10 +313,15 @@ fn send_batch<T: AsRef<[u8]>>(line: &Line, packets: &[T]) -> Result<usize, Error
     })
 }
 
+fn recv_into(line: &Line, data: &mut Vec<u8>) -> Result<(), Error> {
+    line.read(Wait::Ever, |inbox| inbox.exchange(data))
+}
+
 fn recv_batch(line: &Line, packets: &mut Vec<Vec<u8>>) -> Result<usize, Error> {
     line.read(Wait::Ever, |inbox| {
-        let count = inbox.len();
-        packets.extend(inbox.drain(..));
+        let all = inbox.drain();
+        let count = all.len();
+        packets.extend(all);
         (count != 0).then_some(count)
     })
 }
