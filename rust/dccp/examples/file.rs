@@ -1,58 +1,57 @@
-//! A file over packets that may be lost: the sender numbers its blocks, and asks which of them the receiver lacks.
+//! A file over packets that may be lost: the sender numbers its blocks, and sends again what was lost.
 //!
 //!     cargo run --example file -- receive ADDRESS:PORT FILE
 //!     cargo run --example file -- send ADDRESS:PORT FILE
 //!
 //! The ends agree on names, so a relay may be between.
 
+use dccp::Fate;
 use dccp::net::{Error, Options, Socket};
+use std::collections::VecDeque;
+use std::thread;
 use std::time::Duration;
 
-/// A packet is a number and a block; without a block it asks what is lacking of so many, and the answer is as many numbers as fit.
+/// A packet is the number of a block, and the block.
 const BLOCK: usize = 1_020;
-const PATIENCE: Duration = Duration::from_millis(300);
-
-fn number(bytes: &[u8]) -> usize {
-    u32::from_be_bytes(*bytes.first_chunk().unwrap_or(&[0; 4])) as usize
-}
-
-fn ask(socket: &Socket, count: usize) -> Result<Vec<usize>, Error> {
-    loop {
-        socket.send(&(count as u32).to_be_bytes())?;
-        match socket.recv_timeout(PATIENCE) {
-            Err(Error::TimedOut) => {}
-            answer => return Ok(answer?.chunks(4).map(number).collect()),
-        }
-    }
-}
+const PAUSE: Duration = Duration::from_millis(5);
 
 fn send(socket: &Socket, content: &[u8]) -> Result<(), Error> {
     let blocks: Vec<&[u8]> = content.chunks(BLOCK).collect();
-    let mut lacking: Vec<usize> = (0..blocks.len()).collect();
-    while !lacking.is_empty() {
-        for at in lacking {
-            socket.send(&[&(at as u32).to_be_bytes(), blocks[at]].concat())?;
+    let mut waiting: VecDeque<usize> = (0..blocks.len()).collect();
+    let mut under_way = VecDeque::new();
+    while !(waiting.is_empty() && under_way.is_empty()) {
+        match waiting.pop_front() {
+            Some(at) => {
+                let packet = [&(at as u32).to_be_bytes(), blocks[at]].concat();
+                under_way.push_back((socket.send(&packet)?, at));
+            }
+            None => thread::sleep(PAUSE),
         }
-        lacking = ask(socket, blocks.len())?;
+        // The oldest are known first. Of one that nothing is known of any more it is not known that it came.
+        while let Some((number, at)) = under_way.pop_front() {
+            match socket.fate(number) {
+                Fate::Delivered => {}
+                Fate::Lost | Fate::Unknown => waiting.push_back(at),
+                Fate::InFlight => {
+                    under_way.push_front((number, at));
+                    break;
+                }
+            }
+        }
     }
     Ok(())
 }
 
 fn receive(socket: &Socket) -> Vec<u8> {
-    let mut blocks: Vec<Option<Vec<u8>>> = Vec::new();
+    let mut blocks: Vec<Vec<u8>> = Vec::new();
     while let Ok(packet) = socket.recv() {
-        let at = number(&packet);
-        if 4 < packet.len() {
-            blocks.resize(blocks.len().max(at + 1), None);
-            blocks[at] = Some(packet[4..].to_vec());
-        } else {
-            blocks.resize(at, None);
-            let lacking = (0_u32..).zip(&blocks).filter(|it| it.1.is_none());
-            let numbers = lacking.take(250).flat_map(|it| it.0.to_be_bytes());
-            let _ = socket.try_send(&numbers.collect::<Vec<u8>>());
+        if let Some((number, block)) = packet.split_first_chunk() {
+            let at = u32::from_be_bytes(*number) as usize;
+            blocks.resize(blocks.len().max(at + 1), Vec::new());
+            blocks[at] = block.to_vec();
         }
     }
-    blocks.into_iter().flatten().flatten().collect()
+    blocks.concat()
 }
 
 fn main() -> Result<(), Box<dyn std::error::Error>> {

@@ -8,7 +8,14 @@ use std::cmp::Reverse;
 use std::collections::{BinaryHeap, HashMap};
 use std::error::Error;
 use std::net::{Ipv4Addr, SocketAddr, UdpSocket};
+use std::thread;
 use std::time::{Duration, Instant};
+
+/// How many datagrams of one socket are taken before others are looked at.
+const MOST_AT_ONCE: usize = 64;
+
+/// How long the relay sleeps where nothing has come.
+const PAUSE: Duration = Duration::from_micros(200);
 
 /// A datagram that is under way: when it comes out, its number, over which client's socket, whether to the server, and its bytes.
 type Way = Reverse<(Instant, u64, SocketAddr, bool, Vec<u8>)>;
@@ -45,10 +52,14 @@ impl Relay {
         }
     }
 
-    /// Takes all that has come, waiting for a millisecond at most.
-    fn hear(&mut self) -> Result<(), Box<dyn Error>> {
+    /// Takes what has come, as much as is heard before what is under way is looked at again, and answers whether something has.
+    fn hear(&mut self) -> Result<bool, Box<dyn Error>> {
         let mut room = [0; 2_048];
-        while let Ok((length, client)) = self.front.recv_from(&mut room) {
+        let before = self.count;
+        for _ in 0..MOST_AT_ONCE {
+            let Ok((length, client)) = self.front.recv_from(&mut room) else {
+                break;
+            };
             if !self.clients.contains_key(&client) {
                 let own = UdpSocket::bind((Ipv4Addr::LOCALHOST, 0))?;
                 own.connect(self.server)?;
@@ -59,11 +70,14 @@ impl Relay {
         }
         let clients: Vec<SocketAddr> = self.clients.keys().copied().collect();
         for client in clients {
-            while let Ok(length) = self.clients[&client].recv(&mut room) {
+            for _ in 0..MOST_AT_ONCE {
+                let Ok(length) = self.clients[&client].recv(&mut room) else {
+                    break;
+                };
                 self.take(client, false, &room[..length]);
             }
         }
-        Ok(())
+        Ok(self.count != before)
     }
 
     /// Sends what has been under way for long enough. One that the system does not take is lost.
@@ -90,7 +104,7 @@ fn main() -> Result<(), Box<dyn Error>> {
         return Err("relay PORT SERVER_PORT DELAY_MS LOSS_PERCENT".into());
     };
     let front = UdpSocket::bind((Ipv4Addr::LOCALHOST, u16::try_from(port)?))?;
-    front.set_read_timeout(Some(Duration::from_millis(1)))?;
+    front.set_nonblocking(true)?;
     let mut relay = Relay {
         front,
         server: (Ipv4Addr::LOCALHOST, u16::try_from(server_port)?).into(),
@@ -102,7 +116,10 @@ fn main() -> Result<(), Box<dyn Error>> {
         count: 0,
     };
     loop {
-        relay.hear()?;
+        let has_heard = relay.hear()?;
         relay.hand_over();
+        if !has_heard {
+            thread::sleep(PAUSE);
+        }
     }
 }
