@@ -547,6 +547,17 @@ dccp_status dccp_listener_rules(dccp_listener *listener, const dccp_flow_rules *
  *     DCCP_NO_FLOW */
 dccp_status dccp_listener_life(dccp_listener *listener, const dccp_peer *peer, dccp_flow_life *life);
 
+/* Reads what was measured of the path to a peer.
+ *     DCCP_OK
+ *     DCCP_OTHER_SIZE  that of `trip`, which is as it was, and so with the next two
+ *     DCCP_NOT_MADE
+ *     DCCP_NO_FLOW */
+dccp_status dccp_listener_look_path(dccp_listener *listener, const dccp_peer *peer, dccp_round_trip *trip);
+
+/* As dccp_fate_of and dccp_longest_data, of data to a peer: DCCP_FATE_UNKNOWN, or 0, too where it has no flow. */
+dccp_fate dccp_listener_fate_of(dccp_listener *listener, const dccp_peer *peer, uint64_t number);
+size_t dccp_listener_longest_data(dccp_listener *listener, const dccp_peer *peer, size_t most);
+
 /* DCCP_ABI and DCCP_VERSION of the library that was linked: a program whose header has another DCCP_ABI does not fit it. */
 uint32_t dccp_abi(void);
 uint32_t dccp_version(void);

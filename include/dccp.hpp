@@ -343,6 +343,9 @@ class listener {
         if (dccp_listener_look(&it_, &peer, &view) != DCCP_OK) return std::nullopt;
         return view;
     }
+    // What became of the data to a peer under this number, and the longest that fit a frame of so many bytes now.
+    dccp_fate fate(const dccp_peer &peer, uint64_t number) { return dccp_listener_fate_of(&it_, &peer, number); }
+    std::size_t longest_data(const dccp_peer &peer, std::size_t most) { return dccp_listener_longest_data(&it_, &peer, most); }
     // The peers that have a flow, in the order of their addresses and ports.
     std::vector<dccp_peer> peers() {
         std::vector<dccp_peer> found;

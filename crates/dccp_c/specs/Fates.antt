@@ -44,6 +44,6 @@ abbrev pub most_beside_data : EndState → ℕ
 most_beside_data e = 24 + most_options_beside (sends_vectors e.rows) (numbers_between (floor_of e) e.marks.gsr)
 
 -- the longest data whose packet surely has no more than so many bytes; 1,024 at most, and none where there is no end
-abbrev pub longest_data : ℕ → Option CEnd → ℕ
-longest_data most None = 0
-longest_data most (Some s) = min 1024 (most - most_beside_data s.end.state)
+abbrev pub longest_in : ℕ → Option (End Both) → ℕ
+longest_in most None = 0
+longest_in most (Some e) = min 1024 (most - most_beside_data e.state)

@@ -2,6 +2,7 @@ pub mod Accepting
 pub mod Codes
 pub mod Doing
 pub mod Fates
+pub mod FlowFates
 pub mod FlowFeatures
 pub mod Founding
 pub mod Framing

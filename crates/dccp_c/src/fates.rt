@@ -5,7 +5,7 @@ ghost use Rattle.ccid_two.specs.Kinds.{kinds_control};
 ghost use Rattle.congestion_trait.specs.Flight.{Has};
 ghost use Rattle.dccp_endpoint.specs.End.{floor_of};
 ghost use Rattle.dccp_c.specs.Doing.{end_in};
-ghost use Rattle.dccp_c.specs.Fates.{IsFate, StandSo, end_alone, longest_data, most_beside_data, most_vector_bytes};
+ghost use Rattle.dccp_c.specs.Fates.{IsFate, StandSo, end_alone, longest_in, most_beside_data, most_vector_bytes};
 
 use crate::end::End;
 use ccid_two::Kinds;
@@ -47,8 +47,8 @@ fn fate_in(end: &Endpoint<Kinds>, number: Seq48) -> u32
     }
 }
 
-// The same of a number that may be none of a packet.
-fn fate_of(end: &Endpoint<Kinds>, number: u64) -> u32
+/// The same of a number that may be none of a packet.
+pub(crate) fn fate_of(end: &Endpoint<Kinds>, number: u64) -> u32
     ensures { IsFate (StandSo (Some end.now) number) result }
 {
     match Seq48::new(number) {
@@ -101,16 +101,24 @@ fn most_beside_data(end: &Endpoint<Kinds>) -> usize
     }
 }
 
+/// The longest data of an end whose packet surely has no more than so many bytes now.
+pub(crate) fn longest_in(end: &Endpoint<Kinds>, most: usize) -> usize
+    ensures { result ≡ longest_in most (Some end.now) }
+{
+    most.saturating_sub(most_beside_data(end))
+        .min(MOST_DATA_BYTES)
+}
+
 /// The longest data, up to 1,024 bytes, whose packet surely has no more than so many bytes now; 0 where there is no end.
 #[unsafe(no_mangle)]
 pub extern "C" fn dccp_longest_data(end: &mut End, alloc: Global, most: usize) -> usize
     ensures end { end.new.kept.value ≡ end.old.kept.value }
-    ensures data { result ≡ longest_data most (end_in end.old.kept.value) }
+    ensures data { result ≡ longest_in most (end_alone (end_in end.old.kept.value)) }
 {
     let Some(held) = end.take(alloc) else {
         return 0;
     };
-    let beside = most_beside_data(held.timed.end());
+    let longest = longest_in(held.timed.end(), most);
     end.put(held);
-    most.saturating_sub(beside).min(MOST_DATA_BYTES)
+    longest
 }

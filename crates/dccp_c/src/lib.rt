@@ -18,6 +18,7 @@ mod calls;
 mod codes;
 mod end;
 mod fates;
+mod flow_fates;
 mod flow_features;
 mod flow_rules;
 mod founding;

@@ -87,7 +87,7 @@ pub(crate) fn seen_feature(end: &Endpoint<Kinds>, feature: Feature, place: Place
     }
 }
 
-fn trip_seen(trip: Option<RoundTrip>, timeout: u64) -> RoundTripView
+pub(crate) fn trip_seen(trip: Option<RoundTrip>, timeout: u64) -> RoundTripView
     ensures { result ≡ trip_seen trip timeout }
 {
     match trip {

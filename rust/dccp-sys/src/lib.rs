@@ -312,6 +312,21 @@ unsafe extern "C" {
         peer: *const PeerAddress,
         view: *mut View,
     ) -> u32;
+    pub fn dccp_listener_look_path(
+        listener: *mut ListenerHandle,
+        peer: *const PeerAddress,
+        trip: *mut RoundTripView,
+    ) -> u32;
+    pub fn dccp_listener_fate_of(
+        listener: *mut ListenerHandle,
+        peer: *const PeerAddress,
+        number: u64,
+    ) -> u32;
+    pub fn dccp_listener_longest_data(
+        listener: *mut ListenerHandle,
+        peer: *const PeerAddress,
+        most: usize,
+    ) -> usize;
     pub fn dccp_listener_peer(
         listener: *mut ListenerHandle,
         place: u16,

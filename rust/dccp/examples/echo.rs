@@ -72,7 +72,7 @@ fn send_back(server: &mut Listener, waiting: &mut Waiting, now: Instant) {
     for (address, queue) in waiting {
         while let Some(data) = queue.front() {
             match server.send(*address, data, now) {
-                Ok(()) => drop(queue.pop_front()),
+                Ok(_) => drop(queue.pop_front()),
                 Err(_) => break,
             }
         }

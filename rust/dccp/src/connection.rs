@@ -44,6 +44,16 @@ pub struct RoundTrip {
     pub timeout: Duration,
 }
 
+impl RoundTrip {
+    pub(crate) fn of(trip: &sys::RoundTripView) -> RoundTrip {
+        RoundTrip {
+            smoothed: Duration::from_micros(trip.smoothed.into()),
+            variance: Duration::from_micros(trip.variance.into()),
+            timeout: Duration::from_millis(trip.timeout),
+        }
+    }
+}
+
 /// What the owner of a connection is told.
 #[derive(Clone, Debug, PartialEq, Eq)]
 #[non_exhaustive]
@@ -595,12 +605,7 @@ impl Connection {
 
     /// What was measured of the path.
     pub fn round_trip(&mut self) -> RoundTrip {
-        let trip = self.end.round_trip();
-        RoundTrip {
-            smoothed: Duration::from_micros(trip.smoothed.into()),
-            variance: Duration::from_micros(trip.variance.into()),
-            timeout: Duration::from_millis(trip.timeout),
-        }
+        RoundTrip::of(&self.end.round_trip())
     }
 
     /// The time as the end counts it.

@@ -1,6 +1,6 @@
 //! A listener of the library for C. What is unsafe here is as `src/end.rs` says of an end.
 
-use crate::sys;
+use crate::{Fate, sys};
 use std::fmt;
 use std::net::{Ipv4Addr, SocketAddrV4};
 use std::ptr;
@@ -170,6 +170,31 @@ impl Flows {
         // SAFETY: as the head of this module says.
         let status = unsafe { sys::dccp_listener_look(&mut self.handle, &peer, &mut view) };
         (status == sys::DONE).then_some(view)
+    }
+
+    /// The number of the frame that the last call has left; 0 where it left none.
+    pub fn number(&self) -> u64 {
+        self.frame.number
+    }
+
+    pub fn fate(&mut self, peer: SocketAddrV4, number: u64) -> Fate {
+        let peer = address_of(peer);
+        // SAFETY: as the head of this module says.
+        Fate::of(unsafe { sys::dccp_listener_fate_of(&mut self.handle, &peer, number) })
+    }
+
+    pub fn longest_data(&mut self, peer: SocketAddrV4, most: usize) -> usize {
+        let peer = address_of(peer);
+        // SAFETY: as the head of this module says.
+        unsafe { sys::dccp_listener_longest_data(&mut self.handle, &peer, most) }
+    }
+
+    /// What was measured of the path to a peer, if it has a flow.
+    pub fn round_trip(&mut self, peer: SocketAddrV4) -> Option<sys::RoundTripView> {
+        let (peer, mut trip) = (address_of(peer), sys::RoundTripView::default());
+        // SAFETY: as the head of this module says.
+        let status = unsafe { sys::dccp_listener_look_path(&mut self.handle, &peer, &mut trip) };
+        (status == sys::DONE).then_some(trip)
     }
 
     /// The peer at a place among those that have a flow.

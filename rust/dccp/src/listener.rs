@@ -1,9 +1,10 @@
 //! A server of many peers by one value of the library.
 
+use crate::fates::InFlight;
 use crate::flows::Flows;
 use crate::{
-    ArriveError, Config, Event, Feature, FlowError, FlowRules, Held, ListenError, Phase, Place,
-    Transmit, sys,
+    ArriveError, Config, Event, Fate, Feature, FlowError, FlowRules, Held, ListenError, Phase,
+    Place, RoundTrip, Statistics, Transmit, sys,
 };
 use std::collections::{BTreeMap, VecDeque};
 use std::net::SocketAddrV4;
@@ -94,6 +95,7 @@ pub struct Listener {
     changes: VecDeque<(SocketAddrV4, Change)>,
     /// The owner's numbers, which outlive a flow until its end is told.
     users: BTreeMap<SocketAddrV4, u64>,
+    counts: BTreeMap<SocketAddrV4, Counts>,
     /// The flows' time is counted in milliseconds from the first call that has one.
     begun: Option<Instant>,
     /// The time of the last call.
@@ -101,6 +103,13 @@ pub struct Listener {
     accepted: VecDeque<SocketAddrV4>,
     frames: VecDeque<(SocketAddrV4, Transmit)>,
     events: VecDeque<(SocketAddrV4, Event)>,
+}
+
+/// What is counted of a connection, and its packets of data that are in flight.
+#[derive(Debug, Default)]
+struct Counts {
+    counted: Statistics,
+    in_flight: InFlight,
 }
 
 impl Listener {
@@ -112,6 +121,7 @@ impl Listener {
             flows,
             changes: VecDeque::new(),
             users: BTreeMap::new(),
+            counts: BTreeMap::new(),
             begun: None,
             time: 0,
             accepted: VecDeque::new(),
@@ -137,6 +147,11 @@ impl Listener {
         let is = self.phase(peer);
         if was.is_none() && is.is_some() {
             self.accepted.push_back(peer);
+        }
+        if is.is_some_and(lives) {
+            let counts = self.counts.entry(peer).or_default();
+            counts.counted.heard(&told, datagram);
+            self.settle(peer);
         }
         let has_ended = match told.kind {
             sys::TOLD_WAS_RESET => was != Some(Phase::TimeWait),
@@ -165,11 +180,62 @@ impl Listener {
     /// assert_eq!(early, Err(FlowError::NoFlow));
     /// # Ok::<(), Box<dyn std::error::Error>>(())
     /// ```
-    pub fn send(&mut self, peer: SocketAddrV4, data: &[u8], now: Instant) -> Result<(), FlowError> {
+    pub fn send(
+        &mut self,
+        peer: SocketAddrV4,
+        data: &[u8],
+        now: Instant,
+    ) -> Result<u64, FlowError> {
         let time = self.time(now);
         let (status, frame) = self.flows.send(peer, data, time);
         queue(&mut self.frames, peer, frame, false);
-        FlowError::answer(status)
+        FlowError::answer(status)?;
+        let number = self.flows.number();
+        let counts = self.counts.entry(peer).or_default();
+        counts.in_flight.note(number);
+        counts.counted.sent.count_bytes(data);
+        Ok(number)
+    }
+
+    /// What became of the packet of data with this number to a peer, as [`Connection::fate`](crate::Connection::fate);
+    /// [`Fate::Unknown`] too where there is no connection.
+    ///
+    /// ```
+    /// use dccp::{Config, Fate, Listener};
+    ///
+    /// let mut server = Listener::new(&Config::listener("192.0.2.2:5001".parse()?, 42), 1_024)?;
+    /// assert_eq!(server.fate("192.0.2.1:40000".parse()?, 1), Fate::Unknown);
+    /// # Ok::<(), Box<dyn std::error::Error>>(())
+    /// ```
+    pub fn fate(&mut self, peer: SocketAddrV4, number: u64) -> Fate {
+        self.flows.fate(peer, number)
+    }
+
+    /// The longest data to a peer, 0 to 1,024 bytes, whose frame surely has no more than `most` bytes now, as
+    /// [`Connection::longest_data`](crate::Connection::longest_data); 0 where there is no connection.
+    pub fn longest_data(&mut self, peer: SocketAddrV4, most: usize) -> usize {
+        self.flows.longest_data(peer, most)
+    }
+
+    /// What was counted and measured of the connection to a peer, and where its window stands; None where there is none.
+    ///
+    /// ```
+    /// use dccp::{Config, Listener};
+    ///
+    /// let mut server = Listener::new(&Config::listener("192.0.2.2:5001".parse()?, 42), 1_024)?;
+    /// assert_eq!(server.statistics("192.0.2.1:40000".parse()?), None);
+    /// # Ok::<(), Box<dyn std::error::Error>>(())
+    /// ```
+    pub fn statistics(&mut self, peer: SocketAddrV4) -> Option<Statistics> {
+        let view = self.flows.look(peer)?;
+        let trip = self.flows.round_trip(peer)?;
+        let counted = self.counts.get(&peer).map(|it| it.counted);
+        Some(Statistics {
+            window: view.window,
+            in_flight: view.in_flight,
+            round_trip: RoundTrip::of(&trip),
+            ..counted.unwrap_or_default()
+        })
     }
 
     /// Asks for these values of a feature of the connection to a peer, as [`Connection::prefer`](crate::Connection::prefer).
@@ -232,7 +298,10 @@ impl Listener {
         loop {
             let (status, peer, frame) = self.flows.tick(time);
             match status {
-                sys::DONE => queue(&mut self.frames, peer, frame, false),
+                sys::DONE => {
+                    queue(&mut self.frames, peer, frame, false);
+                    self.settle(peer);
+                }
                 sys::GAVE_UP => {
                     queue(&mut self.frames, peer, frame, false);
                     self.end(peer, Cause::Silent);
@@ -257,7 +326,11 @@ impl Listener {
 
     /// The next frame, and the peer to whom it goes.
     pub fn poll_transmit(&mut self) -> Option<(SocketAddrV4, Transmit)> {
-        self.frames.pop_front()
+        let (peer, frame) = self.frames.pop_front()?;
+        if let Some(counts) = self.counts.get_mut(&peer) {
+            counts.counted.sent.count(&frame.bytes);
+        }
+        Some((peer, frame))
     }
 
     /// The next that the owner is told, and of which peer.
@@ -377,8 +450,21 @@ impl Listener {
         }
     }
 
+    /// Looks which packets of data to a peer are in flight no more, and counts those that are lost.
+    fn settle(&mut self, peer: SocketAddrV4) {
+        let Some(view) = self.flows.look(peer) else {
+            return;
+        };
+        if let Some(counts) = self.counts.get_mut(&peer) {
+            counts.counted.lost += counts
+                .in_flight
+                .settle(view.in_flight, |number| self.flows.fate(peer, number));
+        }
+    }
+
     /// The connection to a peer is over, and its number goes with it.
     fn end(&mut self, peer: SocketAddrV4, cause: Cause) {
+        self.counts.remove(&peer);
         let user = self.users.remove(&peer).unwrap_or(0);
         self.changes
             .push_back((peer, Change::Ended { cause, user }));

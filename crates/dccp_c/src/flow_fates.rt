@@ -1,0 +1,124 @@
+//! What became of the data of a listener's flow, how long the next may be, and what was measured of its path.
+ghost use Rattle.std.specs.Prelude.{◌≡◌, ◌==◌, unwrap_or};
+ghost use Rattle.std.specs.Option.{option_map};
+ghost use Rattle.dccp_listener.specs.Peers.{end_of_peer};
+ghost use Rattle.dccp_server.specs.Serving.{upkeep_at};
+ghost use Rattle.dccp_c.specs.Fates.{IsFate, StandSo, longest_in};
+ghost use Rattle.dccp_c.specs.FlowFates.{flow_end, flow_path, upkeep_seen};
+ghost use Rattle.dccp_c.specs.Listening.{flow_code, peer_named, served_in};
+ghost use Rattle.dccp_c.specs.Seeing.{if_sized, sized_code};
+
+use crate::codes::{DONE, NO_FLOW, NOT_MADE, OTHER_SIZE};
+use crate::fates::{FATE_UNKNOWN, fate_of, longest_in};
+use crate::peer::peer_named;
+use crate::readers::trip_seen;
+use crate::sizes::ROUND_TRIP_VIEW_BYTES;
+use crate::{ListenerHandle, PeerAddress, RoundTripView};
+use dccp_endpoint::Timer;
+use dccp_listener::Peer;
+use dccp_server::{Server, Upkeep};
+use dccp_uses::starting_wait;
+use std::alloc::Global;
+
+fn flow_fate(server: &Server, peer: Peer, number: u64) -> u32
+    ensures { IsFate (StandSo (end_of_peer server.now.room.served.listening.flows peer) number) result }
+{
+    match server.flow(peer) {
+        Some(end) => fate_of(end, number),
+        None => FATE_UNKNOWN,
+    }
+}
+
+/// What became of the data that were sent to a peer under this number, as `dccp_fate_of`: FATE_UNKNOWN too where there is
+/// no listener, or the peer has no flow.
+#[unsafe(no_mangle)]
+pub extern "C" fn dccp_listener_fate_of(
+    listener: &mut ListenerHandle,
+    alloc: Global,
+    peer: &PeerAddress,
+    number: u64,
+) -> u32
+    ensures listener { listener.new.kept.value ≡ listener.old.kept.value }
+    ensures fate { IsFate (StandSo (flow_end (served_in listener.old.kept.value) (peer_named peer.now)) number) result }
+{
+    let Some(serving) = listener.take(alloc) else {
+        return FATE_UNKNOWN;
+    };
+    let fate = flow_fate(&serving.server, peer_named(peer), number);
+    listener.put(serving);
+    fate
+}
+
+fn flow_longest(server: &Server, peer: Peer, most: usize) -> usize
+    ensures { result ≡ longest_in most (end_of_peer server.now.room.served.listening.flows peer) }
+{
+    match server.flow(peer) {
+        Some(end) => longest_in(end, most),
+        None => 0,
+    }
+}
+
+/// The longest data to a peer whose packet surely has no more than so many bytes now, as `dccp_longest_data`; 0 too where
+/// there is no listener, or the peer has no flow.
+#[unsafe(no_mangle)]
+pub extern "C" fn dccp_listener_longest_data(
+    listener: &mut ListenerHandle,
+    alloc: Global,
+    peer: &PeerAddress,
+    most: usize,
+) -> usize
+    ensures listener { listener.new.kept.value ≡ listener.old.kept.value }
+    ensures data { result ≡ longest_in most (flow_end (served_in listener.old.kept.value) (peer_named peer.now)) }
+{
+    let Some(serving) = listener.take(alloc) else {
+        return 0;
+    };
+    let longest = flow_longest(&serving.server, peer_named(peer), most);
+    listener.put(serving);
+    longest
+}
+
+fn upkeep_seen(upkeep: &Upkeep) -> RoundTripView
+    ensures { result ≡ upkeep_seen upkeep.now }
+{
+    let timeout = starting_wait(&upkeep.path.waits(), &upkeep.alarms, Timer::Rto);
+    trip_seen(upkeep.path.round_trip, timeout)
+}
+
+fn path_of(server: &Server, peer: Peer) -> Option<RoundTripView>
+    ensures { result ≡ option_map (λ e. upkeep_seen (upkeep_at server.now.room.served.pace server.now.room.served.upkeeps peer)) (end_of_peer server.now.room.served.listening.flows peer) }
+{
+    match server.flow(peer) {
+        Some(_) => Some(upkeep_seen(&server.upkeep(peer))),
+        None => None,
+    }
+}
+
+/// What was measured of the path to a peer. Answers DONE, OTHER_SIZE, NOT_MADE or NO_FLOW.
+#[unsafe(no_mangle)]
+pub extern "C" fn dccp_listener_look_path(
+    listener: &mut ListenerHandle,
+    alloc: Global,
+    peer: &PeerAddress,
+    trip: &mut RoundTripView,
+) -> u32
+    ensures listener { listener.new.kept.value ≡ listener.old.kept.value }
+    ensures trip { trip.new ≡ if_sized (trip.old.size == 24) (unwrap_or (flow_path (served_in listener.old.kept.value) (peer_named peer.now)) trip.old) trip.old }
+    ensures code { result ≡ sized_code (trip.old.size == 24) (flow_code (served_in listener.old.kept.value) (flow_path (served_in listener.old.kept.value) (peer_named peer.now))) }
+{
+    if trip.size != ROUND_TRIP_VIEW_BYTES {
+        return OTHER_SIZE;
+    }
+    let Some(serving) = listener.take(alloc) else {
+        return NOT_MADE;
+    };
+    let found = path_of(&serving.server, peer_named(peer));
+    listener.put(serving);
+    match found {
+        Some(found) => {
+            *trip = found;
+            DONE
+        }
+        None => NO_FLOW,
+    }
+}
