@@ -358,6 +358,40 @@ static void sizes(void) {
     dccp_free(&end);
 }
 
+/* A Request that is turned away by a Reset with code 9, Too Busy (RFC 4340, section 5.6), under the number 0, which acknowledges it; and what
+ * is none. It takes no memory. */
+static void turned_away(void) {
+    dccp_settings own = server();
+    dccp_frame frame, wanted = request(own.service), other = request(own.service + 1);
+    dccp_end end = DCCP_NONE;
+    dccp_told told;
+    static uint8_t bytes[DCCP_MOST_FRAME_BYTES + 1];
+    refused = 1;
+    same("a Request", DCCP_OK, dccp_refuse(&own, wanted.bytes, wanted.length, 9, &frame));
+    same("the number of its Reset", 0, frame.number);
+    same("its length", 28, frame.length);
+    same("its type", 7, (frame.bytes[8] >> 1) & 15);
+    same("what it acknowledges", 1000, frame.bytes[22] * 256 + frame.bytes[23]);
+    same("its code", 9, frame.bytes[24]);
+    same("for another service", DCCP_NO_CONNECTION, dccp_refuse(&own, other.bytes, other.length, 9, &other));
+    same("the code: Bad Service Code", 8, other.bytes[24]);
+    same("no packet", DCCP_NO_CONNECTION, dccp_refuse(&own, bytes, 11, 9, &other));
+    same("its frame", 0, other.length);
+    same("2,045 bytes", DCCP_TOO_LONG, dccp_refuse(&own, bytes, sizeof bytes, 9, &other));
+    own.first_number = (uint64_t)1 << 48;
+    same("2^48", DCCP_NO_NUMBER, dccp_refuse(&own, bytes, 11, 9, &other));
+    own.size--;
+    same("older settings", DCCP_OTHER_SIZE, dccp_refuse(&own, bytes, 11, 9, &other));
+    same("allocations left to be refused", 1, refused);
+    refused = 0;
+    same("a client", DCCP_OK, dccp_make(&end, &client, NULL, 0));
+    same("its open", DCCP_OK, dccp_open(&end, 0, &wanted));
+    same("the Reset", DCCP_OK, dccp_receive(&end, frame.bytes, frame.length, 0, &wanted, &told));
+    same("what became of it", DCCP_TOLD_WAS_RESET, told.kind);
+    same("the code at the client", 9, told.code);
+    dccp_free(&end);
+}
+
 /* Four packets, of which the first is lost and the others are reported, and a fifth that is on its way until a timeout. RFC 4341, section 5,
  * takes the first for lost once three later ones were reported. */
 static void fates(void) {
@@ -611,6 +645,25 @@ static void packets_of_no_flow(dccp_listener *listener, const dccp_frame *datagr
 }
 
 /* A client and its flow: an Ack of the flow waits for 50 milliseconds (own; RFC 4340, section 8.1.5), and data that arrive are told. */
+/* What is read of the data of a flow and of its path: the last of four packets is on its way, and no round trip was measured in no time. */
+static void readings_of_a_flow(dccp_listener *listener) {
+    const dccp_peer stranger = {.address = {10, 0, 0, 9}, .port = 9};
+    dccp_view view = DCCP_VIEW_INIT;
+    dccp_round_trip trip = DCCP_ROUND_TRIP_INIT;
+    dccp_flow_life life = DCCP_FLOW_LIFE_INIT;
+    same("a look", DCCP_OK, dccp_listener_look(listener, &guest, &view));
+    same("data on their way", DCCP_FATE_IN_FLIGHT, dccp_listener_fate_of(listener, &guest, view.gss));
+    same("no data", DCCP_FATE_UNKNOWN, dccp_listener_fate_of(listener, &guest, view.gss + 1));
+    same("data to no flow", DCCP_FATE_UNKNOWN, dccp_listener_fate_of(listener, &stranger, view.gss));
+    same("the longest data", 1024, dccp_listener_longest_data(listener, &guest, 2044));
+    same("those to no flow", 0, dccp_listener_longest_data(listener, &stranger, 2044));
+    same("its path", DCCP_OK, dccp_listener_look_path(listener, &guest, &trip));
+    same("the path of no flow", DCCP_NO_FLOW, dccp_listener_look_path(listener, &stranger, &trip));
+    trip.size--;
+    same("an older round trip", DCCP_OTHER_SIZE, dccp_listener_look_path(listener, &guest, &trip));
+    same("its life", DCCP_OK, dccp_listener_life(listener, &guest, &life));
+}
+
 static void a_flow(void) {
     static const uint8_t many[DCCP_MOST_DATA_BYTES + 1];
     dccp_listener listener = begun();
@@ -640,6 +693,7 @@ static void a_flow(void) {
         same("data in the window of four", DCCP_OK, dccp_listener_send(&listener, &guest, many, 1, 0, &answer));
     same("one more than the window", DCCP_WINDOW_FULL, dccp_listener_send(&listener, &guest, many, 1, 0, &answer));
     same("its frame", 0, answer.length);
+    readings_of_a_flow(&listener);
     same("the time until a timer", 50, dccp_listener_until_first(&listener, 0));
     same("a tick before that", DCCP_NOTHING_DUE, dccp_listener_tick(&listener, 49, &peer, &answer));
     same("a tick", DCCP_OK, dccp_listener_tick(&listener, 50, &peer, &answer));
@@ -718,6 +772,7 @@ int main(void) {
     memory(accept);
     a_connection();
     sizes();
+    turned_away();
     fates();
     longest_data();
     without_vectors();

@@ -39,7 +39,7 @@ type Configure = Box<dyn FnMut(SocketAddr) -> Config + Send>;
 ///     client.handle_datagram(&frame.bytes, now);
 /// }
 /// assert_eq!(server.poll_accept(), Some(here));
-/// assert_eq!(server.call(here, |it| it.send(b"hello", now)), Some(Ok(())));
+/// assert!(server.call(here, |it| it.send(b"hello", now)).is_some_and(|it| it.is_ok()));
 /// let (peer, frame) = server.poll_transmit().ok_or("a frame")?;
 /// client.handle_datagram(&frame.bytes, now);
 /// assert_eq!((peer, client.poll_event()), (here, Some(Event::Data(b"hello".to_vec()))));

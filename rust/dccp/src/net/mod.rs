@@ -11,7 +11,7 @@
 //! fn main() -> Result<(), Box<dyn Error>> {
 //!     let listener = Listener::bind("127.0.0.1:0", &[42])?;
 //!     let address = listener.local_addr()?;
-//!     let server = thread::spawn(move || -> Result<(), dccp::net::Error> {
+//!     let server = thread::spawn(move || -> Result<u64, dccp::net::Error> {
 //!         let socket = listener.accept()?;
 //!         let question = socket.recv()?;
 //!         socket.send(&question)
