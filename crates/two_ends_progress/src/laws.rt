@@ -145,7 +145,7 @@ pub fn settling_takes_twenty_four_events<C: Congestion>()
 /// at most six timers and deliveries lead to a world in which `send` of a side takes up to 1,024 bytes, and in which the
 /// delivery of the frame that goes out for them hands over just these (RFC 4340, sections 7 and 8.5). A sender whose CCID
 /// needs Ack Vectors has to get some, the configurations are each other's, and each side has sent fewer than 2^23 - 8
-/// frames: of more than 2^23 a short number need not be told.
+/// frames, so that a short number tells which one it is.
 pub fn data_get_through<C: Congestion>()
     ensures { (client server : Config) (for_client for_server : C) (events : List Event) (side : Side) (payload : List ℕ)
         → client.role ≡ role.Client → server.role ≡ role.Server → Fits client → Fits server → AreForEachOther client server
