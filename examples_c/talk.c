@@ -134,9 +134,6 @@ static void say(struct talk *talk) {
     }
 }
 
-/* What a client offers: to send Ack Vectors, for which the listener of echo.c does not ask, and which it needs. */
-static const dccp_wish vectors = {.values = {1}, .count = 1, .feature = DCCP_FEATURE_SEND_ACK_VECTOR, .is_offered = true};
-
 static dccp_settings settings_of(unsigned own_port, unsigned peer_port) {
     return (dccp_settings){
         .size = sizeof(dccp_settings),
@@ -189,7 +186,7 @@ static void ask(struct talk *talk, unsigned port) {
     if (getsockname(talk->socket, (struct sockaddr *)&own, &size) != 0) fail("getsockname");
     dccp_settings settings = settings_of(ntohs(own.sin_port), port);
     dccp_frame frame;
-    if (dccp_make(&talk->end, &settings, &vectors, 1) != DCCP_OK) fail("make");
+    if (dccp_make(&talk->end, &settings, NULL, 0) != DCCP_OK) fail("make");
     if (dccp_open(&talk->end, now(), &frame) != DCCP_OK) fail("open");
     hand_over(talk, &frame);
 }

@@ -104,6 +104,7 @@ pub struct Flow {
     listener: Listener,
     peer: SocketAddrV4,
     first_number: u64,
+    timeouts: u64,
 }
 
 impl Flow {
@@ -113,7 +114,12 @@ impl Flow {
             listener: Listener::new(config, 1).expect("a listener is made"),
             peer,
             first_number,
+            timeouts: 0,
         }
+    }
+
+    fn in_flight(&mut self) -> u32 {
+        self.listener.in_flight(self.peer).unwrap_or(0)
     }
 }
 
@@ -128,7 +134,7 @@ impl End for Flow {
     }
 
     fn send(&mut self, data: &[u8], now: Instant) -> bool {
-        self.listener.send(self.peer, data, now).is_ok()
+        self.in_flight() < self.window() && self.listener.send(self.peer, data, now).is_ok()
     }
 
     fn close(&mut self, now: Instant) {
@@ -141,7 +147,9 @@ impl End for Flow {
     }
 
     fn tick(&mut self, now: Instant) {
+        let had = self.in_flight() > 0;
         self.listener.handle_timeout(now);
+        self.timeouts += u64::from(had && self.in_flight() == 0);
     }
 
     fn frame(&mut self) -> Option<Vec<u8>> {
@@ -157,10 +165,10 @@ impl End for Flow {
     }
 
     fn window(&mut self) -> u32 {
-        0
+        self.listener.window(self.peer).unwrap_or(0)
     }
 
     fn timeouts(&self) -> u64 {
-        0
+        self.timeouts
     }
 }

@@ -74,20 +74,11 @@ fn configured(config: Config, manner: Manner, wishes: Wishes) -> Config {
     }
 }
 
-/// A client's end. Its peer needs Ack Vectors that it does not ask for, where that is a listener's flow.
-pub fn client(
-    manner: Manner,
-    wishes: Wishes,
-    to_flow: bool,
-    first: u64,
-    now: Instant,
-) -> Box<dyn End> {
+/// A client's end.
+pub fn client(manner: Manner, wishes: Wishes, first: u64, now: Instant) -> Box<dyn End> {
     let (here, there) = addresses();
     let config = Config::client(here.into(), there.into(), SERVICE, first);
-    let mut config = configured(config, manner, wishes);
-    if to_flow {
-        config = config.offer(Feature::SendAckVector, Place::Here, &[1]);
-    }
+    let config = configured(config, manner, wishes);
     let connection = Connection::new(&config).expect("the wishes are permitted");
     match manner {
         Manner::Classic | Manner::Usual => Box::new(Alone::new(connection)),
@@ -111,8 +102,13 @@ pub fn server(manner: Manner, wishes: Wishes, first: u64, datagram: &[u8], now: 
     }
 }
 
-/// A listener's end of the client.
-pub fn flow(first: u64) -> Box<dyn End> {
+/// A listener's end of the client. It has no owner of this program: in place of the reference it is driven by itself.
+pub fn flow(manner: Manner, wishes: Wishes, first: u64) -> Box<dyn End> {
     let (here, there) = addresses();
-    Box::new(Flow::new(&Config::listener(there, SERVICE), here, first))
+    let manner = match manner {
+        Manner::Classic => Manner::Classic,
+        Manner::Usual | Manner::Reference => Manner::Usual,
+    };
+    let config = configured(Config::listener(there, SERVICE), manner, wishes);
+    Box::new(Flow::new(&config, here, first))
 }

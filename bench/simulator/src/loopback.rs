@@ -194,7 +194,7 @@ fn hear(end: &mut dyn End, socket: &UdpSocket, room: &mut [u8]) -> bool {
 fn send(socket: &UdpSocket, until: Instant) {
     let mut room = [0; 2_048];
     let (first, now) = (Random::new(3).draw() >> 16, Instant::now());
-    let mut client = ends::client(Manner::Usual, Wishes::default(), false, first, now);
+    let mut client = ends::client(Manner::Usual, Wishes::default(), first, now);
     client.open(now);
     while Instant::now() < until {
         let has_heard = hear(&mut *client, socket, &mut room);

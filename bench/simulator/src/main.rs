@@ -49,11 +49,11 @@ fn refused() -> ExitCode {
 /// The rows of these names, or all where none is named; None where a name is of no row.
 fn named(names: &[&str]) -> Option<Vec<Row>> {
     let all = rows();
-    let is_known = |name: &&str| all.iter().any(|row| row.name == *name);
+    let is_known = |name: &&str| all.iter().any(|row| row.name == **name);
     if !names.iter().all(is_known) {
         return None;
     }
-    let is_wanted = |row: &Row| names.is_empty() || names.contains(&row.name);
+    let is_wanted = |row: &Row| names.is_empty() || names.contains(&row.name.as_str());
     Some(all.into_iter().filter(is_wanted).collect())
 }
 
@@ -71,6 +71,14 @@ fn manners(row: &Row, manner: Manner) -> Manners {
 /// The columns of the table: how its ends are driven.
 const COLUMNS: [Manner; 3] = [Manner::Classic, Manner::Usual, Manner::Reference];
 
+/// Whether a row has this column: a flow that sends has no owner of this program.
+fn has_column(row: &Row, manner: Manner) -> bool {
+    match manner {
+        Manner::Classic | Manner::Usual => true,
+        Manner::Reference => row.scenario.sender != Sender::Flow,
+    }
+}
+
 /// The manners that a picture shows.
 const PICTURED: [Manner; 2] = [Manner::Classic, Manner::Usual];
 
@@ -79,7 +87,9 @@ fn results(rows: &[Row]) -> Vec<[Result; 3]> {
     let jobs: Vec<(usize, usize, u64)> = rows
         .iter()
         .enumerate()
-        .flat_map(|(row, it)| (0..COLUMNS.len()).map(move |column| (row, column, it.seeds)))
+        .flat_map(|(row, it)| (0..COLUMNS.len()).map(move |column| (row, it, column)))
+        .filter(|&(_, it, column)| has_column(it, COLUMNS[column]))
+        .map(|(row, it, column)| (row, column, it.seeds))
         .flat_map(|(row, column, seeds)| (1..=seeds).map(move |seed| (row, column, seed)))
         .collect();
     let next = AtomicUsize::new(0);
@@ -115,6 +125,9 @@ fn results(rows: &[Row]) -> Vec<[Result; 3]> {
 
 /// The share and the silence of a row, or the wait of the closing end, in words.
 fn figures(row: &Row, it: &Result) -> (String, String) {
+    if it.outcomes.is_empty() {
+        return ("-".to_owned(), "-".to_owned());
+    }
     match row.scenario.load {
         Load::Close => ("-".to_owned(), format!("{:.0}", it.closing())),
         Load::Always(_) | Load::Voice(..) => (

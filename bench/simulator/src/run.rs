@@ -156,8 +156,7 @@ impl Run {
         let mut random = Random::new(seed);
         let base = Instant::now();
         let wishes = scenario.wishes(scenario.sender.is_client());
-        let to_flow = scenario.sender == Sender::Flow;
-        let client = ends::client(manners.0, wishes, to_flow, random.draw() >> 16, base);
+        let client = ends::client(manners.0, wishes, random.draw() >> 16, base);
         let (up, down) = if scenario.sender.is_client() {
             (&scenario.there, &scenario.back)
         } else {
@@ -254,13 +253,13 @@ impl Run {
     fn accept(&mut self, frame: &[u8]) {
         let now = self.instant();
         let first = self.random.draw() >> 16;
+        let wishes = self.scenario.wishes(!self.scenario.sender.is_client());
         if self.scenario.sender.has_flow() {
-            let mut flow = ends::flow(first);
+            let mut flow = ends::flow(self.manners.1, wishes, first);
             flow.receive(frame, now);
             self.server = Some(flow);
             return;
         }
-        let wishes = self.scenario.wishes(!self.scenario.sender.is_client());
         match ends::server(self.manners.1, wishes, first, frame, now) {
             Made::End(end) => self.server = Some(end),
             Made::Answer(answer) => self.put_to_client(answer),

@@ -125,9 +125,7 @@ fn ask(port: u16) -> Result<(Connection, Wire), Box<dyn Error>> {
     let peer = SocketAddr::from(([127, 0, 0, 1], port));
     let socket = UdpSocket::bind(("127.0.0.1", 0))?;
     socket.connect(peer)?;
-    let config = Config::client(socket.local_addr()?, peer, SERVICE, first_number()?)
-        // The listener of `echo` does not ask for Ack Vectors, and needs them to send data.
-        .offer(Feature::SendAckVector, Place::Here, &[1]);
+    let config = Config::client(socket.local_addr()?, peer, SERVICE, first_number()?);
     let mut connection = Connection::new(&config)?;
     connection.open(Instant::now())?;
     Ok((connection, Wire::new(socket)))
