@@ -39,21 +39,21 @@ use Rattle.run_list.specs.declared.answers.Marked.{Marked}
 use Rattle.ack_vectors.specs.declared.room.Vectors.{Vectors}
 use Rattle.two_ends_progress.proofs.Entering.{Shuts, Tells}
 
--- A step in OPEN sends an Ack with these Confirms and Changes, besides its Ack Vector.
-pub record Speaks {A : Type 0} (e : EndState) (s : Step A) (confirms : List Due) (keys : List Key) : Type 0 where
-  pub tells : Tells e s phases.Open (kind.Ack (Long e.marks.gsr))
+-- A step to this phase sends an Ack with these Confirms and Changes, besides its Ack Vector.
+pub record Speaks {A : Type 0} (e : EndState) (s : Step A) (to : Phase) (confirms : List Due) (keys : List Key) : Type 0 where
+  pub tells : Tells e s to (kind.Ack (Long e.marks.gsr))
   pub has_vector : Bool
   pub vectors : Vectors
   pub set : MarkedSet
   pub greatest : ℕ
   pub options_are : tells.draft.options ≡ own_options has_vector vectors set greatest confirms s.after.rows keys
 
--- The timer negotiate, where rows ask.
-pub negotiate-speaks : (e : EndState) (in_flight : Bool) (k : Key) (keys : List Key) → IsProper e → e.phase ≡ phases.Open → due_keys e.rows ≡ k ∷ keys
-    → Speaks e (fires e timers.Negotiate in_flight) [] (k ∷ keys)
+-- The timer negotiate, where rows ask: in PARTOPEN and OPEN.
+pub negotiate-speaks : (e : EndState) (in_flight : Bool) (p : Phase) → fires_in e timers.Negotiate in_flight p ≡ asks_all e (due_keys e.rows) → (k : Key)
+    (keys : List Key) → IsProper e → e.phase ≡ p → due_keys e.rows ≡ k ∷ keys → Speaks e (fires e timers.Negotiate in_flight) p [] (k ∷ keys)
 unfolding fires
-negotiate-speaks e in_flight k keys proper is_phase due =
-    subst (λ (s : Step Bool). Speaks e s [] (k ∷ keys)) (sym same)
+negotiate-speaks e in_flight p asks_then k keys proper is_phase due =
+    subst (λ (s : Step Bool). Speaks e s p [] (k ∷ keys)) (sym same)
     (record {
       tells =
           record {
@@ -85,14 +85,15 @@ negotiate-speaks e in_flight k keys proper is_phase due =
     rows = turned-role (end_of e.config.role) e.rows (sendings (next_number e) (k ∷ keys)) proper.rows (sendings-lawful (next_number e) (k ∷ keys))
 
     same : fires e timers.Negotiate in_flight ≡ asks_now e (k ∷ keys) true
-    same = ap (fires_in e timers.Negotiate in_flight) is_phase ∙ ap (asks_all e) due
+    same = ap (fires_in e timers.Negotiate in_flight) is_phase ∙ asks_then ∙ ap (asks_all e) due
 
-pub negotiate-rows : (e : EndState) (in_flight : Bool) (k : Key) (keys : List Key) → e.phase ≡ phases.Open → due_keys e.rows ≡ k ∷ keys
+pub negotiate-rows : (e : EndState) (in_flight : Bool) (p : Phase) → fires_in e timers.Negotiate in_flight p ≡ asks_all e (due_keys e.rows) → (k : Key)
+    (keys : List Key) → e.phase ≡ p → due_keys e.rows ≡ k ∷ keys
     → (fires e timers.Negotiate in_flight).after.rows ≡ turned e.rows (sendings (next_number e) (k ∷ keys))
 unfolding fires
-negotiate-rows e in_flight k keys is_phase due = ap (λ (s : Step Bool). s.after.rows) same where
+negotiate-rows e in_flight p asks_then k keys is_phase due = ap (λ (s : Step Bool). s.after.rows) same where
   same : fires e timers.Negotiate in_flight ≡ asks_now e (k ∷ keys) true
-  same = ap (fires_in e timers.Negotiate in_flight) is_phase ∙ ap (asks_all e) due
+  same = ap (fires_in e timers.Negotiate in_flight) is_phase ∙ asks_then ∙ ap (asks_all e) due
 
 -- An Ack that was read whole in OPEN.
 module _ (y : EndState) (a : Incoming) (its : AreRowsOf (end_of y.config.role) y.rows) (row : after y.phase a.kind ≡ (phases.Open, reply.Nothing)) where
@@ -130,9 +131,9 @@ module _ (y : EndState) (a : Incoming) (its : AreRowsOf (end_of y.config.role) y
     keeps = subst (λ (s : Step Outcome). IsHeeded s h) (sym heard-as) (keeps-by due-now)
 
     -- Confirms that are due go out.
-    pub confirms-speak : has_confirms h.confirms ≡ true → Speaks y (heeded y a (Ok h)) h.confirms []
+    pub confirms-speak : has_confirms h.confirms ≡ true → Speaks y (heeded y a (Ok h)) phases.Open h.confirms []
     confirms-speak some =
-        subst (λ (s : Step Outcome). Speaks y s h.confirms []) (sym (heard-as ∙ ap (λ (b : Bool). record (if b then acknowledges x h.confirms took else idle x took) { calls = calls })
+        subst (λ (s : Step Outcome). Speaks y s phases.Open h.confirms []) (sym (heard-as ∙ ap (λ (b : Bool). record (if b then acknowledges x h.confirms took else idle x took) { calls = calls })
         (ap (λ (b : Bool). b || (true && is_enough h.rows x.unacked)) some)))
         (record {
           tells =

@@ -23,3 +23,4 @@ pub mod Through
 pub mod Widening
 pub mod Sent
 pub mod Plainly
+pub mod Opened

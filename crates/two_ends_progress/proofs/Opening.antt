@@ -31,7 +31,7 @@ use Rattle.dccp_endpoint.specs.Receiving.{acknowledges_in_window, heeded, is_oth
 use Rattle.dccp_endpoint.specs.Steps.{Step, detail_of, next_number, without_detail}
 use Rattle.dccp_endpoint.specs.declared.config.Config.{Config}
 use Rattle.seq_circle.specs.Circle.{later_of, residue}
-use Rattle.two_ends.specs.Controlled.{Controlled, begins_with, congestion_of, plays_from_start}
+use Rattle.two_ends.specs.Controlled.{Controlled, begins_with, congestion_of, plays, plays_from_start}
 use Rattle.two_ends.specs.World.{Half, WorldState, half_of, moved}
 use Rattle.validity_windows.specs.Verdict.{by_window, is_ack_within, verdict}
 use Rattle.validity_windows.specs.Windows.{ack_high, ack_low}
@@ -62,7 +62,7 @@ sync-ack-opens = record { checked = refl; no_reset = λ is. cc is; expected = λ
 request-again-row : IsRow role.Server phases.Respond types.Request phases.Respond reply.Response
 request-again-row = record { checked = refl; no_reset = λ is. cc is; expected = λ b. refl; for_us = λ x service. refl; next = refl }
 
-sync-answered : IsRow role.Client phases.PartOpen types.Sync phases.PartOpen reply.SyncAck
+pub sync-answered : IsRow role.Client phases.PartOpen types.Sync phases.PartOpen reply.SyncAck
 sync-answered = record { checked = refl; no_reset = λ is. cc is; expected = λ b. refl; for_us = λ x service. refl; next = refl }
 
 -- a draft of each type that an opening has
@@ -94,6 +94,10 @@ refusal-bare : (ack : ℕ) → ack < 2 ^ 48
     → IsBare (kind.Reset ack (number_of_code codes.BadServiceCode) (detail_of (without_detail (number_of_code codes.BadServiceCode))))
 refusal-bare ack small = record { is_long = refl; detail = refl; fits = (small, omega arith, refl); never_short = refl; acks = λ reference. refl }
 
+-- the client is in PARTOPEN, and the server is OPEN
+abbrev pub IsHalfOpen : WorldState → Type 0
+IsHalfOpen w = (w.client.end.phase ≡ phases.PartOpen) × (w.server.end.phase ≡ phases.Open)
+
 -- What is known after a side has told something.
 pub record HasTold (more : ℕ) (v : WorldState) (half : Half) (b : EndState) (to : Phase) (k : Kind) (d : Draft) : Type 0 where
   pub under_way : IsUnderWay more v
@@ -113,7 +117,7 @@ opens-so client is = rw is refl
 
 module _ {C : Type 0} (control : Control C) (effects : EveryStepHasOneEffect) where
   abbrev Leads : ℕ → Controlled C → Type 0
-  Leads most w = HasWay control most w (λ (v : Controlled C). HasEnded v.world ⊎ AreConnected v.world)
+  Leads most w = HasWay control most w (λ (v : Controlled C). HasEnded v.world ⊎ IsHalfOpen v.world)
 
   pub after-tells : {A : Type 0} (more : ℕ) (w : Controlled C) (e : Event) {x y : Side} (two : AreTwo x y) (arrived : Option ℕ) (s : Step A) (b : EndState)
       (to : Phase) (k : Kind) → Acts w.world (next control w e).world x y (moved (half_of w.world x) arrived s) → (tells : Tells b s to k)
@@ -138,9 +142,12 @@ module _ {C : Type 0} (control : Control C) (effects : EveryStepHasOneEffect) wh
         out = subst (λ (h : Half). IsOut h h.end.marks.gss tells.draft) (sym acts.acting) out;
       }
 
-  both-connected : (w : WorldState) → w.client.end.phase ≡ phases.PartOpen → w.server.end.phase ≡ phases.Open → AreConnected w
-  both-connected w client server Client = ap is_connected client
-  both-connected w client server Server = ap is_connected server
+  both-connected : (w : WorldState) → HasEnded w ⊎ IsHalfOpen w → HasEnded w ⊎ AreConnected w
+  both-connected w (inl over) = inl over
+  both-connected w (inr half) = inr each where
+    each : AreConnected w
+    each Client = ap is_connected half.0
+    each Server = ap is_connected half.1
 
   -- An Ack or a SyncAck that is valid at a server in RESPOND opens it, or a fault of its options closes it.
   opened-by : (w : Controlled C) → IsUnderWay 1 w.world → w.world.client.end.phase ≡ phases.PartOpen → w.world.server.end.phase ≡ phases.Respond
@@ -165,7 +172,7 @@ module _ {C : Type 0} (control : Control C) (effects : EveryStepHasOneEffect) wh
       (leads-here control v _
       (elim (open-ends y a (proper-of 1 w.world u ServerFirst).rows next_is) [
         | inl shuts ↦ inl (inr (inl (phase_is ∙ shuts.closed)))
-        | inr opens ↦ inr (both-connected v.world (ap (λ (h : Half). h.end.phase) c.acts.resting ∙ part) (phase_is ∙ opens.phase))
+        | inr opens ↦ inr (ap (λ (h : Half). h.end.phase) c.acts.resting ∙ part, phase_is ∙ opens.phase)
       ]))
 
   -- A Response to the client's last Request: the client acknowledges it, or is over.
@@ -493,14 +500,29 @@ module _ {C : Type 0} (control : Control C) (effects : EveryStepHasOneEffect) wh
   opening-on w u (AsksAgain request respond near) = asking-on w u request (inr (respond, near))
   opening-on w u (IsAnswered part respond) = acking-on w u part respond
 
-  pub opening-leads : (client server : Config) (for_client for_server : C) (events : List Event) → client.role ≡ role.Client
+  pub half-leads : (client server : Config) (for_client for_server : C) (events : List Event) → client.role ≡ role.Client
       → server.role ≡ role.Server → Fits client → Fits server → AreForEachOther client server
       → IsInHandshake (plays_from_start control client server for_client for_server events).world
       → HaveRoomFor 4 (plays_from_start control client server for_client for_server events).world
       → Leads 4 (plays_from_start control client server for_client for_server events)
-  opening-leads client server for_client for_server events is_client is_server client_fits server_fits paired opening room =
+  half-leads client server for_client for_server events is_client is_server client_fits server_fits paired opening room =
       opening-on (plays_from_start control client server for_client for_server events)
       (start-under-way control effects 4 client server for_client for_server events is_client is_server client_fits server_fits paired room) opening
+
+  pub opening-leads : (client server : Config) (for_client for_server : C) (events : List Event) → client.role ≡ role.Client
+      → server.role ≡ role.Server → Fits client → Fits server → AreForEachOther client server
+      → IsInHandshake (plays_from_start control client server for_client for_server events).world
+      → HaveRoomFor 4 (plays_from_start control client server for_client for_server events).world
+      → HasWay control 4 (plays_from_start control client server for_client for_server events)
+      (λ (v : Controlled C). HasEnded v.world ⊎ AreConnected v.world)
+  opening-leads client server for_client for_server events is_client is_server client_fits server_fits paired opening room =
+      let way = half-leads client server for_client for_server events is_client is_server client_fits server_fits paired opening room in
+      record {
+        events = way.events;
+        are_passive = way.are_passive;
+        few = way.few;
+        leads = both-connected (plays control (plays_from_start control client server for_client for_server events) way.events).world way.leads;
+      }
 
   -- What the call `open` leaves at the start.
   pub start-asks : (client server : Config) (for_client for_server : C) → client.role ≡ role.Client → server.role ≡ role.Server

@@ -69,7 +69,7 @@ use Rattle.two_ends_progress.proofs.Settling.{answered-none-unstable, answered-s
 use Rattle.two_ends_progress.proofs.Stepping.{Acts, AreTwo, ClientFirst, ServerFirst, IsComing, IsOut, IsUnderWay, coming, fewer-under-way, gss-small, heard-so, held-two, proper-of, timer-acts, turned, under-way-next, verdict-read}
 
 -- the row of the tables of an Ack in OPEN, for both roles
-open-ack : (who : Role) → IsRow who phases.Open types.Ack phases.Open reply.Nothing
+pub open-ack : (who : Role) → IsRow who phases.Open types.Ack phases.Open reply.Nothing
 open-ack role.Client = record { checked = refl; no_reset = λ is. cc is; expected = λ b. refl; for_us = λ x service. refl; next = refl }
 open-ack role.Server = record { checked = refl; no_reset = λ is. cc is; expected = λ b. refl; for_us = λ x service. refl; next = refl }
 
@@ -189,22 +189,22 @@ pub record IsRound (more : ℕ) (w v : WorldState) (x y : Side) : Type 0 where
   pub none : (k : Key) → (row_at (half_of v x).end.rows k.0 k.1).stand ≢ stand.Unstable
   pub stays : (k : Key) → (row_at (half_of v y).end.rows k.0 k.1).stand ≡ (row_at (half_of w y).end.rows k.0 k.1).stand
 
-no-confirms-or : (confirms : List Due) → (confirms ≡ []) ⊎ (has_confirms confirms ≡ true)
+pub no-confirms-or : (confirms : List Due) → (confirms ≡ []) ⊎ (has_confirms confirms ≡ true)
 no-confirms-or [] = inl refl
 no-confirms-or (due ∷ rest) = inr refl
 
 -- options count on a newest Ack in OPEN
-counting-so : (newest : Bool) (p : Phase) (t : PacketType) → newest ≡ true → p ≡ phases.Open → t ≡ types.Ack → (newest && counts p t) ≡ true
+pub counting-so : (newest : Bool) (p : Phase) (t : PacketType) → newest ≡ true → p ≡ phases.Open → t ≡ types.Ack → (newest && counts p t) ≡ true
 counting-so newest p t new phase type = rw (new, phase, type) refl
 
-newest-so : (e : EndState) (n : ℕ) → is_before e.marks.gsr n ≡ true → is_newest e n ≡ true
+pub newest-so : (e : EndState) (n : ℕ) → is_before e.marks.gsr n ≡ true → is_newest e n ≡ true
 newest-so e n later = by (not (is_live e.phase)) where
   by : (b : Bool) → (b || is_before e.marks.gsr n) ≡ true
   by true = refl
   by false = later
 
 -- what came of an Ack that is read in an end that has let it in
-same-read : (count : Bool) (ack other : Option ℕ) (rows : List Row) (options given : List (Result Entry OptFault)) (h : Heeding) → count ≡ true → ack ≡ other
+pub same-read : (count : Bool) (ack other : Option ℕ) (rows : List Row) (options given : List (Result Entry OptFault)) (h : Heeding) → count ≡ true → ack ≡ other
     → options ≡ given → heeds count ack (unheeded rows) options ≡ Ok h → heeds true other (unheeded rows) given ≡ Ok h
 same-read count ack other rows options given h counts acks same read =
     ap (λ (all : List (Result Entry OptFault)). heeds true other (unheeded rows) all) (sym same)
@@ -227,14 +227,14 @@ module _ {C : Type 0} (control : Control C) (effects : EveryStepHasOneEffect) wh
   ask more w u {x} {y} two here there k keys due =
       let e : EndState = (half_of w.world x).end in
       let flies : Bool = has_in_flight control (congestion_of w x) in
-      let speaks = negotiate-speaks e flies k keys (proper-of (more + 1) w.world u two) here due in
+      let speaks = negotiate-speaks e flies phases.Open refl k keys (proper-of (more + 1) w.world u two) here due in
       let now = event.Timer x timers.Negotiate in
       let v : Controlled C = next control w now in
       let s : Step Bool = fires e timers.Negotiate flies in
       let acts = timer-acts control effects w two timers.Negotiate (more + 1) u in
       let told = after-tells control effects more w now two None s e phases.Open _ acts speaks.tells refl u in
       let rows : s.after.rows ≡ asked e.rows (next_number e) =
-      negotiate-rows e flies k keys here due ∙ ap (λ (ks : List Key). turned-rows e.rows (sendings (next_number e) ks)) (sym due) in
+      negotiate-rows e flies phases.Open refl k keys here due ∙ ap (λ (ks : List Key). turned-rows e.rows (sendings (next_number e) ks)) (sym due) in
       record {
         rests = acts.resting;
         under_way = told.under_way;

@@ -43,11 +43,11 @@ use Rattle.two_ends_progress.proofs.Settling.{quiet-stable, asked, asked-opened,
 use Rattle.two_ends_progress.proofs.Stepping.{AreTwo, ClientFirst, ServerFirst, IsComing, IsSent, IsUnderWay, after-says, fewer-under-way, gsr-small, heard-so, held-two, own-in-order, proper-of, turned}
 
 -- the rows of the tables, for both roles
-open-sync : (who : Role) → IsRow who phases.Open types.Sync phases.Open reply.SyncAck
+pub open-sync : (who : Role) → IsRow who phases.Open types.Sync phases.Open reply.SyncAck
 open-sync role.Client = record { checked = refl; no_reset = λ is. cc is; expected = λ b. refl; for_us = λ x service. refl; next = refl }
 open-sync role.Server = record { checked = refl; no_reset = λ is. cc is; expected = λ b. refl; for_us = λ x service. refl; next = refl }
 
-open-sync-ack : (who : Role) → IsRow who phases.Open types.SyncAck phases.Open reply.Nothing
+pub open-sync-ack : (who : Role) → IsRow who phases.Open types.SyncAck phases.Open reply.Nothing
 open-sync-ack role.Client = record { checked = refl; no_reset = λ is. cc is; expected = λ b. refl; for_us = λ x service. refl; next = refl }
 open-sync-ack role.Server = record { checked = refl; no_reset = λ is. cc is; expected = λ b. refl; for_us = λ x service. refl; next = refl }
 
@@ -74,6 +74,13 @@ fewer-round fewer more w v x y less r =
       none = r.none;
       stays = r.stays;
     }
+
+-- ISS is the first number of the configuration.
+pub first-so : (more : ℕ) (w : WorldState) (u : IsUnderWay more w) {x y : Side} (two : AreTwo x y)
+    → (half_of w x).end.marks.iss ≡ residue (half_of w x).end.config.iss
+first-so more w u two =
+    let mine = (held-two w u.held two).0 in
+    omega (arith, mine.ordered.first, mine.ordered.fits.iss)
 
 -- Each goal that is reached where an end is over.
 module _ {C : Type 0} (control : Control C) (effects : EveryStepHasOneEffect) (goal : Controlled C → Type 0)
@@ -181,13 +188,6 @@ module _ {C : Type 0} (control : Control C) (effects : EveryStepHasOneEffect) (g
                   finish control effects rest w.world o two (half_of w.world x).end.rows n gsr before s2 (number-fits w x) t goal ended rest
                   (subst (λ (g : ℕ). is_before g last ≡ true) (sym s2.mine_gsr) t.newer) valid go
             ]
-
-  -- ISS is the first number of the configuration.
-  first-so : (more : ℕ) (w : WorldState) (u : IsUnderWay more w) {x y : Side} (two : AreTwo x y)
-      → (half_of w x).end.marks.iss ≡ residue (half_of w x).end.config.iss
-  first-so more w u two =
-      let mine = (held-two w u.held two).0 in
-      omega (arith, mine.ordered.first, mine.ordered.fits.iss)
 
   -- With a Sync on its way to the side that asks, it asks once both are in step.
   synced-round : (rest : ℕ) (w0 : WorldState) (w : Controlled C) → IsUnderWay (rest + 1 + 1 + 1 + 1 + 1) w.world → {x y : Side} (two : AreTwo x y)

@@ -48,7 +48,7 @@ alike-so w one ServerFirst settled =
 
 module _ {C : Type 0} (control : Control C) (effects : EveryStepHasOneEffect) where
   -- so many events add so many frames at most
-  few-plays : (more : ℕ) (w : Controlled C) (events : List Event) → AreFew (more + length events) w.world → AreFew more (plays control w events).world
+  pub few-plays : (more : ℕ) (w : Controlled C) (events : List Event) → AreFew (more + length events) w.world → AreFew more (plays control w events).world
   few-plays more w [] few = λ side. omega (arith, few side)
   few-plays more w (event ∷ events) few =
       few-plays more (next control w event) events
@@ -59,7 +59,7 @@ passive-joined : (events more : List Event) → ArePassive events → ArePassive
 passive-joined [] more first second = second
 passive-joined (event ∷ events) more first second = (first.0, passive-joined events more first.1 second)
 
-way-joined : {C : Type 0} (control : Control C) (most least : ℕ) (w : Controlled C) (goal : Controlled C → Type 0) (events : List Event) → ArePassive events
+pub way-joined : {C : Type 0} (control : Control C) (most least : ℕ) (w : Controlled C) (goal : Controlled C → Type 0) (events : List Event) → ArePassive events
     → length events ≤ most → HasWay control least (plays control w events) goal → HasWay control (most + least) w goal
 way-joined control most least w goal events passive few way =
     record {

@@ -104,7 +104,7 @@ module _ (rows : List Row) (sound : IsNegotiation rows) (n : ℕ) where
       ∙ ap (row_turned (row_at rows k.0 k.1))
       (events-sendings n k (due_keys rows) (due-distinct rows sound) ∙ ap (λ (b : Bool). if b then Sends n ∷ [] else []) (has-due rows k sound ∙ is))
 
-  asked-changing : (k : Key) → is_due (row_at rows k.0 k.1) ≡ true → (row_at (asked rows n) k.0 k.1).stand ≡ stand.Changing
+  pub asked-changing : (k : Key) → is_due (row_at rows k.0 k.1) ≡ true → (row_at (asked rows n) k.0 k.1).stand ≡ stand.Changing
   asked-changing k due = ap (λ (row : Row). row.stand) (sent-row k true due) ∙ sent-changing (row_at rows k.0 k.1) n due
 
   pub asked-opened : (k : Key) → is_due (row_at rows k.0 k.1) ≡ true → (row_at (asked rows n) k.0 k.1).opened ≡ (row_step (row_at rows k.0 k.1) (Sends n)).row.opened

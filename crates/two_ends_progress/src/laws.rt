@@ -98,6 +98,21 @@ pub fn openings_get_through<C: Congestion>()
     every_step_has_one_effect();
 }
 
+/// An opening ends in OPEN. From the same worlds, where each side has sent fewer than 2^23 - 13 frames, at most thirteen
+/// timers and deliveries lead both ends to OPEN, or an end to CLOSED or TIMEWAIT (RFC 4340, section 8.1). Of so few frames
+/// the short numbers can be told.
+pub fn openings_end_in_open<C: Congestion>()
+    ensures { (client server : Config) (for_client for_server : C) (events : List Event) → client.role ≡ role.Client
+        → server.role ≡ role.Server → Fits client → Fits server → AreForEachOther client server
+        → IsInHandshake (plays_from_start C.control client server for_client for_server events).world
+        → AreFew 13 (plays_from_start C.control client server for_client for_server events).world
+        → HasWay C.control 13 (plays_from_start C.control client server for_client for_server events)
+        (λ (w : Controlled C). HasEnded w.world ⊎ AreOpen w.world) }
+{
+    every_step_has_one_effect();
+    every_run_is_safe::<C>();
+}
+
 /// Negotiations settle. Where both ends are OPEN, whatever led there, at most twenty-four timers and deliveries lead to a
 /// world in which an end is in CLOSED or in TIMEWAIT, or in which both are OPEN, all eighteen rows of both are STABLE, and
 /// each feature has one value (RFC 4340, section 6). The configurations are each other's; and neither side is near the

@@ -8,6 +8,7 @@ mod laws;
 
 pub use crate::laws::{
     a_sender_lacks_reports_by_agreement, closing_ends_both, closing_takes_seven_events,
-    data_get_through, negotiations_settle, openings_get_through, openings_take_four_events,
-    senders_are_never_stuck, sending_takes_six_events, settling_takes_twenty_four_events,
+    data_get_through, negotiations_settle, openings_end_in_open, openings_get_through,
+    openings_take_four_events, senders_are_never_stuck, sending_takes_six_events,
+    settling_takes_twenty_four_events,
 };
