@@ -1,4 +1,5 @@
 //! Two sessions whose frames get lost.
+mod bursts;
 mod pair;
 mod stories;
 mod wire;

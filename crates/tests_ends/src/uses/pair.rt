@@ -43,6 +43,10 @@ fn accepted(alloc: Global, datagram: &[u8], now: u64, wire: &mut Wire) -> Option
     }
 }
 
+fn is_ended(phase: Phase) -> bool {
+    matches!(phase, Phase::Closed | Phase::TimeWait)
+}
+
 fn wait_in(alarms: &Alarms, timer: Timer) -> Option<u64> {
     match alarms.of(timer) {
         Some(alarm) => Some(alarm.wait),
@@ -53,17 +57,49 @@ fn wait_in(alarms: &Alarms, timer: Timer) -> Option<u64> {
 impl Pair {
     /// This client, and a wire in each direction, which loses by draws from this number.
     pub(crate) fn new(alloc: Global, client: Session<Kinds>, seed: u64) -> Pair {
+        let to_server = Wire::drawn(alloc, seed);
+        let to_client = Wire::drawn(alloc, seed.wrapping_add(1_000));
+        Pair::over(alloc, client, to_server, to_client)
+    }
+
+    /// This client, and a wire in each direction, which loses nothing.
+    pub(crate) fn whole(alloc: Global, client: Session<Kinds>) -> Pair {
+        Pair::over(alloc, client, Wire::whole(alloc), Wire::whole(alloc))
+    }
+
+    fn over(alloc: Global, client: Session<Kinds>, to_server: Wire, to_client: Wire) -> Pair {
         Pair {
             alloc,
             now: 5_000,
             client,
             server: None,
-            to_server: Wire::new(alloc, seed),
-            to_client: Wire::new(alloc, seed.wrapping_add(1_000)),
+            to_server,
+            to_client,
             client_ended: None,
             server_ended: None,
             got: Vec::new(alloc),
         }
+    }
+
+    /// From now on each wire loses so many frames in a row, and then none.
+    pub(crate) fn lose(&mut self, frames: usize) {
+        self.to_server.lose(frames);
+        self.to_client.lose(frames);
+    }
+
+    /// The time in milliseconds.
+    pub(crate) fn now(&self) -> u64 {
+        self.now
+    }
+
+    /// A turn goes by.
+    pub(crate) fn turn(&mut self) -> bool {
+        self.pass(TURN)
+    }
+
+    /// Each end is in CLOSED or in TIMEWAIT.
+    pub(crate) fn is_over(&self) -> bool {
+        is_ended(self.client.end().phase()) && is_ended(self.serving())
     }
 
     /// The client asks for its service.

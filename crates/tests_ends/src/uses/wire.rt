@@ -2,12 +2,21 @@
 use dccp_uses::Network;
 use std::alloc::Global;
 
-/// Keeps frames until they are taken. It loses one of four, and gives them in any order, by its draws.
+// What a wire loses, and in which order it gives the rest.
+#[derive(Clone, Copy)]
+enum Loss {
+    // One frame of four, and any order, by draws.
+    Drawn(u64),
+    // So many frames more, and then none; in order.
+    Next(usize),
+}
+
+/// Keeps frames until they are taken, except those that it loses.
 #[derive(Drop)]
 pub(crate) struct Wire {
     alloc: Global,
     frames: Vec<Vec<u8>>,
-    draws: u64,
+    loss: Loss,
 }
 
 // The next draw, below 2^31 (Knuth's MMIX generator).
@@ -19,11 +28,41 @@ fn draw(draws: &mut u64) -> usize {
 }
 
 impl Wire {
-    pub(crate) fn new(alloc: Global, seed: u64) -> Wire {
+    /// It loses one frame of four, and gives them in any order, by draws from this number.
+    pub(crate) fn drawn(alloc: Global, seed: u64) -> Wire {
         Wire {
             alloc,
             frames: Vec::new(alloc),
-            draws: seed,
+            loss: Loss::Drawn(seed),
+        }
+    }
+
+    /// It loses nothing, and gives frames in order.
+    pub(crate) fn whole(alloc: Global) -> Wire {
+        Wire {
+            alloc,
+            frames: Vec::new(alloc),
+            loss: Loss::Next(0),
+        }
+    }
+
+    /// From now on it loses the next frames, so many, and then none.
+    pub(crate) fn lose(&mut self, frames: usize) {
+        self.loss = Loss::Next(frames);
+    }
+
+    fn loses(&mut self) -> bool {
+        match self.loss {
+            Loss::Drawn(mut draws) => {
+                let lost = draw(&mut draws) % 4 == 0;
+                self.loss = Loss::Drawn(draws);
+                lost
+            }
+            Loss::Next(0) => false,
+            Loss::Next(frames) => {
+                self.loss = Loss::Next(frames - 1);
+                true
+            }
         }
     }
 
@@ -32,8 +71,14 @@ impl Wire {
         if self.frames.is_empty() {
             return None;
         }
-        let place = draw(&mut self.draws) % self.frames.len();
-        Some(self.frames.remove(place))
+        match self.loss {
+            Loss::Drawn(mut draws) => {
+                let place = draw(&mut draws) % self.frames.len();
+                self.loss = Loss::Drawn(draws);
+                Some(self.frames.remove(place))
+            }
+            Loss::Next(_) => Some(self.frames.remove(0)),
+        }
     }
 
     fn keep(&mut self, frame: &[u8]) {
@@ -49,7 +94,7 @@ impl Network for Wire {
     ghost sends = { λ _ _ _. Unit {0} };
 
     fn send(&mut self, frame: &[u8]) {
-        if draw(&mut self.draws) % 4 != 0 {
+        if !self.loses() {
             self.keep(frame);
         }
     }
