@@ -17,7 +17,7 @@ use Rattle.bridge_records.specs.Reading.{FileState, bytes_held, file_judged, nex
 use Rattle.bridge_records.specs.Recording.{RecordStep, RecordsState, by_judged, first_reading, numbered_entry, records_work}
 use Rattle.bridge_records.specs.declared.found.Found.{Found}
 use Rattle.bridge_records.specs.declared.found.Found.TheVariants as found
-use Rattle.bridge_command.specs.Links.{bytes_at_start, ip_bytes, ip_start}
+use Rattle.bridge_links.specs.Links.{bytes_at_start, ip_bytes, ip_start}
 use Rattle.dccp_io.specs.Counts.{one_more}
 use Rattle.world_events.specs.declared.event.Side.{Side}
 use Rattle.bridge_command.specs.Framing.{FlowPacket, IsReadBack, by_carried, by_decoded, by_direction, by_number, by_sender, first_framing, flow_packet, frame_said, framed_record, frames_pieces, frames_work, goes_to, met_by, passed_over, record_behind}

@@ -6,7 +6,7 @@ use Rattle.dccp_packets.specs.declared.reading.Malformed.{Malformed}
 use Rattle.packet_show.specs.Flows.{Flow}
 use Rattle.packet_show.specs.Lines.{shows, shows_carried, shows_decoded, shows_malformed}
 use Rattle.packet_show.specs.Network.{DatagramParts, carried}
-use Rattle.bridge_command.specs.Links.{IsUntagged, ip_bytes}
+use Rattle.bridge_links.specs.Links.{IsUntagged, ip_bytes}
 use Rattle.bridge_command.proofs.UnwrappedShowing.{ethernet-stays, raw-stays}
 use Rattle.bridge_command.specs.Judging.{judged_bytes, judged_carried, judged_fault, judged_ip, shown_of}
 

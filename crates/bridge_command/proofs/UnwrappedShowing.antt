@@ -6,7 +6,7 @@ use Rattle.std.proofs.lemmas.List.{get_or-drop}
 use Rattle.std.proofs.Math.ListN.{drop_of_length-le}
 use Rattle.dccp_packets.specs.Grammar.{number_at}
 use Rattle.packet_show.specs.Network.{carried, in_ethernet, in_frame, in_ip, in_v4, in_v6, is_v4, is_v6, version}
-use Rattle.bridge_command.specs.Links.{IsUntagged, bytes_at_start, ip_at, ip_at_first, ip_by_type, ip_bytes, ip_of_type, is_tag, start_or}
+use Rattle.bridge_links.specs.Links.{IsUntagged, bytes_at_start, ip_at, ip_at_first, ip_by_type, ip_bytes, ip_of_type, is_tag, start_or}
 
 -- no IP of either version is found where the version is another
 no-v4 : (bytes : List ℕ) → (version bytes == 4) ≡ false → is_v4 bytes ≡ false

@@ -20,7 +20,7 @@ use Rattle.packet_show.specs.Network.{DatagramParts}
 use Rattle.packet_show.specs.Text.{from_text, to_text}
 use Rattle.tool_text.specs.Names.{malformed_name}
 use Rattle.bridge_records.specs.declared.pieces.fault.PieceFault.{PieceFault}
-use Rattle.bridge_command.specs.Links.{ip_bytes}
+use Rattle.bridge_links.specs.Links.{ip_bytes}
 use Rattle.bridge_command.specs.Unwrapping.{piece_fault_name}
 use Rattle.bridge_command.specs.Judging.{HoldsMalformed, HoldsNone, HoldsPacket, Judged, judged_ip}
 use Rattle.bridge_command.specs.Members.{with_number_named, with_text_named, with_truth_named}

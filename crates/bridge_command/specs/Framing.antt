@@ -11,7 +11,7 @@ use Rattle.packet_show.specs.Lines.{packet_line}
 use Rattle.packet_show.specs.Network.{DatagramParts, carried}
 use Rattle.bridge_records.specs.Pieces.{Taken, text_of_pieces}
 use Rattle.bridge_records.specs.Recording.{RecordStep, RecordWork, RecordsState, records_of, records_work}
-use Rattle.bridge_command.specs.Links.{ip_bytes}
+use Rattle.bridge_links.specs.Links.{ip_bytes}
 use Rattle.bridge_command.specs.Unwrapping.{unwrap_closing}
 use Rattle.schedule_text.specs.Frames.{frame_line, read_frame}
 use Rattle.schedule_text.specs.declared.line.FrameLine.{FrameLine}

@@ -4,7 +4,6 @@ pub mod Capturing
 pub mod TranscriptLines
 pub mod FrameReading
 pub mod FrameRecords
-pub mod Links
 pub mod Unwrapping
 pub mod Mapping
 pub mod FrameLines

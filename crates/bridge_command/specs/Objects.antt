@@ -17,7 +17,7 @@ use Rattle.packet_show.specs.Names.{sum_name, type_name}
 use Rattle.packet_show.specs.Network.{DatagramParts}
 use Rattle.packet_show.specs.Text.{from_text, mark_text, option_text, to_text}
 use Rattle.tool_text.specs.Names.{malformed_name}
-use Rattle.bridge_command.specs.Links.{ip_bytes}
+use Rattle.bridge_links.specs.Links.{ip_bytes}
 use Rattle.bridge_command.specs.Judging.{HoldsMalformed, HoldsNone, HoldsPacket, Judged, judged_ip}
 use Rattle.bridge_command.specs.Members.{object_line, with_list_named, with_number_named, with_text_named, with_truth_named}
 use Rattle.bridge_command.specs.Skips.{skip_name}

@@ -6,7 +6,7 @@ use Rattle.bridge_records.specs.Pieces.{Taken, text_of_pieces}
 use Rattle.bridge_records.specs.declared.pieces.fault.PieceFault.{PieceFault}
 use Rattle.bridge_records.specs.declared.pieces.fault.PieceFault.TheVariants as why
 use Rattle.bridge_records.specs.Recording.{RecordWork, RecordsState, records_of, records_work}
-use Rattle.bridge_command.specs.Links.{ip_start}
+use Rattle.bridge_links.specs.Links.{ip_start}
 
 -- What the beginning of a capture or a record makes: the file header, or a record.
 pub data CapturePart : Type 0 where

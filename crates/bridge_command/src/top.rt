@@ -12,6 +12,7 @@ use crate::json::json_records;
 use crate::seed::tell_seed;
 use crate::unwrap::unwrap_capture;
 use crate::words::{Form, USAGE, form_of};
+use bridge_pictures::{ladder_of_flow, ladder_of_transcript};
 use dccp_io::{Sink, Source, write_all};
 use std::alloc::Global;
 use tool_text::{JobEnd, Status};
@@ -20,7 +21,8 @@ use tool_text::{JobEnd, Status};
 /// writes a classic capture with a record for each frame that was sent. `unwrap` reads a capture, classic or pcapng, of
 /// any of ten link types, and writes a classic one of raw IP, record for record. `seed` reads nothing, and writes the
 /// schedule of a campaign's seed. `frames` reads a capture as `unwrap` does, and writes lines of `replay` for the
-/// packets of a flow that go to a side; and `json` writes an object for each record.
+/// packets of a flow that go to a side; and `json` writes an object for each record. `ladder` draws what `run` or `replay`
+/// wrote, and with a flow the packets of that flow in a capture.
 ///
 /// Words are judged first; after that the first refusal met in the order of reading decides. With status 0 or 1 the
 /// output is that of the whole input, with status 3, 4 or 5 a front of it. The clauses on the output speak of a source
@@ -78,6 +80,8 @@ fn perform<S: Source, K: Sink>(alloc: Global, form: Form, input: &mut S, output:
         Form::Seed(run) => tell_seed(alloc, run.seed, run.events, output),
         Form::Frames(asked) => frame_flow(alloc, asked.flow, asked.side, input, output),
         Form::Json => json_records(alloc, input, output),
+        Form::Ladder => ladder_of_transcript(alloc, input, output),
+        Form::FlowLadder(flow) => ladder_of_flow(alloc, flow, input, output),
     }
 }
 

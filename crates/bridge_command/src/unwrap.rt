@@ -5,9 +5,7 @@
 //! it.
 
 mod laws;
-mod links;
 mod unwrapping;
 
 pub use crate::unwrap::laws::{each_record_is_unwrapped, what_show_shows_stays};
-pub(crate) use crate::unwrap::links::{ip_bytes, read_u16};
 pub(crate) use crate::unwrap::unwrapping::{fault_name, put_fault, unwrap_capture};

@@ -1,10 +1,11 @@
 //! What the words after the program's name ask for.
 ghost use Rattle.std.specs.Prelude.{◌≡◌, IfOk, IfSome, IsOk, false};
-ghost use Rattle.bridge_command.specs.Words.{IsBridgeFormWithinBounds, asked_flow, asked_form, asked_seed, form_behind, has_bridge_settings, has_settings_behind, stands_alone};
+ghost use Rattle.bridge_command.specs.Words.{IsBridgeFormWithinBounds, asked_flow, asked_form, asked_ladder, asked_seed, flow_ladder, form_behind, joined_ladder, has_bridge_settings, has_settings_behind, stands_alone};
 
 use seq_circle::NoMemory;
 use std::alloc::Global;
 use tool_forms::{FlowSide, SeedRun, flow_side_of, is_word, seed_run_of};
+use tool_text::{is_text, number_up_to};
 
 /// A job of the second tool (own).
 #[derive(Clone, Copy, Debug, PartialEq, Eq)]
@@ -19,11 +20,18 @@ pub enum Form {
     Frames(FlowSide),
     /// `json` makes an object of JSON of each record of a capture.
     Json,
+    /// `ladder` draws what `run` or `replay` told.
+    Ladder,
+    /// `ladder --flow F` draws the flow of this number of a capture, from 1.
+    FlowLadder(u64),
 }
+
+// A flow and its number as one word.
+const FLOW: &[u8] = b"--flow=";
 
 /// The line that answers words which are none of the forms (own). It names all forms.
 pub const USAGE: &[u8] =
-    b"usage: dccp_bridge capture | unwrap | seed --seed S --events E | frames --flow F --side server|client | json\n";
+    b"usage: dccp_bridge capture | unwrap | seed --seed S --events E | frames --flow F --side server|client | json | ladder [--flow F]\n";
 
 // No word may follow.
 fn stands_alone(form: Form, words: &[String]) -> Option<Form>
@@ -56,6 +64,42 @@ fn asked_flow(alloc: Global, words: &[String]) -> Result<Option<Form>, NoMemory>
     }
 }
 
+// The ladder of the flow whose number this text is, from 1.
+fn flow_ladder(text: &[u8]) -> Option<Form>
+    ensures value { result ≡ flow_ladder text.now }
+    ensures within { IfSome result IsBridgeFormWithinBounds }
+{
+    let flow = number_up_to(u64::MAX, text)?;
+    if flow == 0 {
+        return None;
+    }
+    Some(Form::FlowLadder(flow))
+}
+
+// The same from one word, `--flow=F`.
+fn joined_ladder(word: &[u8]) -> Option<Form>
+    ensures value { result ≡ joined_ladder word.now }
+    ensures within { IfSome result IsBridgeFormWithinBounds }
+{
+    if word.len() < FLOW.len() || !is_text(&word[..FLOW.len()], FLOW) {
+        return None;
+    }
+    flow_ladder(&word[FLOW.len()..])
+}
+
+// The job that the words behind `ladder` ask for.
+fn asked_ladder(words: &[String]) -> Option<Form>
+    ensures value { result ≡ asked_ladder words.now }
+    ensures within { IfSome result IsBridgeFormWithinBounds }
+{
+    match words {
+        [] => Some(Form::Ladder),
+        [word] => joined_ladder(word.as_bytes()),
+        [name, flow] if is_word(name, b"--flow") => flow_ladder(flow.as_bytes()),
+        _ => None,
+    }
+}
+
 // The job that a first word and those behind it ask for.
 #[tactic(auto, unfolding(crate::specs::Words::form_behind))]
 fn form_behind(alloc: Global, first: &String, words: &[String]) -> Result<Option<Form>, NoMemory>
@@ -77,6 +121,9 @@ fn form_behind(alloc: Global, first: &String, words: &[String]) -> Result<Option
     }
     if is_word(first, b"json") {
         return Ok(stands_alone(Form::Json, words));
+    }
+    if is_word(first, b"ladder") {
+        return Ok(asked_ladder(words));
     }
     Ok(None)
 }

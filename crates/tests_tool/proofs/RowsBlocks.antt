@@ -2,7 +2,7 @@
 use Rattle.std.proofs.Common.{◌≡◌, refl, ℕ, Bool, false, true, List, ◌++◌, take, codes}
 use Rattle.std.specs.Prelude.{slice_set}
 use Rattle.std.specs.Fmt.{digits}
-use Rattle.bridge_command.specs.Links.{ip_of_later_link}
+use Rattle.bridge_links.specs.Links.{ip_of_later_link}
 use Rattle.bridge_command.specs.Unwrapping.{is_unwrapped_faulty, unwrapped_entry, unwrapped_text}
 use Rattle.tests_tool.proofs.RowsSeen.{bytes, refused_behind}
 

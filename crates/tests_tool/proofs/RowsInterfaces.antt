@@ -4,7 +4,7 @@ use Rattle.capture_reader.specs.declared.format.Order.TheVariants.{Big, Little}
 use Rattle.bridge_records.specs.Blocks.{is_section_version}
 use Rattle.bridge_records.specs.Interfaces.{needs_nanos, units_of}
 use Rattle.bridge_records.specs.Packets.{captured_of}
-use Rattle.bridge_command.specs.Links.{ip_start}
+use Rattle.bridge_links.specs.Links.{ip_start}
 
 -- 1.0 and 1.2 alone, in either byte order
 versions_of_sections :

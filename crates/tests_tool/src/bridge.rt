@@ -214,43 +214,55 @@ unread\
 iss client 168767807923846\niss server 230952348278845\nopen\ndeliver c0\ntimer server ack\n\
 prefer client here 1 2,248\ndeliver c0\ndeliver s0\ndeliver s0\ndeliver s0\n\
 ~ seed\nunread=> Words\n\
-usage: dccp_bridge capture | unwrap | seed --seed S --events E | frames --flow F --side server|client | json\n\
+usage: dccp_bridge capture | unwrap | seed --seed S --events E | frames --flow F --side server|client | json | ladder [--flow F]\n\
 ~ seed,--seed,1\nunread=> Words\n\
-usage: dccp_bridge capture | unwrap | seed --seed S --events E | frames --flow F --side server|client | json\n\
+usage: dccp_bridge capture | unwrap | seed --seed S --events E | frames --flow F --side server|client | json | ladder [--flow F]\n\
 ~ seed,--events,1\nunread=> Words\n\
-usage: dccp_bridge capture | unwrap | seed --seed S --events E | frames --flow F --side server|client | json\n\
+usage: dccp_bridge capture | unwrap | seed --seed S --events E | frames --flow F --side server|client | json | ladder [--flow F]\n\
 ~ seed,--seed,1,--events,0\nunread=> Words\n\
-usage: dccp_bridge capture | unwrap | seed --seed S --events E | frames --flow F --side server|client | json\n\
+usage: dccp_bridge capture | unwrap | seed --seed S --events E | frames --flow F --side server|client | json | ladder [--flow F]\n\
 ~ seed,--seed,1,--events,4097\nunread=> Words\n\
-usage: dccp_bridge capture | unwrap | seed --seed S --events E | frames --flow F --side server|client | json\n\
+usage: dccp_bridge capture | unwrap | seed --seed S --events E | frames --flow F --side server|client | json | ladder [--flow F]\n\
 ~ seed,--seed,18446744073709551616,--events,1\nunread=> Words\n\
-usage: dccp_bridge capture | unwrap | seed --seed S --events E | frames --flow F --side server|client | json\n\
+usage: dccp_bridge capture | unwrap | seed --seed S --events E | frames --flow F --side server|client | json | ladder [--flow F]\n\
 ~ seed,--seed,01,--events,1\nunread=> Words\n\
-usage: dccp_bridge capture | unwrap | seed --seed S --events E | frames --flow F --side server|client | json\n\
+usage: dccp_bridge capture | unwrap | seed --seed S --events E | frames --flow F --side server|client | json | ladder [--flow F]\n\
 ~ seed,--seed,-1,--events,1\nunread=> Words\n\
-usage: dccp_bridge capture | unwrap | seed --seed S --events E | frames --flow F --side server|client | json\n\
+usage: dccp_bridge capture | unwrap | seed --seed S --events E | frames --flow F --side server|client | json | ladder [--flow F]\n\
 ~ seed,--seed,1,--events,1,--seed,1\nunread=> Words\n\
-usage: dccp_bridge capture | unwrap | seed --seed S --events E | frames --flow F --side server|client | json\n\
+usage: dccp_bridge capture | unwrap | seed --seed S --events E | frames --flow F --side server|client | json | ladder [--flow F]\n\
 ~ seed,--seed,1,--events,1,--workers,1\nunread=> Words\n\
-usage: dccp_bridge capture | unwrap | seed --seed S --events E | frames --flow F --side server|client | json\n\
+usage: dccp_bridge capture | unwrap | seed --seed S --events E | frames --flow F --side server|client | json | ladder [--flow F]\n\
 ~ seed,--seed,1,--events,1,--\nunread=> Words\n\
-usage: dccp_bridge capture | unwrap | seed --seed S --events E | frames --flow F --side server|client | json\n\
+usage: dccp_bridge capture | unwrap | seed --seed S --events E | frames --flow F --side server|client | json | ladder [--flow F]\n\
 ~ seed,1,1\nunread=> Words\n\
-usage: dccp_bridge capture | unwrap | seed --seed S --events E | frames --flow F --side server|client | json\n\
+usage: dccp_bridge capture | unwrap | seed --seed S --events E | frames --flow F --side server|client | json | ladder [--flow F]\n\
 ~ seed,--help\nunread=> Words\n\
-usage: dccp_bridge capture | unwrap | seed --seed S --events E | frames --flow F --side server|client | json\n\
+usage: dccp_bridge capture | unwrap | seed --seed S --events E | frames --flow F --side server|client | json | ladder [--flow F]\n\
 ~ --seed,1,--events,1\nunread=> Words\n\
-usage: dccp_bridge capture | unwrap | seed --seed S --events E | frames --flow F --side server|client | json\n\
+usage: dccp_bridge capture | unwrap | seed --seed S --events E | frames --flow F --side server|client | json | ladder [--flow F]\n\
 ~ \nunread=> Words\n\
-usage: dccp_bridge capture | unwrap | seed --seed S --events E | frames --flow F --side server|client | json\n\
+usage: dccp_bridge capture | unwrap | seed --seed S --events E | frames --flow F --side server|client | json | ladder [--flow F]\n\
 ~ walk\nunread=> Words\n\
-usage: dccp_bridge capture | unwrap | seed --seed S --events E | frames --flow F --side server|client | json\n\
+usage: dccp_bridge capture | unwrap | seed --seed S --events E | frames --flow F --side server|client | json | ladder [--flow F]\n\
 ~ Capture\nunread=> Words\n\
-usage: dccp_bridge capture | unwrap | seed --seed S --events E | frames --flow F --side server|client | json\n\
+usage: dccp_bridge capture | unwrap | seed --seed S --events E | frames --flow F --side server|client | json | ladder [--flow F]\n\
 ~ capture,capture\nunread=> Words\n\
-usage: dccp_bridge capture | unwrap | seed --seed S --events E | frames --flow F --side server|client | json\n\
+usage: dccp_bridge capture | unwrap | seed --seed S --events E | frames --flow F --side server|client | json | ladder [--flow F]\n\
+~ ladder,transcript\nunread=> Words\n\
+usage: dccp_bridge capture | unwrap | seed --seed S --events E | frames --flow F --side server|client | json | ladder [--flow F]\n\
+~ ladder,--flow\nunread=> Words\n\
+usage: dccp_bridge capture | unwrap | seed --seed S --events E | frames --flow F --side server|client | json | ladder [--flow F]\n\
+~ ladder,--flow,0\nunread=> Words\n\
+usage: dccp_bridge capture | unwrap | seed --seed S --events E | frames --flow F --side server|client | json | ladder [--flow F]\n\
+~ ladder,--flow=18446744073709551616\nunread=> Words\n\
+usage: dccp_bridge capture | unwrap | seed --seed S --events E | frames --flow F --side server|client | json | ladder [--flow F]\n\
+~ ladder,--side,1\nunread=> Words\n\
+usage: dccp_bridge capture | unwrap | seed --seed S --events E | frames --flow F --side server|client | json | ladder [--flow F]\n\
+~ ladder,--flow,1,2\nunread=> Words\n\
+usage: dccp_bridge capture | unwrap | seed --seed S --events E | frames --flow F --side server|client | json | ladder [--flow F]\n\
 ~ show\n00=> Words\n\
-usage: dccp_bridge capture | unwrap | seed --seed S --events E | frames --flow F --side server|client | json\n";
+usage: dccp_bridge capture | unwrap | seed --seed S --events E | frames --flow F --side server|client | json | ladder [--flow F]\n";
 
 #[test]
 fn calls_of_the_bridge_in_pieces(rt: HostRuntime) -> Result<(), Fail> {

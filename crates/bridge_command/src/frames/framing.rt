@@ -14,7 +14,8 @@ ghost use Rattle.bridge_command.specs.Framing.{first_framing, flow_packet_text, 
 
 use crate::frames::lines::{put_comment, put_frame};
 use crate::frames::mapping::{UsualEnd, usual_end};
-use crate::unwrap::{ip_bytes, put_fault};
+use crate::unwrap::put_fault;
+use bridge_links::ip_bytes;
 use bridge_records::{PieceFault, RAW_IP, RecordJob, run_records};
 use capture_reader::Record;
 use dccp_io::{Sink, Source};

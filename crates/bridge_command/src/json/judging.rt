@@ -8,7 +8,7 @@ ghost use Rattle.bridge_command.specs.Objects.{nanoseconds_of, record_line, reco
 use crate::json::objects::Object;
 use crate::json::packets::put_packet;
 use crate::json::skips::{Skip, ip_skip, skip_name};
-use crate::unwrap::ip_bytes;
+use bridge_links::ip_bytes;
 use bridge_records::RAW_IP;
 use capture_reader::Record;
 use dccp_packets::{Malformed, decode};

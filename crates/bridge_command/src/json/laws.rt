@@ -5,7 +5,7 @@ ghost use Rattle.capture_reader.specs.Records.{RecordParts, captured};
 ghost use Rattle.capture_reader.specs.declared.format.Format.{Format};
 ghost use Rattle.packet_show.specs.Flows.{Flow};
 ghost use Rattle.packet_show.specs.Lines.{shows};
-ghost use Rattle.bridge_command.specs.Links.{IsUntagged, ip_bytes};
+ghost use Rattle.bridge_links.specs.Links.{IsUntagged, ip_bytes};
 ghost use Rattle.bridge_command.specs.Unwrapping.{records_among, unwrapped_entry, unwrapped_pieces};
 ghost use Rattle.bridge_command.specs.Judging.{judged_ip, shown_of};
 ghost use Rattle.bridge_command.specs.Telling.{json_pieces};

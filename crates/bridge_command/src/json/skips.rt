@@ -3,7 +3,7 @@ ghost use Rattle.std.specs.Prelude.{◌≡◌};
 ghost use Rattle.bridge_command.specs.Skips as spec;
 ghost use Rattle.bridge_command.specs.Skips.{skip_name};
 
-use crate::unwrap::read_u16;
+use bridge_links::read_u16;
 
 /// Why a record holds no DCCP packet that can be read (own).
 #[derive(Clone, Copy)]

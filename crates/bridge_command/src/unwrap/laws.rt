@@ -4,7 +4,7 @@ ghost use Rattle.capture_reader.specs.Format.{opened};
 ghost use Rattle.capture_reader.specs.Records.{captured};
 ghost use Rattle.capture_reader.specs.declared.format.Format.{Format};
 ghost use Rattle.packet_show.specs.Network.{carried};
-ghost use Rattle.bridge_command.specs.Links.{IsUntagged, ip_bytes};
+ghost use Rattle.bridge_links.specs.Links.{IsUntagged, ip_bytes};
 ghost use Rattle.bridge_command.specs.Unwrapping.{unwrapped_parts, unwrapped_pieces};
 
 /// Of a capture that `show` takes, Ethernet or raw IP, which has no fault, each record that a reader of captures finds

@@ -7,7 +7,7 @@ ghost use Rattle.tool_text.specs.Ends.{Answers, EndsForCause, SinkFails, StopsWi
 ghost use Rattle.bridge_command.specs.Unwrapping as spec;
 ghost use Rattle.bridge_command.specs.Unwrapping.{is_unwrapped_faulty, piece_fault_name, unwrap_closing, unwrap_work, unwrapped_entry, unwrapped_pieces, unwrapped_text, untold_header};
 
-use crate::unwrap::links::ip_start;
+use bridge_links::ip_start;
 use bridge_records::{PieceFault, RecordJob, put_file_header, put_record_header, run_records};
 use capture_reader::{Record, RecordHeader, behind};
 use dccp_io::{Sink, Source};

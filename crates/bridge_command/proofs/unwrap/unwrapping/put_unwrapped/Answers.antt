@@ -3,7 +3,7 @@ use Rattle.std.proofs.Common.{◌≡◌, ◌∙◌, ap, ℕ, List, ◌++◌, dro
 use Rattle.capture_reader.specs.Records.{RecordParts, entry_of}
 use Rattle.bridge_records.specs.Writing.{header_for, raw_record, record_head}
 use Rattle.capture_reader.specs.declared.record.RecordHeader.{RecordHeader}
-use Rattle.bridge_command.specs.Links.{ip_start}
+use Rattle.bridge_links.specs.Links.{ip_start}
 use Rattle.bridge_command.specs.Unwrapping.{unwrapped_at, unwrapped_entry}
 use Rattle.bridge_command.proofs.unwrap.unwrapping.put_unwrapped.Goals as goal
 

@@ -1,7 +1,7 @@
 //! Where the IP packet of a record begins, by the link type.
 ghost use Rattle.std.specs.Prelude.{◌≡◌, ◌+◌, ◌≤◌, ◌<◌, length, IfSome};
 ghost use Rattle.dccp_packets.specs.Grammar.{number_at};
-ghost use Rattle.bridge_command.specs.Links.{ip_at, ip_at_first, ip_behind_tag, ip_behind_tags, ip_by_type, ip_bytes, ip_in_loop, ip_in_null, ip_in_ppp, ip_in_session, ip_of_family, ip_of_later_link, ip_of_protocol, ip_of_type, ip_start, is_tag};
+ghost use Rattle.bridge_links.specs.Links.{ip_at, ip_at_first, ip_behind_tag, ip_behind_tags, ip_by_type, ip_bytes, ip_in_loop, ip_in_null, ip_in_ppp, ip_in_session, ip_of_family, ip_of_later_link, ip_of_protocol, ip_of_type, ip_start, is_tag};
 
 use byteorder::{BigEndian, ByteOrder, LittleEndian};
 
@@ -27,7 +27,7 @@ const PPP_IPV6: u16 = 0x0057;
 const PPP_CONTROL: u16 = 0xff03;
 
 /// The number of 16 bits that stands there, the most significant byte first.
-pub(crate) fn read_u16(bytes: &[u8], place: usize) -> u16
+pub fn read_u16(bytes: &[u8], place: usize) -> u16
     requires { place + 2 ≤ length bytes.now }
     ensures { result ≡ number_at place 2 bytes.now }
 {
@@ -195,7 +195,7 @@ fn ip_in_null(bytes: &[u8]) -> Option<usize>
 }
 
 /// Where the IP packet begins in a record of this link type, or None where it has none.
-pub(crate) fn ip_start(link: u32, bytes: &[u8]) -> Option<usize>
+pub fn ip_start(link: u32, bytes: &[u8]) -> Option<usize>
     ensures value { result ≡ ip_start link bytes.now }
     ensures within { IfSome result (λ n. n < length bytes.now) }
 {
@@ -226,7 +226,7 @@ fn ip_of_later_link(link: u32, bytes: &[u8]) -> Option<usize>
 
 /// The IP packet in a record of this link type, or no bytes where it has none (the link-layer header types of libpcap;
 /// IEEE 802.1Q), as where its link type is not known.
-pub(crate) fn ip_bytes(link: u32, bytes: &[u8]) -> &[u8]
+pub fn ip_bytes(link: u32, bytes: &[u8]) -> &[u8]
     ensures { result.now ≡ ip_bytes link bytes.now }
 {
     match ip_start(link, bytes) {

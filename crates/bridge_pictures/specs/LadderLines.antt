@@ -1,0 +1,144 @@
+-- What a line of a transcript draws: of those that `run` and `replay` write (own).
+use Rattle.std.specs.Prelude.{ℕ, ◌^◌, ◌-◌, ◌==◌, ◌||◌, ◌&&◌, not, nat_lt, Bool, false, is_some, if◌then◌else◌, List, [], ◌∷◌, length, take, slice_index, codes, Option, Some, None, option_and_then, Result, Ok, Err}
+use Rattle.std.specs.Str.{bytes_eq}
+use Rattle.tool_text.specs.Kinds.{hex_kind, word_read}
+use Rattle.tool_text.specs.Lines.{line_read}
+use Rattle.tool_text.specs.Numbers.{number_below}
+use Rattle.tool_text.specs.Refusals.{fault_at}
+use Rattle.tool_text.specs.Rows.{◌>>=◌}
+use Rattle.tool_text.specs.Words.{WordsLeft, first_word, later}
+use Rattle.tool_text.specs.declared.words.faults.LineFault.{LineFault}
+use Rattle.tool_text.specs.declared.words.faults.LineWhy.TheVariants as why
+use Rattle.world_events.specs.declared.event.Side.{Side}
+use Rattle.world_events.specs.declared.event.Side.TheVariants.{Client, Server}
+use Rattle.bridge_pictures.specs.declared.ladder.lines.Drawn.{Drawn}
+use Rattle.bridge_pictures.specs.declared.ladder.lines.Drawn.TheVariants as draws
+use Rattle.bridge_pictures.specs.declared.ladder.phases.Asked.{Asked}
+use Rattle.bridge_pictures.specs.declared.ladder.phases.Asked.TheVariants as asks
+use Rattle.bridge_pictures.specs.declared.ladder.phases.Came.{Came}
+use Rattle.bridge_pictures.specs.declared.ladder.phases.Came.TheVariants as comes
+
+-- a word without the colon at its end, if one stands there
+abbrev pub without_colon : List ℕ → List ℕ
+without_colon word =
+    if nat_lt 0 (length word) && slice_index word (length word - 1) == 58 then take (length word - 1) word else word
+
+-- the side of this name
+abbrev pub side_of_word : List ℕ → Option Side
+side_of_word word =
+    if bytes_eq word (codes "client") then Some Client
+    else if bytes_eq word (codes "server") then Some Server
+    else None
+
+-- what became of a frame, by the first word of what was answered
+abbrev pub came_of : List ℕ → Option Came
+came_of word =
+    if bytes_eq word (codes "took") then Some comes.Took
+    else if bytes_eq word (codes "dropped") then Some comes.Dropped
+    else if bytes_eq word (codes "synced") then Some comes.Synced
+    else if bytes_eq word (codes "was") then Some comes.WasReset
+    else if bytes_eq word (codes "sent") then Some comes.SentReset
+    else None
+
+-- the index of a frame: a number below 2^47
+abbrev pub frame_index : List ℕ → Option ℕ
+frame_index text = number_below (2 ^ 47) text
+
+-- the frame of a sender, if this is an index
+abbrev pub frame_from : Side → Option ℕ → Option (Side × ℕ)
+frame_from from index = option_and_then (λ i. Some (from, i)) index
+
+-- the sender and the index in a frame's name
+abbrev pub named_frame : List ℕ → Option (Side × ℕ)
+named_frame [] = None
+named_frame (letter ∷ index) =
+    if letter == 99 then frame_from Client (frame_index index)
+    else if letter == 115 then frame_from Server (frame_index index)
+    else None
+
+-- the number of a line, with a colon or without
+abbrev pub is_line_number : List ℕ → Bool
+is_line_number word = is_some (number_below (2 ^ 32) (without_colon word))
+
+-- a frame came, by its name and the first word of the answer
+abbrev pub came : List ℕ → List ℕ → Option Drawn
+came name answer = option_and_then (λ f. option_and_then (λ c. Some (draws.Came f.0 f.1 c)) (came_of answer)) (named_frame (without_colon name))
+
+-- a side was asked for this
+abbrev pub asked_drawn : List ℕ → Asked → Option Drawn
+asked_drawn side what = option_and_then (λ s. Some (draws.Asked s what)) (side_of_word (without_colon side))
+
+-- what an abort came to
+abbrev pub abort_asked : List ℕ → Asked
+abort_asked answer = if bytes_eq answer (codes "ok") then asks.GivenUp else asks.Other
+
+-- what a timer that ran out asks for, if it had something to do
+abbrev pub timer_asked : List ℕ → List ℕ → Asked
+timer_asked timer answer =
+    if not (bytes_eq answer (codes "fired")) then asks.Other
+    else if bytes_eq timer (codes "timewait:") then asks.GivenUp
+    else if bytes_eq timer (codes "rto:") then asks.TimedOut
+    else asks.Other
+
+-- An event of two ends, by the words behind its number: an end gives up that aborts, or whose TIMEWAIT is over.
+abbrev pub event : List ℕ → List ℕ → List ℕ → List ℕ → Option Drawn
+event second third fourth fifth =
+    if bytes_eq second (codes "open:") then Some (draws.Asked Client asks.Other)
+    else if bytes_eq second (codes "deliver") then came third fourth
+    else if bytes_eq second (codes "abort") then asked_drawn third (abort_asked fourth)
+    else if bytes_eq second (codes "timer") then asked_drawn third (timer_asked fourth fifth)
+    else if (bytes_eq second (codes "send") || bytes_eq second (codes "prefer")) || bytes_eq second (codes "close") then asked_drawn third asks.Other
+    else None
+
+-- what became of a frame that came to an end alone, if one came
+abbrev pub alone_by : Option Came → Drawn
+alone_by (Some c) = draws.CameAlone c
+alone_by None = draws.AskedAlone
+
+-- what an end alone answered
+abbrev pub answered_alone : List ℕ → Drawn
+answered_alone answer = alone_by (came_of answer)
+
+-- how a side ended
+abbrev pub end_drawn : List ℕ → Option Drawn
+end_drawn side = option_and_then (λ s. Some (draws.Ended s)) (side_of_word side)
+
+-- What a line tells that is no frame's, by its first five words: a number with a colon is a replay's.
+unfoldable pub told_drawn : List ℕ → List ℕ → List ℕ → List ℕ → List ℕ → Option Drawn
+told_drawn first second third fourth fifth =
+    if bytes_eq first (codes "end") then end_drawn second
+    else if bytes_eq first (codes "open:") then Some draws.AskedAlone
+    else if not (is_line_number first) then None
+    else if nat_lt (length (without_colon first)) (length first) then Some (answered_alone second)
+    else event second third fourth fifth
+
+-- what was found, or else an unknown word at this column
+abbrev pub or_unknown : ℕ → Option Drawn → Result Drawn LineFault
+or_unknown column (Some drawn) = Ok drawn
+or_unknown column None = Err (fault_at column why.UnknownWord)
+
+-- a frame was sent
+abbrev pub sent_frame : List ℕ → List ℕ → Option Drawn
+sent_frame name frame = option_and_then (λ f. Some (draws.Sent f.0 f.1 frame)) (named_frame name)
+
+-- what stands behind `sent`: a frame's name and its bytes
+abbrev pub sent_drawn : WordsLeft → Result Drawn LineFault
+sent_drawn left =
+    word_read hex_kind.reads (first_word (later left)) >>= (λ frame. or_unknown (first_word left).column (sent_frame (first_word left).text frame))
+
+-- what a line tells that is no frame's, by its first word, in this column, and those that are left
+unfoldable pub behind : ℕ → List ℕ → WordsLeft → Result Drawn LineFault
+behind column first left =
+    or_unknown column
+    (told_drawn first (first_word left).text (first_word (later left)).text (first_word (later (later left))).text
+    (first_word (later (later (later left)))).text)
+
+-- the words of a line
+abbrev pub ladder_row : WordsLeft → Result Drawn LineFault
+ladder_row left =
+    if bytes_eq (first_word left).text (codes "sent") then sent_drawn (later left)
+    else behind (first_word left).column (first_word left).text (later left)
+
+-- What a line draws, without its newline; an empty line and a comment draw nothing.
+abbrev pub drawn_by_line : List ℕ → Result (Option Drawn) LineFault
+drawn_by_line line = line_read ladder_row line

@@ -1,0 +1,103 @@
+-- What `ladder` draws of a transcript, those that `run` and `replay` write (own).
+use Rattle.std.specs.Prelude.{ℕ, nat_lt, Bool, false, is_some, if◌then◌else◌, List, [], ◌++◌, length, codes, decimal, Option, Some, None, Result, Ok, Err}
+use Rattle.dccp_packets.specs.Grammar.{Parts, decoded}
+use Rattle.dccp_packets.specs.declared.header.Kind.{Kind}
+use Rattle.dccp_packets.specs.declared.reading.Malformed.{Malformed}
+use Rattle.packet_show.specs.Lines.{words_text}
+use Rattle.tool_text.specs.Jobs.{Accepted, Gone, Job, Refused, Verdict, gone_through, text_of_job}
+use Rattle.tool_text.specs.Names.{malformed_name}
+use Rattle.tool_text.specs.declared.words.faults.LineFault.{LineFault}
+use Rattle.world_events.specs.declared.event.Side.{Side}
+use Rattle.world_events.specs.declared.event.Side.TheVariants.{Client, Server}
+use Rattle.bridge_pictures.specs.LadderLines.{drawn_by_line}
+use Rattle.bridge_pictures.specs.Places.{arrow_class}
+use Rattle.bridge_pictures.specs.Scene.{Drawing, asked_at, at_lone, delivered, first_drawing, gone_straight, picture, frame_sent, row_told}
+use Rattle.bridge_pictures.specs.declared.ladder.lines.Drawn.{Drawn}
+use Rattle.bridge_pictures.specs.declared.ladder.lines.Drawn.TheVariants as draws
+use Rattle.bridge_pictures.specs.declared.ladder.phases.Came.{Came}
+
+-- the letter of a side's frames
+abbrev pub side_letter : Side → List ℕ
+side_letter Client = codes "c"
+side_letter Server = codes "s"
+
+-- what a packet says, or why bytes are none
+abbrev pub words_by : Result Parts Malformed → List ℕ
+words_by (Ok packet) = words_text packet
+words_by (Err fault) = codes " malformed " ++ malformed_name fault
+
+-- what the packet says that these bytes are
+abbrev pub packet_words : List ℕ → List ℕ
+packet_words bytes = words_by (decoded bytes)
+
+-- a frame's name, and what it says
+unfoldable pub frame_label : Side → ℕ → List ℕ → List ℕ
+frame_label from index bytes = side_letter from ++ decimal index ++ packet_words bytes
+
+-- the kind of a packet
+abbrev pub kind_by : Result Parts Malformed → Option Kind
+kind_by (Ok packet) = Some packet.header.kind
+kind_by (Err fault) = None
+
+-- the kind of packet that bytes are, if they are one
+abbrev pub kind_in : List ℕ → Option Kind
+kind_in bytes = kind_by (decoded bytes)
+
+-- a side, or the only one
+abbrev pub drawn_side : Drawing → Side → Side
+drawn_side d side = if d.lone then Client else side
+
+-- a frame with these words was sent: an end alone has its arrow straight
+unfoldable pub frame_drawn : Drawing → Side → List ℕ → List ℕ → Drawing
+frame_drawn d from bytes words = if d.lone then gone_straight (row_told d Client words) Client (codes "sent") words else frame_sent d from (kind_in bytes) words
+
+-- a frame came to an end alone, from a peer that is not seen
+unfoldable pub came_alone : Drawing → Came → List ℕ → Drawing
+came_alone d came line = gone_straight (row_told (at_lone d) Client line) Server (arrow_class came false) line
+
+-- a frame was sent, of at most 2,044 bytes
+abbrev pub sent_on : Drawing → Side → ℕ → List ℕ → Drawing
+sent_on d from index frame = if nat_lt 2044 (length frame) then d else frame_drawn d from frame (frame_label from index frame)
+
+-- What a line draws.
+unfoldable pub drawn_on : Drawing → List ℕ → Drawn → Drawing
+drawn_on d line (draws.Asked side what) = asked_at d side what line
+drawn_on d line (draws.Came from index came) = delivered d from index came line
+drawn_on d line draws.AskedAlone = row_told (at_lone d) Client line
+drawn_on d line (draws.CameAlone came) = came_alone d came line
+drawn_on d line (draws.Sent from index frame) = sent_on d from index frame
+drawn_on d line (draws.Ended side) = row_told d (drawn_side d side) line
+
+-- what a line comes to: it is drawn, or refused, or says nothing
+abbrev pub line_drawn : Drawing → List ℕ → Result (Option Drawn) LineFault → Verdict (Unit {0}) Drawing
+line_drawn d line (Err fault) = Refused fault
+line_drawn d line (Ok None) = Accepted None d
+line_drawn d line (Ok (Some drawn)) = Accepted None (drawn_on d line drawn)
+
+-- A line of a transcript, without its newline.
+unfoldable pub line_judged : Drawing → ℕ → List ℕ → Verdict (Unit {0}) Drawing
+line_judged d number line = line_drawn d line (drawn_by_line line)
+
+-- the whole picture, with what its lines are called
+abbrev pub whole_picture : Drawing → List ℕ
+whole_picture d = if d.lone then picture (codes "this end") (codes "its peer") d else picture (codes "client") (codes "server") d
+
+-- What `ladder` makes of the lines: each is drawn, and at the end stands the picture.
+abbrev pub ladder_job : Job (Unit {0}) Drawing
+ladder_job = record { judged = line_judged; told = λ _. []; ending = whole_picture }
+
+-- what the lines of a transcript come to
+abbrev pub ladder_gone : List ℕ → Gone (Unit {0}) Drawing
+ladder_gone input = gone_through ladder_job first_drawing input
+
+-- What `ladder` writes of a transcript: the picture, or the line of a refusal.
+abbrev pub ladder_text : List ℕ → List ℕ
+ladder_text input = text_of_job ladder_job (ladder_gone input)
+
+-- The transcript is refused at some line.
+abbrev pub ladder_refused : List ℕ → Bool
+ladder_refused input = is_some (ladder_gone input).refusal
+
+-- How many bytes of a transcript its accepted lines have.
+abbrev pub ladder_accepted : List ℕ → ℕ
+ladder_accepted input = (ladder_gone input).accepted
