@@ -1,15 +1,8 @@
 //! Calls of both tools over streams in memory, for the tests. One function alone makes them, and what it keeps of the
 //! bytes that were written is how they stand to a text: a proof takes the longer, the more values live beside streams.
-ghost use Rattle.std.specs.Prelude.{◌≡◌, ◌⊎◌, ◌++◌, ℕ, List, Some, true};
-ghost use Rattle.dccp_command.specs.Forms.{form_text, reads_input};
-ghost use Rattle.tool_forms.specs.Words.{form_of};
-ghost use Rattle.tool_forms.specs.declared.words.Form.{Form};
-ghost use Rattle.tool_forms.specs.declared.words.Form.TheVariants as form;
-ghost use Rattle.tool_jobs.specs.Transcript.{SafeThroughout};
-
 use bridge_command::bridge;
 use dccp_command::{Status, dccp};
-use dccp_io::{MemorySink, MemorySource, Sink, Source};
+use dccp_io::{MemorySink, MemorySource};
 use fault_campaign::{Gate, OpenGate};
 use std::alloc::Global;
 use std::test::Fail;
@@ -124,25 +117,6 @@ fn compared(status: Status, input: &MemorySource, output: &MemorySink, text: &[u
     }
 }
 
-// What a caller of `run`, and of each other form that reads, has of the call's clauses, in other words: with status 0 or 1
-// each event took place between safe worlds, and the sink took all of the text; with 3, 4 or 5 it took a front of it.
-fn ended_as_told<R: Threads + Sync, G: Gate + Sync, S: Source, K: Sink>(
-    rt: &R,
-    alloc: Global,
-    gate: &G,
-    words: &[String],
-    input: &mut S,
-    output: &mut K,
-) -> Status
-    ensures done { (bytes : List ℕ) → form_of words.now ≡ Some form.Run → S.left input.old ≡ Some bytes → result ≡ Status.Done → SafeThroughout bytes }
-    ensures refused { (bytes : List ℕ) → form_of words.now ≡ Some form.Run → S.left input.old ≡ Some bytes → result ≡ Status.Input → SafeThroughout bytes }
-    ensures whole { (which : Form) (bytes before : List ℕ) → form_of words.now ≡ Some which → reads_input which ≡ true
-        → S.left input.old ≡ Some bytes → K.taken output.old ≡ Some before → (result ≡ Status.Done) ⊎ (result ≡ Status.Input)
-        → K.taken output.new ≡ Some (before ++ form_text which bytes) }
-{
-    dccp(rt, alloc, gate, words, input, output)
-}
-
 /// How a call of a tool with these words, parted by commas, over these bytes, ends, by a text.
 pub(crate) fn end_of<R: Threads + Sync, G: Gate + Sync>(
     rt: &R,
@@ -156,7 +130,7 @@ pub(crate) fn end_of<R: Threads + Sync, G: Gate + Sync>(
     let mut input = source(alloc, streams, bytes)?;
     let mut output = sink(alloc, streams)?;
     let status = match tool {
-        Tool::Dccp => ended_as_told(rt, alloc, gate, &words, &mut input, &mut output),
+        Tool::Dccp => dccp(rt, alloc, gate, &words, &mut input, &mut output),
         Tool::Bridge => bridge(alloc, &words, &mut input, &mut output),
     };
     Ok(compared(status, &input, &output, text))
