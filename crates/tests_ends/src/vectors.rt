@@ -3,7 +3,7 @@
 use ccid_two::Kinds;
 use dccp_endpoint::{Config, Endpoint, Frame, NoMemory, Outbox, Role, Timer, Vectors, seal_frame};
 use dccp_options::kinds::ACK_VECTOR_0;
-use dccp_options::{Opt, OptFault, options};
+use dccp_options::{Opt, options};
 use dccp_packets::decode;
 use std::alloc::Global;
 
@@ -54,23 +54,32 @@ fn receive_each(server: &mut Endpoint<Kinds>, out: &mut Outbox) -> Option<()> {
 // How many bytes of an Ack Vector an option has, and the first of them.
 type Vector = (usize, u8);
 
-fn vector_in(option: Option<Result<Opt<'_>, OptFault>>) -> Option<Vector> {
-    match option {
-        Some(Ok(option)) if option.kind == ACK_VECTOR_0 => {
-            Some((option.body.len(), *option.body.first()?))
-        }
-        _ => None,
-    }
+fn vector_of(option: &Opt<'_>) -> Option<Vector> {
+    let first = *option.body.first()?;
+    (option.kind == ACK_VECTOR_0).then_some((option.body.len(), first))
 }
 
-// The first two options of a frame. Padding is none.
+// The first Ack Vector of a frame and the last of any further ones.
 fn vectors_of(frame: &[u8]) -> Option<(Option<Vector>, Option<Vector>)> {
-    let packet = decode(frame).ok()?;
+    let Ok(packet) = decode(frame) else {
+        return None;
+    };
     if packet.options.len() > 1008 {
         return None;
     }
-    let mut list = options(packet.options, false);
-    Some((vector_in(list.next()), vector_in(list.next())))
+    let (mut first, mut last) = (None, None);
+    for option in options(packet.options, false) {
+        let vector = match option {
+            Ok(option) => vector_of(&option),
+            Err(_) => None,
+        };
+        if first.is_none() {
+            first = vector;
+        } else if vector.is_some() {
+            last = vector;
+        }
+    }
+    Some((first, last))
 }
 
 // Those of the Ack that goes out by its timer then.
