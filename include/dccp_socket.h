@@ -133,7 +133,8 @@ dccp_status dccp_connection_look(dccp_connection *connection, dccp_view *view);
 dccp_status dccp_connection_look_path(dccp_connection *connection, dccp_round_trip *trip);
 
 /* The sequence number of the packet that dccp_connection_send sent last; 0 before the first. What became of it is told as by dccp_fate_of: after
- * its report, and before a timeout. And the longest data that fit a frame of `most` bytes now, as dccp_longest_data has it. */
+ * its report, and before a timeout. Of what is in flight when the connection ends nothing more is known. And the longest data that fit a frame
+ * of `most` bytes now, as dccp_longest_data has it. */
 uint64_t dccp_connection_last_sent(const dccp_connection *connection);
 dccp_fate dccp_connection_fate(dccp_connection *connection, uint64_t number);
 size_t dccp_connection_longest_data(dccp_connection *connection, size_t most);

@@ -787,7 +787,11 @@ dccp_status dccp_connection_look_path(dccp_connection *it, dccp_round_trip *trip
 
 uint64_t dccp_connection_last_sent(const dccp_connection *it) { return it->last_sent; }
 
-dccp_fate dccp_connection_fate(dccp_connection *it, uint64_t number) { return dccp_fate_of(&it->end, number); }
+dccp_fate dccp_connection_fate(dccp_connection *it, uint64_t number) {
+    const dccp_fate fate = dccp_fate_of(&it->end, number);
+    /* Nothing more is heard of what is in flight once the connection has ended. */
+    return it->has_ended && fate == DCCP_FATE_IN_FLIGHT ? DCCP_FATE_UNKNOWN : fate;
+}
 
 size_t dccp_connection_longest_data(dccp_connection *it, size_t most) { return dccp_longest_data(&it->end, most); }
 

@@ -298,7 +298,7 @@ impl Connection {
     /// # Ok::<(), Box<dyn std::error::Error>>(())
     /// ```
     pub fn fate(&mut self, number: u64) -> Fate {
-        self.end.fate(number)
+        self.end.fate(number).once(self.phase())
     }
 
     /// The longest data, 0 to 1,024 bytes, whose frame surely has no more than `most` bytes now. Beside them stand a header and,

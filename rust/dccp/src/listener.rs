@@ -208,7 +208,8 @@ impl Listener {
     /// # Ok::<(), Box<dyn std::error::Error>>(())
     /// ```
     pub fn fate(&mut self, peer: SocketAddrV4, number: u64) -> Fate {
-        self.flows.fate(peer, number)
+        let fate = self.flows.fate(peer, number);
+        self.phase(peer).map_or(fate, |phase| fate.once(phase))
     }
 
     /// The longest data to a peer, 0 to 1,024 bytes, whose frame surely has no more than `most` bytes now, as

@@ -48,7 +48,7 @@ impl Phase {
 #[derive(Clone, Copy, Debug, PartialEq, Eq)]
 pub enum Fate {
     /// None was sent under this number; or no more is known of it: 2,048 later ones were sent, a timeout took all that was in flight
-    /// for lost, or another CCID has begun.
+    /// for lost, another CCID has begun, or the connection has ended while it was in flight.
     Unknown,
     /// It is on its way.
     InFlight,
@@ -66,6 +66,16 @@ impl Fate {
             2 => Fate::Delivered,
             3 => Fate::Lost,
             _ => unreachable!("the library has four fates"),
+        }
+    }
+
+    /// The same in this phase: where the connection has ended, nothing more is heard of what is in flight.
+    pub(crate) fn once(self, phase: Phase) -> Fate {
+        let has_ended = matches!(phase, Phase::Closed | Phase::TimeWait);
+        if has_ended && self == Fate::InFlight {
+            Fate::Unknown
+        } else {
+            self
         }
     }
 }

@@ -120,6 +120,18 @@ fn what_became_of_packets_is_told() -> Result<(), Box<dyn Error>> {
     assert_eq!(one.fate(fifth), Fate::InFlight);
     assert!(one.handle_timer(Timer::Rto, now));
     assert_eq!((one.fate(fifth), one.statistics().lost), (Fate::Unknown, 2));
+    // Of a sixth nothing more is heard once the connection has ended.
+    while one.poll_transmit().is_some() {}
+    let sixth = one.send(b"x", now)?;
+    assert_eq!(one.fate(sixth), Fate::InFlight);
+    other.abort(now)?;
+    while let Some(frame) = other.poll_transmit() {
+        one.handle_datagram(&frame.bytes, now);
+    }
+    assert_eq!(
+        (one.phase(), one.fate(sixth)),
+        (Phase::TimeWait, Fate::Unknown)
+    );
     Ok(())
 }
 
