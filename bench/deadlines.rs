@@ -1,22 +1,33 @@
 //! What deadlines cost a server of 1,024 flows in OPEN, beside 1,024 ends in OPEN that stand in a list: the timers of all due at one time, and
-//! the first deadline asked for after each of a million datagrams. It prints figures, each the least of some runs, and ends with 1 where the
-//! server's is over twice the ends'.
+//! the first deadline asked for after each of a million datagrams. It prints figures of processor time, each the least of some runs, and ends
+//! with 1 where the server's is over twice the ends'.
 
 use dccp::{Config, Connection, Listener, Phase};
 use std::error::Error;
+use std::fs;
 use std::hint::black_box;
 use std::net::{Ipv4Addr, SocketAddrV4};
 use std::process::ExitCode;
+use std::thread;
 use std::time::{Duration, Instant};
 
 const FLOWS: u16 = 1_024;
 const SERVICE: u32 = 42;
-const DATAGRAMS: usize = 1_000_000;
+/// In each of the runs.
+const DATAGRAMS: usize = 100_000;
 /// Once data have come, each end owes an Ack, whose timer has run out by then.
 const WAIT: Duration = Duration::from_secs(1);
 const ROUNDS: usize = 16;
-const RUNS: usize = 5;
+const RUNS: usize = 10;
 const MOST_TIMES: f64 = 2.0;
+
+/// The processor time of this program so far, which Linux tells in nanoseconds. It counts on where a thread gives its processor up.
+fn processor_time() -> Result<Duration, Box<dyn Error>> {
+    thread::yield_now();
+    let told = fs::read_to_string("/proc/self/schedstat")?;
+    let nanoseconds = told.split_whitespace().next().ok_or("no processor time is told")?;
+    Ok(Duration::from_nanos(nanoseconds.parse()?))
+}
 
 fn here() -> SocketAddrV4 {
     SocketAddrV4::new(Ipv4Addr::new(192, 0, 2, 200), 5_001)
@@ -196,9 +207,9 @@ fn telling(server: &mut impl Server, clients: &mut [Connection], now: &mut Insta
             clients[usize::from(to)].handle_datagram(&bytes, *now);
         }
         *now += WAIT;
-        let begun = Instant::now();
+        let begun = processor_time()?;
         server.tell(*now);
-        took = took.min(begun.elapsed());
+        took = took.min(processor_time()? - begun);
         let mut told = 0;
         while let Some((to, bytes)) = server.frame() {
             told += 1;
@@ -220,14 +231,14 @@ fn asking(server: &mut impl Server, clients: &mut [Connection], now: Instant) ->
     let packets = data(clients, now)?;
     let mut took = Duration::MAX;
     for _ in 0..RUNS {
-        let begun = Instant::now();
+        let begun = processor_time()?;
         for (at, place) in (0..DATAGRAMS).zip((0..FLOWS).cycle()) {
             // Places that lie apart, one after the other.
             let place = (place * 387 + (at >> 10) as u16) % FLOWS;
             server.hear(place, &packets[usize::from(place)], now);
             black_box(server.first_deadline(place));
         }
-        took = took.min(begun.elapsed());
+        took = took.min(processor_time()? - begun);
         while server.frame().is_some() {}
     }
     Ok(took.as_secs_f64() * 1e9 / DATAGRAMS as f64)
