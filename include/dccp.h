@@ -428,7 +428,7 @@ dccp_status dccp_feature(dccp_end *end, uint32_t feature, bool at_peer, dccp_fea
 /* Makes a listener in the handle, for at most `most` flows at a time, 1 to 1,024. One that the handle held is freed first, also where making
  * fails; then the handle holds none. Of the settings count the own address and port, the service, whether the end is plain, and what it does
  * for its path; `is_v6` has to be false and `first_number` below 2^48, and the others make no difference. The wishes are those of each peer's
- * end, which makes the same offers as one that dccp_accept makes. A flow takes about 87 KB, which it gives back where it ends. The listener
+ * end, which makes the same offers as one that dccp_accept makes. A flow takes about 88 KB, which it gives back where it ends. The listener
  * goes by DCCP_USUAL_RULES until dccp_listener_rules says else.
  *     DCCP_NO_SUCH_LISTENER  for IPv6, or for none or over 1,024 flows
  *     a status of dccp_make */
