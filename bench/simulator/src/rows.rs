@@ -133,6 +133,12 @@ impl Scenario {
         self
     }
 
+    /// Whether the seed decides of anything but the first numbers.
+    fn is_drawn(&self) -> bool {
+        let is_drawn = |way: &Way| way.jitter > 0 || !matches!(way.loss, Loss::Never);
+        self.forged > 0 || is_drawn(&self.there) || is_drawn(&self.back)
+    }
+
     /// How many full packets the way carries in the measured part.
     fn carried(&self) -> f64 {
         let seconds = (self.measured.end - self.measured.start) as f64 / SECOND as f64;
@@ -150,14 +156,23 @@ impl Scenario {
     }
 }
 
+/// How many seeds are run where something on the path is drawn, and where nothing is except the first numbers.
+const SEEDS: u64 = 10;
+const SEEDS_UNDRAWN: u64 = 3;
+
 fn row(name: &str, title: &str, scenario: Scenario, goals: &[Goal]) -> Row {
+    let seeds = if scenario.is_drawn() {
+        SEEDS
+    } else {
+        SEEDS_UNDRAWN
+    };
     Row {
         name: name.to_owned(),
         title: title.to_owned(),
         scenario,
         goals: goals.to_vec(),
         has_classic_peer: false,
-        seeds: 10,
+        seeds,
     }
 }
 
@@ -232,8 +247,7 @@ fn bulk() -> Vec<Row> {
             "100,000/s, RTT 4, queue 300",
             path(100_000, 4, 300, 10),
             &[Goal::Share(0.98)],
-        )
-        .of_seeds(3),
+        ),
         row(
             "satellite",
             "40/s, RTT 1,200, queue 50",
