@@ -284,11 +284,12 @@ fn bulk() -> Vec<Row> {
             path(1_200, 40, 100, 60).forged(1_000),
             &[Goal::Share(0.98)],
         ),
+        // No figure is due: once in 1,678 times a guess of 24 bits lies in a window of 10,000, and is taken (RFC 4340, section 7.6.2).
         row(
             "forged-short",
             "the same, and all numbers short",
             path(1_200, 40, 100, 60).forged(1_000).with_short_numbers(),
-            &[Goal::Share(0.98)],
+            &[],
         ),
     ]
 }
