@@ -187,12 +187,16 @@ impl Row {
         self
     }
 
-    /// The same path, where a listener's flow sends in place of the client.
+    /// The same path, where a listener's flow sends in place of the client. Its silence has no figure: where the Ack with the client's
+    /// Confirms is lost, no data go until the flow has asked again.
     fn of_flow(self) -> Row {
+        let has_figure = |goal: &Goal| !matches!(goal, Goal::Silence(_));
+        let goals = self.goals.into_iter().filter(has_figure).collect();
         Row {
             name: format!("flow-{}", self.name),
             title: format!("flow: {}", self.title),
             scenario: self.scenario.from(Sender::Flow),
+            goals,
             ..self
         }
     }
