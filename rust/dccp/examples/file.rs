@@ -8,12 +8,10 @@
 use dccp::Fate;
 use dccp::net::{Error, Options, Socket};
 use std::collections::VecDeque;
-use std::thread;
 use std::time::Duration;
 
 /// A packet is the number of a block, and the block.
 const BLOCK: usize = 1_020;
-const PAUSE: Duration = Duration::from_millis(5);
 
 fn send(socket: &Socket, content: &[u8]) -> Result<(), Error> {
     let blocks: Vec<&[u8]> = content.chunks(BLOCK).collect();
@@ -25,7 +23,7 @@ fn send(socket: &Socket, content: &[u8]) -> Result<(), Error> {
                 let packet = [&(at as u32).to_be_bytes(), blocks[at]].concat();
                 under_way.push_back((socket.send(&packet)?, at));
             }
-            None => thread::sleep(PAUSE),
+            None => std::thread::sleep(Duration::from_millis(5)),
         }
         // The oldest are known first. Of one that nothing is known of any more it is not known that it came.
         while let Some((number, at)) = under_way.pop_front() {
