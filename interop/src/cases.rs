@@ -2,7 +2,7 @@
 
 use crate::kernel::Told;
 use crate::own::{Counts, End, Plan, Role};
-use crate::wire::{Addresses, Passed};
+use crate::wire::{ACK_RATIO, Addresses, Numbered, Passed, SEQUENCE_WINDOW};
 use dccp::{Feature, Place};
 use std::time::Duration;
 
@@ -57,6 +57,7 @@ fn plan(role: Role) -> Plan {
         end: End::Closes,
         offers: offers(role),
         prefers: Vec::new(),
+        reads: Vec::new(),
         keeps_ack_ratio: false,
         limit: Duration::from_secs(60),
     }
@@ -80,7 +81,7 @@ fn transfer(
         Role::Server | Role::Nobody => format!("client {} 5001", addresses.own()),
     };
     // Our end gives up first, so that what it has sent is heard.
-    let wait: u64 = if loss < 20 { 58 } else { 150 };
+    let wait: u64 = if loss < 20 { 58 } else { 500 };
     Case {
         name,
         addresses,
@@ -164,27 +165,22 @@ fn all_was_taken(outcome: &Outcome) -> Vec<String> {
     .collect()
 }
 
-/// All was taken, and where nothing is lost all was sent.
+/// All was sent, and what the wire carried was taken. Where nothing is lost the two ends closed.
 fn carried(case: &Case, outcome: &Outcome) -> Vec<String> {
     let mut faults = all_was_taken(outcome);
+    faults.extend(unless(outcome.own.sent == case.plan.send, || {
+        format!("our end sent {}", outcome.own.sent)
+    }));
+    faults.extend(unless(outcome.kernel.sent == case.plan.expect, || {
+        format!("the kernel sent {}", outcome.kernel.sent)
+    }));
     if case.loss == 0 {
-        faults.extend(unless(outcome.own.sent == case.plan.send, || {
-            format!("our end sent {}", outcome.own.sent)
-        }));
-        faults.extend(unless(outcome.kernel.sent == case.plan.expect, || {
-            format!("the kernel sent {}", outcome.kernel.sent)
-        }));
         faults.extend(unless(outcome.own.ended == Some(1), || {
             format!("our end ended by {:?}", outcome.own.ended)
         }));
         faults.extend(unless(
             outcome.kernel.end == "closed" || outcome.kernel.end == "own",
             || format!("the kernel's ended by {}", outcome.kernel.end),
-        ));
-    } else {
-        faults.extend(unless(
-            outcome.own.sent >= 100 && outcome.kernel.sent >= 100,
-            || "fewer than 100 packets went".to_string(),
         ));
     }
     faults
@@ -202,6 +198,25 @@ fn carried_and_wished(case: &Case, outcome: &Outcome) -> Vec<String> {
     let mut faults = carried(case, outcome);
     for (place, (_, _, values)) in case.plan.prefers.iter().enumerate() {
         faults.extend(settled(outcome, place, values[0]));
+    }
+    faults
+}
+
+/// The kernel asked for another Sequence Window and another Ack Ratio while the connection was open; our end confirmed each, and holds the last.
+fn kernel_asked(case: &Case, outcome: &Outcome) -> Vec<String> {
+    let mut faults = carried(case, outcome);
+    for (place, feature) in [SEQUENCE_WINDOW, ACK_RATIO].into_iter().enumerate() {
+        let is_it = |it: &&Numbered| it.feature == feature;
+        let changes: Vec<&Numbered> = outcome.came.changes.iter().filter(is_it).collect();
+        let Some(last) = changes.last() else {
+            faults.push(format!("the kernel never asked for feature {feature}"));
+            continue;
+        };
+        let confirmed = |it: &&Numbered| outcome.sent.confirms.contains(it);
+        faults.extend(unless(changes.iter().all(confirmed), || {
+            format!("our end did not confirm all of {changes:?}")
+        }));
+        faults.extend(settled(outcome, place, last.value));
     }
     faults
 }
@@ -450,6 +465,15 @@ fn listed() -> Vec<Case> {
             verdict: carried_and_wished,
             ..clean("sequence-window-as-server", Server, 500, "", |plan| {
                 plan.prefers = vec![(Feature::SequenceWindow, Place::Here, vec![5_000])]
+            })
+        },
+        Case {
+            verdict: kernel_asked,
+            ..clean("kernel-asks-while-open", Server, 2_000, "", |plan| {
+                plan.reads = vec![
+                    (Feature::SequenceWindow, Place::There),
+                    (Feature::AckRatio, Place::There),
+                ]
             })
         },
         Case {

@@ -27,8 +27,8 @@ pub struct Told {
 }
 
 impl Kernel {
-    /// Waits for the machine, and returns it with the kernel's version.
-    pub fn over(socket: &Path) -> io::Result<(Kernel, String)> {
+    /// Waits for the machine.
+    pub fn over(socket: &Path) -> io::Result<Kernel> {
         let words = UnixStream::connect(socket)?;
         let stream = words.try_clone()?;
         let (sender, lines) = channel();
@@ -40,13 +40,8 @@ impl Kernel {
             }
         });
         let kernel = Kernel { words, lines };
-        let ready = kernel.line_with("ready", Duration::from_secs(120))?;
-        let version = ready
-            .split_whitespace()
-            .nth(1)
-            .unwrap_or_default()
-            .to_string();
-        Ok((kernel, version))
+        kernel.line_with("ready", Duration::from_secs(600))?;
+        Ok(kernel)
     }
 
     /// Waits for the next line that begins so.

@@ -1,5 +1,5 @@
-//! Plays DCCP ends of this library beside those of Linux, case by case, and prints a table: interop FOLDER [CASE..]. The folder holds the sockets
-//! of the machine, as `interop/linux` has started it, and takes a capture a case.
+//! Plays DCCP ends of this library beside those of Linux, and prints a line of a table a case: interop MACHINE CAPTURES CASE.. The folder MACHINE
+//! holds the sockets of a machine that `interop/linux` has started; CAPTURES takes a capture a case. Without words it prints the names of the cases.
 
 mod cases;
 mod kernel;
@@ -28,9 +28,9 @@ fn played(
     case: &Case,
     wire: &mut Wire,
     kernel: &mut Kernel,
-    folder: &Path,
+    captures: &Path,
 ) -> Result<Outcome, Box<dyn Error>> {
-    let capture = folder.join("captures").join(format!("{}.pcap", case.name));
+    let capture = captures.join(format!("{}.pcap", case.name));
     wire.begin(&capture, case.addresses, case.loss)?;
     let mut told = None;
     if let Some(words) = &case.kernel {
@@ -56,14 +56,14 @@ fn played(
     Ok(Outcome {
         own: counts,
         kernel: kernel_told,
-        sent: wire.sent,
-        came: wire.came,
+        sent: wire.sent.clone(),
+        came: wire.came.clone(),
     })
 }
 
-fn row(case: &Case, wire: &mut Wire, kernel: &mut Kernel, folder: &Path) -> Row {
+fn row(case: &Case, wire: &mut Wire, kernel: &mut Kernel, captures: &Path) -> Row {
     let begun = Instant::now();
-    let outcome = played(case, wire, kernel, folder).map_err(|it| it.to_string());
+    let outcome = played(case, wire, kernel, captures).map_err(|it| it.to_string());
     let faults = match &outcome {
         Ok(outcome) => (case.verdict)(case, outcome),
         Err(fault) => vec![fault.clone()],
@@ -103,38 +103,27 @@ fn print(row: &Row) {
 }
 
 fn run() -> Result<bool, Box<dyn Error>> {
-    let words: Vec<String> = std::env::args().skip(1).collect();
-    let (folder, only) = words
-        .split_first()
-        .ok_or("usage: interop FOLDER [CASE..]")?;
-    let folder = Path::new(folder);
-    let mut wire = Wire::over(&folder.join("packets"))?;
-    let (mut kernel, version) = Kernel::over(&folder.join("words"))?;
-    println!("Linux {version}");
-    println!();
-    println!(
-        "| Case | Ours: sent / taken | The kernel's: sent / taken | Ends: our code, the kernel's | Seconds | |"
-    );
-    println!("|---|---|---|---|---|---|");
     let every = cases::every();
-    let chosen: Vec<&Case> = every
+    let words: Vec<String> = std::env::args().skip(1).collect();
+    let [machine, captures, names @ ..] = words.as_slice() else {
+        every.iter().for_each(|it| println!("{}", it.name));
+        return Ok(true);
+    };
+    let (machine, captures) = (Path::new(machine), Path::new(captures));
+    let mut wire = Wire::over(&machine.join("packets"))?;
+    let mut kernel = Kernel::over(&machine.join("words"))?;
+    let mut all_passed = true;
+    for case in every
         .iter()
-        .filter(|it| only.is_empty() || only.iter().any(|name| it.name.contains(name.as_str())))
-        .collect();
-    if chosen.is_empty() {
-        return Err("no case has such a name".into());
-    }
-    let mut failed = 0;
-    for case in &chosen {
+        .filter(|it| names.iter().any(|name| it.name == name))
+    {
         // What an earlier case has left under way comes to rest.
         std::thread::sleep(Duration::from_millis(300));
-        let row = row(case, &mut wire, &mut kernel, folder);
+        let row = row(case, &mut wire, &mut kernel, captures);
         print(&row);
-        failed += usize::from(!row.faults.is_empty());
+        all_passed &= row.faults.is_empty();
     }
-    println!();
-    println!("{} passed, {failed} failed", chosen.len() - failed);
-    Ok(failed == 0)
+    Ok(all_passed)
 }
 
 fn main() -> ExitCode {

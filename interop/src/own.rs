@@ -48,6 +48,8 @@ pub struct Plan {
     pub offers: Vec<(Feature, Place, Vec<u64>)>,
     /// What it asks for after the first packets.
     pub prefers: Vec<(Feature, Place, Vec<u64>)>,
+    /// What is read at the end, after what it asks for.
+    pub reads: Vec<(Feature, Place)>,
     /// Whether the owner's rules leave the Ack Ratio to this plan.
     pub keeps_ack_ratio: bool,
     pub limit: Duration,
@@ -62,7 +64,7 @@ pub struct Counts {
     pub strange: u32,
     pub was_open: bool,
     pub ended: Option<u8>,
-    /// The features that were asked for, at the end: value, and whether it is settled.
+    /// The features that were asked for, that are read and that were offered, at the end: value, and whether it is settled.
     pub features: Vec<(u64, bool)>,
 }
 
@@ -108,7 +110,8 @@ impl<'a> Own<'a> {
                 config.offer(*feature, *place, values)
             });
         let config = if plan.keeps_ack_ratio {
-            config.without(PathRule::AckRatio)
+            // A probe, too, is a wish for the Ack Ratio.
+            config.without(PathRule::AckRatio).without(PathRule::Probes)
         } else {
             config
         };
@@ -169,12 +172,11 @@ impl<'a> Own<'a> {
     }
 
     fn finish(mut self) -> Result<Counts, Box<dyn std::error::Error>> {
-        let asked: Vec<_> = self
-            .plan
-            .prefers
-            .iter()
-            .chain(&self.plan.offers)
-            .map(|it| (it.0, it.1))
+        let plan = self.plan;
+        let place = |it: &(Feature, Place, Vec<u64>)| (it.0, it.1);
+        let asked: Vec<_> = (plan.prefers.iter().map(place))
+            .chain(plan.reads.iter().copied())
+            .chain(plan.offers.iter().map(place))
             .collect();
         if let Some(connection) = &mut self.connection {
             self.counts.features = asked

@@ -37,8 +37,23 @@ impl Addresses {
     }
 }
 
+/// A feature whose value is a number, as an option names it (RFC 4340, section 6.4), and that number.
+#[derive(Clone, Copy, Debug, PartialEq, Eq)]
+pub struct Numbered {
+    pub feature: u8,
+    pub value: u64,
+}
+
+/// The Sequence Window, as options name it.
+pub const SEQUENCE_WINDOW: u8 = 3;
+/// The Ack Ratio, as options name it.
+pub const ACK_RATIO: u8 = 5;
+/// The options that ask for a value at one's own place, and that confirm one of the other's (RFC 4340, section 5.8).
+const CHANGE_L: u8 = 32;
+const CONFIRM_R: u8 = 35;
+
 /// What went over the wire in one direction.
-#[derive(Clone, Copy, Debug, Default, PartialEq, Eq)]
+#[derive(Clone, Debug, Default, PartialEq, Eq)]
 pub struct Passed {
     /// Packets with data, before any was lost.
     pub data: u32,
@@ -48,6 +63,10 @@ pub struct Passed {
     pub syncs: u32,
     /// The code of the last Reset.
     pub reset: Option<u8>,
+    /// What was asked for by Change L once the connection was open, of Sequence Window and Ack Ratio.
+    pub changes: Vec<Numbered>,
+    /// What was confirmed by Confirm R then, of the same.
+    pub confirms: Vec<Numbered>,
 }
 
 /// A generator of random numbers (xorshift; own): what is lost is the same in each run.
@@ -177,7 +196,43 @@ fn kind(packet: &[u8]) -> Option<u8> {
     packet.get(8).map(|it| it >> 1 & 15)
 }
 
+/// The options of a packet of an open connection: Data, Ack, DataAck, Sync and SyncAck, with numbers of six bytes (RFC 4340, section 5).
+fn options(packet: &[u8]) -> &[u8] {
+    let head = match kind(packet) {
+        Some(2) => 16,
+        Some(3 | 4 | 8 | 9) => 24,
+        _ => return &[],
+    };
+    let end = packet.get(4).map_or(0, |it| usize::from(*it) * 4);
+    packet.get(head..end).unwrap_or_default()
+}
+
+/// What options of this type say of Sequence Window and Ack Ratio.
+fn numbered(mut options: &[u8], wanted: u8) -> Vec<Numbered> {
+    let mut found = Vec::new();
+    while let [kind, rest @ ..] = options {
+        // Those below 32 are of one byte.
+        let length = match rest {
+            _ if *kind < 32 => 1,
+            [length, ..] if (2..=options.len()).contains(&(*length).into()) => (*length).into(),
+            _ => break,
+        };
+        if let [kind, _, feature @ (SEQUENCE_WINDOW | ACK_RATIO), value @ ..] = &options[..length]
+            && *kind == wanted
+        {
+            found.push(Numbered {
+                feature: *feature,
+                value: value.iter().fold(0, |all, it| all << 8 | u64::from(*it)),
+            });
+        }
+        options = &options[length..];
+    }
+    found
+}
+
 fn count(passed: &mut Passed, packet: &[u8], is_lost: bool) {
+    passed.changes.extend(numbered(options(packet), CHANGE_L));
+    passed.confirms.extend(numbered(options(packet), CONFIRM_R));
     match kind(packet) {
         // Data and DataAck.
         Some(2 | 4) => {
