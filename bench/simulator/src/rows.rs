@@ -187,7 +187,7 @@ impl Row {
         self
     }
 
-    /// The same path, where a listener's flow sends in place of the client. Its silence has no figure: where the Ack with the client's
+    /// The same path, where a listener's flow sends in place of the client. Its silence has no figure: by the rules, where the Ack with the client's
     /// Confirms is lost, no data go until the flow has asked again.
     fn of_flow(self) -> Row {
         let has_figure = |goal: &Goal| !matches!(goal, Goal::Silence(_));
