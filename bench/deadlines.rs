@@ -37,7 +37,7 @@ fn peer(place: u16) -> SocketAddrV4 {
     SocketAddrV4::new(Ipv4Addr::new(198, 51, place.to_be_bytes()[0], place.to_be_bytes()[1]), 40_000)
 }
 
-/// Whoever serves 1,024 clients, each at its place.
+/// A server of 1,024 clients, each at its place.
 trait Server {
     fn hear(&mut self, place: u16, datagram: &[u8], now: Instant);
     /// Tells all timers that have run out.

@@ -73,7 +73,7 @@ fn seal(packet: &mut [u8], from: SocketAddrV4) {
     packet[6..8].copy_from_slice(&(!(folded as u16)).to_be_bytes());
 }
 
-/// A packet with a long number (RFC 4340, section 5.1): its type, and what stands behind the number.
+/// A packet with a long number (RFC 4340, section 5.1): its type, and what follows the number.
 fn packet(from: SocketAddrV4, kind: u8, number: u64, rest: &[u8]) -> Vec<u8> {
     let mut it = Vec::new();
     it.extend(from.port().to_be_bytes());
@@ -85,7 +85,7 @@ fn packet(from: SocketAddrV4, kind: u8, number: u64, rest: &[u8]) -> Vec<u8> {
     it
 }
 
-/// What stands behind the number where a packet acknowledges one (section 5.1).
+/// What follows the number where a packet acknowledges one (section 5.1).
 fn acknowledging(number: u64) -> Vec<u8> {
     let mut it = vec![0, 0];
     it.extend(&number.to_be_bytes()[2..]);

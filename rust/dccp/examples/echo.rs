@@ -22,7 +22,7 @@ const MOST_WAITING: usize = 64;
 /// A number that nobody can guess, for the first packet (RFC 4340, section 7.2).
 fn first_number(random: &mut File) -> u64 {
     let mut bytes = [0; 8];
-    // Where nothing can be drawn, the number is none, and the datagram is not heard, whoever sent it.
+    // Where nothing can be drawn, the number is none, and the datagram is not heard, from any peer.
     random
         .read_exact(&mut bytes)
         .map_or(u64::MAX, |()| u64::from_ne_bytes(bytes) >> 16)

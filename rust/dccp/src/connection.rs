@@ -61,7 +61,7 @@ pub enum Event {
     /// Data came, of one packet, maybe none. No packet's data come twice.
     Data(Vec<u8>),
     /// The connection has ended, by a Reset with this code: 1 is an orderly close, 2 a peer that gave up, any other a fault (RFC 4340,
-    /// section 5.6). Whoever closes may also hear 3. It comes at most once, and not behind an own [`Connection::abort`].
+    /// section 5.6). The end that closes may also hear 3. It comes at most once, and not after an own [`Connection::abort`].
     Ended {
         /// The Reset Code.
         code: u8,
@@ -209,7 +209,7 @@ impl Connection {
         }
     }
 
-    /// Turns the first datagram of a peer away, and takes no memory but for the frame: a Request that [`Connection::accept`] would make
+    /// Turns the first datagram of a peer away, and takes no memory except for the frame: a Request that [`Connection::accept`] would make
     /// a connection of is answered by a Reset with this code (RFC 4340, section 5.6), as 9, Too Busy, or 7, Connection Refused; any
     /// other datagram as that call answers it. Wishes make no difference.
     ///
@@ -346,7 +346,7 @@ impl Connection {
         PreferError::answer(status)
     }
 
-    /// Closes the connection in order. No data are delivered to this end any more; data that are in flight may come behind the close, so
+    /// Closes the connection in order. No data are delivered to this end any more; data that are in flight may come after the close, so
     /// wait until [`Connection::in_flight`] is 0, or some seconds.
     ///
     /// ```

@@ -80,7 +80,7 @@ fn a_request_waits_twice_as_long_each_time() -> Result<(), Box<dyn Error>> {
     let mut now = Instant::now();
     let mut one = Connection::new(&client())?;
     one.open(now)?;
-    // After three minutes, 53 seconds behind the seventh, a client gives up.
+    // After three minutes, 53 seconds after the seventh, a client gives up.
     for seconds in [1, 2, 4, 8, 16, 32, 64, 53] {
         assert!(one.poll_transmit().is_some_and(|it| kind(&it) == 0));
         let due = one.poll_timeout().ok_or("a timer")?;

@@ -246,7 +246,7 @@ pub(super) struct Line {
     wire: Arc<Wire>,
     agenda: Arc<Agenda>,
     state: Mutex<State>,
-    /// Held by whoever hands frames to the system, so that they go out in their order. What went last stays, for its room.
+    /// Held by the thread that hands frames to the system, so that they go out in their order. What went last stays, for its room.
     order: Mutex<Vec<Transmit>>,
     readable: Condvar,
     writable: Condvar,
