@@ -69,7 +69,7 @@ module _ {S : Type 0} (coding : Coding S) where
   runs_without s [] other = tt
   runs_without s (t ∷ ts) other = without-grouped s t (groups coding ts) other
 
-  -- bytes behind others give their states behind theirs
+  -- bytes after others give their states after theirs
   pub states_of-append : (front behind : List ℕ) → states_of coding (front ++ behind) ≡ states_of coding front ++ states_of coding behind
   states_of-append [] behind = refl
   states_of-append (byte ∷ rest) behind =

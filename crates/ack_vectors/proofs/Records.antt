@@ -37,7 +37,7 @@ newest_from-some n found (r ∷ rs) =
       | inr other ↦ rw other (newest_from-some n found rs)
     ]
 
--- a record that counts is the first, or stands behind it
+-- a record that counts is the first, or follows it
 found_first : (n : ℕ) (q : Record) (rs : List Record) (r : Record) → is_whole_at n q ≡ true → ◌≡◌ {A = Option Record} (Some q) (Some r)
     → Contains (q ∷ rs) r × (is_whole_at n r ≡ true)
 found_first n q rs r fits same =

@@ -26,7 +26,7 @@ pub record Group (S : Type 0) : Type 0 where
 abbrev pub group : {S : Type 0} → S → ℕ → Group S
 group state count = record { state = state; count = count }
 
--- a state before the runs of those behind it: it extends the first one, or begins one of its own
+-- a state before the runs of those after it: it extends the first one, or begins one of its own
 abbrev pub grouped_with : {S : Type 0} → Coding S → S → List (Group S) → List (Group S)
 grouped_with coding state [] = group state 1 ∷ []
 grouped_with coding state (g ∷ gs) =

@@ -36,7 +36,7 @@ newest_from n found (r ∷ rs) = newest_from n (if is_whole_at n r then Some r e
 abbrev pub newest_whole : ℕ → List Record → Option Record
 newest_whole n records = newest_from n None records
 
--- the floor behind what a record's vector told
+-- the floor after what a record's vector told
 abbrev pub raised_by : Kept → Option Record → Kept
 raised_by kept None = kept
 raised_by kept (Some r) = record { set = raised kept.set (residue (r.ack + 1)); records = kept.records }

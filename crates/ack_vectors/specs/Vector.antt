@@ -1,7 +1,7 @@
 -- The Ack Vector of numbers with states, a floor and an acknowledgement (RFC 4340, section 11.4).
 --
 -- It takes the state of each number and the number of bytes, so packets marked by ECN and a second option change
--- arguments alone. A set is a test on numbers, so any list's membership can stand there.
+-- arguments alone. A set is a test on numbers, so any list's membership can be there.
 use Rattle.std.specs.Prelude.{ℕ, ◌+◌, ◌-◌, ◌*◌, ◌==◌, nat_le, Bool, true, false, List, [], ◌∷◌, length, take, drop, if◌then◌else◌}
 use Rattle.seq_circle.specs.Circle.{distance, is_from}
 use Rattle.dccp_options.specs.Vectors.{run_length, state_of, states}
@@ -37,7 +37,7 @@ abbrev pub vector_coding : Coding ℕ
 vector_coding =
     record { same = λ one other. one == other; most = λ state. 64; byte = piece; state_of = state_of; run_length = run_length }
 
--- a state before the runs of those behind it
+-- a state before the runs of those after it
 abbrev pub grouped_with : ℕ → List (Group ℕ) → List (Group ℕ)
 grouped_with = coded.grouped_with vector_coding
 

@@ -126,7 +126,7 @@ pub fn records_only_forget()
     ensures acked { (kept : Kept) (n : ℕ) → (acked kept n).records ≡ kept.records }
 {}
 
-/// An acknowledged number raises the floor to the number behind what the record that counts acknowledged, and without
+/// An acknowledged number raises the floor to the number after what the record that counts acknowledged, and without
 /// such a record changes nothing (own).
 pub fn acknowledging_raises_the_floor()
     ensures some { (kept : Kept) (n : ℕ) (one : Record) → newest_whole n kept.records ≡ Some one

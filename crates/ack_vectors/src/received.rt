@@ -174,7 +174,7 @@ impl Received {
     }
 
     /// Tells whether a whole vector was recorded under the number `n`, which the peer acknowledged by an Ack or a
-    /// DataAck. The floor then rises to the number behind the acknowledgement of the newest such record, where it is
+    /// DataAck. The floor then rises to the number after the acknowledgement of the newest such record, where it is
     /// before that.
     ///
     /// It is to be called for the acknowledgements of these two types alone. They acknowledge the greatest number that

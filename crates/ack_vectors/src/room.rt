@@ -17,9 +17,9 @@ pub type VectorBytes = ArrayVec<u8, MOST_ROOM>;
 /// read as one, joined in their order (RFC 4340, section 11.4).
 #[derive(Clone, Copy, Debug, PartialEq, Eq)]
 pub enum Vectors {
-    /// One option: vectors are cut behind 253 bytes.
+    /// One option: vectors are cut after 253 bytes.
     One,
-    /// Two options: vectors are cut behind 506 bytes. Where at most 253 are to be told, it is one option all the same.
+    /// Two options: vectors are cut after 506 bytes. Where at most 253 are to be told, it is one option all the same.
     Two,
 }
 

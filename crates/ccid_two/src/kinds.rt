@@ -22,7 +22,7 @@ pub enum Kind {
     Fixed,
 }
 
-/// CCID 2 and CCID 248 in one: `start` tells which is in force. It begins with CCID 2.
+/// CCID 2 and CCID 248 in one: `start` chooses which is in force. It begins with CCID 2.
 #[derive(Drop)]
 pub struct Kinds {
     kind: Kind,
@@ -39,8 +39,7 @@ impl Model for Kinds {
 }
 
 impl Kinds {
-    /// Both kinds with nothing sent, and CCID 2 in force. NoMemory where no blocks for their flight lists are to be
-    /// had.
+    /// Both kinds with nothing sent, and CCID 2 in force. NoMemory if there is no memory for their flight lists.
     pub fn new(alloc: Global) -> Result<Kinds, NoMemory>
         ensures { IfOk result (λ kinds. kinds ≡ at_first) }
     {

@@ -1,9 +1,8 @@
 //! What follows for CCID 2 from its rules.
 //!
-//! That one mark halves once is said by two laws: for every list of calls, what must lie past the mark; and that right
-//! after a halving nothing does, which needs that numbers were sent in their order, as an end's numbering gives. The
-//! window's bounds are clauses of `window` besides, from the type's invariant: a law over all records would be false of
-//! records that no value has.
+//! Two laws together say that one mark halves once: for every list of calls, what must be past the mark; and that right
+//! after a halving nothing is, if numbers were sent in order, as an end sends them. The window's bounds are also
+//! clauses of `window`, from the type's invariant: a law over all records would be false for records that no value has.
 ghost use Rattle.std.specs.Prelude.{◌≡◌, ℕ, ◌<◌, ◌≤◌, ◌⊎◌, ◌↔◌, List, IsTrue};
 ghost use Rattle.congestion_trait.specs.Flight.{States, is_congested};
 ghost use Rattle.congestion_trait.specs.Calls.{Call, run};

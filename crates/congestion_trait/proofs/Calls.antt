@@ -11,7 +11,7 @@ use Rattle.congestion_trait.specs.Control.{Control, IsLawful}
 use Rattle.congestion_trait.specs.Calls.{Call, Starts, Sends, Reports, TimesOut, after_call, run, call_sends, tells}
 use Rattle.congestion_trait.proofs.Standings.{reported_before_or_received, out_before, listed_before}
 
--- what stands in a list that lost its front and was given one more stood there, or is the last
+-- what is in a list that lost its front and was given one more stood there, or is the last
 has_sent : (entries : List Entry) (next number excess : ℕ) (standing : Standing)
     → Has (drop excess (entries ++ record { number = next; standing = Out } ∷ [])) number standing
     → Has entries number standing ⊎ (◌≡◌ {A = Entry} (record { number = next; standing = Out }) (record { number = number; standing = standing }))
@@ -71,7 +71,7 @@ module _ {S : Type 0} (control : Control S) (lawful : IsLawful control) where
       (subst (λ l. Has l number Reported) (lawful.report_settles state states ratio) h)
   reported_after state TimesOut number h = absurd (nothing_there number Reported _ (lawful.timeout_empties state) h)
 
-  -- a number that stands in the list after a call stood there before, or the call sends it
+  -- a number that is in the list after a call stood there before, or the call sends it
   pub listed_after : (state : S) (call : Call) (number : ℕ)
       → HasEntry (control.flight (after_call control state call)) number → HasEntry (control.flight state) number ⊎ IsTrue (call_sends number call)
   listed_after state (Starts ccid) number h = absurd (nothing_there number h.0 _ (lawful.start_empties state ccid) h.1)
@@ -99,7 +99,7 @@ module _ {S : Type 0} (control : Control S) (lawful : IsLawful control) where
       (λ later. inr (or_second (call_sends number call) (list_any (call_sends number) rest) later))
       (out_run (after_call control state call) rest number h)
 
-  -- a number that stands in the list stood there before the calls, or one of them sends it
+  -- a number that is in the list stood there before the calls, or one of them sends it
   pub listed_run : (state : S) (calls : List Call) (number : ℕ)
       → HasEntry (control.flight (run control state calls)) number → HasEntry (control.flight state) number ⊎ IsTrue (list_any (call_sends number) calls)
   listed_run state [] number h = inl h

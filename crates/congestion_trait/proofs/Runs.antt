@@ -43,7 +43,7 @@ at_no_run bytes hi state is = record {
   behind = λ place from. sym (run_state-runs_of bytes hi place) ∙ ap (λ runs. run_state runs place) is;
 }
 
--- the first run stands at the top
+-- the first run is at the top
 pub first_at_the_top : (bytes : List ℕ) (hi : ℕ) (run : Run) (rest : List Run) → runs_of hi bytes ≡ run ∷ rest → run.hi ≡ hi
 first_at_the_top [] hi run rest is = cc
 first_at_the_top (byte ∷ others) hi run rest is = let first : record { hi = hi; count = run_length byte; state = state_of byte } ≡ run = cc in

@@ -159,7 +159,7 @@ front_sent_by (x ∷ xs) entry settled false test few within all =
     let one : length (x ∷ xs ++ entry ∷ []) - 2048 ≡ 1 = omega arith in
     rw one (one_left x xs entry settled within all)
 
--- what was sent leaves the front Reported, but for the entry that it drives out
+-- what was sent leaves the front Reported, except for the entry that it drives out
 pub front_sent : (items : List Entry) (entry : Entry) (settled : ℕ) (driven_out : Option Entry)
     → driven_out ≡ (if nat_lt (length items) 2048 then None else slice_get (items ++ entry ∷ []) 0) → length items ≤ 2048
     → settled ≤ length items → AllReported (take settled items)

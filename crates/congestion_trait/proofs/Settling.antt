@@ -110,7 +110,7 @@ module _ (told : States) (mark : Option ℕ) (later : List Entry) (x : Entry) (w
   pub walk_more : IsWalk told mark (x ∷ later) next
   walk_more = record { acked = acked_more; congested = congested_more; reported = reported_more; out = out_more; seen = seen_more }
 
--- what stands at the place below the walk, which it did not change
+-- what is at the place below the walk, which it did not change
 module _ (told : States) (mark : Option ℕ) (old now : List Entry) (n i : ℕ) (x : Entry) (walk : Walk)
     (one : n ≡ i + 1) (within : n ≤ length old) (along : IsAlong told mark old n now walk) (read : slice_get now i ≡ Some x) where
   read_old : get_or old i x ≡ x

@@ -1,4 +1,4 @@
--- A report leaves entries behind what it reaches, which are all Out, as they are.
+-- A report leaves entries after what it reaches, which are all Out, as they are.
 use Rattle.std.proofs.Common.{◌≡◌, ℕ, zero, suc, ◌+◌, ◌-◌, ◌*◌, ◌^◌, ◌≤◌, ◌<◌, ◌⊎◌, Bool, true, false, not, ◌&&◌, ◌||◌, cond, nat_lt, if◌then◌else◌, List, [], ◌∷◌, ◌++◌, map, replicate, Option, Some, None, length, take, drop, slice_get, drop-drop, length-append, length-drop, refl, sym, ap, ◌∙◌, subst, inl, inr, arith}
 use Rattle.std.specs.Bool.{⊤}
 use Rattle.std.specs.List.{list_all, AllByRecursion}
@@ -138,7 +138,7 @@ out_unheard told (entry ∷ later) all =
     ap (λ b. b && list_all (λ e. is_out e.standing) later) (out_of entry.standing (is_received (told entry.number)) parts.0)
     ∙ out_unheard told later parts.1
 
--- what a report does not reach is Out behind it
+-- what a report does not reach is Out after it
 pub out_after : (told : States) (n : ℕ) (entries : List Entry) → AllUnheard told (drop n entries) → AllOut (drop n (after_report told entries))
 out_after told n entries all =
     subst AllOut (sym (drop-after_report told n entries ∙ report_unheard told (drop n entries) all)) (out_unheard told (drop n entries) all)
@@ -204,7 +204,7 @@ both : (P Q : ℕ → Type 0) (xs : List ℕ) → AllByRecursion P xs → AllByR
 both P Q [] one other = tt
 both P Q (x ∷ xs) one other = ((one.0, other.0), both P Q xs one.1 other.1)
 
--- the entries from one on are near it, and it lies behind all that the report reaches
+-- the entries from one on are near it, and it lies after all that the report reaches
 all_behind : (ack : ℕ) (bytes : List ℕ) (span : ℕ) (x : Entry) (later : List Entry) → length bytes ≤ 1008 → AllOut (x ∷ later)
     → AreNear span (numbers (x ∷ later)) → span + 64512 ≤ distance x.number ack → AllUnheard (state_at ack bytes) (x ∷ later)
 all_behind ack bytes span x later few out near far =
@@ -220,7 +220,7 @@ read_first zero (y ∷ later) x read = (later, cc)
 read_first (suc i) [] x read = cc
 read_first (suc i) (y ∷ later) x read = read_first i later x read
 
--- where an entry lies behind all that the report reaches, so do those from it on
+-- where an entry lies after all that the report reaches, so do those from it on
 pub unheard_behind : (ack : ℕ) (bytes : List ℕ) (span i : ℕ) (old : List Entry) (x : Entry) → length bytes ≤ 1008 → slice_get old i ≡ Some x
     → AllOut (drop i old) → (span < 2 ^ 48 → AreNear span (numbers old))
     → (bytes ≡ []) ⊎ (span + 64512 ≤ distance x.number ack) → AllUnheard (state_at ack bytes) (drop i old)
@@ -259,7 +259,7 @@ out_sent_by (x ∷ xs) entry heard false test few within out all =
     let one : length (x ∷ xs ++ entry ∷ []) - 2048 ≡ 1 = omega arith in
     rw one (one_left x xs entry heard within out all)
 
--- what was sent is Out behind what was heard of
+-- what was sent is Out after what was heard of
 pub out_sent : (items : List Entry) (entry : Entry) (heard : ℕ) (driven_out : Option Entry)
     → driven_out ≡ (if nat_lt (length items) 2048 then None else slice_get (items ++ entry ∷ []) 0) → length items ≤ 2048
     → heard ≤ length items → is_out entry.standing ≡ true → AllOut (drop heard items)

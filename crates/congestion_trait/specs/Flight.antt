@@ -32,7 +32,7 @@ pipe_of entries = count_by (λ entry. is_out entry.standing) entries
 abbrev pub reported_count : List Entry → ℕ
 reported_count entries = count_by (λ entry. is_reported entry.standing) entries
 
--- a number that is sent stands at the end, Out; at most the last 2,048 entries are kept (own)
+-- a number that is sent is at the end, Out; at most the last 2,048 entries are kept (own)
 abbrev pub sent : List Entry → ℕ → List Entry
 sent entries number = keep_last 2048 (entries ++ record { number = number; standing = Out } ∷ [])
 

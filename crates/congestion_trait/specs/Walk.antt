@@ -21,12 +21,12 @@ abbrev pub IsTop : Report → Option ℕ → Type 0
 IsTop report None = report.bytes ≡ []
 IsTop report (Some top) = top ≡ report.ack
 
--- one run covers the places from its start to its end, and these are left behind it, of a list of states
+-- one run covers the places from its start to its end, and these are left after it, of a list of states
 pub record IsAt (states : List ℕ) (start end state : ℕ) (left : List Run) : Type 0 where
   pub inside : (place : ℕ) → start ≤ place → place < end → slice_get states place ≡ Some state
   pub behind : (place : ℕ) → end ≤ place → slice_get states place ≡ run_state left (place - end)
 
--- how an entry stands after a report
+-- how an entry comes after a report
 abbrev pub standing_after : Option ℕ → Bool → Standing → Standing
 standing_after state passed standing =
     if is_received state then Reported else if is_out standing && passed then Lost else standing
@@ -40,7 +40,7 @@ abbrev pub was_out : Option Entry → Bool
 was_out None = false
 was_out (Some entry) = is_out entry.standing
 
--- what the entries from a place on came to, and what stands in the list by then
+-- what the entries from a place on came to, and what is in the list by then
 pub record IsAlong (told : States) (mark : Option ℕ) (old : List Entry) (index : ℕ) (now : List Entry) (walk : Walk) : Type 0 where
   pub entries : now ≡ take index old ++ after_report told (drop index old)
   pub acked : walk.acked ≡ acked_count told (drop index old)

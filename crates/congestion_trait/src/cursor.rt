@@ -13,7 +13,7 @@ const CIRCLE: u64 = 1 << 48;
 // How many numbers a report reaches at most: 1,008 bytes of options with 64 each.
 const MOST_REACHED: u64 = 64_512;
 
-// One run of a report, and those behind it. Places count from the report's highest number down, which is absent where
+// One run of a report, and those after it. Places count from the report's highest number down, which is absent where
 // the report has no run.
 #[derive(Drop)]
 pub struct Cursor<'a> {
@@ -25,7 +25,7 @@ pub struct Cursor<'a> {
 }
 
 impl<'a> Cursor<'a> {
-    // Stands at a report's first run, or at none.
+    // Is at a report's first run, or at none.
     pub fn new(report: &AckReport<'a>) -> Cursor<'a>
         ensures begins { result.start ≡ 0 }
         ensures top { IsTop report.now result.top }
@@ -91,7 +91,7 @@ impl<'a> Cursor<'a> {
         Some(self.state)
     }
 
-    // Tells whether a report gives no state to this number and to none that lies at most so many steps behind it.
+    // Tells whether a report gives no state to this number and to none that lies at most so many steps after it.
     pub fn is_out_of_reach(&self, report: &AckReport<'a>, number: Seq48, span: u64) -> bool
         requires top { IsTop report.now self.now.top }
         ensures { IsTrue result → (report.now.bytes ≡ []) ⊎ (span + 64512 ≤ distance number report.now.ack) }

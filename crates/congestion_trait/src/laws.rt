@@ -55,7 +55,7 @@ pub fn standings_after_calls<C: Congestion>()
         → Has (C.control.flight state) number Reported ⊎ IsTrue (list_any (tells number) calls) }
 {}
 
-/// Every entry's number was sent: after one call, and after any calls, a number stands in the list only where it stood
+/// Every entry's number was sent: after one call, and after any calls, a number is in the list only where it stood
 /// there before or where a call sends it.
 pub fn every_entry_was_sent<C: Congestion>()
     ensures call { (state : C) (call : Call) (number : ℕ)
@@ -66,7 +66,7 @@ pub fn every_entry_was_sent<C: Congestion>()
         → HasEntry (C.control.flight state) number ⊎ IsTrue (list_any (call_sends number) calls) }
 {}
 
-/// The window never closes: after a start or a timeout, and any calls behind it, it is one packet at least.
+/// The window never closes: after a start or a timeout, and any calls after it, it is one packet at least.
 pub fn windows_never_close<C: Congestion>()
     ensures starts { (state : C) (ccid : ℕ) (calls : List Call) → 1 ≤ C.control.window (run C.control (C.control.started state ccid) calls) }
     ensures timeouts { (state : C) (calls : List Call) → 1 ≤ C.control.window (run C.control (C.control.timed_out state) calls) }

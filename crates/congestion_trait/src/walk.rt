@@ -1,7 +1,7 @@
 //! What a report makes of the entries, from the newest to the oldest.
 //!
 //! Losses count the Reported entries after the report made its entries Reported, so one pass from the newest down does
-//! both. It begins behind the newest entry that the report may reach: no entry behind the place from which on all are
+//! both. It begins after the newest entry that the report may reach: no entry after the place from which on all are
 //! Out, which is kept beside the list, changes while the report does not reach it. It ends at the place before which
 //! every entry is Reported, which is kept too, or earlier at an entry to which the report gives no state, where no entry
 //! before it is Out: nothing older can change then. So a packet that was lost long ago costs later reports nothing, nor
@@ -10,8 +10,9 @@
 //! Numbers need not rise: the contracts hold for every list. The steps from each number to the next since the list was
 //! empty are summed (`span`). The pass begins before the newest entry only where that sum and the most that a report
 //! reaches are together no more than the way from an entry up to the acknowledgement number, as where the entry lies
-//! past it; and it ends early only while the sum and the way from the acknowledgement number down to the entry make less than one round
-//! of the circle. Where numbers fall, the sum is past that, and the pass goes over the list to the place that is kept.
+//! past it; and it ends early only while the sum and the way from the acknowledgement number down to the entry make
+//! less than one round of the circle. Where numbers fall, the sum is past that, and the pass goes over the list to the
+//! place that is kept.
 ghost use Rattle.std.specs.Prelude.{◌≡◌, ℕ, ◌+◌, ◌<◌, ◌≤◌, ◌&&◌, ◌||◌, not, nat_le, length, take, drop, slice_get, slice_set, Some, Option};
 ghost use Rattle.circular_buffer.specs.Buffer.{buffer};
 ghost use Rattle.dccp_options.specs.Vectors.{state_at, is_received, is_unmarked, is_marked};
@@ -70,7 +71,7 @@ fn is_reported(standing: Standing) -> bool
     matches!(standing, Standing::Reported)
 }
 
-// How an entry stands after a report that gives its number this state.
+// How an entry comes after a report that gives its number this state.
 fn standing_after(state: Option<u8>, passed: bool, standing: Standing) -> Standing
     ensures { result ≡ standing_after state passed standing }
 {
@@ -102,7 +103,7 @@ fn set_standing(entries: &mut HeapCircularBuffer<Entry>, index: usize, standing:
 }
 
 impl Walk {
-    // Counts one entry, and tells how it stands after the report.
+    // Counts one entry, and tells how it comes after the report.
     fn step(&mut self, entry: &Entry, state: Option<u8>, mark: &Option<Seq48>) -> Standing
         requires { (self.old.acked < 2048) × (self.old.reported < 2048) × (self.old.out < 2048) × (self.old.seen < 2048) }
         ensures standing { result ≡ standing_after state (nat_le 3 self.old.reported) entry.now.standing }

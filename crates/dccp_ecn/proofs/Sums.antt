@@ -67,7 +67,7 @@ down-lost f sum left n goal h is e =
 abbrev pub byte_run : ℕ → ℕ → Run
 byte_run hi byte = record { hi = hi; count = run_length byte; state = state_of byte }
 
--- the numbers of a byte, and those of the bytes behind it
+-- the numbers of a byte, and those of the bytes after it
 zeros-first : (f : ℕ → Option Bool) (sum : Bool) (hi byte : ℕ) (rest : List ℕ)
     → xor_if_known (Some sum) (sum_of f (zeros_in hi (byte ∷ rest)))
     ≡ xor_if_known (Some sum) (xor_if_known (sum_of f (zeros_of_run (byte_run hi byte))) (sum_of f (zeros_in (down hi (run_length byte)) rest)))

@@ -19,7 +19,7 @@ ledger next nonces = record { next = next; nonces = nonces }
 abbrev pub with_nonce_sent : Ledger → Bool → Ledger
 with_nonce_sent l nonce = ledger (residue (l.next + 1)) (take 4096 (nonce ∷ l.nonces))
 
--- the nonce of a packet, or none where it is not kept: the newest packet's comes first, and those before it behind
+-- the nonce of a packet, or none where it is not kept: the newest packet's comes first, then those before it
 abbrev pub nonce_kept : Ledger → ℕ → Option Bool
 nonce_kept l n = slice_get l.nonces (distance n (down l.next 1))
 

@@ -6,7 +6,7 @@ use Rattle.run_list.specs.MarkedSet.{MarkedSet, has}
 use Rattle.dccp_ecn.specs.declared.arrived.Arrived.{Arrived}
 use Rattle.dccp_ecn.specs.Arrivals.{known_or_marked}
 
--- what stands at the place of a number
+-- what is at the place of a number
 abbrev pub at_place : List (Option Arrived) → ℕ → Option Arrived
 at_place ring n = slice_index_or ring (n % 2048) None
 

@@ -36,7 +36,7 @@ fn place_of(n: Seq48) -> usize
 }
 
 impl Ring {
-    /// Nothing stands at any place.
+    /// Nothing is at any place.
     pub(crate) fn new(alloc: Global) -> Result<Ring, NoMemory>
         ensures { IfOk result (λ ring. (n : ℕ) → at_place ring n ≡ None) }
     {
@@ -44,7 +44,7 @@ impl Ring {
         Ok(Ring { places })
     }
 
-    /// What stands at the place of a number.
+    /// What is at the place of a number.
     pub(crate) fn at(&self, n: Seq48) -> Option<Arrived>
         ensures { result ≡ at_place self.now n }
     {

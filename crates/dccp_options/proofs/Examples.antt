@@ -4,7 +4,7 @@ use Rattle.dccp_options.specs.declared.option.OptFault.TheVariants.{MandatoryAtE
 use Rattle.dccp_options.specs.Grammar.{options_of}
 use Rattle.dccp_options.specs.Vectors.{state_at, runs_of, reported}
 
--- a Change L behind its Mandatory, then padding
+-- a Change L after its Mandatory, then padding
 change : options_of (1 ∷ 32 ∷ 4 ∷ 6 ∷ 1 ∷ 0 ∷ 0 ∷ 0 ∷ []) false
     ≡ Ok (record { place = 1; mandatory = true; kind = 32; body = 6 ∷ 1 ∷ [] }) ∷ []
 change = refl

@@ -121,7 +121,7 @@ cut_or_counts (count ∷ rest) =
       ]
     ]
 
--- an option with a length, where what stands behind it has its list
+-- an option with a length, where what follows it has its list
 pub long-is : (on_data marked : Bool) (place kind : ℕ) (body behind : List ℕ) → 32 ≤ kind
     → ((next : Bool) → IsListed on_data next (place + (length body + 2)) behind (listing on_data next (place + (length body + 2)) behind))
     → IsListed on_data marked place (kind ∷ (length body + 2) ∷ (body ++ behind))

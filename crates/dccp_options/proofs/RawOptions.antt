@@ -11,7 +11,7 @@ raw_options-skip place (suc skip) (byte ∷ rest) h =
     let e : place + 1 + skip ≡ place + suc skip = omega arith in
     raw_options-skip (place + 1) skip rest (omega arith) ∙ ap (λ p. raw_options p 0 (drop skip rest)) e
 
--- the first option, and those behind it
+-- the first option, and those after it
 pub raw_options-first : (place kind : ℕ) (rest body : List ℕ) → option_body kind rest ≡ Some body
     → bytes_after kind body ≤ length rest
     → raw_options place 0 (kind ∷ rest)

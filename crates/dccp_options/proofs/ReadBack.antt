@@ -13,7 +13,7 @@ use Rattle.dccp_options.proofs.RawOptions.{raw_options-first}
 pub has_length : (kind : ℕ) → 32 ≤ kind → is_one_byte kind ≡ false
 has_length kind h = grind (arith, common_steps)
 
--- the data of an option as it is written, whatever stands behind it
+-- the data of an option as it is written, whatever follows it
 pub option_body-long : (kind : ℕ) (body more : List ℕ) → 32 ≤ kind
     → option_body kind ((length body + 2) ∷ (body ++ more)) ≡ Some body
 option_body-long kind body more h =
@@ -30,7 +30,7 @@ bytes_after-long kind body h = let one : is_one_byte kind ≡ false = has_length
 pub part-listed : (kind : ℕ) → 32 ≤ kind → part_of kind ≡ Listed
 part-listed kind h = grind (arith, common_steps)
 
--- the option that stands there, and those behind it
+-- the option that is there, and those after it
 pub raw_options-long : (place kind : ℕ) (body more : List ℕ) → 32 ≤ kind
     → raw_options place 0 (kind ∷ (length body + 2) ∷ (body ++ more))
     ≡ record { place = place; kind = kind; body = body } ∷ raw_options (place + (length body + 2)) 0 more
@@ -55,12 +55,12 @@ entries-listed marked place kind body rest h =
     ap (λ part. entry_then part marked (record { place = place; kind = kind; body = body }) (λ next. marked_entries next rest))
     (part-listed kind h)
 
--- zeros behind the options list nothing
+-- zeros after the options list nothing
 pub entries-padding : (place pads : ℕ) → marked_entries false (raw_options place 0 (replicate pads 0)) ≡ []
 entries-padding place zero = refl
 entries-padding place (suc pads) = entries-padding (place + 1) pads
 
--- one option, in front of what is listed behind it
+-- one option, in front of what is listed after it
 pub entries-spelled : (place kind : ℕ) (mandatory : Bool) (body more : List ℕ) → 32 ≤ kind
     → marked_entries false (raw_options place 0 (spelled mandatory kind body ++ more))
     ≡ Ok (record { place = place + length (mark mandatory); mandatory = mandatory; kind = kind; body = body })
@@ -81,7 +81,7 @@ entries-spelled place kind true body more h =
     ∙ ap (λ at. Ok (record { place = place + 1; mandatory = true; kind = kind; body = body })
     ∷ marked_entries false (raw_options at 0 more)) n
 
--- the options that were written, and zeros behind them, are listed place by place
+-- the options that were written, and zeros after them, are listed place by place
 pub entries-written : (place pads : ℕ) (items : List Item) → All (λ item. IsWritable item) items
     → marked_entries false (raw_options place 0 (written items ++ replicate pads 0)) ≡ map Ok (entries_at place items)
 entries-written place pads [] _ = entries-padding place pads
@@ -100,7 +100,7 @@ pub options_of-written : (items : List Item) (pads : ℕ) → All IsWritable ite
     → options_of (written items ++ replicate pads 0) false ≡ map Ok (entries_at 0 items)
 options_of-written items pads all = entries-written 0 pads items all
 
--- one more option stands behind the others
+-- one more option follows the others
 pub written-more : (items : List Item) (item : Item)
     → written (items ++ item ∷ []) ≡ written items ++ spelled item.mandatory item.kind item.body
 written-more [] item = append-nil (spelled item.mandatory item.kind item.body)
@@ -136,7 +136,7 @@ option_body-cut kind (count ∷ rest) h cut =
         let fits : nat_le (count - 2) (length rest) ≡ false = grind arith in
         rw (two, fits) refl
 
--- the options that were written are listed, whatever stands behind them
+-- the options that were written are listed, whatever follows them
 pub entries-before : (place : ℕ) (items : List Item) (more : List ℕ) → All (λ item. IsWritable item) items
     → marked_entries false (raw_options place 0 (written items ++ more))
     ≡ map Ok (entries_at place items) ++ marked_entries false (raw_options (place + length (written items)) 0 more)

@@ -1,4 +1,4 @@
--- Which Ack Vectors stand among the options that were written.
+-- Which Ack Vectors are among the options that were written.
 use Rattle.std.proofs.Common.{◌≡◌, ℕ, ◌+◌, true, false, List, [], ◌∷◌, ◌++◌, length, map, replicate, Ok, Some, None, if◌then◌else◌, refl, ap, ◌∙◌, arith, All, append-nil}
 use Rattle.std.specs.List.{concat}
 use Rattle.std.proofs.lemmas.List.Elements.{All-tail}
@@ -25,7 +25,7 @@ pub item_vectors-first : (vector : Item) (others : List Item) → is_ack_vector 
 item_vectors-first vector others is_vector none =
     rw is_vector (ap (λ vectors. vector.body ∷ vectors) (item_vectors-none others none))
 
--- where one vector was written, and options of other types behind it, a packet with these options reports what the
+-- where one vector was written, and options of other types after it, a packet with these options reports what the
 -- vector's bytes give
 pub reported-written : (ack n pads : ℕ) (vector : Item) (others : List Item) → All IsWritable (vector ∷ others)
     → is_ack_vector vector.kind ≡ true → All (λ item. is_ack_vector item.kind ≡ false) others
@@ -42,7 +42,7 @@ pub report-written : (ack pads : ℕ) (items : List Item) → All IsWritable ite
 report-written ack pads items all =
     ap (report_of ack) (options_of-written items pads all) ∙ ap (joined_report ack) (ack_vectors-written 0 items)
 
--- of one vector, and options of other types behind it
+-- of one vector, and options of other types after it
 pub report-first : (ack pads : ℕ) (vector : Item) (others : List Item) → All IsWritable (vector ∷ others)
     → is_ack_vector vector.kind ≡ true → All (λ item. is_ack_vector item.kind ≡ false) others
     → report_of ack (options_of (written (vector ∷ others) ++ replicate pads 0) false)

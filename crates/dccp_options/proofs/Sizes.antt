@@ -52,7 +52,7 @@ pub length-if : (b : Bool) (body : List ℕ) (others : List (List ℕ))
 length-if true body others = omega (arith, length-append body (concat others))
 length-if false body others = omega arith
 
--- the bytes of the vectors of an item and those behind it
+-- the bytes of the vectors of an item and those after it
 pub length-vector_bytes : (entry : Entry) (rest : List (Result Entry OptFault))
     → length (vector_bytes (Ok entry ∷ rest)) ≤ length entry.body + length (vector_bytes rest)
 length-vector_bytes entry rest = length-if (is_ack_vector entry.kind) entry.body (ack_vectors rest)

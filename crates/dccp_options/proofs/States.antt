@@ -17,7 +17,7 @@ state_of-byte state count s low high =
 pub run_length-byte : (state count : ℕ) → 1 ≤ count → count ≤ 64 → run_length (state * 64 + count - 1) ≡ count
 run_length-byte state count low high = omega arith
 
--- vectors that continue each other give their states one behind the other
+-- vectors that continue each other give their states one after the other
 pub states-append : (front behind : List ℕ) → states (front ++ behind) ≡ states front ++ states behind
 states-append [] behind = refl
 states-append (byte ∷ rest) behind =
@@ -74,7 +74,7 @@ pub length-states-le : (bytes : List ℕ) → length (states bytes) ≤ 64 * len
 length-states-le [] = omega arith
 length-states-le (byte ∷ rest) = omega (arith, length-states byte rest, length-states-le rest)
 
--- how far a number lies below a run, where the runs behind it do not go round the circle
+-- how far a number lies below a run, where the runs after it do not go round the circle
 pub distance-above : (n hi count : ℕ) → n < 2 ^ 48 → hi < 2 ^ 48 → count ≤ 64
     → distance n (down hi count) + count < 2 ^ 48
     → distance n hi ≡ distance n (down hi count) + count

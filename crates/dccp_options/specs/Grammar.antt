@@ -5,14 +5,14 @@ pub use Rattle.dccp_options.specs.Kinds.{is_one_byte, is_ignored_on_data}
 use Rattle.dccp_options.specs.declared.option.OptFault.{OptFault}
 use Rattle.dccp_options.specs.declared.option.OptFault.TheVariants.{MandatoryAtEnd, MandatoryTwice}
 
--- an option as the list has it: where its type byte stands in the area, counted from 0, and whether it is marked
+-- an option as the list has it: where its type byte is in the area, counted from 0, and whether it is marked
 pub record Entry : Type 0 where
   pub place : ℕ
   pub mandatory : Bool
   pub kind : ℕ
   pub body : List ℕ
 
--- an option as it stands in the area, Padding and Mandatory among them
+-- an option as it is in the area, Padding and Mandatory among them
 pub record RawOption : Type 0 where
   pub place : ℕ
   pub kind : ℕ
@@ -33,7 +33,7 @@ option_body kind rest = if is_one_byte kind then Some [] else counted_body rest
 abbrev pub bytes_after : ℕ → List ℕ → ℕ
 bytes_after kind body = if is_one_byte kind then 0 else length body + 1
 
--- an option and what stands behind it; one whose length is wrong ends the list (RFC 4340, section 5.8)
+-- an option and what follows it; one whose length is wrong ends the list (RFC 4340, section 5.8)
 abbrev pub raw_then : ℕ → ℕ → Option (List ℕ) → (ℕ → List RawOption) → List RawOption
 raw_then place kind None _ = []
 raw_then place kind (Some body) behind =
@@ -61,7 +61,7 @@ pub data Part : Type 0 where
 abbrev pub part_of : ℕ → Part
 part_of kind = if kind == padding then Padding else if kind == mandatory then Mandatory else Listed
 
--- an option, with its mark, and what stands behind it. Padding is left out, and takes a mark before it away; Mandatory
+-- an option, with its mark, and what follows it. Padding is left out, and takes a mark before it away; Mandatory
 -- marks the next option, and twice in a row is a fault, which ends the list (RFC 4340, sections 5.8.1 and 5.8.2)
 abbrev pub entry_then : Part → Bool → RawOption → (Bool → List (Result Entry OptFault))
     → List (Result Entry OptFault)

@@ -5,7 +5,7 @@ use Rattle.std.specs.Prelude.{ℕ, ◌+◌, Bool, not, ◌&&◌, ◌||◌, ◌==
 abbrev pub padding : ℕ
 padding = 0
 
--- marks the option behind it as one that must be understood (RFC 4340, section 5.8.2)
+-- marks the option after it as one that must be understood (RFC 4340, section 5.8.2)
 abbrev pub mandatory : ℕ
 mandatory = 1
 
@@ -77,7 +77,7 @@ is_one_byte kind = nat_lt kind 32
 abbrev pub length_of : ℕ → ℕ → ℕ
 length_of kind size = if is_one_byte kind then 1 else size + 2
 
--- the type stands in the table, with this length
+-- the type is in the table, with this length
 abbrev pub has_permitted_length : ℕ → ℕ → Bool
 has_permitted_length kind count =
     (kind == padding && count == 1)

@@ -5,12 +5,12 @@ use Rattle.dccp_options.specs.declared.option.OptFault.{OptFault}
 use Rattle.dccp_options.specs.declared.option.OptFault.TheVariants.{MandatoryTwice}
 use Rattle.dccp_options.specs.Grammar.{Entry, at_end, is_ignored_on_data}
 
--- behind a type byte stands no length, one below 2, or one beyond the area
+-- after a type byte stands no length, one below 2, or one beyond the area
 abbrev pub IsCut : List ℕ → Type 0
 IsCut [] = Unit {0}
 IsCut (count ∷ rest) = (count < 2) ⊎ (length rest + 2 < count)
 
--- The bytes of an area from a place on, behind a Mandatory or not, have this list.
+-- The bytes of an area from a place on, after a Mandatory or not, have this list.
 pub data IsListed (on_data : Bool) : Bool → ℕ → List ℕ → List (Result Entry OptFault) → Type 0 where
   -- no byte is left
   at_the_end : {marked : Bool} {place : ℕ} → IsListed on_data marked place [] (at_end marked)

@@ -30,7 +30,7 @@ ack_vectors (item ∷ rest) = vector_in item ++ ack_vectors rest
 abbrev pub vector_bytes : List (Result Entry OptFault) → List ℕ
 vector_bytes items = concat (ack_vectors items)
 
--- what the options of a packet with this acknowledgement number report, or none where no Ack Vector stands there
+-- what the options of a packet with this acknowledgement number report, or none where no Ack Vector is there
 abbrev pub joined_report : ℕ → List (List ℕ) → Option Report
 joined_report ack [] = None
 joined_report ack (vector ∷ others) = Some (record { ack = ack; bytes = concat (vector ∷ others) })

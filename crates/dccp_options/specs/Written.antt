@@ -19,7 +19,7 @@ mark true = 1 ∷ []
 abbrev pub spelled : Bool → ℕ → List ℕ → List ℕ
 spelled mandatory kind body = mark mandatory ++ kind ∷ (length body + 2) ∷ body
 
--- the bytes of several options, one behind the other
+-- the bytes of several options, one after the other
 abbrev pub written : List Item → List ℕ
 written [] = []
 written (item ∷ rest) = spelled item.mandatory item.kind item.body ++ written rest
@@ -30,7 +30,7 @@ pub record IsWritable (item : Item) : Type 0 where
   pub is_byte : item.kind < 256
   pub fits : length item.body ≤ 253
 
--- the entries of these options, where the first byte of all stands at this place
+-- the entries of these options, where the first byte of all is at this place
 abbrev pub entries_at : ℕ → List Item → List Entry
 entries_at place [] = []
 entries_at place (item ∷ rest) =
@@ -51,6 +51,6 @@ abbrev pub item_vectors : List Item → List (List ℕ)
 item_vectors [] = []
 item_vectors (item ∷ rest) = (if is_ack_vector item.kind then item.body ∷ [] else []) ++ item_vectors rest
 
--- what bytes are listed as on each packet but Data, where the first of them stands at this place
+-- what bytes are listed as on each packet but Data, where the first of them is at this place
 abbrev pub listed_from : ℕ → List ℕ → List (Result Entry OptFault)
 listed_from place bytes = marked_entries false (raw_options place 0 bytes)

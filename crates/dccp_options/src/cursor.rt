@@ -6,7 +6,7 @@ ghost use Rattle.dccp_options.specs.Grammar as spec;
 use crate::kinds::{MANDATORY, PADDING, is_ignored_on_data, is_one_byte};
 use crate::option::{Opt, OptFault};
 
-// An option as it stands in the area, Padding and Mandatory among them.
+// An option as it is in the area, Padding and Mandatory among them.
 #[derive(Clone, Copy, Debug)]
 pub(crate) struct RawOpt<'a> {
     place: u16,
@@ -23,7 +23,7 @@ pub(crate) struct Cursor<'a> {
     ghost fits: { place + length rest.now ≤ 1008 },
 }
 
-// The data that the length byte before it counts, and what stands behind it.
+// The data that the length byte before it counts, and what follows it.
 fn split_counted(rest: &[u8]) -> Option<(&[u8], &[u8])>
     ensures { MatchOption result (spec.counted_body rest.now ≡ None)
         (λ parts. (spec.counted_body rest.now ≡ Some parts.0.now)
@@ -35,7 +35,7 @@ fn split_counted(rest: &[u8]) -> Option<(&[u8], &[u8])>
     data.split_at_checked(length)
 }
 
-// The data of the option of this type, and what stands behind it.
+// The data of the option of this type, and what follows it.
 fn split_option(kind: u8, rest: &[u8]) -> Option<(&[u8], &[u8])>
     ensures { MatchOption result (spec.option_body kind rest.now ≡ None)
         (λ parts. (spec.option_body kind rest.now ≡ Some parts.0.now)

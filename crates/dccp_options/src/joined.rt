@@ -1,4 +1,4 @@
-//! The bytes of a packet's Ack Vectors, one vector behind the other.
+//! The bytes of a packet's Ack Vectors, one vector after the other.
 ghost use Rattle.std.specs.Prelude.{◌≡◌, ◌≢◌, ◌≤◌, [], ◌∷◌, length, MatchOption, false};
 ghost use Rattle.dccp_options.specs.Vectors.{ack_vectors, vector_bytes};
 ghost use Rattle.dccp_options.specs.Left.{entries_left, bytes_left};
@@ -6,25 +6,24 @@ ghost use Rattle.dccp_options.specs.Left.{entries_left, bytes_left};
 use crate::cursor::Cursor;
 use crate::kinds::is_ack_vector;
 
-/// The bytes that are left: those of a vector, and of the vectors among the options behind it.
+/// The bytes that are left: those of a vector, and of the vectors among the options after it.
 #[derive(Clone, Copy, Debug)]
 pub(crate) struct JoinedBytes<'a> {
     vector: &'a [u8],
     options: Cursor<'a>,
 }
 
-// The first Ack Vector among the options, which go on behind it. It stands apart, so that a next byte of the same vector
-// costs no call.
+// The first Ack Vector among the options, and those after it. It stands apart, so that a next byte of the same vector
+// costs no call; and the options go in and out by value, so that a walk over bytes keeps its place in registers.
 #[inline(never)]
-fn next_vector<'a>(options: &mut Cursor<'a>) -> Option<&'a [u8]>
-    ensures { MatchOption result
-        ((ack_vectors (entries_left false options.old) ≡ []) × (ack_vectors (entries_left false options.new) ≡ []))
-        (λ vector. ack_vectors (entries_left false options.old)
-        ≡ vector.now ∷ ack_vectors (entries_left false options.new)) }
+fn next_vector<'a>(mut options: Cursor<'a>) -> Option<(&'a [u8], Cursor<'a>)>
+    ensures { MatchOption result (ack_vectors (entries_left false options.entry) ≡ [])
+        (λ next. ack_vectors (entries_left false options.entry)
+        ≡ next.0.now ∷ ack_vectors (entries_left false next.1)) }
 {
     while let Some(item) = options.next_item() {
         match item {
-            Ok(option) if is_ack_vector(option.kind) => return Some(option.body),
+            Ok(option) if is_ack_vector(option.kind) => return Some((option.body, options)),
             _ => {}
         }
     }
@@ -33,13 +32,13 @@ fn next_vector<'a>(options: &mut Cursor<'a>) -> Option<&'a [u8]>
 
 impl<'a> JoinedBytes<'a> {
     /// The bytes of the Ack Vectors among the options, or None where there is none.
-    pub(crate) fn of(mut options: Cursor<'a>) -> Option<JoinedBytes<'a>>
+    pub(crate) fn of(options: Cursor<'a>) -> Option<JoinedBytes<'a>>
         ensures { MatchOption result (ack_vectors (entries_left false options.entry) ≡ [])
             (λ joined. (ack_vectors (entries_left false options.entry) ≢ [])
             × (bytes_left joined ≡ vector_bytes (entries_left false options.entry))
             × (length (bytes_left joined) ≤ 1008)) }
     {
-        let vector = next_vector(&mut options)?;
+        let (vector, options) = next_vector(options)?;
         Some(JoinedBytes { vector, options })
     }
 }
@@ -60,7 +59,9 @@ impl<'a> Iterator for JoinedBytes<'a> {
                 self.vector = rest;
                 return Some(*byte);
             }
-            self.vector = next_vector(&mut self.options)?;
+            let (vector, options) = next_vector(self.options)?;
+            self.vector = vector;
+            self.options = options;
         }
     }
 }

@@ -1,6 +1,6 @@
 //! The types of options by name, and what the table of the standard says of each (RFC 4340, section 5.8, table 3).
 //!
-//! In an option the type stays a number, since any byte may come. Padding and Mandatory stand in the table as
+//! In an option the type stays a number, since any byte may come. Padding and Mandatory are in the table as
 //! understood, and are never listed.
 ghost use Rattle.std.specs.Prelude.{◌≡◌};
 ghost use Rattle.dccp_options.specs.Kinds as spec;

@@ -17,7 +17,7 @@ pub fn an_area_has_one_list()
         → IsListed on_data false 0 area items → items ≡ options_of area on_data }
 {}
 
-/// What a writer wrote, with any zeros behind it, is listed option by option, each at its place and with its mark, and
+/// What a writer wrote, with any zeros after it, is listed option by option, each at its place and with its mark, and
 /// nothing else is, on each packet but Data (RFC 4340, section 5.8). One more `put` writes one more option.
 pub fn written_options_are_listed()
     ensures listed { (items : List Item) (zeros : ℕ) → All IsWritable items
@@ -26,7 +26,7 @@ pub fn written_options_are_listed()
         → written (items ++ item ∷ []) ≡ written items ++ spelled item.mandatory item.kind item.body }
 {}
 
-/// Zeros between options list nothing: behind what a writer wrote and zeros, further bytes are listed as they are by
+/// Zeros between options list nothing: after what a writer wrote and zeros, further bytes are listed as they are by
 /// themselves at their place (RFC 4340, section 5.8.1). So options may be appended to an area that was filled up.
 pub fn zeros_part_options()
     ensures { (items : List Item) (zeros : ℕ) (more : List ℕ) → All IsWritable items
@@ -43,14 +43,14 @@ pub fn entries_keep_what_was_written()
         ≡ map {B = ℕ × List ℕ} (λ (item : Item). (item.kind, item.body)) items }
 {}
 
-/// An option whose length is below 2 or beyond the area ends the list just as the area's end does: what stands before
+/// An option whose length is below 2 or beyond the area ends the list just as the area's end does: what comes before
 /// it is listed, and nothing tells of it (RFC 4340, section 5.8).
 pub fn a_cut_option_ends_the_list()
     ensures { (items : List Item) (kind : ℕ) (rest : List ℕ) → All IsWritable items → 32 ≤ kind → IsCut rest
         → options_of (written items ++ kind ∷ rest) false ≡ options_of (written items) false }
 {}
 
-/// What a packet reports whose options were written, with any zeros behind them: the Ack Vectors among them, one behind
+/// What a packet reports whose options were written, with any zeros after them: the Ack Vectors among them, one after
 /// the other; one vector and options of other types give just that vector, and without one there is no report (RFC
 /// 4340, section 11.4).
 pub fn a_report_is_what_was_written()
@@ -65,7 +65,7 @@ pub fn a_report_is_what_was_written()
         → report_of ack (options_of (written items ++ replicate zeros 0) false) ≡ None }
 {}
 
-/// Where one Ack Vector was written first, and options of other types behind it, a packet with these options reports of
+/// Where one Ack Vector was written first, and options of other types after it, a packet with these options reports of
 /// each number what the vector's bytes give it.
 pub fn a_written_vector_is_reported()
     ensures { (ack n zeros : ℕ) (vector : Item) (others : List Item) → All IsWritable (vector ∷ others)
@@ -83,7 +83,7 @@ pub fn runs_give_the_states()
         → Contains (runs_of ack bytes) run → IsTrue (is_in_run run n) → state_at ack bytes n ≡ Some run.state }
 {}
 
-/// Vectors that continue each other give the states of the first, and behind them those of the second (RFC 4340,
+/// Vectors that continue each other give the states of the first, and after them those of the second (RFC 4340,
 /// section 11.4).
 pub fn vectors_continue_each_other()
     ensures { (front behind : List ℕ) → states (front ++ behind) ≡ states front ++ states behind }

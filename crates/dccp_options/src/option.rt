@@ -7,7 +7,7 @@ use crate::kinds::is_understood;
 /// An option of a packet's option area (RFC 4340, section 5.8).
 #[derive(Clone, Copy, Debug, PartialEq, Eq)]
 pub struct Opt<'a> {
-    /// Where the option's type byte stands in the area, counted from 0. A Mandatory that marks it stands before that.
+    /// Where the option's type byte is in the area, counted from 0. A Mandatory that marks it comes before that.
     pub place: u16,
     /// Whether Mandatory marks the option (RFC 4340, section 5.8.2).
     pub mandatory: bool,

@@ -32,7 +32,7 @@ passed_by : (b : Bool) (e : Malformed) (r : Result Parts Malformed) → b ≡ fa
 passed_by true e r h = absurd (true≢false h)
 passed_by false e r h = refl
 
--- the answers behind a test come no earlier
+-- the answers after a test come no earlier
 rank_at : (b : Bool) (e : Malformed) (r : Result Parts Malformed) (n : ℕ) → n ≤ fault_rank e → n ≤ rank r → n ≤ rank (cond b (Err e) r)
 rank_at true e r n now later = now
 rank_at false e r n now later = later

@@ -24,7 +24,7 @@ byte_at-pow (suc k) x = refl
 reorder : (a p q : ℕ) → a * (p * (256 * q)) ≡ (a * q * 256) * p
 reorder a p q = omega arith
 
--- what stands above a byte's place changes it not
+-- what is above a byte's place changes it not
 byte_kept : (k m a r : ℕ) → k < m → byte_at k (a * 256 ^ m + r) ≡ byte_at k r
 byte_kept k m a r below =
     let j = m - suc k in
@@ -45,7 +45,7 @@ bytes_kept (suc k) m a r within =
     let rest = bytes_kept k m a r (omega (arith, within)) in
     ap (λ b. b ∷ bytes_high_first k (a * 256 ^ m + r)) first ∙ ap (λ bs. byte_at k r ∷ bs) rest
 
--- a list begins with the bytes of the number that stands there
+-- a list begins with the bytes of the number that is there
 front_again : (n : ℕ) (xs : List ℕ) → n ≤ length xs → AreBytes xs → xs ≡ big_bytes n (big_from 0 n xs) ++ drop n xs
 front_again zero xs enough bytes = refl
 front_again (suc n) [] enough bytes = absurd (omega (arith, enough))
@@ -107,16 +107,16 @@ short_ack : (ack : ℕ) (b : List ℕ) → 16 ≤ length b → AreBytes b → sl
 short_ack ack b enough bytes none known =
     byte_again 12 0 b (omega (arith, enough)) (sym none) ∙ ap (λ xs. 0 ∷ xs) (part_again 13 3 ack b (omega (arith, enough)) bytes known)
 
--- a part behind another
+-- a part after another
 joined : {whole rest : List ℕ} (front next last : List ℕ) → whole ≡ front ++ rest → rest ≡ next ++ last → whole ≡ (front ++ next) ++ last
 joined front next last first second = first ∙ (ap (λ xs. front ++ xs) second ∙ sym (append_assoc front next last))
 
--- what a row has behind the common bytes
+-- what a row has after the common bytes
 record Again (number : Number) (kind : Kind) (b : List ℕ) (size : ℕ) : Type 0 where
   typed : slice_index b 8 ≡ 2 * code_of (packet_type kind) + (if is_long number then 1 else 0)
   behind : drop 9 b ≡ (number_bytes number ++ kind_bytes kind) ++ drop size b
 
--- for the types that have an acknowledgement alone behind a long number
+-- for the types that have an acknowledgement alone after a long number
 ack_again : (code n ack : ℕ) (kind : Kind) (b : List ℕ) (size : ℕ) → code ≡ code_of (packet_type kind) → kind_bytes kind ≡ long_ack_bytes ack → size ≤ length b
     → AreBytes b
     → slice_index b 8 < 32 → slice_index b 9 ≡ 0 → LongAckHasZeros b → HasType code 1 b → size ≡ 24 → n ≡ number_at 10 6 b → ack ≡ number_at 18 6 b

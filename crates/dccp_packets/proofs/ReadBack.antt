@@ -17,13 +17,13 @@ use Rattle.dccp_packets.specs.Widths.{number_in_width, kind_in_widths, in_widths
 use Rattle.dccp_packets.proofs.Pieces.{same_response, same_reset, same_header, same_parts, decoded_ok}
 use Rattle.dccp_packets.proofs.Lengths.{forms_of_valid, detail_of_fits, length-header_bytes, shortest, offset_in_words}
 
--- the sequence number, behind the common bytes
+-- the sequence number, after the common bytes
 number_again : (number : Number) (kind_part : List ℕ) (h : Header) (words : ℕ) (rest : List ℕ)
     → number_in (is_long number) (common_bytes h words ++ ((number_bytes number ++ kind_part) ++ rest)) ≡ number_in_width number
 number_again (Long n) kind_part h words rest = ap Long (big_from-bytes 6 n (kind_part ++ rest))
 number_again (Short n) kind_part h words rest = ap Short (big_from-bytes 3 n (kind_part ++ rest))
 
--- what the type alone carries, behind the common bytes and the sequence number
+-- what the type alone carries, after the common bytes and the sequence number
 kind_again : (number : Number) (kind : Kind) → HasDetail kind → has_forms (is_long number) kind ≡ true → (h : Header) (words : ℕ) (rest : List ℕ)
     → kind_of (packet_type kind) (is_long number) (common_bytes h words ++ ((number_bytes number ++ kind_bytes kind) ++ rest)) ≡ kind_in_widths kind
 kind_again (Long n) (Request service) detailed form h words rest = ap Request (big_from-bytes 4 service rest)

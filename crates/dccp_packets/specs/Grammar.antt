@@ -139,11 +139,11 @@ type_code bytes = slice_index bytes 8 / 2 % 16
 abbrev pub has_long_numbers : List ℕ → Bool
 has_long_numbers bytes = slice_index bytes 8 % 2 == 1
 
--- the sequence number: 48 bits behind a reserved byte, or 24 (RFC 4340, section 5.1)
+-- the sequence number: 48 bits after a reserved byte, or 24 (RFC 4340, section 5.1)
 abbrev pub number_in : Bool → List ℕ → Number
 number_in long bytes = if long then Long (number_at 10 6 bytes) else Short (number_at 9 3 bytes)
 
--- the acknowledgement number: 48 bits behind two reserved bytes, or 24 behind one (RFC 4340, section 5.1)
+-- the acknowledgement number: 48 bits after two reserved bytes, or 24 after one (RFC 4340, section 5.1)
 abbrev pub long_ack : List ℕ → ℕ
 long_ack bytes = number_at 18 6 bytes
 
@@ -182,7 +182,7 @@ pub record Parts : Type 0 where
   pub options : List ℕ
   pub payload : List ℕ
 
--- the packet that they are: behind the fixed part the options up to the Data Offset, and then the data
+-- the packet that they are: after the fixed part the options up to the Data Offset, and then the data
 abbrev pub parts_of : PacketType → Bool → List ℕ → Parts
 parts_of kind long bytes = record {
   header = header_of kind long bytes;
@@ -221,12 +221,12 @@ header_length h = fixed_length (is_long h.number) (packet_type h.kind)
 abbrev pub type_byte : Header → ℕ
 type_byte h = 2 * code_of (packet_type h.kind) + (if is_long h.number then 1 else 0)
 
--- numbers behind their reserved bytes, which are zero
+-- numbers after their reserved bytes, which are zero
 abbrev pub number_bytes : Number → List ℕ
 number_bytes (Long n) = 0 ∷ big_bytes 6 n
 number_bytes (Short n) = big_bytes 3 n
 
--- an acknowledgement number of 48 bits behind its two
+-- an acknowledgement number of 48 bits after its two
 abbrev pub long_ack_bytes : ℕ → List ℕ
 long_ack_bytes ack = 0 ∷ 0 ∷ big_bytes 6 ack
 
@@ -235,7 +235,7 @@ abbrev pub ack_bytes : Number → List ℕ
 ack_bytes (Long ack) = long_ack_bytes ack
 ack_bytes (Short ack) = 0 ∷ big_bytes 3 ack
 
--- what stands behind the sequence number in the fixed part, a line a type (RFC 4340, sections 5.2 to 5.7)
+-- what follows the sequence number in the fixed part, a line a type (RFC 4340, sections 5.2 to 5.7)
 abbrev pub kind_bytes : Kind → List ℕ
 kind_bytes (Request service) = big_bytes 4 service
 kind_bytes (Response ack service) = long_ack_bytes ack ++ big_bytes 4 service

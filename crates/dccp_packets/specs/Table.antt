@@ -13,7 +13,7 @@ use Rattle.dccp_packets.specs.Grammar.{number_at}
 abbrev pub HasType : ℕ → ℕ → List ℕ → Type 0
 HasType code x bytes = (reserved : ℕ) × (slice_index bytes 8 ≡ 32 * reserved + (2 * code + x))
 
--- What stands in the fixed part, whose length is the last argument: a row for each type and form of numbers. No other
+-- What is in the fixed part, whose length is the last argument: a row for each type and form of numbers. No other
 -- forms are packets.
 abbrev pub IsRow : Number → Kind → List ℕ → ℕ → Type 0
 IsRow (Long n) (Request service) b size = HasType 0 1 b × (size ≡ 20) × (n ≡ number_at 10 6 b) × (service ≡ number_at 16 4 b)

@@ -19,7 +19,7 @@ const CHECKSUM: usize = 6;
 
 const TYPE: usize = 8;
 
-// Long numbers stand behind reserved bytes, and so does a short acknowledgement.
+// Long numbers follow reserved bytes, and so does a short acknowledgement.
 const SHORT_NUMBER: usize = 9;
 
 const LONG_NUMBER: usize = 10;

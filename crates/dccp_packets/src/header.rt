@@ -96,7 +96,7 @@ pub struct Header {
     pub ccval: u8,
     /// CsCov, 0 to 15: how much of the data the checksum covers (section 9.2).
     pub cscov: u8,
-    /// Checksum, as it stands in the packet (section 9).
+    /// Checksum, as it is in the packet (section 9).
     pub checksum: u16,
     /// Sequence number.
     pub number: Number,
@@ -290,7 +290,7 @@ impl Header {
     }
 }
 
-// What a field keeps by its type alone, for a field that stands inside a variant or behind a reference.
+// What a field keeps by its type alone, for a field that is inside a variant or after a reference.
 fn service_fits(service: u32)
     ensures { service < 2 ^ 32 }
 {}

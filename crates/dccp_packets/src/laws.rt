@@ -66,7 +66,7 @@ pub fn one_spelling_has_no_reserved_bit()
         → bytes ≡ spelling h options payload }
 {}
 
-/// A number that is put into a form is read again in full: as it stands in the long form, and in the short one by a
+/// A number that is put into a form is read again in full: as it is in the long form, and in the short one by a
 /// reference that it is not far from (`number`). So is the acknowledgement number of a packet whose type may have the
 /// form (`ack`); its numbers are then both in this form (`form`; RFC 4340, sections 5.1 and 7.6).
 pub fn numbers_in_a_form_are_read_in_full()

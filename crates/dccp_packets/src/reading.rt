@@ -11,7 +11,7 @@ use crate::{Header, PacketType, fields};
 /// A packet's parts. Options and payload are borrowed from the bytes that were decoded.
 #[derive(Clone, Copy, Debug, PartialEq, Eq)]
 pub struct Packet<'a> {
-    /// The header, all of whose fields stand in the fixed part.
+    /// The header, all of whose fields are in the fixed part.
     pub header: Header,
     /// The option area, up to the Data Offset (RFC 4340, section 5.8).
     pub options: &'a [u8],

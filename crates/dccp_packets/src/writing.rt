@@ -1,6 +1,6 @@
 //! A packet's bytes from its parts, and the one reason to refuse them.
 //!
-//! Beside the spelling `encode` says that its frame is read back, so no caller has to know the widths of fields behind
+//! Beside the spelling `encode` says that its frame is read back, so no caller has to know the widths of fields after
 //! a reference.
 ghost use Rattle.std.specs.Prelude.{◌≡◌, ◌+◌, ◌*◌, ◌/◌, ◌%◌, ◌-◌, ◌^◌, ◌<◌, ◌≤◌, ◌↔◌, ◌∷◌, [], ◌++◌, length, replicate, IsTrue, IsErr, OnOk, OnErr};
 ghost use Rattle.byteorder.specs.Endian.{big_bytes};

@@ -36,7 +36,7 @@ pub enum AbortFault {
 }
 
 /// A call of an end by its user, as one value (own; the calls are RFC 4340's): the call that each names takes what
-/// stands here, and refuses as it says.
+/// is here, and refuses as it says.
 #[derive(Clone, Copy, Debug, PartialEq, Eq)]
 pub enum UserCall<'a> {
     /// `Endpoint::open`: the client asks for its service (RFC 4340, section 8.1.1).

@@ -40,7 +40,7 @@ word_sum-short bytes count long short =
           rw e (omega (arith, whole, added))
     ]
 
--- a longer coverage: what stands before the checksum and what stands behind it
+-- a longer coverage: what comes before the checksum and what follows it
 pub word_sum-long : (bytes : List ℕ) (count : ℕ) → 8 ≤ length bytes → 8 ≤ count
     → word_sum (take count (with_checksum 0 bytes)) ≡ word_sum (take 6 bytes) + word_sum (take (count - 8) (drop 8 bytes))
 word_sum-long bytes count long past =

@@ -26,7 +26,7 @@ summed pseudo bytes count = pseudo_header pseudo (length bytes) ++ take count (w
 abbrev pub checksum : Pseudo → List ℕ → ℕ → ℕ
 checksum pseudo bytes count = 65535 - ones_complement (word_sum (summed pseudo bytes count))
 
--- the checksum that stands in the packet
+-- the checksum that is in the packet
 abbrev pub stated : List ℕ → ℕ
 stated bytes = big_number 2 (drop 6 bytes)
 

@@ -1,4 +1,4 @@
-//! The part of the sum that stands in no packet.
+//! The part of the sum that is in no packet.
 ghost use Rattle.std.specs.Prelude.{◌≡◌, ◌+◌, ◌%◌, ◌<◌, ◌≤◌, ◌^◌, length};
 ghost use Rattle.dccp_sum.specs.Words.{word_sum, IsSameSum};
 ghost use Rattle.dccp_sum.specs.Checksum.{pseudo_header};

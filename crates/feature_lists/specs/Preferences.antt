@@ -8,7 +8,7 @@ pub record IsPreferences (list : List ℕ) : Type 0 where
   pub few : length list ≤ 8
   pub distinct : is_distinct list ≡ true
 
--- a list's entries, and zeros behind them up to eight places
+-- a list's entries, and zeros after them up to eight places
 abbrev pub filled_to_eight : List ℕ → List ℕ
 filled_to_eight list = list ++ replicate (8 - length list) 0
 

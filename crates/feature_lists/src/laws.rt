@@ -8,8 +8,8 @@ ghost use Rattle.feature_lists.specs.declared.features.Feature.{Feature};
 ghost use Rattle.feature_lists.specs.declared.features.Place.{Place};
 ghost use Rattle.feature_lists.specs.declared.wishes.Wanted.{Wanted};
 
-/// Two lists settle on a value exactly where it stands in both and none before it in the server's list stands in the
-/// client's, and on nothing exactly where no value stands in both (RFC 4340, section 6.3.1).
+/// Two lists settle on a value exactly where it is in both and none before it in the server's list is in the
+/// client's, and on nothing exactly where no value is in both (RFC 4340, section 6.3.1).
 pub fn reconciliation_is_the_first_shared()
     ensures found { (server client : List ℕ) (value : ℕ)
         → (reconciled server client ≡ Some value) ↔ IsFirstShared server client value }

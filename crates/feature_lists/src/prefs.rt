@@ -13,7 +13,7 @@ pub const MOST_ENTRIES: usize = 8;
 /// bytes. Contracts see the list of its entries. Only `wish` and `usual` make one.
 #[derive(Clone, Copy, Debug, PartialEq, Eq)]
 pub struct Prefs {
-    // The entries, and zeros behind them. So the value is the list alone, and yet gives the fields back, as Copy and
+    // The entries, and zeros after them. So the value is the list alone, and yet gives the fields back, as Copy and
     // `==` need.
     entries: [u8; 8],
     len: usize,
@@ -60,7 +60,7 @@ impl Prefs {
     }
 }
 
-// The values, and zeros behind them.
+// The values, and zeros after them.
 fn entries_of(values: &[u64]) -> [u8; 8]
     requires few { length values.now ≤ 8 }
     requires bytes { list_all (λ value. nat_lt value 256) values.now ≡ true }

@@ -21,7 +21,7 @@ read rows at = row_at rows at.0 at.1
 abbrev is_due_at : List Row → Feature × Place → Bool
 is_due_at rows at = is_due (read rows at)
 
--- these stand at the places of rows from this one on
+-- these are at the places of rows from this one on
 abbrev AreFrom : ℕ → List (Feature × Place) → Type 0
 AreFrom start [] = Unit {0}
 AreFrom start (at ∷ rest) = (index_of at.0 at.1 ≡ start) × AreFrom (suc start) rest

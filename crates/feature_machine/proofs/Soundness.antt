@@ -80,13 +80,13 @@ entry_permitted feature place (Some (wanted.List list)) value a entry =
     let permitted = and_parts (is_counted feature (length list)) (list_all (is_permitted feature place) list) front.0 in
     entry_passes (is_permitted feature place) list value permitted.1 entry
 
--- what stands at a place is an entry
+-- what is at a place is an entry
 stands_in : (list : List ℕ) (k value : ℕ) → slice_get list k ≡ Some value → Contains list value
 stands_in [] k value h = cc
 stands_in (x ∷ list) zero value h = (0, grind arith, cc)
 stands_in (x ∷ list) (suc k) value h = let c : Contains list value = stands_in list k value h in (suc c.0, grind arith, c.2)
 
--- the reconciliation stands in the row's own list
+-- the reconciliation is in the row's own list
 pub reconciled_own : (r : Role2) (own peers : List ℕ) (value : ℕ) → reconciled_by r own peers ≡ Some value → has_entry own value ≡ true
 reconciled_own role.Server own peers value h =
     let at : FirstPassing (has_entry peers) own value = find_passing (has_entry peers) own value h in

@@ -51,7 +51,7 @@ usual_lists =
     ∷ usual_listed f.CheckDataChecksum located.There
     ∷ []
 
--- what stands there for a row
+-- what is there for a row
 abbrev pub listed_at : List Listed → Feature → Place → Listed
 listed_at lists feature place = slice_index_or lists (index_of feature place) (usual_listed f.Ccid located.Here)
 
@@ -63,7 +63,7 @@ list_put lists feature place listed = slice_set lists (index_of feature place) l
 abbrev pub with_wish : List Listed → Feature → Place → Wanted → List Listed
 with_wish lists feature place wish = list_put lists feature place (record (listed_at lists feature place) { wish = Some wish })
 
--- an offer's Change is sent plain or behind Mandatory
+-- an offer's Change is sent plain or after Mandatory
 abbrev pub offer_of : Bool → Offer
 offer_of true = offer.Mandatory
 offer_of false = offer.Plain

@@ -27,7 +27,7 @@ use Rattle.feature_machine.specs.declared.judging.Confirmation.TheVariants as c
 
 -- what happens to a row
 pub data RowEvent : Type 0 where
-  -- a Change for the row comes, with its data behind the feature number
+  -- a Change for the row comes, with its data after the feature number
   Change : (body : List ℕ) (mandatory : Bool) → RowEvent
   -- a Confirm for the row comes, on a packet with this acknowledgement number
   Confirm : (body : List ℕ) (ack : Option ℕ) → RowEvent
@@ -40,7 +40,7 @@ pub data RowEvent : Type 0 where
 
 -- what a row answers
 pub data RowAnswer : Type 0 where
-  -- a Confirm with this data behind the feature number is due
+  -- a Confirm with this data after the feature number is due
   Confirms : (body : List ℕ) → RowAnswer
   Ignored Settled : RowAnswer
   -- the packet is answered by a Reset with this code
@@ -193,7 +193,7 @@ sent_anew row number =
     record row { stand = stand.Changing; active = row.pending; pending = None; opened = Some number; mandatory = false }
 
 -- The negotiation table, a line a row, in its order; the first line that matches applies. The lines on offers and on a
--- row that is STABLE and has nothing to send stand last.
+-- row that is STABLE and has nothing to send come last.
 abbrev pub row_line : Row → Stand → TableEvent → RowStep
 row_line row _ (Proposed p.Invalid false) = says row (Confirms [])
 row_line row _ (Proposed p.Invalid true) = says row (Fatal 6)

@@ -2,7 +2,7 @@
 
 use arrayvec::ArrayVec;
 
-/// What a received Change leads to.
+/// The answer to a Change.
 #[derive(Debug, Drop)]
 pub enum Answer {
     /// This Confirm is due on a packet that acknowledges the Change's.
@@ -20,11 +20,11 @@ pub struct ConfirmOut {
     pub left: bool,
     /// The feature number, as the Change had it.
     pub feature: u8,
-    /// The data behind the feature number: empty; a value and the confirmer's list; or the value alone.
+    /// The data after the feature number: empty; a value and the confirmer's list; or the value alone.
     pub body: ArrayVec<u8, 9>,
 }
 
-/// What a received Confirm leads to.
+/// The answer to a Confirm.
 #[derive(Clone, Copy, Debug, PartialEq, Eq)]
 pub enum Settling {
     /// The row is STABLE now.

@@ -1,6 +1,6 @@
 //! The rows whose Change is due.
 //!
-//! They are looked at, and none is copied. Whoever changes rows by them keeps the places first.
+//! They are read in place, and none is copied. A caller that changes the rows first copies the places.
 ghost use Rattle.std.specs.Prelude.{◌≡◌, ◌+◌, ◌<◌, ◌≤◌, ℕ, true, length, drop, slice_get, Some};
 ghost use Rattle.feature_machine.specs.Negotiating.{due_keys, is_due};
 ghost use Rattle.feature_machine.specs.declared.row.Row.{Row};

@@ -21,16 +21,16 @@ pub enum Proposal {
     Shared(u8),
     /// Its list shares nothing with the row's.
     Unshared,
-    /// It tells this value of a non-negotiable feature.
+    /// It has this value of a non-negotiable feature.
     Told(u64),
 }
 
 /// What a Confirm is to a row in CHANGING.
 #[derive(Clone, Copy)]
 pub enum Confirmation {
-    /// It has no acknowledgement number, or one from before the row's last opening. "Before" ends at just half the
-    /// circle, as everywhere: a Confirm that acknowledges a number at that very distance is taken. No end meets one,
-    /// since it uses fewer than 2^47 numbers.
+    /// It has no acknowledgement number, or one from before the row's last opening. As everywhere, a number at exactly
+    /// half the circle is not before: a Confirm that acknowledges such a number is taken. No end meets one, since it
+    /// uses fewer than 2^47 numbers.
     Late,
     /// It holds the feature number alone.
     Empty,
@@ -38,9 +38,9 @@ pub enum Confirmation {
     Shared(u8),
     /// It confirms the value that the row holds, and its list shares nothing with the row's.
     Held,
-    /// It confirms without a list a value that stands in the row's list, or that the row holds.
+    /// It confirms without a list a value that is in the row's list, or that the row holds.
     Alone(u8),
-    /// It confirms the value that the row told.
+    /// It confirms the value that the row sent.
     Told(u64),
     /// It is none of these.
     Wrong,
@@ -100,7 +100,7 @@ impl Row {
         }
     }
 
-    // What a Change with this data behind the feature number is to the row.
+    // What a Change with this data after the feature number is to the row.
     pub(crate) fn proposal(&self, body: &[u8]) -> Proposal
         requires { IsSoundRow self.now }
         ensures value { result ≡ proposal self.now body.now }
@@ -120,7 +120,7 @@ impl Row {
         }
     }
 
-    // A Confirm with a list behind its value, by what that list and the row's settle on.
+    // A Confirm with a list after its value, by what that list and the row's settle on.
     fn agreed_confirmation(&self, value: u8, agreed: Option<u8>) -> Confirmation
         ensures { result ≡ agreed_confirmation self.now value agreed }
     {
@@ -131,14 +131,14 @@ impl Row {
         }
     }
 
-    // The value stands in the active list, or is the one that the row holds.
+    // The value is in the active list, or is the one that the row holds.
     fn is_acceptable(&self, value: u8) -> bool
         ensures { result ≡ is_acceptable self.now value }
     {
         self.entries().contains(&value) || u64::from(value) == self.value
     }
 
-    // A Confirm of a server-priority feature: a value, and a list behind it or none.
+    // A Confirm of a server-priority feature: a value, and a list after it or none.
     fn list_confirmation(&self, value: u8, list: &[u8]) -> Confirmation
         ensures { result ≡ list_confirmation self.now value list.now }
     {
@@ -185,7 +185,7 @@ impl Row {
         }
     }
 
-    // What a Confirm with this data behind the feature number, on a packet with this acknowledgement number, is to a
+    // What a Confirm with this data after the feature number, on a packet with this acknowledgement number, is to a
     // row in CHANGING.
     pub(crate) fn confirmation(&self, body: &[u8], ack: &Option<Seq48>) -> Confirmation
         ensures { result ≡ confirmation self.now body.now ack.now }

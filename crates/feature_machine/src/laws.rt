@@ -28,9 +28,9 @@ pub fn rows_stay_sound()
         → IsEventFor (row_at rows feature place) event → IsNegotiation (stepped rows feature place event).rows }
 {}
 
-/// A row in CHANGING passes over a Confirm without an acknowledgement number, one that acknowledges a packet from
-/// before its last opening, and any that comes before the Change of that opening was sent. A number is before the
-/// opening's where its distance to it is less than half the circle; at just half the circle it is not.
+/// A row in CHANGING ignores a Confirm without an acknowledgement number, one that acknowledges a packet from before
+/// its last opening, and any that arrives before the Change of that opening was sent. A number is before that of the
+/// opening if its distance to that is less than half the circle; at exactly half the circle it is not.
 pub fn late_confirms_are_ignored()
     ensures without { (row : Row) (body : List ℕ) → row.stand ≡ Changing
         → row_step row (Confirm body None) ≡ says row Ignored }
@@ -84,8 +84,8 @@ pub fn changes_move_no_stand()
         → (row_step row (Change body mandatory)).row ≡ record row { value = (row_step row (Change body mandatory)).row.value } }
 {}
 
-/// A row that asks comes to STABLE from CHANGING alone, by a Confirm that acknowledges its last opening or a later
-/// packet; and that is what it answers Settled to.
+/// A row that asks becomes STABLE only from CHANGING, by a Confirm that acknowledges its last opening or a later
+/// packet; to that alone it answers Settled.
 pub fn only_its_confirm_settles()
     ensures stand { (row : Row) (event : RowEvent) → row.stand ≢ Stable → (row_step row event).row.stand ≡ Stable
         → (row.stand ≡ Changing) × IsItsConfirm row event }

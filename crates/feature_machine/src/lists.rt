@@ -84,7 +84,7 @@ fn unoffer(listed: &mut [Listed])
 }
 
 impl Lists {
-    /// The lists of an end that was told no others. It offers, each behind Mandatory, ECN Incapable here and Send Ack
+    /// The lists of an end that was told no others. It offers, each after Mandatory, ECN Incapable here and Send Ack
     /// Vector at the peer (own).
     pub fn usual() -> Lists
         ensures { result ≡ usual_lists }
@@ -129,8 +129,7 @@ impl Lists {
         self.listed[index_of(feature, place)] = listed;
     }
 
-    /// Wishes these values, best first, for the feature at this place from the start on, in place of what was wished
-    /// there.
+    /// Sets the wish for the feature at this place to these values, best first, in place of an earlier wish.
     ///
     /// Refused, with nothing changed, as `wish` refuses: BadList, then NotOurs.
     pub fn set(&mut self, feature: Feature, place: Place, values: &[u64]) -> Result<(), PreferFault>

@@ -25,14 +25,14 @@ use std::marker::Model;
 /// order of the features, Here before There.
 ///
 /// `held`, `active`, `mandatory` and `due` read; `on_change` and `on_confirm` take what a newest packet carries (a
-/// number after all that were taken before: options of older packets must not be handed in, since they would bring
-/// values back that both ends have left); `prefer` and `open_offer` open a row, whose Change is then due, and `sent`
-/// tells that it went out. Each call changes the row that it names alone.
+/// number after all that were taken before; hand in no options of older packets, since they would bring back values
+/// that both ends have left). `prefer` and `open_offer` open a row, whose Change is then due, and `sent` notes that it
+/// went out. Each call changes only the row that it names.
 ///
-/// A Confirm that `on_change` answers has to go out in the same step, in a packet that acknowledges the Change's:
-/// without it the end would hold a value of which no packet of its own tells. A Change is written by first calling
-/// `sent` with the number of its packet, and then taking the list or value from `active` and Mandatory from
-/// `mandatory`: until then an UNSTABLE row still has its old list there.
+/// A Confirm that `on_change` answers has to go out in the same step, in a packet that acknowledges that of the Change:
+/// otherwise the end would hold a value that no packet of its own has said. To write a Change, first call `sent` with
+/// the number of its packet, and then take the list or value from `active` and Mandatory from `mandatory`: before
+/// `sent` an UNSTABLE row still has its old list there.
 #[derive(Clone, Copy, Debug, PartialEq, Eq)]
 pub struct Negotiation {
     rows: [Row; 18],
@@ -183,8 +183,8 @@ impl Negotiation {
         Due::of(&self.rows)
     }
 
-    /// Tells whether the rows have nothing to say by themselves, as nearly always once the connection has started: no offer
-    /// is left and no row asks, so that an offer that comes up now changes nothing, and no Change is due.
+    /// Whether the rows have nothing to send by themselves, as nearly always once the connection has started: no offer
+    /// is left and no row asks, so making an offer now changes nothing, and no Change is due.
     pub fn is_quiet(&self) -> bool
         ensures value { result ≡ are_quiet self.now }
         ensures offers { result ≡ true → (feature : Feature) (place : Place) (confirmed : Bool)
@@ -194,10 +194,10 @@ impl Negotiation {
         are_quiet(&self.rows)
     }
 
-    /// A Change L (`left`) or Change R of a newest packet comes, with its data behind the feature number.
+    /// A Change L (`left`) or Change R of a newest packet comes, with its data after the feature number.
     ///
     /// It answers the Confirm that is due, or Ignored, or Fatal for Reset 6, by the negotiation table. A Change that is
-    /// not valid, also one of an unknown feature, gets an empty Confirm, or Reset 6 behind Mandatory.
+    /// not valid, also one of an unknown feature, gets an empty Confirm, or Reset 6 after Mandatory.
     pub fn on_change(&mut self, left: bool, feature: u8, body: &[u8], mandatory: bool) -> Answer
         ensures rows { self.new ≡ (changes self.old left feature body.now mandatory).rows }
         ensures answer { shown result ≡ answered left feature (changes self.old left feature body.now mandatory).answer }
@@ -227,7 +227,7 @@ impl Negotiation {
         }
     }
 
-    /// A Confirm L (`left`) or Confirm R of a newest packet comes, with its data behind the feature number and the
+    /// A Confirm L (`left`) or Confirm R of a newest packet comes, with its data after the feature number and the
     /// packet's acknowledgement number.
     ///
     /// It answers Settled, Ignored, or Fatal for Reset 5, by the negotiation table.
@@ -251,10 +251,10 @@ impl Negotiation {
         }
     }
 
-    /// The end wants something else for a feature at a place: a wish that `wish` gives there, which is the condition.
-    /// Now means that the row was STABLE and its Change is due in this very step; Later that a Change of the row is
-    /// under way, and the new wish goes out on a later one. An end prefers only once its offers were made; a row whose
-    /// offer was not yet made would keep it.
+    /// The end has a new wish for a feature at a place, which has to be an answer of `wish`. Now means that the row was
+    /// STABLE and its Change is due in this step. Later means that a Change of the row is under way, and the new wish
+    /// goes out with a later one. An end prefers only once its offers were made; a row whose offer was not yet made
+    /// would keep it.
     pub fn prefer(&mut self, feature: Feature, place: Place, wish: Wanted) -> Opening
         requires { is_wish feature place wish ≡ true }
         ensures rows { self.new ≡ (stepped self.old feature place (Prefers wish)).rows }
@@ -267,10 +267,9 @@ impl Negotiation {
         opening
     }
 
-    /// The offer of a row that is STABLE, which is the condition, comes up: one that was not yet made is used up. True
-    /// exactly where there was one and no Confirm of the row goes out on the same packet (`confirmed`): then the row is
-    /// in CHANGING with its active list, which is the configured one unless the end preferred another before, and its
-    /// Change is due.
+    /// Makes the offer of a row, which has to be STABLE; an offer is made only once. True exactly if there was one and
+    /// no Confirm of the row goes out on the same packet (`confirmed`). Then the row is in CHANGING with its active
+    /// list, which is the configured one unless the end preferred another before, and its Change is due.
     pub fn open_offer(&mut self, feature: Feature, place: Place, confirmed: bool) -> bool
         requires { (row_at self.old feature place).stand ≡ Stable }
         ensures rows { self.new ≡ (stepped self.old feature place (Offers confirmed)).rows }

@@ -9,7 +9,7 @@ pub enum Offer {
     Nothing,
     /// A Change without Mandatory.
     Plain,
-    /// A Change behind Mandatory.
+    /// A Change after Mandatory.
     Mandatory,
 }
 

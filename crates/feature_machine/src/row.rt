@@ -8,8 +8,8 @@
 //!     +--------------------------+    +--------------------------+
 //! ```
 //!
-//! A Change of the peer moves no stand: a row in CHANGING answers it, takes its value and still waits for its own
-//! Confirm. Were it to go to STABLE there, the Confirm under way could carry another value than the peer holds by then.
+//! A Change of the peer changes no stand: a row in CHANGING answers it, takes its value and still waits for its own
+//! Confirm. If it went to STABLE there, the Confirm under way could have another value than the peer then holds.
 ghost use Rattle.std.specs.Prelude.{◌≡◌, ◌≢◌, ◌++◌, ◌∷◌, [], ℕ, ◌<◌, ◌^◌, length, true, false};
 ghost use Rattle.arrayvec.specs.ArrayVec.{array_vec_len};
 ghost use Rattle.byteorder.specs.Endian.{big_bytes};
@@ -55,7 +55,7 @@ pub struct Row {
 /// What a row replies to a Change.
 #[derive(Drop)]
 pub enum Reply {
-    /// A Confirm with this data behind the feature number.
+    /// A Confirm with this data after the feature number.
     Confirm(ArrayVec<u8, 9>),
     Ignored,
     /// Reset 6.

@@ -1,6 +1,6 @@
 //! Where a row stands, and what is told of it.
 
-/// Where the negotiation of a feature stands at an end (RFC 4340, section 6.6.2).
+/// Where the negotiation of a feature is at an end (RFC 4340, section 6.6.2).
 #[derive(Clone, Copy, Debug, PartialEq, Eq)]
 pub enum Stand {
     /// Nothing is asked here: the value holds. It says nothing of the other end, which may wait for a Confirm and hold

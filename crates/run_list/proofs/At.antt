@@ -27,7 +27,7 @@ up_at f b n i ss s p q h e k a d =
     (adds_at f b n i ss s (stretch n (s.count + 1) ∷ drop (suc i) ss) p h e k a
     (adds_up f (bound_after f b (take i ss)) n s (drop (suc i) ss) p q a (laid_at f b i ss s h e k) d))
 
--- nothing stands below, or a run with a gap
+-- nothing is below, or a run with a gap
 pub down_at : (f b n i : ℕ) (ss : List Stretch) (s : Stretch) → f < 2 ^ 48 → n < 2 ^ 48 → i < length ss → s ≡ get_or ss i s → AreLaid f b ss
     → distance f n < bound_after f b (take i ss) → distance f n + s.count ≡ distance f s.hi → AreLaid f (distance f n - 1) (drop (suc i) ss)
     → Adds f b n ss (set ss i (stretch s.hi (s.count + 1)))
@@ -79,7 +79,7 @@ present_at f b n i ss s p q h e k a d r =
     let there : has (numbers_of (s ∷ drop (suc i) ss)) n ≡ true = inside-present f n s.count s.hi (numbers_of (drop (suc i) ss)) p here.0.fits q d r in
     ap (λ ts. has (numbers_of ts) n) parts ∙ present_behind f b n (take i ss) (s ∷ drop (suc i) ss) p (subst P parts k) a there
 
--- a run at a place that lies below another bound, and those behind it
+-- a run at a place that lies below another bound, and those after it
 pub far_at : (f b c i : ℕ) (ss : List Stretch) (s : Stretch) → i < length ss → s ≡ get_or ss i s → AreLaid f b ss → distance f s.hi < c
     → AreLaid f c (drop i ss)
 far_at f b c i ss s h e k d =

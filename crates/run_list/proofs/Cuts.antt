@@ -14,7 +14,7 @@ use Rattle.run_list.proofs.Downs.{dropped-downwards}
 use Rattle.run_list.proofs.Laid.{numbers_of-append, laid_front, laid_back, bound_falls}
 use Rattle.run_list.proofs.Kept.{last_kept, laid_wider}
 use Rattle.run_list.proofs.Paths.{times-here, times-append, times-last, path-fits, path-set, path-redirect, last-none, front, last-front, runs-append, runs-edited, from-path}
-use Rattle.run_list.proofs.Links.{place_runs, rest_runs, place_once, place_all, all_parted, below_end, below_far}
+use Rattle.run_list.proofs.Links.{idle_set, place_runs, rest_runs, place_once, place_all, all_parted, below_end, below_far}
 
 -- runs that lie below the new floor are dropped
 runs-dropped : (f to b : ℕ) (ss : List Stretch) → f < 2 ^ 48 → to < 2 ^ 48 → distance f to < 2 ^ 47 → b ≤ distance f to → AreLaid f b ss
@@ -97,6 +97,7 @@ cut_parted nodes first free before at x l p h e =
         loose_path = path-set nodes before at 1024 x p.rest no_rest p.rest_path;
         once = λ i k. (let one = place_once nodes first free before at i l p k in omega arith);
         all = omega arith;
+        idle = idle_set nodes before x l.spare no_spare l.idle;
       },
       from-path new first p.passed new_size (omega arith) used_path
           ∙ ap (λ (js : List ℕ). runs_at new js) parts

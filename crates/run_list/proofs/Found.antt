@@ -44,7 +44,7 @@ stretches-numbers_of f b [] p r h = refl
 stretches-numbers_of f b (s ∷ ss) p r h =
     stretches-some f s.count s.hi ss p h.0.fits (omega arith) h.0.some h.0.above h.1 (stretches-numbers_of f (bound_below f s) ss p (omega arith) h.1)
 
--- a number above runs joins them, or stands before them
+-- a number above runs joins them, or comes before them
 pub laid-extended_by : (f b n : ℕ) (ss : List Stretch) → f < 2 ^ 48 → n < 2 ^ 48 → distance f n < b → distance f n < 2 ^ 47 → AreLaid f (distance f n) ss
     → AreLaid f b (extended_by n ss) × (numbers_of (extended_by n ss) ≡ n ∷ numbers_of ss)
 laid-extended_by f b n [] p q d r h = ((record { fits = q; some = omega arith; below = d; above = omega arith }, tt), refl)

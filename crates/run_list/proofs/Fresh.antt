@@ -3,8 +3,8 @@ use Rattle.std.proofs.Common.{◌≡◌, ℕ, ◌+◌, ◌-◌, ◌<◌, ◌≤�
 use Rattle.std.proofs.lemmas.Bool.{cases_eq}
 use Rattle.std.proofs.lemmas.Grind.{get_or-set_at}
 use Rattle.run_list.specs.declared.linked.Node.{Node}
-use Rattle.run_list.specs.Linked.{no_node, node_at, runs_from, IsPath, times_listed, IsLinked}
-use Rattle.run_list.proofs.Paths.{times-here, times-other, path-set, from-path}
+use Rattle.run_list.specs.Linked.{no_node, node_at, runs_at, runs_from, IsPath, times_listed, AreIdle, IsLinked}
+use Rattle.run_list.proofs.Paths.{times-here, times-other, path-set, runs-set, from-path}
 
 -- so many indices, from one up
 abbrev pub upwards : ℕ → ℕ → List ℕ
@@ -38,6 +38,24 @@ length-upwards (suc count) at = ap suc (length-upwards count (at + 1))
 abbrev pub chain_up : ℕ → List ℕ
 chain_up free = upwards (1024 - free) free
 
+-- the nodes of a chain have no number, with one more below them that has none
+pub idle_first : (nodes : List Node) (free : ℕ) → 1024 ≤ free → AreIdle (runs_at nodes (chain_up free))
+idle_first nodes free h =
+    let none : 1024 - free ≡ 0 = omega arith in
+    let R : ℕ → Type 0 = λ c. AreIdle (runs_at nodes (upwards c free)) in
+    subst R (sym none) tt
+
+pub idle_below : (nodes : List Node) (free next : ℕ) (x : Node) → length nodes ≡ 1024 → next + 1 ≡ free → free ≤ 1024 → x.count ≡ 0
+    → AreIdle (runs_at nodes (chain_up free)) → AreIdle (runs_at (set nodes next x) (chain_up next))
+idle_below nodes free next x s h k z idle =
+    let count : 1024 - next ≡ suc (1024 - free) = omega arith in
+    let read : node_at (set nodes next x) next ≡ x = get_or-set_at nodes next next x no_node refl (omega arith) in
+    let none : times_listed next (chain_up free) ≡ 0 = times-below next (1024 - free) free (omega arith) in
+    let tail : AreIdle (runs_at (set nodes next x) (chain_up free)) = subst AreIdle (sym (runs-set nodes next x (chain_up free) none)) idle in
+    let Q : ℕ → Type 0 = λ i. AreIdle (runs_at (set nodes next x) (upwards (1024 - free) i)) in
+    let R : ℕ → Type 0 = λ c. AreIdle (runs_at (set nodes next x) (upwards c next)) in
+    subst R (sym count) (ap (λ (n : Node). n.count) read ∙ z, subst Q (sym h) tail)
+
 -- the node below a chain comes before it
 pub chain_more : (nodes : List Node) (free next : ℕ) (x : Node) → length nodes ≡ 1024 → next + 1 ≡ free → free ≤ 1024 → x.next ≡ free
     → IsPath nodes free (chain_up free) 1024
@@ -60,9 +78,10 @@ chain_end nodes free h k =
     let R : ℕ → Type 0 = λ c. IsPath nodes free (upwards c free) 1024 in
     subst R (sym none) (omega arith)
 
-pub chain_linked : (nodes : List Node) (free : ℕ) → length nodes ≡ 1024 → free ≡ 0 → IsPath nodes free (chain_up free) 1024 → IsLinked nodes 1024 free
+pub chain_linked : (nodes : List Node) (free : ℕ) → length nodes ≡ 1024 → free ≡ 0 → IsPath nodes free (chain_up free) 1024
+    → AreIdle (runs_at nodes (chain_up free)) → IsLinked nodes 1024 free
     × (runs_from nodes 1024 ≡ [])
-chain_linked nodes free s e p =
+chain_linked nodes free s e p idle =
     let all : length (chain_up free) ≡ 1024 - free = length-upwards (1024 - free) free in (
       record {
         used = [];
@@ -72,6 +91,7 @@ chain_linked nodes free s e p =
         spare_path = p;
         once = λ i h. (let one : times_listed i (chain_up free) ≡ 1 = times-within i (1024 - free) free (omega arith) (omega arith) in omega arith);
         all = omega arith;
+        idle = idle;
       },
       from-path nodes 1024 [] s (omega arith) refl,
     )

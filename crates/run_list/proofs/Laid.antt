@@ -10,7 +10,7 @@ use Rattle.run_list.specs.Runs.{downwards, numbers_of, bound_below, AreLaid, bou
 use Rattle.run_list.proofs.Steps.{down, further, right_below}
 use Rattle.run_list.proofs.Downs.{downwards-add, falling-run, below-absent, above-with, above-absent}
 
--- a number above all of a list stands at its head
+-- a number above all of a list is at its head
 with_number-falling : (f b n : ℕ) (ns : List ℕ) → AreFalling f b ns → b ≤ distance f n → with_number f n ns ≡ n ∷ ns
 with_number-falling f b n [] h k = refl
 with_number-falling f b n (m ∷ ms) h k = let le : distance f m < distance f n = omega arith in grind arith
@@ -35,7 +35,7 @@ numbers_of-append [] ts = refl
 numbers_of-append (s ∷ ss) ts = ap (λ ns. downwards s.count s.hi ++ ns) (numbers_of-append ss ts)
     ∙ sym (append_assoc (downwards s.count s.hi) (numbers_of ss) (numbers_of ts))
 
--- runs in front, and runs behind them
+-- runs in front, and runs after them
 pub laid_front : (f b : ℕ) (ss ts : List Stretch) → AreLaid f b (ss ++ ts) → AreLaid f b ss
 laid_front f b [] ts h = tt
 laid_front f b (s ∷ ss) ts h = (h.0, laid_front f (bound_below f s) ss ts h.1)
@@ -74,7 +74,7 @@ above_runs-absent f b n (s ∷ ss) rest p h k =
     (above-absent f n s.count s.hi (numbers_of ss ++ rest) p h.0.fits (omega arith)
     ∙ above_runs-absent f (bound_below f s) n ss rest p h.1 k)
 
--- what is added behind is added to all
+-- what is added after is added to all
 pub adds_behind : (f b n : ℕ) (ss old new : List Stretch) → f < 2 ^ 48 → AreLaid f b (ss ++ old) → distance f n < bound_after f b ss
     → Adds f (bound_after f b ss) n old new → Adds f b n (ss ++ old) (ss ++ new)
 adds_behind f b n ss old new p h k a =
@@ -85,7 +85,7 @@ adds_behind f b n ss old new p h k a =
       numbers = rw (numbers_of-append ss new, numbers_of-append ss old, above_runs-with f b n ss (numbers_of old) p front k, a.numbers) refl;
     }
 
--- a number that is in the runs behind is in all
+-- a number that is in the runs after is in all
 pub present_behind : (f b n : ℕ) (ss old : List Stretch) → f < 2 ^ 48 → AreLaid f b (ss ++ old) → distance f n < bound_after f b ss
     → has (numbers_of old) n ≡ true → has (numbers_of (ss ++ old)) n ≡ true
 present_behind f b n ss old p h k a =
@@ -173,7 +173,7 @@ bound_after-more f b (suc i) (s ∷ ss) d h = rw (suc-add i 1) (bound_after-more
 pub laid_below : (f b c : ℕ) (s : Stretch) (ss : List Stretch) → distance f s.hi < c → AreLaid f b (s ∷ ss) → AreLaid f c (s ∷ ss)
 laid_below f b c s ss h k = (record { fits = k.0.fits; some = k.0.some; below = h; above = k.0.above }, k.1)
 
--- the run at a place, and those behind it
+-- the run at a place, and those after it
 pub split_at : (ss : List Stretch) (i : ℕ) (s : Stretch) → i < length ss → s ≡ get_or ss i s → ss ≡ take i ss ++ s ∷ drop (suc i) ss
 split_at ss i s h e =
     let parts : drop i ss ≡ get_or ss i s ∷ drop (suc i) ss = drop-cons ss i s h in

@@ -1,5 +1,6 @@
 -- Used and free nodes, and what an edit makes of both.
-use Rattle.std.proofs.Common.{◌≡◌, ℕ, ◌+◌, ◌*◌, ◌-◌, ◌^◌, ◌<◌, ◌≤◌, true, List, [], ◌∷◌, ◌++◌, suc, refl, ap, subst, arith, sym, ◌∙◌, length, set, length-append}
+use Rattle.std.proofs.Common.{◌≡◌, ℕ, ◌+◌, ◌*◌, ◌-◌, ◌^◌, ◌<◌, ◌≤◌, true, List, [], ◌∷◌, ◌++◌, suc, refl, ap, subst, arith, sym, ◌∙◌, inl, inr, length, set, length-append}
+use Rattle.std.proofs.lemmas.Bool.{cases_eq}
 use Rattle.std.proofs.lemmas.List.{length-set}
 use Rattle.std.proofs.lemmas.Grind.{get_or-set_at}
 use Rattle.seq_circle.specs.Circle.{distance}
@@ -8,10 +9,32 @@ use Rattle.run_list.specs.declared.linked.Node.{Node}
 use Rattle.run_list.specs.MarkedSet.{has}
 use Rattle.run_list.specs.Stretches.{stretch}
 use Rattle.run_list.specs.Runs.{numbers_of, AreLaid, bound_below, bound_after, Adds}
-use Rattle.run_list.specs.Linked.{no_node, node_at, run_of, runs_at, runs_from, IsPath, times_listed, IsChained, IsParted, IsLinked, IsPlace, Points}
+use Rattle.run_list.specs.Linked.{no_node, node_at, run_of, runs_at, runs_from, IsPath, times_listed, IsChained, IsParted, IsLinked, IsPlace, IsBegin, AreIdle, Points}
 use Rattle.run_list.proofs.Downs.{inside-present}
 use Rattle.run_list.proofs.Laid.{adds_behind, adds_alone, laid_back, laid_front, laid_below, present_behind, bound_falls, room_for_runs}
-use Rattle.run_list.proofs.Paths.{times-here, times-append, times-cons, last_apart, path-append, one_path, path-end, path-fits, path-some, behind, path-head, runs-append, length-runs, from-path, path-set, runs-set, path-same, runs-edited}
+use Rattle.run_list.proofs.Paths.{times-here, times-other, times-append, times-cons, last_apart, path-append, one_path, path-end, path-fits, path-some, behind, path-head, path-more, last-more, runs-append, length-runs, from-path, path-set, runs-set, path-same, runs-edited}
+
+-- free nodes after an edit of one that is not among them, and without the first
+pub idle_set : (nodes : List Node) (i : ℕ) (x : Node) (js : List ℕ) → times_listed i js ≡ 0 → AreIdle (runs_at nodes js) → AreIdle (runs_at (set nodes i x) js)
+idle_set nodes i x js h idle = subst AreIdle (sym (runs-set nodes i x js h)) idle
+
+idle_behind : (nodes : List Node) (js : List ℕ) → AreIdle (runs_at nodes js) → AreIdle (runs_at nodes (behind js))
+idle_behind nodes [] idle = idle
+idle_behind nodes (j ∷ js) idle = idle.1
+
+-- one more is free
+idle_more : (nodes : List Node) (i : ℕ) (x : Node) (js : List ℕ) → node_at nodes i ≡ x → x.count ≡ 0 → AreIdle (runs_at nodes js) → AreIdle (runs_at nodes (i ∷ js))
+idle_more nodes i x js read none idle = (ap (λ (n : Node). n.count) read ∙ none, idle)
+
+-- a node with a number is not among the free ones
+idle_apart : (nodes : List Node) (i : ℕ) (js : List ℕ) → 1 ≤ (node_at nodes i).count → AreIdle (runs_at nodes js) → times_listed i js ≡ 0
+idle_apart nodes i [] some idle = refl
+idle_apart nodes i (j ∷ js) some idle =
+    let ih = idle_apart nodes i js some idle.1 in
+    elim (cases_eq i j) [
+      | inl same ↦ let none : (node_at nodes i).count ≡ 0 = ap (λ (k : ℕ). (node_at nodes k).count) same ∙ idle.0 in absurd (omega arith)
+      | inr other ↦ let one = times-other i j js other in omega arith
+    ]
 
 -- a set with its chain is one whose links lead to an end
 pub linked_chained : (nodes : List Node) (first free : ℕ) → IsLinked nodes first free → IsChained nodes first
@@ -55,7 +78,7 @@ place_all nodes first free before at l p =
     let both : length (p.passed ++ p.rest) ≡ length p.passed + length p.rest = length-append p.passed p.rest in
     omega arith
 
--- what is added behind some runs
+-- what is added after some runs
 pub adds_runs : (f n : ℕ) (before old new all made : List Stretch) → f < 2 ^ 48 → all ≡ before ++ old → made ≡ before ++ new → AreLaid f 2048 all
     → distance f n < bound_after f 2048 before → Adds f (bound_after f 2048 before) n old new → Adds f 2048 n all made
 adds_runs f n before old new all made p e d laid above a =
@@ -138,6 +161,7 @@ link_linked nodes new first new_first free before at x l p h e t =
             let d : times_listed i (p.passed ++ free ∷ p.rest) ≡ times_listed i p.passed + times_listed i (free ∷ p.rest) =
             times-append i p.passed (free ∷ p.rest) in omega arith);
         all = omega arith;
+        idle = subst AreIdle (sym (t.runs spare ∙ runs-set nodes free x spare no_spare)) (idle_behind nodes l.spare l.idle);
       },
       from-path new new_first (p.passed ++ free ∷ p.rest) new_size (omega arith) used_path
           ∙ t.runs (p.passed ++ free ∷ p.rest) ∙ runs-edited nodes free x p.passed p.rest (omega arith) no_passed no_rest,
@@ -175,18 +199,19 @@ edit_linked nodes first free before at x l p h e =
         spare_path = path-same nodes at free 1024 x l.spare (omega arith) e l.spare_path;
         once = l.once;
         all = l.all;
+        idle = idle_set nodes at x l.spare (omega arith) l.idle;
       },
       from-path (set nodes at x) first l.used new_size (omega arith) used_path
           ∙ ap (λ (js : List ℕ). runs_at (set nodes at x) js) parts
           ∙ runs-edited nodes at x p.passed (behind p.rest) (omega arith) (omega arith) (omega arith),
     )
 
--- the run at a place takes that behind it in, and the node of that is free
+-- the run at a place takes that after it in, and the node of that is free
 pub join_linked : (nodes : List Node) (first free before at next : ℕ) (x y : Node) (l : IsLinked nodes first free) (p : IsPlace nodes first before at)
-    → at < 1024 → next ≡ (node_at nodes at).next → next < 1024 → x.next ≡ (node_at nodes next).next → y.next ≡ free
+    → at < 1024 → next ≡ (node_at nodes at).next → next < 1024 → x.next ≡ (node_at nodes next).next → y.next ≡ free → y.count ≡ 0
     → IsLinked (set (set nodes at x) next y) first next
     × (runs_from (set (set nodes at x) next y) first ≡ runs_at nodes p.passed ++ run_of x ∷ runs_at nodes (behind (behind p.rest)))
-join_linked nodes first free before at next x y l p h e g d c =
+join_linked nodes first free before at next x y l p h e g d c z =
     let size : length nodes ≡ 1024 = l.size in
     let rest : List ℕ = behind (behind p.rest) in
     let mid : List Node = set nodes at x in
@@ -243,6 +268,7 @@ join_linked nodes first free before at next x y l p h e g d c =
             let f : times_listed i (p.passed ++ at ∷ rest) ≡ times_listed i p.passed + times_listed i (at ∷ rest) = times-append i p.passed (at ∷ rest) in
             omega arith);
         all = omega arith;
+        idle = idle_more new next y l.spare read_next z (idle_set mid next y l.spare spare_next (idle_set nodes at x l.spare spare_at l.idle));
       },
       from-path new first (p.passed ++ at ∷ rest) new_size (omega arith) used_path
           ∙ runs-set mid next y (p.passed ++ at ∷ rest) free_of
@@ -250,9 +276,9 @@ join_linked nodes first free before at next x y l p h e g d c =
     )
 
 -- a node that is being freed comes before the free ones
-pub parted_step : (nodes : List Node) (first free from : ℕ) (x : Node) (d : IsParted nodes first free from) → from < 1024 → x.next ≡ free
+pub parted_step : (nodes : List Node) (first free from : ℕ) (x : Node) (d : IsParted nodes first free from) → from < 1024 → x.next ≡ free → x.count ≡ 0
     → IsParted (set nodes from x) first from (node_at nodes from).next × (runs_from (set nodes from x) first ≡ runs_from nodes first)
-parted_step nodes first free from x d h e =
+parted_step nodes first free from x d h e z =
     let size : length nodes ≡ 1024 = d.size in
     let new : List Node = set nodes from x in
     let new_size : length new ≡ 1024 = length-set nodes from x ∙ d.size in
@@ -284,6 +310,7 @@ parted_step nodes first free from x d h e =
         once = λ i k. (let s = sums i k in let a : times_listed i (from ∷ d.spare) ≡ times_listed i (from ∷ []) + times_listed i d.spare =
             times-cons i from d.spare in omega arith);
         all = omega arith;
+        idle = idle_more new from x d.spare read z (idle_set nodes from x d.spare no_spare d.idle);
       },
       from-path new first d.used new_size (omega arith) used_path ∙ runs-set nodes from x d.used no_used
           ∙ sym (from-path nodes first d.used d.size (omega arith) d.used_path),
@@ -295,11 +322,11 @@ parted_left nodes first free from d =
     let all = d.all in
     ap (λ (ss : List Stretch). length ss) (from-path nodes from d.loose d.size (omega arith) d.loose_path) ∙ length-runs nodes d.loose
 
-pub parted_falls : (nodes : List Node) (first free from : ℕ) (x : Node) (d : IsParted nodes first free from) → from < 1024 → x.next ≡ free
+pub parted_falls : (nodes : List Node) (first free from : ℕ) (x : Node) (d : IsParted nodes first free from) → from < 1024 → x.next ≡ free → x.count ≡ 0
     → length (runs_from (set nodes from x) (node_at nodes from).next) < length (runs_from nodes from)
 unfolding parted_step
-parted_falls nodes first free from x d h e =
-    let next = (parted_step nodes first free from x d h e).0 in
+parted_falls nodes first free from x d h e z =
+    let next = (parted_step nodes first free from x d h e z).0 in
     let old : length (runs_from nodes from) ≡ length d.loose = parted_left nodes first free from d in
     let new : length (runs_from (set nodes from x) (node_at nodes from).next) ≡ length (behind d.loose) =
     parted_left (set nodes from x) first from (node_at nodes from).next next in
@@ -320,6 +347,7 @@ parted_end nodes first free from d h =
       spare_path = d.spare_path;
       once = λ i k. (let once = d.once i k in let no : times_listed i d.loose ≡ 0 = ap (λ (js : List ℕ). times_listed i js) none in omega arith);
       all = omega arith;
+      idle = d.idle;
     }
 
 -- no node is used any more
@@ -336,16 +364,17 @@ all_parted nodes first free l =
         loose_path = l.used_path;
         once = λ i k. (let once = l.once i k in omega arith);
         all = omega arith;
+        idle = l.idle;
       },
       from-path nodes 1024 [] l.size (omega arith) refl,
     )
 
--- the runs at a place and behind it
+-- the runs at a place and after it
 pub place_parts : (nodes : List Node) (first before at : ℕ) (p : IsPlace nodes first before at) → at < 1024
     → runs_at nodes p.rest ≡ run_of (node_at nodes at) ∷ runs_at nodes (behind p.rest)
 place_parts nodes first before at p h = ap (λ (js : List ℕ). runs_at nodes js) (path-head nodes at p.rest h p.rest_path).0
 
--- the run at a place is laid, with those behind it
+-- the run at a place is laid, with those after it
 pub place_laid : (f : ℕ) (nodes : List Node) (first before at : ℕ) (p : IsPlace nodes first before at) → length nodes ≡ 1024 → at < 1024
     → AreLaid f 2048 (runs_from nodes first)
     → AreLaid f (bound_after f 2048 (runs_at nodes p.passed)) (run_of (node_at nodes at) ∷ runs_at nodes (behind p.rest))
@@ -373,7 +402,7 @@ adds_place f n nodes first before at p new made s q h laid above e a =
     adds_runs f n (runs_at nodes p.passed) (run_of (node_at nodes at) ∷ runs_at nodes (behind p.rest)) new (runs_from nodes first) made q
     (place_runs nodes first before at p s ∙ ap (λ (ss : List Stretch). runs_at nodes p.passed ++ ss) (place_parts nodes first before at p h)) e laid above a
 
--- the runs behind that at a place: one and those behind it, or none
+-- the runs after that at a place: one and those after it, or none
 pub below_parts : (nodes : List Node) (first before at next : ℕ) (p : IsPlace nodes first before at) → at < 1024 → next ≡ (node_at nodes at).next → next < 1024
     → runs_at nodes (behind p.rest) ≡ run_of (node_at nodes next) ∷ runs_at nodes (behind (behind p.rest))
 below_parts nodes first before at next p h e k =
@@ -436,7 +465,7 @@ present_in f n nodes first before at p s q r h laid above d k =
     inside-present f n (node_at nodes at).count (node_at nodes at).hi (numbers_of (runs_at nodes (behind p.rest))) q here.0.fits r d k in
     ap (λ (ts : List Stretch). has (numbers_of ts) n) parts ∙ present_behind f 2048 n (runs_at nodes p.passed) old q (subst P parts laid) above there
 
--- the walk goes on behind a node, and ends where there is none
+-- the walk goes on after a node, and ends where there is none
 pub chain_step : (nodes : List Node) (at : ℕ) → IsChained nodes at → at < 1024
     → IsChained nodes (node_at nodes at).next × (runs_from nodes at ≡ run_of (node_at nodes at) ∷ runs_from nodes (node_at nodes at).next)
 chain_step nodes at k h =
@@ -455,3 +484,56 @@ chain_stop nodes at k e = from-path nodes at [] k.size (omega arith) e
 
 pub chain_fits : (nodes : List Node) (at : ℕ) → IsChained nodes at → at ≤ 1024
 chain_fits nodes at k = path-fits nodes at k.chain k.path
+
+-- the links to a node on a path, and from it on
+record IsParting (nodes : List Node) (first at most : ℕ) : Type 0 where
+  passed : List ℕ
+  rest : List ℕ
+  few : length passed + length rest ≤ most
+  passed_path : IsPath nodes first passed at
+  rest_path : IsPath nodes at rest 1024
+
+parting : (nodes : List Node) (first at : ℕ) (js : List ℕ) → IsPath nodes first js 1024 → 1 ≤ times_listed at js → IsParting nodes first at (length js)
+parting nodes first at [] p there = absurd (omega arith)
+parting nodes first at (j ∷ js) p there =
+    elim (cases_eq at j) [
+      | inl same ↦ record {
+        passed = [];
+        rest = j ∷ js;
+        few = omega arith;
+        passed_path = p.0 ∙ sym same;
+        rest_path = (same, p.1, p.2);
+      }
+      | inr other ↦
+          let one = times-other at j js other in
+          let ih = parting nodes (node_at nodes j).next at js p.2 (omega arith) in
+          let few = ih.few in
+          record {
+            passed = j ∷ ih.passed;
+            rest = ih.rest;
+            few = omega arith;
+            passed_path = (p.0, p.1, ih.passed_path);
+            rest_path = ih.rest_path;
+          }
+    ]
+
+-- the place after a node that has a number
+pub place_after : (nodes : List Node) (first free at : ℕ) → IsLinked nodes first free → at < 1024 → 1 ≤ (node_at nodes at).count
+    → IsPlace nodes first at (node_at nodes at).next
+place_after nodes first free at l h some =
+    let once = l.once at h in
+    let all = l.all in
+    let apart = idle_apart nodes at l.spare some l.idle in
+    let p = parting nodes first at l.used l.used_path (omega arith) in
+    let few = p.few in
+    let head = path-head nodes at p.rest h p.rest_path in
+    let one : length p.rest ≡ suc (length (behind p.rest)) = ap (λ (js : List ℕ). length js) head.0 in
+    let two : length (p.passed ++ at ∷ []) ≡ length p.passed + suc 0 = length-append p.passed (at ∷ []) in
+    record {
+      passed = p.passed ++ at ∷ [];
+      rest = behind p.rest;
+      few = omega arith;
+      passed_path = path-more nodes first at p.passed h p.passed_path;
+      rest_path = head.1;
+      last = last-more at p.passed;
+    }

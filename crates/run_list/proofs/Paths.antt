@@ -31,7 +31,7 @@ times-append i (x ∷ xs) ys =
 pub times-cons : (i j : ℕ) (js : List ℕ) → times_listed i (j ∷ js) ≡ times_listed i (j ∷ []) + times_listed i js
 times-cons i j js = times-append i (j ∷ []) js
 
--- what is not in a list is not at its head, nor behind it
+-- what is not in a list is not at its head, nor after it
 pub times-none : (i j : ℕ) (js : List ℕ) → times_listed i (j ∷ js) ≡ 0 → ((j ≡ i) → ⊥) × (times_listed i js ≡ 0)
 times-none i j js h =
     elim (cases_eq i j) [
@@ -126,7 +126,7 @@ last-none nodes a b i (j ∷ k ∷ js) h p l =
     let no : k ∷ js ≡ [] = last-none nodes (node_at nodes j).next b i (k ∷ js) h p.2 l in
     absurd (cc)
 
--- the list but for its last
+-- the list except for its last
 abbrev pub front : List ℕ → List ℕ
 front [] = []
 front (j ∷ []) = []

@@ -1,11 +1,12 @@
 -- Walking to a place in the chain.
-use Rattle.std.proofs.Common.{◌≡◌, ℕ, ◌+◌, ◌<◌, ◌≤◌, List, [], ◌∷◌, ◌++◌, suc, refl, ap, arith, ◌∙◌, length, length-append}
+use Rattle.std.proofs.Common.{◌≡◌, ℕ, ◌+◌, ◌<◌, ◌≤◌, List, [], ◌∷◌, ◌++◌, suc, refl, ap, arith, ◌∙◌, inl, inr, length, length-append}
+use Rattle.std.proofs.lemmas.Bool.{cases_lt}
 use Rattle.seq_circle.specs.Circle.{distance}
 use Rattle.run_list.specs.declared.walking.Stretch.{Stretch}
 use Rattle.run_list.specs.declared.linked.Node.{Node}
 use Rattle.run_list.specs.Runs.{bound_below, bound_after, Touches}
-use Rattle.run_list.specs.Linked.{node_at, run_of, runs_at, runs_from, IsChained, IsPlace, IsPassed, IsPlaceFor}
-use Rattle.run_list.proofs.Paths.{path-more, last-more, behind, path-head, runs-append, length-runs, from-path}
+use Rattle.run_list.specs.Linked.{node_at, run_of, runs_at, runs_from, IsChained, IsPlace, IsBegin, IsPassed, IsPlaceFor}
+use Rattle.run_list.proofs.Paths.{path-more, last-more, last-none, front, last-front, behind, path-head, runs-append, length-runs, from-path}
 
 -- before the first node
 abbrev pub place_first : (nodes : List Node) (first : ℕ) → IsChained nodes first → IsPlace nodes first 1024 first
@@ -50,8 +51,24 @@ bound-last f b [] s = refl
 bound-last f b (t ∷ ss) s = bound-last f (bound_below f t) ss s
 
 -- what lies below a run with a gap lies below the bound that it leaves
-pub passed_first : (f n : ℕ) (nodes : List Node) (first : ℕ) → IsChained nodes first → distance f n < 2048 → IsPassed f n nodes first 1024 first
-passed_first f n nodes first k h = record { place = place_first nodes first k; above = h }
+pub passed_from : (f n : ℕ) (nodes : List Node) (first before at : ℕ) → IsBegin f n nodes first before at → distance f n < 2048
+    → IsPassed f n nodes first before at
+passed_from f n nodes first before at b h =
+    let p = b.place in
+    elim (cases_lt before 1024) [
+      | inl lt ↦
+          let above = b.above lt in
+          let parts : p.passed ≡ front p.passed ++ before ∷ [] = last-front before p.passed lt p.last in
+          let all : runs_at nodes p.passed ≡ runs_at nodes (front p.passed) ++ run_of (node_at nodes before) ∷ [] =
+          ap (λ (js : List ℕ). runs_at nodes js) parts ∙ runs-append nodes (front p.passed) (before ∷ []) in
+          let bound : bound_after f 2048 (runs_at nodes p.passed) ≡ bound_below f (run_of (node_at nodes before)) =
+          ap (λ (ss : List Stretch). bound_after f 2048 ss) all ∙ bound-last f 2048 (runs_at nodes (front p.passed)) (run_of (node_at nodes before)) in
+          record { place = p; above = omega arith }
+      | inr ge ↦
+          let none : p.passed ≡ [] = last-none nodes first at before p.passed ge p.passed_path p.last in
+          let bound : bound_after f 2048 (runs_at nodes p.passed) ≡ 2048 = ap (λ (js : List ℕ). bound_after f 2048 (runs_at nodes js)) none in
+          record { place = p; above = omega arith }
+    ]
 
 pub passed_step : (f n : ℕ) (nodes : List Node) (first before at : ℕ) → IsPassed f n nodes first before at → at < 1024
     → distance f n + (node_at nodes at).count < distance f (node_at nodes at).hi → IsPassed f n nodes first at (node_at nodes at).next

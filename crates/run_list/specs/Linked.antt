@@ -3,7 +3,7 @@
 --
 -- That each index is once in one of the chains is said by a count (`times_listed`) and not by a permutation: what an
 -- edit moves from one chain to another is then a sum. From an index one path alone leads along the links to no node, so
--- the chains that a state has, and the place that a walk found, stand in records as lists of indices.
+-- the chains that a state has, and the place that a walk found, are in records as lists of indices.
 use Rattle.std.specs.Prelude.{◌≡◌, ℕ, ◌+◌, ◌<◌, ◌≤◌, ◌==◌, nat_lt, List, [], ◌∷◌, zero, suc, length, slice_index_or, if◌then◌else◌}
 use Rattle.run_list.specs.declared.walking.Stretch.{Stretch}
 use Rattle.run_list.specs.declared.linked.Linked.{Linked}
@@ -54,6 +54,11 @@ IsLast [] last = last ≡ 1024
 IsLast (i ∷ []) last = last ≡ i
 IsLast (i ∷ j ∷ js) last = IsLast (j ∷ js) last
 
+-- runs without a number: those of nodes that are free
+abbrev pub AreIdle : List Stretch → Type 0
+AreIdle [] = Unit {0}
+AreIdle (s ∷ ss) = (s.count ≡ 0) × AreIdle ss
+
 -- the links lead from the index to no node, over at most 1,024
 pub record IsChained (nodes : List Node) (at : ℕ) : Type 0 where
   pub chain : List ℕ
@@ -72,6 +77,7 @@ pub record IsParted (nodes : List Node) (first free from : ℕ) : Type 0 where
   pub loose_path : IsPath nodes from loose 1024
   pub once : (i : ℕ) → i < 1024 → times_listed i used + times_listed i spare + times_listed i loose ≡ 1
   pub all : length used + length spare + length loose ≡ 1024
+  pub idle : AreIdle (runs_at nodes spare)
 
 -- each index is once in one of two chains: the used nodes and the free ones
 pub record IsLinked (nodes : List Node) (first free : ℕ) : Type 0 where
@@ -82,12 +88,13 @@ pub record IsLinked (nodes : List Node) (first free : ℕ) : Type 0 where
   pub spare_path : IsPath nodes free spare 1024
   pub once : (i : ℕ) → i < 1024 → times_listed i used + times_listed i spare ≡ 1
   pub all : length used + length spare ≡ 1024
+  pub idle : AreIdle (runs_at nodes spare)
 
 -- the same of a set's nodes
 abbrev pub AreLinked : Linked → Type 0
 AreLinked runs = IsLinked runs.nodes.items runs.first runs.free
 
--- a place in the chain: the links lead from the first node to `at`, behind `before`, and from there on to no node
+-- a place in the chain: the links lead from the first node to `at`, after `before`, and from there on to no node
 pub record IsPlace (nodes : List Node) (first before at : ℕ) : Type 0 where
   pub passed : List ℕ
   pub rest : List ℕ
@@ -95,6 +102,11 @@ pub record IsPlace (nodes : List Node) (first before at : ℕ) : Type 0 where
   pub passed_path : IsPath nodes first passed at
   pub rest_path : IsPath nodes at rest 1024
   pub last : IsLast passed before
+
+-- a place where the walk to a number may begin: the first node, or the one after a run above the number, with a gap
+pub record IsBegin (floor n : ℕ) (nodes : List Node) (first before at : ℕ) : Type 0 where
+  pub place : IsPlace nodes first before at
+  pub above : before < 1024 → distance floor n + (node_at nodes before).count < distance floor (node_at nodes before).hi
 
 -- a place all runs before which lie above a number, with a gap
 pub record IsPassed (floor n : ℕ) (nodes : List Node) (first before at : ℕ) : Type 0 where
@@ -113,7 +125,7 @@ pub record IsPlaceBelow (floor rise : ℕ) (nodes : List Node) (first before at 
   pub kept : before < 1024 → rise ≤ distance floor (node_at nodes before).hi
   pub dropped : at < 1024 → distance floor (node_at nodes at).hi < rise
 
--- the links lead as before, but that another node follows behind one, or comes first where that is none
+-- the links lead as before, but that another node follows one, or comes first where that is none
 pub record Points (old new : List Node) (old_first new_first before to : ℕ) : Type 0 where
   pub size : length new ≡ length old
   pub runs : (js : List ℕ) → runs_at new js ≡ runs_at old js

@@ -49,6 +49,6 @@ AddsOne floor n old new = Adds floor 2048 n old.items new.items
 abbrev pub SameRoom : {Z : Type 0} → Vec Stretch Z → Vec Stretch Z → Type 0
 SameRoom old new = vec_capacity new ≡ vec_capacity old
 
--- a number stands above the run, is in it, or lies right below it
+-- a number is above the run, is in it, or lies right below it
 abbrev pub Touches : ℕ → ℕ → Stretch → Type 0
 Touches floor n s = distance floor s.hi ≤ distance floor n + s.count

@@ -6,6 +6,7 @@
 #![tactic(auto)]
 
 mod answers;
+mod hints;
 mod laws;
 mod linked;
 mod list;

@@ -1,6 +1,7 @@
 //! The runs as they are linked: where a number goes, what it joins, and what a raised floor leaves.
 //!
-//! The chain is walked from the newest run down to find a number's place: the usual mark is at or near the newest.
+//! The chain is walked down to find a number's place, from the newest run or from a hint: the usual mark is at or near
+//! the newest.
 ghost use Rattle.std.specs.Prelude.{◌≡◌, [], ◌+◌, ◌-◌, ◌^◌, ◌<◌, ◌≤◌, filter, true, length, IfOk};
 ghost use Rattle.std.specs.Bool.{OnTrue, OnFalse};
 ghost use Rattle.seq_circle.specs.Circle.{distance, IsBefore};
@@ -8,6 +9,7 @@ ghost use Rattle.run_list.specs.MarkedSet.{has, is_from};
 ghost use Rattle.run_list.specs.Runs.{AreLaid, numbers_of, Adds};
 ghost use Rattle.run_list.specs.Linked.{AreLinked, IsChained, IsParted, IsPlaceFor, IsPlaceBelow, Points, node_at, runs_from};
 
+use crate::hints::{Hints, begin};
 use seq_circle::{NoMemory, Seq48};
 use std::alloc::Global;
 
@@ -17,7 +19,7 @@ const NODES: usize = 1_024;
 // The index that stands for no node.
 pub(crate) const NONE: u16 = 1_024;
 
-// A run, and the index of the node behind it.
+// A run, and the index of the node after it.
 #[derive(Clone, Copy)]
 pub struct Node {
     pub hi: Seq48,
@@ -33,11 +35,11 @@ pub struct Linked {
     pub free: u16,
 }
 
-// A place in the chain of used nodes: the node that stands there, and the one before it.
+// A place in the chain of used nodes: the node that is there, and the one before it.
 #[derive(Clone, Copy)]
-struct Place {
-    before: u16,
-    at: u16,
+pub struct Place {
+    pub before: u16,
+    pub at: u16,
 }
 
 // All nodes are free.
@@ -54,7 +56,11 @@ pub(crate) fn all_free(alloc: Global, zero: Seq48) -> Result<Linked, NoMemory>
     let mut free = NONE;
     while free > 0 {
         let next = free - 1;
-        nodes[usize::from(next)].next = free;
+        nodes[usize::from(next)] = Node {
+            hi: zero,
+            count: 0,
+            next: free,
+        };
         free = next;
     }
     Ok(Linked {
@@ -64,46 +70,47 @@ pub(crate) fn all_free(alloc: Global, zero: Seq48) -> Result<Linked, NoMemory>
     })
 }
 
-// The place of the first run that `n` touches, is in, or stands above.
-fn place_for(nodes: &[Node], first: u16, floor: Seq48, n: Seq48) -> Place
+// The place of the first run that `n` touches, is in, or is above.
+fn place_for(runs: &Linked, hints: &mut Hints, floor: Seq48, n: Seq48) -> Place
     requires near { distance floor n < 2048 }
-    requires chained { IsChained nodes.now first }
-    requires laid { AreLaid floor 2048 (runs_from nodes.now first) }
-    ensures place { IsPlaceFor floor n nodes.now first result.before result.at }
+    requires linked { AreLinked runs.now }
+    requires laid { AreLaid floor 2048 (runs_from runs.now.nodes.items runs.now.first) }
+    ensures place { IsPlaceFor floor n runs.now.nodes.items runs.now.first result.before result.at }
 {
     let place = floor.distance(n);
-    let mut before = NONE;
-    let mut at = first;
+    let Place { mut before, mut at } = begin(runs, hints, floor, n);
     while at < NONE {
-        let node = nodes[usize::from(at)];
+        let node = runs.nodes[usize::from(at)];
         if floor.distance(node.hi) <= place + u64::from(node.count) {
             break;
         }
+        hints.note(node.hi, at);
         before = at;
         at = node.next;
     }
     Place { before, at }
 }
 
-// The place of the first run that ends below a number that lies so far above the floor.
-fn place_below(nodes: &[Node], first: u16, floor: Seq48, rise: u64) -> Place
-    requires chained { IsChained nodes.now first }
-    ensures place { IsPlaceBelow floor rise nodes.now first result.before result.at }
+// The place of the first run that ends below a number.
+fn place_below(runs: &Linked, hints: &mut Hints, floor: Seq48, to: Seq48) -> Place
+    requires linked { AreLinked runs.now }
+    ensures place { IsPlaceBelow floor (distance floor to) runs.now.nodes.items runs.now.first result.before result.at }
 {
-    let mut before = NONE;
-    let mut at = first;
+    let rise = floor.distance(to);
+    let Place { mut before, mut at } = begin(runs, hints, floor, to);
     while at < NONE {
-        let node = nodes[usize::from(at)];
+        let node = runs.nodes[usize::from(at)];
         if floor.distance(node.hi) < rise {
             break;
         }
+        hints.note(node.hi, at);
         before = at;
         at = node.next;
     }
     Place { before, at }
 }
 
-// Lets the node `to` follow behind `before`, or come first where that is none.
+// Lets the node `to` follow `before`, or come first where that is none.
 fn point(runs: &mut Linked, before: u16, to: u16)
     requires size { length runs.old.nodes.items ≡ 1024 }
     requires within { before ≤ 1024 }
@@ -174,7 +181,11 @@ fn extend_down(runs: &mut Linked, floor: Seq48, before: u16, at: u16, n: Seq48)
                 count: node.count + 1 + below.count,
                 next: below.next,
             };
-            runs.nodes[usize::from(node.next)].next = runs.free;
+            runs.nodes[usize::from(node.next)] = Node {
+                hi: below.hi,
+                count: 0,
+                next: runs.free,
+            };
             runs.free = node.next;
             return;
         }
@@ -187,7 +198,7 @@ fn extend_down(runs: &mut Linked, floor: Seq48, before: u16, at: u16, n: Seq48)
 }
 
 // Adds `n` where it is not there; tells whether it was added.
-pub(crate) fn put(runs: &mut Linked, floor: Seq48, n: Seq48) -> bool
+pub(crate) fn put(runs: &mut Linked, hints: &mut Hints, floor: Seq48, n: Seq48) -> bool
     requires near { distance floor n < 2048 }
     requires laid { AreLaid floor 2048 (runs_from runs.old.nodes.items runs.old.first) }
     requires linked { AreLinked runs.old }
@@ -196,7 +207,7 @@ pub(crate) fn put(runs: &mut Linked, floor: Seq48, n: Seq48) -> bool
     ensures there { OnFalse result (has (numbers_of (runs_from runs.old.nodes.items runs.old.first)) n ≡ true) }
     ensures stays { OnFalse result (runs_from runs.new.nodes.items runs.new.first ≡ runs_from runs.old.nodes.items runs.old.first) }
 {
-    let Place { before, at } = place_for(&runs.nodes, runs.first, floor, n);
+    let Place { before, at } = place_for(runs, hints, floor, n);
     if at == NONE {
         link(runs, floor, before, at, n);
         return true;
@@ -224,10 +235,14 @@ fn release(runs: &mut Linked, from: u16)
 {
     let mut at = from;
     while at < NONE {
-        let next = runs.nodes[usize::from(at)].next;
-        runs.nodes[usize::from(at)].next = runs.free;
+        let node = runs.nodes[usize::from(at)];
+        runs.nodes[usize::from(at)] = Node {
+            hi: node.hi,
+            count: 0,
+            next: runs.free,
+        };
         runs.free = at;
-        at = next;
+        at = node.next;
     }
 }
 
@@ -243,7 +258,7 @@ pub(crate) fn clear(runs: &mut Linked)
 }
 
 // Takes the numbers below `to` from the runs above `floor`.
-pub(crate) fn cut(runs: &mut Linked, floor: Seq48, to: Seq48)
+pub(crate) fn cut(runs: &mut Linked, hints: &mut Hints, floor: Seq48, to: Seq48)
     requires before { IsBefore floor to }
     requires laid { AreLaid floor 2048 (runs_from runs.old.nodes.items runs.old.first) }
     requires linked { AreLinked runs.old }
@@ -252,7 +267,7 @@ pub(crate) fn cut(runs: &mut Linked, floor: Seq48, to: Seq48)
     ensures numbers { numbers_of (runs_from runs.new.nodes.items runs.new.first) ≡ filter (is_from to) (numbers_of (runs_from runs.old.nodes.items runs.old.first)) }
 {
     let rise = floor.distance(to);
-    let Place { before, at } = place_below(&runs.nodes, runs.first, floor, rise);
+    let Place { before, at } = place_below(runs, hints, floor, to);
     if before == NONE {
         runs.first = NONE;
     } else {

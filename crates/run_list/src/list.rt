@@ -6,6 +6,7 @@ ghost use Rattle.seq_circle.specs.Circle.{distance};
 ghost use Rattle.run_list.specs.Stretches.{stretches};
 
 use crate::answers::Marked;
+use crate::hints::Hints;
 use crate::linked::{Linked, all_free, clear, cut, put};
 use crate::walking::Walk;
 use seq_circle::{NoMemory, Seq48};
@@ -24,6 +25,7 @@ const REACH: u64 = 2_047;
 pub struct RunList {
     floor: Seq48,
     runs: Linked,
+    hints: Hints,
 }
 
 impl Model for RunList {
@@ -47,7 +49,11 @@ impl RunList {
     {
         let floor = Seq48::new(0).ok_or(NoMemory)?;
         let runs = all_free(alloc, floor)?;
-        Ok(RunList { floor, runs })
+        Ok(RunList {
+            floor,
+            runs,
+            hints: Hints::new(),
+        })
     }
 
     /// Empties the set and sets its floor to `first`.
@@ -85,7 +91,7 @@ impl RunList {
         ensures set { self.new ≡ (if has self.old.numbers n then self.old else joined_by self.old n) }
         ensures answer { result ≡ (if has self.old.numbers n then Marked.Again else Marked.New) }
     {
-        if put(&mut self.runs, self.floor, n) {
+        if put(&mut self.runs, &mut self.hints, self.floor, n) {
             Marked::New
         } else {
             Marked::Again
@@ -97,7 +103,7 @@ impl RunList {
         ensures { self.new ≡ raised self.old to }
     {
         if self.floor.before(to) {
-            cut(&mut self.runs, self.floor, to);
+            cut(&mut self.runs, &mut self.hints, self.floor, to);
             self.floor = to;
         }
     }

@@ -8,7 +8,7 @@ ghost use Rattle.run_list.specs.Runs.{AddsOne, AreLaid, SameRoom, Touches, bound
 use crate::walking::Stretch;
 use seq_circle::Seq48;
 
-// The place of the first run that `n` touches, is in, or stands above; the length where there is none.
+// The place of the first run that `n` touches, is in, or is above; the length where there is none.
 fn place_for(runs: &[Stretch], floor: Seq48, n: Seq48) -> usize
     requires { distance floor n < 2048 }
     ensures within { result ≤ length runs.now }

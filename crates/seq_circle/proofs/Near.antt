@@ -61,7 +61,7 @@ near_push span last number x (y ∷ later) low is near =
       near_push span last number y later low is near.2,
     )
 
--- the numbers of items, and one more behind the last
+-- the numbers of items, and one more after the last
 module _ {Item : Type 0} (number_of : Item → ℕ) where
   -- the number at a place is that of the item there
   pub number_at : (items : List Item) (k : ℕ) (item : Item) → slice_get items k ≡ Some item → slice_get (map number_of items) k ≡ Some (number_of item)

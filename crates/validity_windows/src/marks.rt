@@ -17,7 +17,7 @@ pub struct Marks {
     pub iss: Seq48,
     /// GSS, the greatest number sent; ISS - 1 before the first packet.
     pub gss: Seq48,
-    /// GAR, the greatest acknowledgement number received, but for those of Syncs; ISS before that.
+    /// GAR, the greatest acknowledgement number received, except for those of Syncs; ISS before that.
     pub gar: Seq48,
     /// ISR, the first number received; 0 before that (own).
     pub isr: Seq48,

@@ -38,7 +38,7 @@ returns-then-span-distance c =
     let here : suc (c.loop-index.index - 1) ≡ c.loop-index.index = omega arith in
     sym (subst (λ (k : ℕ). newest_whole c.args.n (take k items) ≡ None) here one) ∙ c.loop-index.invariant
 
--- a record stands at every index below their number
+-- a record is at every index below their number
 pub loop-index-preserved : goal.loop-index-preserved
 loop-index-preserved c =
     let none : ◌≡◌ {A = Option Record} (slice_get c.args.records.now.items (c.loop-index.index - 1)) None = search rules in

@@ -1,4 +1,4 @@
--- The covered bytes in their parts before and behind the checksum.
+-- The covered bytes in their parts before and after the checksum.
 use Rattle.std.proofs.Common.{arith}
 use Rattle.dccp_sum.proofs.Sums.{same-short, same-long}
 use Rattle.dccp_sum.proofs.packet_sum.add_covered.Goals as goal

@@ -14,7 +14,7 @@ pub index-last-requires : goal.index-last-requires
 index-last-requires c =
     let place = c.place_below-before.ensures.place.place in
     let fits : c.place_below-before.result.before ≤ 1024 =
-    last-fits c.deref.result.now c.args.runs.now.first c.place_below-before.result.at c.place_below-before.result.before
+    last-fits c.args.runs.now.nodes.items c.args.runs.now.first c.place_below-before.result.at c.place_below-before.result.before
     place.passed place.passed_path place.last in
     omega (arith, c.requires.linked.size)
 
@@ -22,23 +22,25 @@ pub overflow_sub-left : goal.overflow_sub-left
 overflow_sub-left c =
     let nodes = c.args.runs.now.nodes.items in
     let before = c.place_below-before.result.before in
-    let cuts : IsPlaceBelow c.args.floor c.distance-rise.result nodes c.args.runs.now.first before c.place_below-before.result.at =
-    rw c.deref.ensures.value at c.place_below-before.ensures.place in
+    let rise : c.distance-rise.result ≡ distance c.args.floor c.args.to = c.distance-rise.ensures.value in
+    let cuts : IsPlaceBelow c.args.floor (distance c.args.floor c.args.to) nodes c.args.runs.now.first before c.place_below-before.result.at =
+    c.place_below-before.ensures.place in
     let fits : before ≤ 1024 =
     last-fits nodes c.args.runs.now.first c.place_below-before.result.at before cuts.place.passed cuts.place.passed_path cuts.place.last in
     let read : c.index-last.result.now ≡ node_at nodes before =
     read_at nodes c.from.result before c.index-last.result.now c.index-last.ensures c.from.ensures (omega (arith, c.requires.linked.size)) in
     let hi : distance c.args.floor c.index-last.result.now.hi ≡ distance c.args.floor (node_at nodes before).hi =
     ap (λ (n : Node). distance c.args.floor n.hi) read in
-    let kept : c.distance-rise.result ≤ distance c.args.floor (node_at nodes before).hi = cuts.kept (omega arith) in
+    let kept : distance c.args.floor c.args.to ≤ distance c.args.floor (node_at nodes before).hi = cuts.kept (omega arith) in
     omega arith
 
 pub overflow_cast-min : goal.overflow_cast-min
 overflow_cast-min c =
     let nodes = c.args.runs.now.nodes.items in
     let before = c.place_below-before.result.before in
-    let cuts : IsPlaceBelow c.args.floor c.distance-rise.result nodes c.args.runs.now.first before c.place_below-before.result.at =
-    rw c.deref.ensures.value at c.place_below-before.ensures.place in
+    let rise : c.distance-rise.result ≡ distance c.args.floor c.args.to = c.distance-rise.ensures.value in
+    let cuts : IsPlaceBelow c.args.floor (distance c.args.floor c.args.to) nodes c.args.runs.now.first before c.place_below-before.result.at =
+    c.place_below-before.ensures.place in
     let fits : before ≤ 1024 =
     last-fits nodes c.args.runs.now.first c.place_below-before.result.at before cuts.place.passed cuts.place.passed_path cuts.place.last in
     let read : c.index-last.result.now ≡ node_at nodes before =
@@ -54,7 +56,7 @@ pub index_mut-requires : goal.index_mut-requires
 index_mut-requires c =
     let place = c.place_below-before.ensures.place.place in
     let fits : c.place_below-before.result.before ≤ 1024 =
-    last-fits c.deref.result.now c.args.runs.now.first c.place_below-before.result.at c.place_below-before.result.before
+    last-fits c.args.runs.now.nodes.items c.args.runs.now.first c.place_below-before.result.at c.place_below-before.result.before
     place.passed place.passed_path place.last in
     omega (arith, c.requires.linked.size)
 
@@ -67,7 +69,7 @@ release-requires c =
     let free = c.args.runs.now.free in
     let rise : c.distance-rise.result ≡ distance c.args.floor c.args.to = c.distance-rise.ensures.value in
     let cuts : IsPlaceBelow c.args.floor (distance c.args.floor c.args.to) nodes first before at =
-    rw (c.deref.ensures.value, rise) at c.place_below-before.ensures.place in
+    c.place_below-before.ensures.place in
     let fits : before ≤ 1024 = last-fits nodes first at before cuts.place.passed cuts.place.passed_path cuts.place.last in
     elim c.if-before-eq-NONE.branch [
       | goal.then-before-eq-NONE w ↦ rw w.runs-is record {
@@ -91,7 +93,7 @@ returns-clause-laid c =
     let free = c.args.runs.now.free in
     let rise : c.distance-rise.result ≡ distance c.args.floor c.args.to = c.distance-rise.ensures.value in
     let cuts : IsPlaceBelow c.args.floor (distance c.args.floor c.args.to) nodes first before at =
-    rw (c.deref.ensures.value, rise) at c.place_below-before.ensures.place in
+    c.place_below-before.ensures.place in
     let fits : before ≤ 1024 = last-fits nodes first at before cuts.place.passed cuts.place.passed_path cuts.place.last in
     rw c.release.ensures.stays (elim c.if-before-eq-NONE.branch [
       | goal.then-before-eq-NONE w ↦ rw w.runs-is
@@ -123,7 +125,7 @@ returns-clause-numbers c =
     let free = c.args.runs.now.free in
     let rise : c.distance-rise.result ≡ distance c.args.floor c.args.to = c.distance-rise.ensures.value in
     let cuts : IsPlaceBelow c.args.floor (distance c.args.floor c.args.to) nodes first before at =
-    rw (c.deref.ensures.value, rise) at c.place_below-before.ensures.place in
+    c.place_below-before.ensures.place in
     let fits : before ≤ 1024 = last-fits nodes first at before cuts.place.passed cuts.place.passed_path cuts.place.last in
     rw c.release.ensures.stays (elim c.if-before-eq-NONE.branch [
       | goal.then-before-eq-NONE w ↦

@@ -55,14 +55,14 @@ returns-then-distance-clause-linked c =
           c.index-below.result.now.next;
     } in
     let freed : Node = record {
-      hi = c.index_mut-then-distance.result.now.hi;
-      count = c.index_mut-then-distance.result.now.count;
+      hi = c.index-below.result.now.hi;
+      count = 0;
       next =
           c.args.runs.now.free;
     } in
     rw (c.from-then-distance.ensures, c.from-then-distance-2.ensures)
     (join_linked nodes c.args.runs.now.first c.args.runs.now.free c.args.before c.args.at next made freed
-    c.requires.linked c.requires.place.place c.requires.within (ap (λ (n : Node). n.next) read) (omega arith) (ap (λ (n : Node). n.next) read_next) refl).0
+    c.requires.linked c.requires.place.place c.requires.within (ap (λ (n : Node). n.next) read) (omega arith) (ap (λ (n : Node). n.next) read_next) refl refl).0
 
 pub returns-then-distance-clause-adds : goal.returns-then-distance-clause-adds
 returns-then-distance-clause-adds c =
@@ -82,14 +82,14 @@ returns-then-distance-clause-adds c =
           c.index-below.result.now.next;
     } in
     let freed : Node = record {
-      hi = c.index_mut-then-distance.result.now.hi;
-      count = c.index_mut-then-distance.result.now.count;
+      hi = c.index-below.result.now.hi;
+      count = 0;
       next =
           c.args.runs.now.free;
     } in
     let link : next ≡ (node_at nodes c.args.at).next = ap (λ (n : Node). n.next) read in
     let all = join_linked nodes first c.args.runs.now.free c.args.before c.args.at next made freed
-    c.requires.linked place c.requires.within link (omega arith) (ap (λ (n : Node). n.next) read_next) refl in
+    c.requires.linked place c.requires.within link (omega arith) (ap (λ (n : Node). n.next) read_next) refl refl in
     let laid = both_laid c.args.floor nodes first c.args.before c.args.at next place c.requires.linked.size c.requires.within link
     (omega arith) c.requires.laid in
     let hi : distance c.args.floor c.index-below.result.now.hi ≡ distance c.args.floor (node_at nodes next).hi =

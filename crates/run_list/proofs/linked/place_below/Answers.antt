@@ -8,19 +8,19 @@ use Rattle.run_list.proofs.linked.place_below.Goals as goal
 
 pub loop-at-smaller : goal.loop-at-smaller
 loop-at-smaller c =
-    let read : c.index-nodes-from.result ≡ node_at c.args.nodes.now c.loop-at.at =
-    read_at c.args.nodes.now c.from.result c.loop-at.at c.index-nodes-from.result c.index-nodes-from.is c.from.ensures
-    (omega (arith, c.requires.chained.size)) in
+    let read : c.index-node.result.now ≡ node_at c.args.runs.now.nodes.items c.loop-at.at =
+    read_at c.args.runs.now.nodes.items c.from.result c.loop-at.at c.index-node.result.now c.index-node.ensures c.from.ensures
+    (omega (arith, c.requires.linked.size)) in
     rw (ap (λ (n : Node). n.next) read)
-    (place_falls c.args.nodes.now c.args.first c.loop-at.before c.loop-at.at c.loop-at.invariant.place c.requires.chained.size c.loop-at-test.true)
+    (place_falls c.args.runs.now.nodes.items c.args.runs.now.first c.loop-at.before c.loop-at.at c.loop-at.invariant.place c.requires.linked.size c.loop-at-test.true)
 
 pub loop-at-preserved : goal.loop-at-preserved
 loop-at-preserved c =
-    let read : c.index-nodes-from.result ≡ node_at c.args.nodes.now c.loop-at.at =
-    read_at c.args.nodes.now c.from.result c.loop-at.at c.index-nodes-from.result c.index-nodes-from.is c.from.ensures
-    (omega (arith, c.requires.chained.size)) in
-    let hi : distance c.args.floor c.index-nodes-from.result.hi ≡ distance c.args.floor (node_at c.args.nodes.now c.loop-at.at).hi =
+    let read : c.index-node.result.now ≡ node_at c.args.runs.now.nodes.items c.loop-at.at =
+    read_at c.args.runs.now.nodes.items c.from.result c.loop-at.at c.index-node.result.now c.index-node.ensures c.from.ensures
+    (omega (arith, c.requires.linked.size)) in
+    let hi : distance c.args.floor c.index-node.result.now.hi ≡ distance c.args.floor (node_at c.args.runs.now.nodes.items c.loop-at.at).hi =
     ap (λ (n : Node). distance c.args.floor n.hi) read in
-    let step = below_step c.args.floor c.args.rise c.args.nodes.now c.args.first c.loop-at.before c.loop-at.at c.loop-at.invariant.place c.loop-at-test.true
+    let step = below_step c.args.floor c.distance-rise.result c.args.runs.now.nodes.items c.args.runs.now.first c.loop-at.before c.loop-at.at c.loop-at.invariant.place c.loop-at-test.true
     (omega arith) in
     rw (ap (λ (n : Node). n.next) read) record { place = step.0; kept = step.1 }

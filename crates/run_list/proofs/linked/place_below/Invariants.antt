@@ -5,9 +5,9 @@ use Rattle.run_list.proofs.linked.place_below.Given as goal
 
 abbrev pub invariant-loop-at : goal.invariant-loop-at
 invariant-loop-at l = record {
-  place : IsPlace l.nodes l.first l.before l.at;
-  kept : l.before < 1024 → l.rise ≤ distance l.floor (node_at l.nodes l.before).hi;
+  place : IsPlace l.runs.nodes.items l.runs.first l.before l.at;
+  kept : l.before < 1024 → l.rise ≤ distance l.floor (node_at l.runs.nodes.items l.before).hi;
 }
 
 abbrev pub decreases-loop-at : goal.decreases-loop-at
-decreases-loop-at l = length (runs_from l.nodes l.at)
+decreases-loop-at l = length (runs_from l.runs.nodes.items l.at)

@@ -3,7 +3,7 @@ use Rattle.run_list.specs.Linked.{IsPassed, runs_from}
 use Rattle.run_list.proofs.linked.place_for.Given as goal
 
 abbrev pub invariant-loop-at : goal.invariant-loop-at
-invariant-loop-at l = IsPassed l.fn.floor l.fn.n l.nodes l.first l.before l.at
+invariant-loop-at l = IsPassed l.fn.floor l.fn.n l.runs.nodes.items l.runs.first l.before l.at
 
 abbrev pub decreases-loop-at : goal.decreases-loop-at
-decreases-loop-at l = length (runs_from l.nodes l.at)
+decreases-loop-at l = length (runs_from l.runs.nodes.items l.at)

@@ -14,7 +14,7 @@ link-requires-clause-below c =
 pub index-node-requires : goal.index-node-requires
 index-node-requires c =
     let fits : c.place_for-before.result.at ≤ 1024 =
-    path-fits c.deref.result.now c.place_for-before.result.at c.place_for-before.ensures.place.place.rest c.place_for-before.ensures.place.place.rest_path in
+    path-fits c.args.runs.now.nodes.items c.place_for-before.result.at c.place_for-before.ensures.place.place.rest c.place_for-before.ensures.place.place.rest_path in
     omega (arith, c.requires.linked.size)
 
 pub link-requires-then-hi-place-clause-below : goal.link-requires-then-hi-place-clause-below
@@ -22,7 +22,7 @@ link-requires-then-hi-place-clause-below c =
     let nodes = c.args.runs.now.nodes.items in
     let at = c.place_for-before.result.at in
     let place : IsPlaceFor c.args.floor c.args.n nodes c.args.runs.now.first c.place_for-before.result.before at =
-    rw c.deref.ensures.value at c.place_for-before.ensures.place in
+    c.place_for-before.ensures.place in
     let fits : at ≤ 1024 = path-fits nodes at place.place.rest place.place.rest_path in
     let read : c.index-node.result.now ≡ node_at nodes at =
     read_at nodes c.from.result at c.index-node.result.now c.index-node.ensures c.from.ensures (omega (arith, c.requires.linked.size)) in
@@ -35,14 +35,14 @@ link-requires-then-hi-place-clause-below c =
 pub extend_up-requires-clause-within : goal.extend_up-requires-clause-within
 extend_up-requires-clause-within c =
     let fits : c.place_for-before.result.at ≤ 1024 =
-    path-fits c.deref.result.now c.place_for-before.result.at c.place_for-before.ensures.place.place.rest c.place_for-before.ensures.place.place.rest_path in
+    path-fits c.args.runs.now.nodes.items c.place_for-before.result.at c.place_for-before.ensures.place.place.rest c.place_for-before.ensures.place.place.rest_path in
     omega arith
 
 pub extend_up-requires-clause-right_below : goal.extend_up-requires-clause-right_below
 extend_up-requires-clause-right_below c =
     let nodes = c.args.runs.now.nodes.items in
     let at = c.place_for-before.result.at in
-    let fits : at ≤ 1024 = path-fits c.deref.result.now at c.place_for-before.ensures.place.place.rest c.place_for-before.ensures.place.place.rest_path in
+    let fits : at ≤ 1024 = path-fits c.args.runs.now.nodes.items at c.place_for-before.ensures.place.place.rest c.place_for-before.ensures.place.place.rest_path in
     let read : c.index-node.result.now ≡ node_at nodes at =
     read_at nodes c.from.result at c.index-node.result.now c.index-node.ensures c.from.ensures (omega (arith, c.requires.linked.size)) in
     let hi : distance c.args.floor c.index-node.result.now.hi ≡ distance c.args.floor (node_at nodes at).hi =
@@ -54,7 +54,7 @@ overflow_add-place c =
     let nodes = c.args.runs.now.nodes.items in
     let at = c.place_for-before.result.at in
     let before = c.place_for-before.result.before in
-    let place : IsPlaceFor c.args.floor c.args.n nodes c.args.runs.now.first before at = rw c.deref.ensures.value at c.place_for-before.ensures.place in
+    let place : IsPlaceFor c.args.floor c.args.n nodes c.args.runs.now.first before at = c.place_for-before.ensures.place in
     let fits : at ≤ 1024 = path-fits nodes at place.place.rest place.place.rest_path in
     let read : c.index-node.result.now ≡ node_at nodes at =
     read_at nodes c.from.result at c.index-node.result.now c.index-node.ensures c.from.ensures (omega (arith, c.requires.linked.size)) in
@@ -66,14 +66,14 @@ overflow_add-place c =
 pub extend_down-requires-clause-within : goal.extend_down-requires-clause-within
 extend_down-requires-clause-within c =
     let fits : c.place_for-before.result.at ≤ 1024 =
-    path-fits c.deref.result.now c.place_for-before.result.at c.place_for-before.ensures.place.place.rest c.place_for-before.ensures.place.place.rest_path in
+    path-fits c.args.runs.now.nodes.items c.place_for-before.result.at c.place_for-before.ensures.place.place.rest c.place_for-before.ensures.place.place.rest_path in
     omega arith
 
 pub extend_down-requires-clause-right_above : goal.extend_down-requires-clause-right_above
 extend_down-requires-clause-right_above c =
     let nodes = c.args.runs.now.nodes.items in
     let at = c.place_for-before.result.at in
-    let fits : at ≤ 1024 = path-fits c.deref.result.now at c.place_for-before.ensures.place.place.rest c.place_for-before.ensures.place.place.rest_path in
+    let fits : at ≤ 1024 = path-fits c.args.runs.now.nodes.items at c.place_for-before.ensures.place.place.rest c.place_for-before.ensures.place.place.rest_path in
     let read : c.index-node.result.now ≡ node_at nodes at =
     read_at nodes c.from.result at c.index-node.result.now c.index-node.ensures c.from.ensures (omega (arith, c.requires.linked.size)) in
     let hi : distance c.args.floor c.index-node.result.now.hi ≡ distance c.args.floor (node_at nodes at).hi =
@@ -86,7 +86,7 @@ returns-else-hi-place-3-clause-there c =
     let nodes = c.args.runs.now.nodes.items in
     let at = c.place_for-before.result.at in
     let before = c.place_for-before.result.before in
-    let place : IsPlaceFor c.args.floor c.args.n nodes c.args.runs.now.first before at = rw c.deref.ensures.value at c.place_for-before.ensures.place in
+    let place : IsPlaceFor c.args.floor c.args.n nodes c.args.runs.now.first before at = c.place_for-before.ensures.place in
     let fits : at ≤ 1024 = path-fits nodes at place.place.rest place.place.rest_path in
     let read : c.index-node.result.now ≡ node_at nodes at =
     read_at nodes c.from.result at c.index-node.result.now c.index-node.ensures c.from.ensures (omega (arith, c.requires.linked.size)) in
