@@ -49,7 +49,7 @@ passed x n all count near = grind (arith, nat_tests)
 pub not_passed : (x n all count : ℕ) → n ≤ all → count + once_below x (min n all) ≡ count + once_below x (min n (all + 1))
 not_passed x n all count far = grind (arith, nat_tests)
 
--- numbers that stand at most once below m lie below m
+-- numbers that come at most once below m lie below m
 pub lie_below : (m : ℕ) (xs : List ℕ) → ((x : ℕ) → times x xs ≤ once_below x m) → All (λ x. x < m) xs
 lie_below m [] most = All-nil (λ x. x < m)
 lie_below m (y ∷ ys) most =
@@ -82,7 +82,7 @@ no_terms : (f : ℕ → ℕ) (m : ℕ) → sum_below (λ x. times x [] * f x) m 
 no_terms f zero = refl
 no_terms f (suc m) = let rest = no_terms f m in omega arith
 
--- a sum over numbers below m is the sum over all numbers below m, each by how often it stands there
+-- a sum over numbers below m is the sum over all numbers below m, each by how often it is there
 weighed : (f : ℕ → ℕ) (m : ℕ) (xs : List ℕ) → All (λ x. x < m) xs → sum_by f xs ≡ sum_below (λ x. times x xs * f x) m
 weighed f m [] below = sym (no_terms f m)
 weighed f m (y ∷ ys) below =

@@ -1,7 +1,7 @@
--- Numbers that stand in a list once each, and sums over them (own).
+-- Numbers that are in a list once each, and sums over them (own).
 use Rattle.std.specs.Prelude.{◌≡◌, ℕ, zero, suc, ◌+◌, ◌==◌, List, count_by, nat_lt, if◌then◌else◌}
 
--- how often x stands in the list
+-- how often x is in the list
 abbrev pub times : ℕ → List ℕ → ℕ
 times x xs = count_by (λ y. y == x) xs
 

@@ -17,7 +17,7 @@ pub record ViewFits (n : ℕ) (v : View) : Type 0 where
   pub few : length v.numbers ≤ v.drawn
   pub same : 0 < v.share → v.limit ≡ n
 
--- The word counts all claims, the shares are 2^62 together, and the numbers below n that were passed stand in the
+-- The word counts all claims, the shares are 2^62 together, and the numbers below n that were passed are in the
 -- views, each once, and no others
 pub record Counted (n : ℕ) (s : State ℕ View) : Type 0 where
   pub word : s.words ≡ all_drawn s.views ∷ []

@@ -110,7 +110,7 @@ impl Claimer {
         })
     }
 
-    /// Takes another claimer in: its numbers behind those here, its claims and its share.
+    /// Takes another claimer in: its numbers after those here, its claims and its share.
     pub fn join(&mut self, claims: &Claims, other: Claimer)
         requires same { (self.old.claims ≡ claims.now) × (other.claims ≡ claims.now) }
         ensures { self.new ≡ held self.old.claims (both self.old.view other.view) }

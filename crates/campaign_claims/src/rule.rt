@@ -1,8 +1,8 @@
 //! What a claimer knows, the rule over all of them, and the kinds of step that there are.
 //!
-//! The limit stands in every view, and in the claimer as a number: what a step makes of a view may depend on that view
+//! The limit is in every view, and in the claimer as a number: what a step makes of a view may depend on that view
 //! and on the word alone, and a claim compares the two. A claimer's numbers are a list and not a set. So what two
-//! workers did is put together by joining lists, and counts say how often a number stands there.
+//! workers did is put together by joining lists, and counts say how often a number is there.
 use atomic_table::{Join, Play, Split, TableRule};
 use std::collections::LinkedList;
 

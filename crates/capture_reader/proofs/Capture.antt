@@ -88,7 +88,7 @@ wrong-read format number given bytes BadLink some within wrong = absurd wrong
 wrong-read format number given bytes ReadFault some within wrong = absurd wrong
 wrong-read format number given bytes NoMemory some within wrong = absurd wrong
 
--- a record by the relation is what is read, and what is behind it is left
+-- a record by the relation is what is read, and what is after it is left
 record-length : (format : Format) (number given : ℕ) (entry : RecordParts) (rest bytes : List ℕ) (r : IsRecord format number given entry rest bytes)
     → length bytes ≡ 16 + (length r.body + length rest)
 record-length format number given entry rest bytes r =
@@ -119,7 +119,7 @@ record-read format number given entry rest bytes r =
     read ∙ ap (λ (text : List ℕ). Ok (Some (entry_with format (number + 1) (record_header format.order bytes) text))) body
     ∙ ap (λ (e : RecordParts). Ok (Some e)) (sym r.stands)
 
--- what stands next, by the relation
+-- what comes next, by the relation
 pub data Stands (format : Format) (number given : ℕ) (bytes : List ℕ) : Type 0 where
   IsWrongHere : (why : CaptureFault) → IsWrong format given bytes why → Stands format number given bytes
   IsRecordHere : (entry : RecordParts) (rest : List ℕ) → IsRecord format number given entry rest bytes → Stands format number given bytes
@@ -180,7 +180,7 @@ skipped format number given zero bytes = refl
 skipped format number given (suc skip) [] = refl
 skipped format number given (suc skip) (byte ∷ bytes) = skipped format number given skip bytes
 
--- the records, by what stands next
+-- the records, by what comes next
 pub records-wrong : (format : Format) (number given : ℕ) (bytes : List ℕ) (why : CaptureFault) → 0 < length bytes → next_of format number given bytes ≡ Err why
     → records_from format 0 number given bytes ≡ record { records = []; end = Some why }
 records-wrong format number given [] why some read = absurd (omega (arith, some))

@@ -1,4 +1,4 @@
--- One call of `next`: the record that stands next, the end, or what is wrong.
+-- One call of `next`: the record that comes next, the end, or what is wrong.
 use Rattle.std.proofs.Common.{arith, ◌≡◌, ◌≤◌, ℕ, ◌+◌, ◌-◌, ◌^◌, ◌||◌, Bool, true, List, [], ◌++◌, length, take, drop, Option, Some, None, Result, IfSome, Ok, Err, refl, sym, ap, ◌∙◌, subst, inl, inr, ⊎_elim}
 use Rattle.std.proofs.lemmas.List.{take-append-le, drop-append-le, drop-drop, length-drop, length-take-le}
 use Rattle.std.proofs.lemmas.Option.{none-some}
@@ -51,7 +51,7 @@ passed-behind k pending (Some bytes) (Some more) small fits same =
           (sym (drop-append_seam pending more) ∙ ap (drop (length pending)) joined ∙ drop-drop (length pending) k bytes),
     )
 
--- the record that was found stands next, and behind it what is left
+-- the record that was found comes next, and after it what is left
 found-next : (format : Format) (number given : ℕ) (header : RecordHeader) (pending : List ℕ) (all known : Option (List ℕ)) → header.captured ≤ length pending
     → prepend_known pending known ≡ option_map (drop 16) all → IfSome all (λ bytes. found_in format.order (most_bytes - given) bytes ≡ Ok (Some header))
     → IfSome all (λ bytes. (next_of format number given bytes ≡ Ok (Some (entry_with format (number + 1) header (take header.captured pending))))
@@ -70,7 +70,7 @@ found-next format number given header pending (Some bytes) (Some more) fits same
       ap (λ (xs : List ℕ). Some xs) (behind ∙ ap (λ (n : ℕ). drop (16 + n) bytes) (sym size)),
     )
 
--- a header and the bytes behind it make a record, or what is wrong with these
+-- a header and the bytes after it make a record, or what is wrong with these
 behind-header : (order : Order) (room : ℕ) (header : RecordHeader) (bytes : List ℕ) (wrong : Option CaptureFault)
     → header_in order room bytes ≡ Ok (Some header)
     → body_fault header.captured (room - 16) (length (drop 16 bytes)) ≡ wrong → found_in order room bytes ≡ unless_faulty wrong (Some header)
@@ -101,7 +101,7 @@ ended-next : (all known : Option (List ℕ)) → known ≡ all → IfSome all (�
 ended-next None known same ended = tt
 ended-next (Some bytes) known same ended = (ended, same ∙ ap (λ (xs : List ℕ). Some xs) ended)
 
--- what is wrong stands next
+-- what is wrong comes next
 wrong-next : (format : Format) (number given : ℕ) (why : CaptureFault) (all : Option (List ℕ))
     → IfSome all (λ bytes. found_in format.order (most_bytes - given) bytes ≡ Err why) → IfSome all (λ bytes. next_of format number given bytes ≡ Err why)
 wrong-next format number given why None wrong = tt

@@ -11,7 +11,7 @@ use Rattle.capture_reader.specs.Records.{RecordParts, most_bytes, most_captured}
 abbrev pub captured_length : Format → List ℕ → ℕ
 captured_length format bytes = ordered_number_at format.order 8 4 bytes
 
--- A record behind `number` others and `given` bytes: a header of 16 bytes, its captured bytes, and what is behind it.
+-- A record after `number` others and `given` bytes: a header of 16 bytes, its captured bytes, and what is after it.
 pub record IsRecord (format : Format) (number given : ℕ) (entry : RecordParts) (rest bytes : List ℕ) : Type 0 where
   pub header : List ℕ
   pub body : List ℕ
@@ -57,7 +57,7 @@ IsWrong format given bytes BadLink = ⊥
 IsWrong format given bytes ReadFault = ⊥
 IsWrong format given bytes NoMemory = ⊥
 
--- the records behind `number` others and `given` bytes, and what ends them
+-- the records after `number` others and `given` bytes, and what ends them
 abbrev pub HasRecords : Format → ℕ → ℕ → List ℕ → List RecordParts → Option CaptureFault → Type 0
 HasRecords format number given bytes [] None = bytes ≡ []
 HasRecords format number given bytes [] (Some why) = (0 < length bytes) × IsWrong format given bytes why

@@ -53,7 +53,7 @@ abbrev pub missing : ℕ → ℕ → ℕ → Option CaptureFault
 missing count room size =
     if nat_lt size (min count room) then Some CutShort else if nat_lt room count then Some TooLarge else None
 
--- what is wrong comes before what stands there
+-- what is wrong comes before what is there
 abbrev pub unless_faulty : {A : Type 0} → Option CaptureFault → A → Result A CaptureFault
 unless_faulty None there = Ok there
 unless_faulty (Some why) there = Err why
@@ -82,13 +82,13 @@ found_in order room bytes = found_by room (header_in order room bytes) bytes
 abbrev pub holds_body : ℕ → ℕ → Bool
 holds_body captured size = nat_lt most_captured captured || nat_le captured size
 
--- the same by a record's header, behind which `size` bytes are pending; what is wrong with it needs no further byte
+-- the same by a record's header, after which `size` bytes are pending; what is wrong with it needs no further byte
 abbrev pub holds_behind : ℕ → Result (Option RecordHeader) CaptureFault → Bool
 holds_behind size (Ok (Some header)) = holds_body header.captured size
 holds_behind size (Ok None) = true
 holds_behind size (Err why) = true
 
--- The bytes that are pending settle what stands next, where `room` bytes count: a record is whole, or its header tells
+-- The bytes that are pending settle what comes next, where `room` bytes count: a record is whole, or its header tells
 -- what is wrong.
 abbrev pub is_record_settled : Order → ℕ → List ℕ → Bool
 is_record_settled order room pending = nat_le 16 (length pending) && holds_behind (length pending - 16) (header_in order room pending)
@@ -111,7 +111,7 @@ next_by format number (Err why) bytes = Err why
 next_by format number (Ok None) bytes = Ok None
 next_by format number (Ok (Some header)) bytes = Ok (Some (entry_with format number header (take header.captured (drop 16 bytes))))
 
--- what stands next behind `number` records and `given` bytes of the input
+-- what comes next after `number` records and `given` bytes of the input
 abbrev pub next_of : Format → ℕ → ℕ → List ℕ → Result (Option RecordParts) CaptureFault
 next_of format number given bytes = next_by format (number + 1) (found_in format.order (most_bytes - given) bytes) bytes
 
@@ -124,20 +124,20 @@ pub record Captured : Type 0 where
 abbrev pub before : RecordParts → Captured → Captured
 before entry others = record { records = entry ∷ others.records; end = others.end }
 
--- what stands next, and what is behind it, which is asked for by the number of bytes that the record takes
+-- what comes next, and what is after it, which is asked for by the number of bytes that the record takes
 abbrev pub onward : Result (Option RecordParts) CaptureFault → (ℕ → Captured) → Captured
 onward (Ok None) behind = record { records = []; end = None }
 onward (Err why) behind = record { records = []; end = Some why }
 onward (Ok (Some entry)) behind = before entry (behind (16 + length entry.bytes))
 
--- the records behind `number` records and `given` bytes; the first `skip` bytes belong to the record before
+-- the records after `number` records and `given` bytes; the first `skip` bytes belong to the record before
 abbrev pub records_from : Format → ℕ → ℕ → ℕ → List ℕ → Captured
 records_from format skip number given [] = record { records = []; end = None }
 records_from format (suc skip) number given (byte ∷ bytes) = records_from format skip number given bytes
 records_from format zero number given (byte ∷ bytes) =
     onward (next_of format number given (byte ∷ bytes)) (λ used. records_from format (used - 1) (number + 1) (given + used) bytes)
 
--- the records behind a file header that was read, or its fault
+-- the records after a file header that was read, or its fault
 abbrev pub captured_by : Result Format CaptureFault → List ℕ → Captured
 captured_by (Err why) bytes = record { records = []; end = Some why }
 captured_by (Ok format) bytes = records_from format 0 0 24 (drop 24 bytes)

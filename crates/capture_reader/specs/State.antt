@@ -44,7 +44,7 @@ IsOfRecords ReadFault = ⊤
 IsOfRecords NoMemory = ⊥
 IsOfRecords TooLarge = ⊤
 
--- a record was given: the one that stands next, of which nothing is left
+-- a record was given: the one that comes next, of which nothing is left
 pub record Gives {S : Type 0} (left : S → Option (List ℕ)) (old new : CapturesState S) (entry : RecordParts) : Type 0 where
   pub was_open : old.fault ≡ None
   pub is_open : new.fault ≡ None
@@ -62,7 +62,7 @@ pub record Ends {S : Type 0} (left : S → Option (List ℕ)) (old new : Capture
   pub given : new.given ≡ old.given
   pub next : IfSome (rest left old) (λ bytes. (bytes ≡ []) × (rest left new ≡ Some []))
 
--- why it ended: the source failed, or this fault stands next
+-- why it ended: the source failed, or this fault comes next
 abbrev pub Blames : {S : Type 0} → (S → Option (List ℕ)) → (S → ℕ) → CapturesState S → CapturesState S → CaptureFault → Type 0
 Blames left faults old new why =
     ((why ≡ ReadFault) × Rose (faults old.source) (faults new.source))
@@ -106,7 +106,7 @@ read_of (Ok (Some r)) = Ok (Some (entry_of r))
 read_of (Ok None) = Ok None
 read_of (Err why) = Err why
 
--- a reader was made, behind the file header
+-- a reader was made, after the file header
 pub record Opens {S : Type 0} (left : S → Option (List ℕ)) (faults lender : S → ℕ) (source : S) (made : CapturesState S) : Type 0 where
   pub never_falls : faults source ≤ faults made.source
   pub same_lender : lender made.source ≡ lender source

@@ -18,7 +18,7 @@ pub record KeepsTheSource {S : Type 0} (faults lender : S → ℕ) (old new : By
   pub never_falls : faults before ≤ faults after
   pub same_lender : lender after ≡ lender before
 
--- the source failed, or the bytes that stand next are wrong
+-- the source failed, or the bytes that come next are wrong
 abbrev pub IsCause : CaptureFault → ℕ → ℕ → Type 0 → Type 0
 IsCause why before after Wrong = ((why ≡ ReadFault) × Rose before after) ⊎ ((why ≢ ReadFault) × Wrong)
 

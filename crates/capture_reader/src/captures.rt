@@ -153,7 +153,7 @@ fn read_record<S: Source>(
     }
 }
 
-// The bytes that are pending settle what stands next: a record is whole, or its header tells what is wrong.
+// The bytes that are pending settle what comes next: a record is whole, or its header tells what is wrong.
 fn is_record_settled(order: Order, room: u64, pending: &[u8]) -> bool
     ensures { result ≡ is_record_settled order room pending.now }
 {
@@ -176,7 +176,7 @@ impl<S: Source + Drop> Captures<S> {
     ghost use Rattle.capture_reader.specs.State.{Advances, found, holds_record, read_of};
     ghost use Rattle.capture_reader.specs.contracts.captures.Captures.{the_row};
 
-    /// A reader over this source, behind the file header, which it reads. All memory is taken here. At most 262,144
+    /// A reader over this source, after the file header, which it reads. All memory is taken here. At most 262,144
     /// bytes are read, and where the capture is refused the source is handed back. The faults, in this order: NoMemory,
     /// where the block is not found, and then nothing was read; ReadFault, only where the source failed; CutShort,
     /// exactly where fewer than 24 bytes come; and of these, in this order, BadMagic, BadVersion and BadLink.

@@ -46,7 +46,7 @@ const LINK: usize = 20;
 pub(crate) const LINKS: [u32; 2] = [1, 101];
 
 impl Order {
-    /// The number of 32 bits that stands there.
+    /// The number of 32 bits that is there.
     pub fn read_u32(self, bytes: &[u8], place: usize) -> u32
         requires { place + 4 ≤ length bytes.now }
         ensures { result ≡ ordered_number_at self place 4 bytes.now }
@@ -57,7 +57,7 @@ impl Order {
         }
     }
 
-    /// The number of 16 bits that stands there.
+    /// The number of 16 bits that is there.
     pub fn read_u16(self, bytes: &[u8], place: usize) -> u16
         requires { place + 2 ≤ length bytes.now }
         ensures { result ≡ ordered_number_at self place 2 bytes.now }
@@ -68,7 +68,7 @@ impl Order {
         }
     }
 
-    /// The number of 64 bits that stands there.
+    /// The number of 64 bits that is there.
     pub fn read_u64(self, bytes: &[u8], place: usize) -> u64
         requires { place + 8 ≤ length bytes.now }
         ensures { result ≡ ordered_number_at self place 8 bytes.now }

@@ -6,7 +6,7 @@ ghost use Rattle.capture_reader.specs.Records.{RecordParts, captured, missing};
 ghost use Rattle.capture_reader.specs.Capture.{IsCapture};
 
 /// Each input has one list of records and one end, a fault or none, and these are the ones that are read: records of a
-/// header and its captured bytes, one behind the other, within the limits, until the input ends or the first fault
+/// header and its captured bytes, one after the other, within the limits, until the input ends or the first fault
 /// comes.
 pub fn a_capture_has_one_list_of_records()
     ensures { (bytes : List ℕ) (records : List RecordParts) (end : Option CaptureFault)

@@ -13,7 +13,7 @@ pub struct Record<'a> {
     pub number: u64,
     /// When it was captured, in seconds since 1970.
     pub seconds: u32,
-    /// The microseconds or nanoseconds behind these seconds, as they stand in the capture.
+    /// The microseconds or nanoseconds after these seconds, as they are in the capture.
     pub fraction: u32,
     /// Whether `fraction` counts nanoseconds.
     pub nanos: bool,
@@ -30,7 +30,7 @@ pub struct Record<'a> {
 pub struct RecordHeader {
     /// When it was captured, in seconds since 1970.
     pub seconds: u32,
-    /// The microseconds or nanoseconds behind these seconds.
+    /// The microseconds or nanoseconds after these seconds.
     pub fraction: u32,
     /// How many bytes were captured.
     pub captured: u32,
@@ -53,7 +53,7 @@ impl RecordHeader {
     }
 }
 
-/// The bytes behind so many (own).
+/// The bytes after so many (own).
 pub fn behind(bytes: &[u8], count: usize) -> &[u8]
     requires { count ≤ length bytes.now }
     ensures { result.now ≡ drop count bytes.now }

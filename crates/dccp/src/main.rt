@@ -1,5 +1,5 @@
 //! The program: the tool's one call over standard input and output, with its status as the exit status. A crate is a
-//! library or a program, so the call itself stands in dccp_command.
+//! library or a program, so the call itself is in dccp_command.
 #![tactic(auto)]
 
 use dccp_command::{OpenGate, Status, dccp};

@@ -8,7 +8,7 @@ use Rattle.tool_forms.specs.declared.campaign_words.Campaign.{Campaign}
 use Rattle.tool_text.specs.declared.output.status.JobEnd.{JobEnd}
 use Rattle.tool_text.specs.declared.output.status.JobEnd.TheVariants as ended
 
--- a count behind its name
+-- a count after its name
 abbrev pub count_line : List ℕ → ℕ → List ℕ
 count_line name count = labelled_number name count ++ codes "\n"
 

@@ -50,7 +50,7 @@ form_accepted form.Show bytes = records_end bytes
 form_accepted (form.Listen most) bytes = listen_accepted most bytes
 form_accepted form.Ecn bytes = ecn_accepted bytes
 
--- How many bytes a form may have read behind those that it accepts: two blocks of a capture, or of lines.
+-- How many bytes a form may have read after those that it accepts: two blocks of a capture, or of lines.
 abbrev pub form_reads_past : Form → ℕ
 form_reads_past form.Show = 524288
 form_reads_past _ = 16384

@@ -94,7 +94,7 @@ pub record Entry (e : EndState) (bytes : List ℕ) (a : Incoming) : Type 0 where
   pub refused : is_unexpected (entered_as e first ph a.number (raising a.kind a.ack)) a ≡ true
       → Told e bytes (sends (entered_as e first ph a.number (raising a.kind a.ack)) (alone (kind.Sync a.number)) (Synced a.number))
 
--- steps 7 and 8, behind the test of Resets
+-- steps 7 and 8, after the test of Resets
 abbrev pub Behind : EndState → List ℕ → Incoming → PacketType → EndState → Type 0
 Behind e bytes a t x = Told e bytes (ends_as a (through (ends_by_reset a t x) (checks_type a ∷ [])))
 

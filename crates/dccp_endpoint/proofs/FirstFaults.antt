@@ -29,7 +29,7 @@ abbrev negotiates_item : ListItem → Bool
 negotiates_item (Ok entry) = negotiates_by entry
 negotiates_item (Err fault) = false
 
--- An option that counts, with its feature number and what stands behind it.
+-- An option that counts, with its feature number and what follows it.
 record Spoken (count : Bool) (entry : Entry) (number : ℕ) (list : List ℕ) : Type 0 where
   on : count ≡ true
   understood : is_understood entry.kind (length entry.body) ≡ true
@@ -441,7 +441,7 @@ module _ (count : Bool) (ack : Option ℕ) (done : List ListItem) (h : Heeding) 
       let spoken : Spoken count entry number list = record { on = on; understood = understood; its = its; body = body } in
       confirm-goes count ack h entry number list spoken other (first-back entry number list fits spoken first) code is
 
--- reading on behind what was read
+-- reading on after what was read
 heeds-append : (count : Bool) (ack : Option ℕ) (h : Heeding) (before items : List ListItem) (read : Heeding) → heeds count ack h before ≡ Ok read
     → heeds count ack h (before ++ items) ≡ heeds count ack read items
 heeds-append count ack h [] items read is = let same : h ≡ read = cc is in ap (λ (x : Heeding). heeds count ack x items) same

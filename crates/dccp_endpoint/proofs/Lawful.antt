@@ -108,7 +108,7 @@ module _ {e : EndState} {input : Input} {hearing : Hearing} where
   said-lawful Deaf = All-nil Fit
   said-lawful (Heeds a h was is) = heard-lawful (counts_in e a) a.ack (unheeded e.rows) a.options
 
-  -- what was heard, and the offers behind it
+  -- what was heard, and the offers after it
   pub offered-sound : {turns : List Turn} {confirms : List Due} → IsProper e → AreHeard e input hearing turns confirms
       → IsNegotiation (turned e.rows (turns ++ offerings (is_confirmed confirms) every_place))
   offered-sound {turns = turns} {confirms = confirms} proper hears =

@@ -430,7 +430,7 @@ module _ (k : Key) (count : Bool) (ack : Option ℕ) (h next : Heeding) (entry :
     by true is so = counting-way is (count && is_of_negotiation entry.kind) refl so
     by false is so = nothing-way (and_right count (speaks_to k entry) (mute-so k entry is)) (missed entry.mandatory so)
 
--- what the options do that come behind one that spoke to the row
+-- what the options do that come after one that spoke to the row
 record Stays (k : Key) (h end : Heeding) (turns : List Turn) : Type 0 where
   events : events_of k.0 k.1 turns ≡ []
   confirm : confirm_for k end.confirms ≡ confirm_for k h.confirms

@@ -148,7 +148,7 @@ beside-so k left number is = record {
     not_both : number ≡ feature_number k.0 → left ≡ letter_to k.1 → ⊥
     not_both number_is left_is = false≢true (sym is ∙ to-from k left number number_is left_is)
 
--- turns one behind the other
+-- turns one after the other
 pub events-append : (k : Key) (earlier later : List Turn)
     → events_of k.0 k.1 (earlier ++ later) ≡ events_of k.0 k.1 earlier ++ events_of k.0 k.1 later
 events-append k earlier later =

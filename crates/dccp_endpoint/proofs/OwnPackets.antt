@@ -38,7 +38,7 @@ theirs k = (k.0, opposite k.1)
 abbrev entry_of : ℕ → Item → Entry
 entry_of place item = record { place = place + length (mark item.mandatory); mandatory = item.mandatory; kind = item.kind; body = item.body }
 
--- the place of the option behind it
+-- the place of the option after it
 abbrev behind : ℕ → Item → ℕ
 behind place item = place + length (spelled item.mandatory item.kind item.body)
 
@@ -141,7 +141,7 @@ module _ (ack : Option ℕ) (rows : List Row) (k : Key) where
       by false speaks others =
           cond-false (speaks_to (theirs k) entry) (event_in ack entry ∷ []) (said_to true ack (theirs k) later) speaks ∙ others
 
--- where the options behind the Ack Vector stand, if there is one
+-- where the options after the Ack Vector stand, if there is one
 abbrev behind_parts : ℕ → List (List ℕ) → ℕ
 behind_parts place [] = place
 behind_parts place (part ∷ parts) = behind_parts (behind place (vector_item part)) parts

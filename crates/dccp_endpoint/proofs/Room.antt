@@ -1,4 +1,4 @@
--- What an end says has room on its packets: a vector of 255 bytes at most, Confirms of 354, and 18 Changes of 12 each.
+-- What an end says has room on its packets: a vector of 510 bytes at most, Confirms of 354, and 18 Changes of 12 each.
 use Rattle.std.proofs.Common.{◌≡◌, ℕ, ◌+◌, ◌*◌, ◌-◌, ◌%◌, ◌≤◌, ◌<◌, nat_lt, ◌==◌, Bool, true, false, not, ◌&&◌, ◌||◌, if◌then◌else◌, List, [], ◌∷◌, ◌++◌, zero, suc, length, map, replicate, Option, Some, None, Result, Ok, Err, refl, ap, sym, ◌∙◌, subst, arith, eqb-true, get_or-set_same, length-set}
 use Rattle.std.specs.Prelude.{slice_index_or, slice_set, filter}
 use Rattle.std.specs.List.{All}
@@ -533,7 +533,7 @@ vector-front true vectors set greatest =
     most-two One = omega arith
     most-two Two = omega arith
 
--- such options, and behind them others
+-- such options, and after them others
 front-sendable : (k : Kind) (front items : List Item) → has_forms true k ≡ true → HasDetail k → is_data (packet_type k) ≡ false → IsFront front
     → All IsWritable items → length (written items) ≤ 474 → IsSendable (record { kind = k; options = front ++ items; payload = [] })
 front-sendable k front items long detail other first writable room =

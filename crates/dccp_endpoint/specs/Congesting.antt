@@ -12,7 +12,7 @@ use Rattle.feature_machine.specs.declared.row.Row.{Row}
 use Rattle.dccp_endpoint.specs.End.{value_in}
 use Rattle.dccp_endpoint.specs.Incoming.{Incoming}
 
--- The Ack Vectors of a packet with an acknowledgement number are a report, but for a Sync, whose number may be any.
+-- The Ack Vectors of a packet with an acknowledgement number are a report, except for a Sync, whose number may be any.
 abbrev pub reported_from : PacketType → Option ℕ → Option ℕ
 reported_from types.Sync ack = None
 reported_from _ ack = ack

@@ -82,7 +82,7 @@ pub record IsSendable (draft : Draft) : Type 0 where
   pub area : fixed_length true (packet_type draft.kind) + length (padded (written draft.options)) ≤ 1020
   pub data_fits : length draft.payload ≤ 1024
 
--- The bytes are read as a packet with this header but for the checksum, and with the draft's options and data; the
+-- The bytes are read as a packet with this header except for the checksum, and with the draft's options and data; the
 -- checksum fits.
 pub record ReadsAs (header : Header) (pseudo : Pseudo) (draft : Draft) (bytes : List ℕ) : Type 0 where
   pub sum : ℕ

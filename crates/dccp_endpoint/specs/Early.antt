@@ -6,7 +6,7 @@ use Rattle.dccp_states.specs.declared.calls.SendFault.{SendFault}
 use Rattle.dccp_endpoint.specs.Calling.{Called, fault_where, sends_payload, sends_unless}
 use Rattle.dccp_endpoint.specs.End.{EndState}
 
--- the one phase for them: the Response was heard, and nothing behind it
+-- the one phase for them: the Response was heard, and nothing after it
 abbrev pub is_part_open : Phase → Bool
 is_part_open phases.Closed = false
 is_part_open phases.Listen = false

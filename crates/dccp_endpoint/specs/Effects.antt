@@ -1,5 +1,5 @@
 -- What one step of an end does, as plain data: a part for each part of the end (own). Why each part is what it is,
--- stands in Causes.
+-- is in Causes.
 use Rattle.std.specs.Prelude.{◌&&◌, ℕ, Bool, true, false, List, [], Option, Some, None}
 use Rattle.ack_vectors.specs.Kept.{Kept, marked_by}
 use Rattle.ack_vectors.specs.Kept as kept
@@ -123,7 +123,7 @@ abbrev pub osr_by : ℕ → Hearing → Bool → ℕ
 osr_by old Unheard opening = old
 osr_by old (Heard first number how) opening = osr_after (isr_or first number old) number opening
 
--- What a packet acknowledges raises GAR, but for a Sync.
+-- What a packet acknowledges raises GAR, except for a Sync.
 abbrev pub raising : PacketType → Option ℕ → Option ℕ
 raising types.Sync ack = None
 raising _ ack = ack

@@ -1,7 +1,7 @@
 -- At which option of a packet the reading stops, and for which fault (RFC 4340, sections 5.8.2 and 8.5, step 8; which
 -- options count is own).
 --
--- It stands above the fold of Heeding: the fold is asked what the options before that one left in the rows, and whether
+-- It is above the fold of Heeding: the fold is asked what the options before that one left in the rows, and whether
 -- they were read; what counts is said of the list of them. That feature numbers are below 256, as bytes are, is a
 -- premise.
 use Rattle.std.specs.Prelude.{◌≡◌, ◌↔◌, ◌<◌, ◌&&◌, not, ℕ, Bool, true, false, List, [], ◌∷◌, ◌++◌, length, Option, Result, Ok, Err}
@@ -29,13 +29,13 @@ abbrev pub speaks_for : Bool → ℕ → Result Entry OptFault → Bool
 speaks_for left number (Ok entry) = negotiates_by entry && (begins_with_number number entry.body && is_same_letter left (is_left entry.kind))
 speaks_for left number (Err fault) = false
 
--- no Change and no Confirm for this feature, by this letter, stands among these
+-- no Change and no Confirm for this feature, by this letter, is among these
 abbrev pub IsFirstFor : Bool → ℕ → List (Result Entry OptFault) → Type 0
 IsFirstFor left number before = list_any (speaks_for left number) before ≡ false
 
--- What is wrong with an item, behind these before it, which left these rows: Mandatory stands where it may not; an
--- option is not understood behind Mandatory; a Change that counts is one that its row cannot accept; or a Confirm is. A
--- Change counts, and a Confirm does, as the first for its feature by its letter; and a Change only behind fewer than 64
+-- What is wrong with an item, after these before it, which left these rows: Mandatory stands where it may not; an
+-- option is not understood after Mandatory; a Change that counts is one that its row cannot accept; or a Confirm is. A
+-- Change counts, and a Confirm does, as the first for its feature by its letter; and a Change only after fewer than 64
 -- others.
 pub data GoesWrong (count : Bool) (ack : Option ℕ) (before : List (Result Entry OptFault)) (rows : List Row) : Result Entry OptFault → Fault → Type 0 where
   MandatoryMisplaced : (fault : OptFault) → GoesWrong count ack before rows (Err fault) mandatory_fault

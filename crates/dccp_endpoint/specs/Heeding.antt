@@ -25,7 +25,7 @@ use Rattle.dccp_endpoint.specs.Faults.{mandatory_fault}
 use Rattle.dccp_endpoint.specs.Turns.{turn_of}
 use Rattle.dccp_states.specs.declared.outcome.Fault.{Fault}
 
--- A Confirm that is due: whether it is Confirm L or Confirm R, its feature number, and the data behind that.
+-- A Confirm that is due: whether it is Confirm L or Confirm R, its feature number, and the data after that.
 pub record Due : Type 0 where
   pub left : Bool
   pub number : ℕ
@@ -116,12 +116,12 @@ heeds_feature ack h entry change left number body =
     if slice_index_or h.used (place_in_used left number) false then Ok (record h { changes = counted h.changes change })
     else heeds_first ack h entry change left number body
 
--- the data are the feature number and what stands behind it
+-- the data are the feature number and what follows it
 abbrev pub heeds_body : Option ℕ → Heeding → Entry → List ℕ → Result Heeding Fault
 heeds_body ack h entry [] = Ok h
 heeds_body ack h entry (number ∷ body) = heeds_feature ack h entry (is_change entry.kind) (is_left entry.kind) number body
 
--- an option that is not understood is a fault behind Mandatory alone (section 5.8.2)
+-- an option that is not understood is a fault after Mandatory alone (section 5.8.2)
 abbrev pub misunderstood : Heeding → Entry → Result Heeding Fault
 misunderstood h entry = if entry.mandatory then Err (fault_of codes.MandatoryError entry) else Ok h
 
@@ -143,7 +143,7 @@ abbrev pub heeds_item : Bool → Option ℕ → Heeding → Result Entry OptFaul
 heeds_item count ack h (Ok entry) = heeds_entry count ack h entry
 heeds_item count ack h (Err _) = Err mandatory_fault
 
--- the options behind a fault are not heeded
+-- the options after a fault are not heeded
 abbrev pub heeds_then : Result Heeding Fault → (Heeding → Result Heeding Fault) → Result Heeding Fault
 heeds_then (Ok h) rest = rest h
 heeds_then (Err fault) rest = Err fault
@@ -193,7 +193,7 @@ abbrev pub item_turns : Bool → Option ℕ → Heeding → Result Entry OptFaul
 item_turns count ack h (Ok entry) = entry_turns count ack h entry
 item_turns count ack h (Err _) = []
 
--- no row has a turn behind a fault
+-- no row has a turn after a fault
 abbrev pub turns_then : Result Heeding Fault → (Heeding → List Turn) → List Turn
 turns_then (Ok h) rest = rest h
 turns_then (Err fault) rest = []

@@ -1,7 +1,7 @@
 -- What an end does with the bytes that arrive: the sixteen steps of RFC 4340, section 8.5.
 --
--- `the_steps` lists steps 2 to 9 but for step 8, and `receives` at the foot joins step 1 before and steps 8 and 10 to
--- 16 behind them. Each step has one definition, above these.
+-- `the_steps` lists steps 2 to 9 except for step 8, and `receives` at the foot joins step 1 before and steps 8 and 10 to
+-- 16 after them. Each step has one definition, above these.
 --
 -- Any other body of a step is refused by the clause `step`, which is this equation. What is said wrongly here is
 -- refused by the causes, the effect and the worked packets (`proofs/Rows` of tests_ends and the like); a must-fail

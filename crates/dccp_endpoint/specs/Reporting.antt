@@ -71,7 +71,7 @@ marks e number =
 abbrev pub looked_up : PacketType → Option ℕ → Option ℕ
 looked_up kind ack = if is_acking kind then ack else None
 
--- where the number is that of a record, the floor rises behind what its vector told
+-- where the number is that of a record, the floor rises after what its vector told
 abbrev pub looked_by : Kept → Option ℕ → Kept
 looked_by old None = old
 looked_by old (Some number) = acked old number
@@ -125,7 +125,7 @@ abbrev pub acknowledged : EndState → EndState
 acknowledged e =
     record (with_next_number e) { received = recorded_by (sends_vectors e.rows) e.config.vectors e.received (next_number e) e.marks.gsr; owed = false; unacked = 0 }
 
--- An Ack or a DataAck as it goes out: the Ack Vector stands before all other options (own).
+-- An Ack or a DataAck as it goes out: the Ack Vector comes before all other options (own).
 abbrev pub reporting : EndState → Draft → Draft
 reporting e draft = record draft { options = vector_items (sends_vectors e.rows) e.config.vectors e.received.set e.marks.gsr ++ draft.options }
 

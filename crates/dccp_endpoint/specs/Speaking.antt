@@ -114,7 +114,7 @@ asking_frame e kind confirms keys = next_frame (asks e keys) (saying kind confir
 abbrev pub confirming : Kind → List Due → Draft
 confirming kind confirms = record { kind = kind; options = confirm_items confirms; payload = [] }
 
--- the rows that ask in a Request or a Response, behind the offers: those whose Change is due and that have no Confirm
+-- the rows that ask in a Request or a Response, after the offers: those whose Change is due and that have no Confirm
 -- in it
 abbrev pub asking : List Row → List Due → List Key
 asking rows confirms = unconfirmed confirms (due_keys rows)

@@ -6,7 +6,7 @@ use Rattle.dccp_packets.specs.Outgoing.{Outgoing}
 use Rattle.dccp_endpoint.specs.End.{EndState, IsProper}
 use Rattle.dccp_endpoint.specs.Inputs.{Input, end_stepped}
 
--- a number as its bits stand in a packet: all of them, or the low 24 (RFC 4340, section 5.1)
+-- a number as its bits are in a packet: all of them, or the low 24 (RFC 4340, section 5.1)
 abbrev pub in_width : Bool → ℕ → ℕ
 in_width long n = if long then n else n % 2 ^ 24
 

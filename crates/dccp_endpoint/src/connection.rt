@@ -53,7 +53,7 @@ fn fit(marks: &mut Marks, rows: &Negotiation)
     marks.peer_w = rows.held(Feature::SequenceWindow, Place::There).value;
 }
 
-/// One end of a connection but for its congestion control, which is lent to it where something is due to it. Its calls
+/// One end of a connection except for its congestion control, which is lent to it where something is due to it. Its calls
 /// are those of `Endpoint`.
 #[derive(Drop)]
 pub(crate) struct Connection {
@@ -122,6 +122,13 @@ impl Connection {
         ensures { result ≡ self.now.config.pseudo_out }
     {
         self.config.pseudo_out
+    }
+
+    /// The Service Code that it asks for or serves.
+    pub(crate) fn service(&self) -> u32
+        ensures { result ≡ self.now.config.service }
+    {
+        self.config.service
     }
 
     /// The first and greatest numbers sent and received, and the widths of the windows (RFC 4340, section 7.1).

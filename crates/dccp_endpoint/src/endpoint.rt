@@ -13,16 +13,15 @@ use std::marker::Model;
 // The CCID with which every end begins (RFC 4340, section 10).
 const FIRST_CCID: u8 = 2;
 
-/// One end of a connection, with the congestion control of the data that it sends. It has no socket and no clock:
-/// whoever owns it has both. Each call that takes an Outbox empties it first and leaves at most one frame there, which
-/// the owner then sends to the peer. A refused call leaves the end and its congestion control unchanged and the box
-/// empty. Only `new` may take memory. No call gives the congestion control out: `window`, `in_flight`, `is_reported`
-/// and `stands` show what it shows.
+/// One end of a connection, with the congestion control of the data that it sends. It has no socket and no clock; its
+/// owner has both. Each call that takes an Outbox first empties it and leaves at most one frame there, which the owner
+/// sends to the peer. A refused call leaves the end and its congestion control unchanged and the box empty. Only `new`
+/// may take memory. No call returns the congestion control: `window`, `in_flight`, `is_reported` and `stands` read it.
 ///
 /// # The order of calls
 ///
-/// An end serves one connection. A client's is made by `new` and opened once, by `open`; a server's is made by `new`
-/// for a peer from which a datagram came. From then on, in whatever order:
+/// An end serves one connection. `new` makes a client's end, and `open` opens it once; `new` makes a server's end for a
+/// peer from which a datagram came. After that, in any order:
 ///
 /// - `receive` for each datagram of the peer, of at most [`MOST_FRAME_BYTES`](crate::MOST_FRAME_BYTES) bytes: the owner
 ///   drops a longer one
@@ -34,9 +33,9 @@ const FIRST_CCID: u8 = 2;
 /// - the readers `phase`, `pseudo_out`, `marks`, `held`, `window`, `in_flight`, `is_reported`, `stands`, `floor`,
 ///   `marked`, `last_taken` and `takes_short`, at any time
 ///
-/// A feature's value, as `held` shows it, is settled for this end where its stand is Stable; that tells nothing of the
-/// other end, which may hold another one until it is Stable too. The connection has ended once the phase
-/// is CLOSED again. An end in TIMEWAIT is kept until its timer has run out.
+/// A feature's value, as `held` shows it, is settled for this end if its stand is Stable. That says nothing about the
+/// other end, which may hold another value until it is Stable too. The connection has ended once the phase is CLOSED
+/// again. Keep an end in TIMEWAIT until its timer has run out.
 ///
 /// # What an outcome of `receive` asks of the owner
 ///
@@ -51,11 +50,12 @@ const FIRST_CCID: u8 = 2;
 /// | `WasReset` | learns that the connection has ended, with this code; the timer TimeWait runs |
 /// | `SentReset` with 1 | learns that the peer has closed; the end may go |
 /// | `SentReset` with 5 or 6, or with 8 at a client | learns that the connection has failed; the end may go |
-/// | `SentReset` with 3 or 4, or with 8 at a server | limits how many Resets go out; the end is as it was, but for the number that 4 takes |
+/// | `SentReset` with 3 or 4, or with 8 at a server | limits how many Resets go out; the end is as it was, except for the number that 4 takes |
 ///
 /// # What is left to the owner
 ///
-/// - The timers. Each runs in the phases that [`Endpoint::timer`] lists, and begins anew once the end was told of it.
+/// - The timers. Each runs in the phases that [`Endpoint::timer`] lists, and begins anew once `timer` was called for
+///   it.
 ///   The waits of RFC 4340: for Request a second at first (section 8.1.1), for Ack 200 milliseconds in PARTOPEN
 ///   (section 8.1.5), for Negotiate a round trip (section 6.6.3), for Close two (section 8.3), each doubled from time
 ///   to time, up to 64 seconds; for TimeWait two lifetimes of a segment, four minutes. Rto is TCP's, and begins anew
@@ -65,12 +65,12 @@ const FIRST_CCID: u8 = 2;
 /// - Limits: how many Syncs and Resets go out in a second, and for how many peers ends are made.
 /// - Giving up: `abort` after minutes without an answer to the Request, or in PARTOPEN (sections 8.1.1 and 8.1.5).
 /// - Whether short numbers are asked for ([`Feature::ShortSeqnos`]). A packet with short numbers that comes 2^23
-///   packets late or more may be taken for another (section 7.6); what is proved of two ends supposes that none does.
+///   packets late or more may be taken for another (section 7.6); the proofs about two ends assume that none does.
 /// - Data that `send` refuses with `WindowFull`: to be offered again, or dropped.
 ///
 /// # Sizes
 ///
-/// An end has 3,152 bytes beside its congestion control's, which are 184 for `Kinds` of ccid_two, and takes two blocks
+/// An end has 3,280 bytes beside its congestion control's, which are 184 for `Kinds` of ccid_two, and takes two blocks
 /// in `new`, of 17,920 bytes together. A flight list takes one of 32,768; `Kinds` has two. An [`Outbox`] has 2,088
 /// bytes: one may serve all ends of a thread.
 #[derive(Drop)]
@@ -91,9 +91,9 @@ impl<C: Congestion + Drop> Endpoint<C> {
     ghost use Rattle.std.specs.Prelude.{◌≡◌, IsTrue, IfOk};
     ghost use Rattle.dccp_endpoint.specs.Controlled.{begins};
 
-    /// An end of its configuration: CLOSED for a client, LISTEN for a server (RFC 4340, section 8.1). The congestion
-    /// control is started with CCID 2, and has to know it. With `NoMemory` it is let go, so `C` has to be one that may
-    /// be (`Drop`), for this call alone.
+    /// An end of this configuration: CLOSED for a client, LISTEN for a server (RFC 4340, section 8.1). The congestion
+    /// control is started with CCID 2, and has to know it. With `NoMemory` it is dropped, so this call alone requires
+    /// `Drop` of `C`.
     pub fn new(alloc: Global, config: Config, congestion: C) -> Result<Endpoint<C>, NoMemory>
         requires { IsTrue (C.control.is_known 2) }
         ensures { IfOk result (λ e. e ≡ begins C.control config congestion) }
@@ -129,18 +129,25 @@ impl<C: Congestion> Endpoint<C> {
     ghost use Rattle.dccp_packets.specs.Grammar.{decoded};
     ghost use Rattle.dccp_states.specs.declared.calls.Timer.TheVariants as timers;
 
-    /// Where the connection stands.
+    /// The phase of the connection.
     pub fn phase(&self) -> Phase
         ensures { result ≡ self.now.state.phase }
     {
         self.connection.phase()
     }
 
-    /// The addresses of the packets that it sends, for whoever seals a frame of the end anew.
+    /// The addresses of the packets that it sends, for a caller that seals a frame of the end again.
     pub fn pseudo_out(&self) -> Pseudo
         ensures { result ≡ self.now.state.config.pseudo_out }
     {
         self.connection.pseudo_out()
+    }
+
+    /// The Service Code that it asks for as a client, or serves as a server (RFC 4340, section 8.1.2).
+    pub fn service(&self) -> u32
+        ensures { result ≡ self.now.state.config.service }
+    {
+        self.connection.service()
     }
 
     /// The first and greatest numbers sent and received, and the widths of the windows (RFC 4340, section 7.1). The
@@ -154,7 +161,8 @@ impl<C: Congestion> Endpoint<C> {
         self.connection.marks()
     }
 
-    /// What the end holds for a feature at a place, and where its negotiation stands (RFC 4340, section 6.6.2).
+    /// The value that the end holds for a feature at a place, and the stand of its negotiation (RFC 4340, section
+    /// 6.6.2).
     pub fn held(&self, feature: Feature, place: Place) -> Held
         ensures { result ≡ held_of self.now.state feature place }
     {
@@ -184,8 +192,8 @@ impl<C: Congestion> Endpoint<C> {
         self.congestion.is_reported(number)
     }
 
-    /// Tells whether its data packet of this number stands so, of the last 2,048 that it has sent since it began, took up
-    /// another CCID, or took all that was in flight for lost by a timeout.
+    /// Whether its data packet of this number has this standing. Known are the last 2,048 that it has sent since it
+    /// began, changed its CCID, or had a timeout.
     pub fn stands(&self, number: Seq48, standing: Standing) -> bool
         ensures { IsTrue result ↔ Has (C.control.flight self.now.congestion) number standing }
     {
@@ -235,8 +243,8 @@ impl<C: Congestion> Endpoint<C> {
         self.connection.open(out)
     }
 
-    /// Sends data, at most 1,024 bytes: a DataAck where an acknowledgement is owed, which has an Ack Vector where Send
-    /// Ack Vector is 1, else a Data (RFC 4340, section 8.1.5). The congestion control counts the packet as in flight.
+    /// Sends data, at most 1,024 bytes: in a DataAck if an acknowledgement is owed, with an Ack Vector if Send Ack
+    /// Vector is 1, else in a Data (RFC 4340, section 8.1.5). The congestion control counts the packet as in flight.
     /// Refused with `NotOpen` exactly outside OPEN; then with `TooLong` exactly where the data are longer; then with
     /// `NotNegotiated` exactly where CCID here is 2 and the peer sends no Ack Vectors (RFC 4341, section 4); then with
     /// `WindowFull` exactly where as many packets are in flight as may be.
@@ -263,8 +271,8 @@ impl<C: Congestion> Endpoint<C> {
         Ok(())
     }
 
-    /// Sends data of a client that speaks first, at most 1,024 bytes, where it has heard no more than the Response
-    /// (own; RFC 4340, section 8.1.5, lets it): in PARTOPEN, in a DataAck, which acknowledges the greatest number
+    /// Sends data of a client that speaks first, at most 1,024 bytes, after the Response alone (own; RFC 4340, section
+    /// 8.1.5, permits it): in PARTOPEN, in a DataAck, which acknowledges the greatest number
     /// received and has an Ack Vector where Send Ack Vector is 1. The phase stays, and nothing is owed then. The
     /// congestion control counts the packet as in flight. Refused with `NotOpen` exactly outside PARTOPEN; then as
     /// `send` is, with `TooLong`, then `NotNegotiated`, then `WindowFull`.
@@ -330,7 +338,7 @@ impl<C: Congestion> Endpoint<C> {
     }
 
     /// The end wants these values, best first, for a feature at a place (RFC 4340, section 6.6.1). A row in STABLE asks
-    /// at once, by an Ack with its Change; any other asks on a later occasion, and nothing goes out. Refused with
+    /// at once, by an Ack with its Change; any other asks later, and nothing goes out. Refused with
     /// `NotOpen` exactly outside PARTOPEN and OPEN; then as `feature_lists::wish` refuses, with `BadList` or `NotOurs`.
     pub fn prefer(
         &mut self,

@@ -116,7 +116,7 @@ impl Reading {
         self.count(change);
     }
 
-    // A Change was met, and its Confirm is due behind the others.
+    // A Change was met, and its Confirm is due after the others.
     fn owe(&mut self, place: usize, confirm: ConfirmOut)
         requires place { place < 512 }
         requires few { self.old.changes < 64 }
@@ -212,7 +212,7 @@ impl Reading {
         self.heed_first(option, change, left, number, body, ack)
     }
 
-    // The data are the feature number and what stands behind it.
+    // The data are the feature number and what follows it.
     fn heed_body(&mut self, option: &Opt<'_>, ack: &Option<Seq48>) -> Result<(), Fault>
         ensures { heeding_or self.new result ≡ heeds_body ack.now self.old (entry_of_option option.now) option.now.body.now }
     {
@@ -229,7 +229,7 @@ impl Reading {
         }
     }
 
-    // An option that is not understood is a fault behind Mandatory alone.
+    // An option that is not understood is a fault after Mandatory alone.
     fn misunderstand(&self, option: &Opt<'_>) -> Result<(), Fault>
         ensures { heeding_or self.now result ≡ misunderstood self.now (entry_of_option option.now) }
     {

@@ -60,7 +60,7 @@ pub fn told_numbers_are_spelled()
 {}
 
 /// The options of a packet are read in order, and the first that goes wrong is the fault: Mandatory with no option
-/// behind it, or with another Mandatory; an option that is not understood behind Mandatory (RFC 4340, section 5.8.2);
+/// after it, or with another Mandatory; an option that is not understood after Mandatory (RFC 4340, section 5.8.2);
 /// the first Change for a feature by its letter, of the first 64 Changes, that its row cannot accept; or the first
 /// Confirm for a feature by its letter that its row cannot accept (that only these count is own). All options before it
 /// were read without a fault. Where none goes wrong, they are read to their end.

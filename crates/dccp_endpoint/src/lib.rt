@@ -4,10 +4,10 @@
 //! An [`Endpoint`] is made from a [`Config`], which has its wishes and offers, and a congestion control of any kind,
 //! and serves one connection. Its calls put at most one frame into an `Outbox`, which they empty first; a refused call
 //! leaves the end unchanged and the box empty. It has no socket and no clock, and takes no memory once it is made.
-//! Frames that arrive are handed to `receive`, in whatever order. [`Endpoint`] says in which order its calls come and
-//! what is left to whoever owns it.
+//! Frames that arrive go to `receive`, in any order. The comment at [`Endpoint`] has the order of its calls, and what
+//! is left to its owner.
 //!
-//! What the calls take and give is named here too, so that one crate is enough to import beside that of a congestion
+//! This crate also exports the types of its calls, so that one crate is enough to import, beside that of a congestion
 //! control.
 #![tactic(auto)]
 

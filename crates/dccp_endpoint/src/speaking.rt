@@ -1,7 +1,7 @@
 //! What an end says of features on its packets (RFC 4340, section 6).
 //!
-//! That all that is due fits a packet is shown by lengths. An Ack Vector takes at most 255 bytes, and 18 Changes take
-//! 12 each. There are at most 64 Confirms, of which only those for a known feature can take more than 3 bytes, at most
+//! That all that is due fits a packet is shown by lengths. A vector takes at most 510 bytes, and 18 Changes take 12
+//! each. There are at most 64 Confirms, of which only those for a known feature can take more than 3 bytes, at most
 //! one for each of the 18 rows: 354 bytes. Counted as 12 each they would not fit beside a vector.
 ghost use Rattle.std.specs.Prelude.{◌≡◌, ◌+◌, ◌*◌, ◌^◌, ◌<◌, ◌≤◌, ◌++◌, [], ◌∷◌, length, map, true, false, Some};
 ghost use Rattle.arrayvec.specs.ArrayVec.{array_vec_len};

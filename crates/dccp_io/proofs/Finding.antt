@@ -7,7 +7,7 @@ use Rattle.std.specs.Io.KnownBytes.{prepend_known}
 use Rattle.dccp_io.specs.Ahead.{BytesAhead, ahead_of}
 use Rattle.dccp_io.specs.Counts.{Rose}
 use Rattle.dccp_io.specs.Fronts.{GivesAtMost}
-use Rattle.dccp_io.specs.declared.lines.Stands.TheVariants as stands
+use Rattle.dccp_io.specs.declared.lines.NextItem.TheVariants as next_item
 use Rattle.dccp_io.specs.declared.lines.Stop.{Stop}
 use Rattle.dccp_io.specs.declared.lines.Stop.TheVariants as stop
 use Rattle.dccp_io.specs.Lines.{most_input_bytes, next_in_bytes, made_out, IsLineOf, End, Line, Long, Much, Seeks, LinesState, Finds}
@@ -52,7 +52,7 @@ end-next given None ahead same next = tt
 end-next given (Some bytes) ahead same next =
     let none = only-end given bytes next in (none, same ∙ ap (λ (xs : List ℕ). Some xs) none)
 
--- a line stands next, and behind it what is left
+-- a line comes next, and after it what is left
 line-next : (given count : ℕ) (got : List ℕ) (all known : Option (List ℕ)) → count ≤ length got → prepend_known got known ≡ all
     → IfSome all (λ bytes. next_in_bytes given bytes ≡ Line (take count got))
     → IfSome all (λ bytes. (next_in_bytes given bytes ≡ Line (take count got))
@@ -92,7 +92,7 @@ module _ {S : Type 0} (left : S → Option (List ℕ)) (faults lender : S → �
 
   pub found-long : (before after : S) (held passed got : BytesAhead) (used given : ℕ) (stopped : Option Stop) → passed ≡ let_go held used → stopped ≡ None
       → given ≤ most_input_bytes → length got.pending ≤ 8192 → Seeks left faults lender passed got before after
-      → IfSome (ahead_of passed (left before)) (λ bytes. next_in_bytes given bytes ≡ made_out got.pending stands.TooLong)
+      → IfSome (ahead_of passed (left before)) (λ bytes. next_in_bytes given bytes ≡ made_out got.pending next_item.TooLong)
       → Finds left faults lender (state before held.pending used given stopped) (state after got.pending 0 given (Some stop.TooLong)) (Err stop.TooLong)
   found-long before after held passed got used given stopped is unstopped within block seeks next =
       let here : Seeks left faults lender (let_go held used) got before after =
@@ -109,14 +109,14 @@ module _ {S : Type 0} (left : S → Option (List ℕ)) (faults lender : S → �
           cause = inr (
             unstopped,
             subst (λ (ahead : BytesAhead). IfSome (ahead_of ahead (left before))
-                (λ bytes. next_in_bytes given bytes ≡ made_out got.pending stands.TooLong)) is next,
+                (λ bytes. next_in_bytes given bytes ≡ made_out got.pending next_item.TooLong)) is next,
           );
         };
       }
 
   pub found-much : (before after : S) (held passed got : BytesAhead) (used given : ℕ) (stopped : Option Stop) → passed ≡ let_go held used → stopped ≡ None
       → given ≤ most_input_bytes → length got.pending ≤ 8192 → Seeks left faults lender passed got before after
-      → IfSome (ahead_of passed (left before)) (λ bytes. next_in_bytes given bytes ≡ made_out got.pending stands.TooMuch)
+      → IfSome (ahead_of passed (left before)) (λ bytes. next_in_bytes given bytes ≡ made_out got.pending next_item.TooMuch)
       → Finds left faults lender (state before held.pending used given stopped) (state after got.pending 0 given (Some stop.TooMuch)) (Err stop.TooMuch)
   found-much before after held passed got used given stopped is unstopped within block seeks next =
       let here : Seeks left faults lender (let_go held used) got before after =
@@ -133,14 +133,14 @@ module _ {S : Type 0} (left : S → Option (List ℕ)) (faults lender : S → �
           cause = inr (
             unstopped,
             subst (λ (ahead : BytesAhead). IfSome (ahead_of ahead (left before))
-                (λ bytes. next_in_bytes given bytes ≡ made_out got.pending stands.TooMuch)) is next,
+                (λ bytes. next_in_bytes given bytes ≡ made_out got.pending next_item.TooMuch)) is next,
           );
         };
       }
 
   pub found-end : (before after : S) (held passed got : BytesAhead) (used given : ℕ) (stopped : Option Stop) → passed ≡ let_go held used → stopped ≡ None
       → given ≤ most_input_bytes → length got.pending ≤ 8192 → Seeks left faults lender passed got before after
-      → IfSome (ahead_of passed (left before)) (λ bytes. next_in_bytes given bytes ≡ made_out got.pending stands.End)
+      → IfSome (ahead_of passed (left before)) (λ bytes. next_in_bytes given bytes ≡ made_out got.pending next_item.End)
       → Finds left faults lender (state before held.pending used given stopped) (state after got.pending 0 given stopped) (Ok false)
   found-end before after held passed got used given stopped is unstopped within block seeks next =
       let here : Seeks left faults lender (let_go held used) got before after =
@@ -156,14 +156,14 @@ module _ {S : Type 0} (left : S → Option (List ℕ)) (faults lender : S → �
           given = refl;
           next = end-next given (prepend_known (drop used held.pending) (left before)) (prepend_known got.pending (left after)) here.same_ahead
               (subst (λ (ahead : BytesAhead). IfSome (ahead_of ahead (left before))
-              (λ bytes. next_in_bytes given bytes ≡ made_out got.pending stands.End)) is next);
+              (λ bytes. next_in_bytes given bytes ≡ made_out got.pending next_item.End)) is next);
         };
       }
 
   pub found-line : (before after : S) (held passed got : BytesAhead) (used given count : ℕ) (stopped : Option Stop) → passed ≡ let_go held used → stopped ≡ None
       → length got.pending ≤ 8192 → Seeks left faults lender passed got before after
-      → IfSome (ahead_of passed (left before)) (λ bytes. next_in_bytes given bytes ≡ made_out got.pending (stands.Line count))
-      → IsLineOf given got.pending (stands.Line count)
+      → IfSome (ahead_of passed (left before)) (λ bytes. next_in_bytes given bytes ≡ made_out got.pending (next_item.Line count))
+      → IsLineOf given got.pending (next_item.Line count)
       → Finds left faults lender (state before held.pending used given stopped) (state after got.pending count (given + count) stopped) (Ok true)
   found-line before after held passed got used given count stopped is unstopped block seeks next fits =
       let here : Seeks left faults lender (let_go held used) got before after =
@@ -182,6 +182,6 @@ module _ {S : Type 0} (left : S → Option (List ℕ)) (faults lender : S → �
           given = ap (λ (n : ℕ). given + n) (sym size);
           next = line-next given count got.pending (prepend_known (drop used held.pending) (left before)) (left after) fits.1 here.same_ahead
               (subst (λ (ahead : BytesAhead). IfSome (ahead_of ahead (left before))
-              (λ bytes. next_in_bytes given bytes ≡ made_out got.pending (stands.Line count))) is next);
+              (λ bytes. next_in_bytes given bytes ≡ made_out got.pending (next_item.Line count))) is next);
         };
       }

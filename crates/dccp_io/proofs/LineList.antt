@@ -22,7 +22,7 @@ is-first : (bytes : List ℕ) → 0 < length bytes → IsFirst bytes
 is-first [] some = absurd (omega (arith, some))
 is-first (byte ∷ rest) some = by-test byte rest (byte == newline) (is-newline byte) (λ more. is-first rest more)
 
--- the first line, and the lines behind it
+-- the first line, and the lines after it
 pub lines-cut : (bytes : List ℕ) → 0 < length bytes → lines_of bytes ≡ first_line bytes ∷ lines_of (drop (length (first_line bytes)) bytes)
 lines-cut bytes some =
     is-first bytes some
@@ -53,7 +53,7 @@ long-front bytes long =
     ap (take one_too_many) (sym (take-append-drop (suc (text_length bytes)) bytes))
     ∙ take-append-le one_too_many (first_line bytes) (drop (suc (text_length bytes)) bytes) (omega (arith, long, size, fits))
 
--- what stands next is the first of the lines
+-- what comes next is the first of the lines
 pub next-first : (given : ℕ) (bytes : List ℕ) → next_in_bytes given bytes ≡ next_in_lines given (lines_of bytes)
 next-first given [] = refl
 next-first given (byte ∷ rest) =

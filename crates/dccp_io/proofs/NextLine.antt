@@ -1,4 +1,4 @@
--- What stands next in an input, as the bytes show it that are pending.
+-- What comes next in an input, as the bytes show it that are pending.
 use Rattle.std.proofs.Common.{arith, ◌≡◌, refl, sym, ap, ◌∙◌, subst, inl, inr, ℕ, zero, suc, ◌+◌, ◌-◌, ◌≤◌, ◌<◌, min, nat_le, nat_lt, Bool, true, false, not, ◌&&◌, if◌then◌else◌, ◌==◌, List, [], ◌∷◌, ◌++◌, length, length-append, take, drop, Option, Some, None, IfSome}
 use Rattle.std.proofs.lemmas.Bool.Decides.{nat_tests}
 use Rattle.std.specs.List.{list_all}
@@ -9,7 +9,7 @@ use Rattle.std.proofs.Math.Seq.{drop-append_seam}
 use Rattle.std.specs.Io.KnownBytes.{prepend_known}
 use Rattle.dccp_io.specs.Lines.{newline, one_too_many, most_input_bytes, text_length, first_line, ends_within, by_length, next_in_bytes, Next, End, Line, Long, Much, IsSought}
 
--- no newline stands among the first bytes
+-- no newline is among the first bytes
 past-by : (test : Bool) (n m k t : ℕ) → (if test then 0 else suc n) ≡ suc k → (n ≡ k → m ≡ k + t) → (if test then 0 else suc m) ≡ suc k + t
 past-by true n m k t none behind = absurd (omega (arith, none))
 past-by false n m k t none behind = let more : m ≡ k + t = behind (omega (arith, none)) in omega (arith, more)
@@ -61,7 +61,7 @@ all_but_one_clear (suc (suc count)) (byte ∷ bytes) some fits line =
     (λ more. let last = all_but_one_clear (suc count) bytes (omega arith) (omega (arith, fits)) (omega (arith, more)) in omega (arith, last)) in
     omega (arith, all)
 
--- nor does one stand in a block behind them
+-- nor is one in a block after them
 pub block_seen : (bytes : List ℕ) (done size : ℕ) → done + size ≤ length bytes → text_length bytes ≡ done + text_length (drop done bytes)
     → list_all (λ byte. not (byte == newline)) (take (done + size - done) (drop done bytes)) ≡ true
     → text_length bytes ≡ done + size + text_length (drop (done + size) bytes)
@@ -73,7 +73,7 @@ block_seen bytes done size fits before lacks =
     let behind : text_length (drop size (drop done bytes)) ≡ text_length (drop (done + size) bytes) = ap text_length (drop-drop size done bytes) in
     omega (arith, before, block, behind)
 
--- a newline stands among them
+-- a newline is among them
 first-by : (test : Bool) (n m k : ℕ) → (if test then 0 else suc n) < suc k → (n < k → m ≡ n) → (if test then 0 else suc m) ≡ (if test then 0 else suc n)
 first-by true n m k inside behind = refl
 first-by false n m k inside behind = ap suc (behind (omega (arith, inside)))
@@ -93,7 +93,7 @@ text_length-fits (x ∷ xs) = fits-by (x == newline) (text_length xs) (length xs
 pub text_length_fits : (xs : List ℕ) → text_length xs ≤ length xs
 text_length_fits = text_length-fits
 
--- the first bytes are no newline, and the scan goes on behind them
+-- the first bytes are no newline, and the scan goes on after them
 scan-on : (xs ys : List ℕ) → text_length xs ≡ length xs → text_length (xs ++ ys) ≡ length xs + text_length (drop (length xs) (xs ++ ys))
 scan-on xs ys none = text_length-past xs ys none ∙ ap (λ (behind : List ℕ). length xs + text_length behind) (sym (drop-append_seam xs ys))
 
@@ -187,7 +187,7 @@ pub next-end : (given n : ℕ) (bytes : List ℕ) → n ≡ length (first_line b
 next-end given n [] is none = refl
 next-end given n (byte ∷ bytes) is none = let size = first_line_length (byte ∷ bytes) in absurd (omega (arith, is, none, size))
 
--- what was scanned goes on behind it
+-- what was scanned goes on after it
 pub scanned : (before got pending : List ℕ) (seen : ℕ) → seen ≡ text_length before → length before ≤ seen → pending ≡ before ++ got
     → (seen ≤ length pending) × (text_length pending ≡ seen + text_length (drop seen pending))
 scanned before got pending seen is past joined =
@@ -225,7 +225,7 @@ settled-by given asked pending more false test within is enough =
     let past : length pending ≤ text_length pending = grind (arith, nat_tests) in
     settled-front given asked pending more (nat_lt most_input_bytes (given + one_too_many)) refl within is enough (omega (arith, fits, past))
 
--- what was sought settles what stands next
+-- what was sought settles what comes next
 settled : (given asked : ℕ) (pending more : List ℕ) → given ≤ most_input_bytes → asked ≡ min one_too_many (most_input_bytes - given + 1)
     → IsSought asked pending (Some more) → next_in_bytes given (pending ++ more) ≡ next_in_bytes given pending
 settled given asked pending more within is (inl enough) =

@@ -13,7 +13,7 @@ pub record BytesAhead : Type 0 where
 abbrev pub ahead_of : BytesAhead → Option (List ℕ) → Option (List ℕ)
 ahead_of ahead left = prepend_known ahead.pending left
 
--- the bytes that came stand behind those that were pending; none came only at the source's end
+-- the bytes that came follow those that were pending; none came only at the source's end
 pub record IsAppended (old new : BytesAhead) (before : Option (List ℕ)) (count : ℕ) (got : List ℕ) : Type 0 where
   pub came : length got ≡ count
   pub behind : new ≡ record { pending = old.pending ++ got; size = old.size }

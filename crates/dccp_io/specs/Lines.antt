@@ -7,8 +7,8 @@ use Rattle.dccp_io.specs.Fronts.{GivesAtMost}
 use Rattle.dccp_io.specs.declared.lines.LineRead.{LineRead}
 use Rattle.dccp_io.specs.declared.lines.LineRead.TheVariants as read
 use Rattle.dccp_io.specs.declared.lines.LinesFault.{LinesFault}
-use Rattle.dccp_io.specs.declared.lines.Stands.{Stands}
-use Rattle.dccp_io.specs.declared.lines.Stands.TheVariants as stands
+use Rattle.dccp_io.specs.declared.lines.NextItem.{NextItem}
+use Rattle.dccp_io.specs.declared.lines.NextItem.TheVariants as next_item
 use Rattle.dccp_io.specs.declared.lines.Stop.{Stop}
 use Rattle.dccp_io.specs.declared.lines.Stop.TheVariants as stop
 
@@ -24,7 +24,7 @@ one_too_many = 4097
 abbrev pub most_input_bytes : ℕ
 most_input_bytes = 16777216
 
--- How many bytes stand before the first newline, or before the end where there is none.
+-- How many bytes come before the first newline, or before the end where there is none.
 abbrev pub text_length : List ℕ → ℕ
 text_length [] = 0
 text_length (byte ∷ rest) = if byte == newline then 0 else suc (text_length rest)
@@ -37,12 +37,12 @@ first_line bytes = take (suc (text_length bytes)) bytes
 abbrev pub text_of : List ℕ → List ℕ
 text_of line = take (text_length line) line
 
--- Behind so many bytes, those of a line up to its newline, to the end of the input or to the byte at which it is too
+-- After so many bytes, those of a line up to its newline, to the end of the input or to the byte at which it is too
 -- long lie within those that an input may have.
 abbrev pub ends_within : ℕ → List ℕ → Bool
 ends_within given line = nat_le (given + min (length line) one_too_many) most_input_bytes
 
--- What stands next in an input: its end, a line with its newline, the front of a line that is too long, or a line that
+-- What comes next in an input: its end, a line with its newline, the front of a line that is too long, or a line that
 -- is too much.
 pub data Next : Type 0 where
   End : Next
@@ -50,18 +50,18 @@ pub data Next : Type 0 where
   Long : (front : List ℕ) → Next
   Much : Next
 
--- A first line whose text has so many bytes: it stands next, or its front where it is too long.
+-- A first line whose text has so many bytes: it comes next, or its front where it is too long.
 abbrev pub by_length : List ℕ → ℕ → Next
 by_length bytes n = if nat_le one_too_many n then Long (take one_too_many bytes) else Line (first_line bytes)
 
--- Of the bytes that are left of an input behind so many that were given: a line is judged for too much input before its
+-- Of the bytes that are left of an input after so many that were given: a line is judged for too much input before its
 -- length.
 abbrev pub next_in_bytes : ℕ → List ℕ → Next
 next_in_bytes given [] = End
 next_in_bytes given (byte ∷ bytes) =
     if ends_within given (first_line (byte ∷ bytes)) then by_length (byte ∷ bytes) (text_length (byte ∷ bytes)) else Much
 
--- The lines of an input, each with its newline; the last may lack it. A byte goes onto the first line behind it.
+-- The lines of an input, each with its newline; the last may lack it. A byte goes onto the first line after it.
 abbrev pub before_line : ℕ → List (List ℕ) → List (List ℕ)
 before_line byte [] = (byte ∷ []) ∷ []
 before_line byte (line ∷ lines) = (byte ∷ line) ∷ lines
@@ -77,16 +77,16 @@ next_in_lines given [] = End
 next_in_lines given (line ∷ lines) = if ends_within given line then by_length line (text_length line) else Much
 
 -- What was made out from the bytes that are pending.
-abbrev pub made_out : List ℕ → Stands → Next
-made_out bytes stands.End = End
-made_out bytes (stands.Line count) = Line (take count bytes)
-made_out bytes stands.TooLong = Long (take one_too_many bytes)
-made_out bytes stands.TooMuch = Much
+abbrev pub made_out : List ℕ → NextItem → Next
+made_out bytes next_item.End = End
+made_out bytes (next_item.Line count) = Line (take count bytes)
+made_out bytes next_item.TooLong = Long (take one_too_many bytes)
+made_out bytes next_item.TooMuch = Much
 
 -- A line that was made out has some of the pending bytes, is not too long, lies within the bytes that an input may
 -- have, and has no newline but at its end.
-abbrev pub IsLineOf : ℕ → List ℕ → Stands → Type 0
-IsLineOf given bytes (stands.Line count) =
+abbrev pub IsLineOf : ℕ → List ℕ → NextItem → Type 0
+IsLineOf given bytes (next_item.Line count) =
     (0 < count) × (count ≤ length bytes) × (count ≤ one_too_many) × (given + count ≤ most_input_bytes) × (count ≤ suc (text_length bytes))
 IsLineOf given bytes _ = ⊤
 
@@ -94,12 +94,12 @@ IsLineOf given bytes _ = ⊤
 abbrev pub IsSought : ℕ → List ℕ → Option (List ℕ) → Type 0
 IsSought asked pending left = (asked ≤ text_length pending) ⊎ ((text_length pending < length pending) ⊎ IfSome left (λ more. more ≡ []))
 
--- How many bytes of a line settle what stands next, behind so many that were given: as many as make it too long, or too
+-- How many bytes of a line settle what comes next, after so many that were given: as many as make it too long, or too
 -- much.
 abbrev pub enough : ℕ → ℕ
 enough given = min one_too_many (most_input_bytes - given + 1)
 
--- The bytes that are pending settle what stands next: so many of the first line's are there, or its newline is.
+-- The bytes that are pending settle what comes next: so many of the first line's are there, or its newline is.
 abbrev pub is_line_settled : ℕ → List ℕ → Bool
 is_line_settled asked pending = nat_le asked (text_length pending) || nat_lt (text_length pending) (length pending)
 
@@ -124,11 +124,11 @@ pub record LinesState (S : Type 0) : Type 0 where
 abbrev pub holds_next : {S : Type 0} → LinesState S → Bool
 holds_next l = is_some l.stop || is_line_settled (enough l.given) l.pending
 
--- what is left of the input behind the lines that were given, where the source tells its bytes
+-- what is left of the input after the lines that were given, where the source tells its bytes
 abbrev pub rest_of_input : {S : Type 0} → (S → Option (List ℕ)) → LinesState S → Option (List ℕ)
 rest_of_input left l = prepend_known l.pending (left l.source)
 
--- The line that stands next was given.
+-- The line that comes next was given.
 pub record GivesLine {S : Type 0} (left : S → Option (List ℕ)) (old new : LinesState S) : Type 0 where
   pub was_open : old.stop ≡ None
   pub is_open : new.stop ≡ None
@@ -144,7 +144,7 @@ pub record EndsInput {S : Type 0} (left : S → Option (List ℕ)) (old new : Li
   pub given : new.given ≡ old.given
   pub next : IfSome (rest_of_input left old) (λ bytes. (bytes ≡ []) × (rest_of_input left new ≡ Some []))
 
--- why no line was given: the one that stands next is too long or too much, or the source failed
+-- why no line was given: the one that comes next is too long or too much, or the source failed
 abbrev pub CausesStop : {S : Type 0} → (S → Option (List ℕ)) → (S → ℕ) → LinesState S → LinesState S → Stop → Type 0
 CausesStop left faults old new stop.TooLong = IfSome (rest_of_input left old) (λ bytes. next_in_bytes old.given bytes ≡ Long (take one_too_many new.pending))
 CausesStop left faults old new stop.TooMuch = IfSome (rest_of_input left old) (λ bytes. next_in_bytes old.given bytes ≡ Much)

@@ -23,14 +23,14 @@ const ONE_TOO_MANY: usize = 4097;
 // The most bytes of an input.
 const MOST_BYTES: u64 = 16_777_216;
 
-/// What stands next in an input, with its bytes lent from the reader's block until the next line is asked for (own).
+/// What comes next in an input, with its bytes lent from the reader's block until the next line is asked for (own).
 #[derive(Clone, Copy, Debug, PartialEq, Eq)]
 pub enum LineRead<'a> {
     /// A line, without its newline.
     Whole(&'a [u8]),
     /// A line has more than 4,096 bytes: its first 4,097.
     TooLong(&'a [u8]),
-    /// A line's newline or 4,097th byte, or the end of the input behind it, does not lie within the first 16,777,216
+    /// A line's newline or 4,097th byte, or the end of the input after it, does not lie within the first 16,777,216
     /// bytes.
     TooMuch,
 }
@@ -47,15 +47,15 @@ pub enum LinesFault {
 pub enum Stop {
     /// The next line has more than 4,096 bytes.
     TooLong,
-    /// The next line's newline or 4,097th byte, or the end of the input behind it, does not lie within the first
+    /// The next line's newline or 4,097th byte, or the end of the input after it, does not lie within the first
     /// 16,777,216 bytes.
     TooMuch,
     /// The source failed.
     Failed,
 }
 
-// What stands first in the bytes that are pending.
-enum Stands {
+// What comes first in the bytes that are pending.
+enum NextItem {
     End,
     // A line that has so many bytes with its newline.
     Line(usize),
@@ -74,7 +74,7 @@ fn lacks_newline(block: &[u8]) -> bool
     lacks
 }
 
-// How many bytes stand before the first newline at least: the first `seen`, and those of whole blocks behind them.
+// How many bytes come before the first newline at least: the first `seen`, and those of whole blocks after them.
 #[tactic(auto, using(crate::proofs::NextLine::block_seen))]
 fn blocks_seen<const BLOCK: usize>(bytes: &[u8], seen: usize) -> usize
     requires some { 0 < BLOCK }
@@ -90,7 +90,7 @@ fn blocks_seen<const BLOCK: usize>(bytes: &[u8], seen: usize) -> usize
     done
 }
 
-// How many bytes stand before the first newline, where none of these is among the first `seen`.
+// How many bytes come before the first newline, where none of these is among the first `seen`.
 fn text_length(bytes: &[u8], seen: usize) -> usize
     requires inside { seen ≤ length bytes.now }
     requires before { text_length bytes.now ≡ seen + text_length (drop seen bytes.now) }
@@ -110,7 +110,7 @@ fn text_length(bytes: &[u8], seen: usize) -> usize
     bytes.len()
 }
 
-// The same, where at least so many stand before it.
+// The same, where at least so many come before it.
 #[tactic(auto, using(crate::proofs::NextLine::clear_front, crate::proofs::NextLine::text_length_fits))]
 fn text_length_behind(bytes: &[u8], clear: usize) -> usize
     requires { clear ≤ text_length bytes.now }
@@ -132,7 +132,7 @@ fn text_of_line(pending: &[u8], count: usize) -> usize
     text_length_behind(&pending[..count], count - 1)
 }
 
-// How many bytes stand before the first newline behind so many.
+// How many bytes come before the first newline after so many.
 fn text_length_after(pending: &[u8], count: usize) -> usize
     requires { count ≤ length pending.now }
     ensures { result ≡ text_length (drop count pending.now) }
@@ -142,7 +142,7 @@ fn text_length_after(pending: &[u8], count: usize) -> usize
 }
 
 // Reads on until the first line's newline is pending, or so many bytes of it are, or the input ends; answers how many
-// bytes stand before the newline, of which `clear` are known.
+// bytes come before the newline, of which `clear` are known.
 fn seek<S: Source>(
     source: &mut S,
     ahead: &mut ReadAhead,
@@ -171,7 +171,7 @@ fn seek<S: Source>(
     Ok(seen)
 }
 
-// How many bytes the first line has with its newline, of which `seen` stand before that.
+// How many bytes the first line has with its newline, of which `seen` come before that.
 #[tactic(auto, using(crate::proofs::NextLine::first_line_length))]
 fn line_length(pending: &[u8], seen: usize) -> usize
     requires { seen ≡ text_length pending.now }
@@ -185,8 +185,8 @@ fn line_length(pending: &[u8], seen: usize) -> usize
     seen + 1
 }
 
-// What stands first in the bytes that are pending, of which `seen` stand before the first newline.
-fn first_in(pending: &[u8], seen: usize, given: u64) -> Stands
+// What comes first in the bytes that are pending, of which `seen` come before the first newline.
+fn first_in(pending: &[u8], seen: usize, given: u64) -> NextItem
     requires within { given ≤ 16777216 }
     requires seen { seen ≡ text_length pending.now }
     ensures value { made_out pending.now result ≡ next_in_bytes given pending.now }
@@ -194,18 +194,18 @@ fn first_in(pending: &[u8], seen: usize, given: u64) -> Stands
 {
     let line = line_length(pending, seen);
     if line == 0 {
-        return Stands::End;
+        return NextItem::End;
     }
     if MOST_BYTES < given + line.min(ONE_TOO_MANY) as u64 {
-        return Stands::TooMuch;
+        return NextItem::TooMuch;
     }
     if ONE_TOO_MANY <= seen {
-        return Stands::TooLong;
+        return NextItem::TooLong;
     }
-    Stands::Line(line)
+    NextItem::Line(line)
 }
 
-// How many bytes of a line settle what stands next.
+// How many bytes of a line settle what comes next.
 fn enough(given: u64) -> usize
     requires { given ≤ 16777216 }
     ensures { result ≡ enough given }
@@ -214,8 +214,8 @@ fn enough(given: u64) -> usize
     (ONE_TOO_MANY as u64).min(room + 1) as usize
 }
 
-// The bytes that are pending settle what stands next: the first line's newline is among them, or so many bytes of it
-// are. At least `clear` of them stand before a newline.
+// The bytes that are pending settle what comes next: the first line's newline is among them, or so many bytes of it
+// are. At least `clear` of them come before a newline.
 fn is_line_settled(asked: usize, pending: &[u8], clear: usize) -> bool
     requires { clear ≤ text_length pending.now }
     ensures { result ≡ is_line_settled asked pending.now }
@@ -224,13 +224,13 @@ fn is_line_settled(asked: usize, pending: &[u8], clear: usize) -> bool
     asked <= seen || seen < pending.len()
 }
 
-// Reads on until it is known what stands next, where at least `clear` pending bytes stand before a newline.
+// Reads on until it is known what comes next, where at least `clear` pending bytes come before a newline.
 fn stands_next<S: Source>(
     source: &mut S,
     ahead: &mut ReadAhead,
     given: u64,
     clear: usize,
-) -> Result<Stands, Failed>
+) -> Result<NextItem, Failed>
     requires size { ahead.old.size ≡ 8192 }
     requires within { given ≤ 16777216 }
     requires clear { clear ≤ text_length ahead.old.pending }
@@ -255,7 +255,7 @@ pub struct Lines<S: Drop> {
     used: usize,
     // How many bytes that line has without its newline.
     text: usize,
-    // So many bytes behind that line, or more, stand before a newline.
+    // So many bytes after that line, or more, come before a newline.
     clear: usize,
     given: u64,
     stop: Option<Stop>,
@@ -324,16 +324,16 @@ impl<S: Source + Drop> Lines<S> {
                 self.stop = Some(Stop::Failed);
                 Err(Stop::Failed)
             }
-            Ok(Stands::TooLong) => {
+            Ok(NextItem::TooLong) => {
                 self.stop = Some(Stop::TooLong);
                 Err(Stop::TooLong)
             }
-            Ok(Stands::TooMuch) => {
+            Ok(NextItem::TooMuch) => {
                 self.stop = Some(Stop::TooMuch);
                 Err(Stop::TooMuch)
             }
-            Ok(Stands::End) => Ok(false),
-            Ok(Stands::Line(count)) => {
+            Ok(NextItem::End) => Ok(false),
+            Ok(NextItem::Line(count)) => {
                 self.used = count;
                 self.text = text_of_line(self.ahead.pending(), count);
                 self.clear = text_length_after(self.ahead.pending(), count);

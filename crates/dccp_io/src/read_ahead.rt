@@ -47,7 +47,7 @@ fn make_room(block: &mut Vec<u8>, from: usize, to: usize) -> (usize, usize)
     (0, to - from)
 }
 
-// One read into the block behind its first `to` bytes.
+// One read into the block after its first `to` bytes.
 fn read_behind<S: Source>(source: &mut S, block: &mut [u8], to: usize) -> Result<usize, Failed>
     requires { to < length block.old }
     ensures same_size { length block.new ≡ length block.old }
@@ -102,7 +102,7 @@ impl ReadAhead {
         self.from += count;
     }
 
-    /// Reads once from the source, behind the bytes that are pending, and answers how many bytes came: 0 only at the
+    /// Reads once from the source, after the bytes that are pending, and answers how many bytes came: 0 only at the
     /// source's end. Failed comes only where the source failed, and then the same bytes are pending.
     pub fn refill<S: Source>(&mut self, source: &mut S) -> Result<usize, Failed>
         requires { length self.old.pending < self.old.size }

@@ -108,7 +108,7 @@ ends_stand config peer None (Arrives iss bytes) lists none =
     (first-proper (config_for config peer iss bytes) lists) refl live)
 ends_stand config peer None (Calls call) lists none = tt
 
--- each peer's end stands after a step of one peer
+-- each peer's end comes after a step of one peer
 stand-after : (before after : Listening) (peer : Peer) (deed : Deed) (frame : Option Outgoing) (seen : Option Seen)
     → IsSoundListener before.config before.flows → IsStep before after peer deed frame seen
     → (q : Peer) (same : Bool) → is_peer peer q ≡ same → IfSome (end_of_peer after.flows q) (Stands before.config q)

@@ -12,7 +12,7 @@ use Rattle.dccp_listener.specs.Peers.{FlowEnd, Flows, end_of_peer, is_peer, peer
 use Rattle.dccp_listener.specs.declared.peer.Peer.{Peer}
 use Rattle.dccp_listener.proofs.OnePeer.{exact_peers, one_peer, peers_alike, peers_total}
 
--- a peer stands before all of these
+-- a peer comes before all of these
 abbrev AllAfter : Peer → List Peer → Type 0
 AllAfter peer peers = AllByRecursion (λ other. peer_cmp peer other ≡ Less) peers
 
@@ -20,7 +20,7 @@ all-after : (first next : Peer) (peers : List Peer) → peer_cmp first next ≡ 
 all-after first next [] is all = tt
 all-after first next (other ∷ peers) is all = (peers_total.trans first next other is all.0, all-after first next peers is all.1)
 
--- an entry more stays behind a peer
+-- an entry more stays after a peer
 all-insert-by : (first peer : Peer) (e : FlowEnd) (one : Peer × FlowEnd) (flows : Flows) (o : Ordering) → peer_cmp first peer ≡ Less
     → AllAfter first (keys_of (one ∷ flows)) → AllAfter first (keys_of (insert_entry peer_cmp flows peer e))
     → AllAfter first (keys_of (match_ordering o ((peer, e) ∷ one ∷ flows) ((one.0, e) ∷ flows) (one ∷ insert_entry peer_cmp flows peer e)))

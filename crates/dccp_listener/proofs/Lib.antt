@@ -6,3 +6,4 @@ pub mod Computing
 pub mod EndsStand
 pub mod Requests
 pub mod Places
+pub mod Greeted

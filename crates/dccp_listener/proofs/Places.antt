@@ -1,4 +1,4 @@
--- Who stands at a place is found there.
+-- Who is at a place is found there.
 use Rattle.std.proofs.lemmas.Map.Entries.{lookup_from_place}
 use Rattle.std.proofs.lemmas.Map.Keys.{IsDistinct-from_sorted}
 use Rattle.std.specs.Map.{keys_of}

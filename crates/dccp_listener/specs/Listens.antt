@@ -71,7 +71,7 @@ abbrev pub turns_of : Listening → List (Peer × Deed) → List CallTurn
 turns_of l [] = []
 turns_of l (now ∷ later) = computed_turn l now.0 now.1 ∷ turns_of (listening_after l now.0 now.1) later
 
--- the peers stand in order, each once
+-- the peers are in order, each once
 abbrev pub AreInOrder : Flows → Type 0
 AreInOrder flows = IsStrictlySortedBy peer_cmp (keys_of flows)
 
@@ -81,7 +81,7 @@ WhatIsComputedIsARun =
     (l : Listening) (deeds : List (Peer × Deed)) → AreInOrder l.flows
     → IsRunOfTurns l (listening_through l deeds) (turns_of l deeds) × AreInOrder (listening_through l deeds).flows
 
--- the peer at a place has the end that stands there
+-- the peer at a place has the end that is there
 abbrev pub PeersAtPlaces : Type 0
 PeersAtPlaces =
     (flows : Flows) → AreInOrder flows → (place : ℕ) (peer : Peer) (e : FlowEnd) → slice_get flows place ≡ Some (peer, e)

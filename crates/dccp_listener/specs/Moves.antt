@@ -1,4 +1,4 @@
--- What one deed makes of a peer's end where it stands among the others, in two halves: it moves, and goes where it is
+-- What one deed makes of a peer's end where it is among the others, in two halves: it moves, and goes where it is
 -- over (own).
 use Rattle.std.specs.Prelude.{◌≡◌, ℕ, Bool, List, Option, Some, None}
 use Rattle.std.specs.BTreeMap.{insert_entry}

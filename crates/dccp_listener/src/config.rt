@@ -20,7 +20,7 @@ pub struct ListenConfig {
     pub services: ArrayVec<u32, 16>,
     /// What each peer's end wishes for its features, and what it offers where offers are made (RFC 4340, section 6).
     pub lists: Lists,
-    /// The most flows that stand at a time: 1 to 1,024.
+    /// The most flows that are at a time: 1 to 1,024.
     pub most: u16,
 }
 
@@ -62,9 +62,9 @@ fn service_for(services: &[u32], asked: Option<u32>) -> u32
     }
 }
 
-/// What a fresh end for the peer is made from, where this packet is the first. Its bytes are looked at by the clauses
-/// alone.
-pub(crate) fn config_for(
+/// What a fresh end for the peer is made from, where this packet is the first, which `decode` makes of the bytes (own).
+/// Its bytes are looked at by the clauses alone.
+pub fn config_for(
     config: &ListenConfig,
     peer: Peer,
     iss: Seq48,

@@ -1,5 +1,6 @@
 //! What the definitions of a listener mean.
 ghost use Rattle.dccp_listener.specs.Calls.{BusyAnswersRequests};
+ghost use Rattle.dccp_listener.specs.Greeting.{GreetingsOpen};
 ghost use Rattle.dccp_listener.specs.Listens.{PeersAtPlaces, WhatIsComputedIsARun};
 ghost use Rattle.dccp_listener.specs.Runs.{EachPeerHasItsChain};
 ghost use Rattle.dccp_listener.specs.Standing.{ChainsStand};
@@ -27,7 +28,13 @@ pub fn busy_answers_requests()
     ensures { BusyAnswersRequests }
 {}
 
-/// The peer at a place has the end that stands there (own).
+/// The peer at a place has the end that is there (own).
 pub fn peers_are_found_at_their_places()
     ensures { PeersAtPlaces }
+{}
+
+/// What a fresh end sends that hears a datagram and goes is what the peer's flow sends once that datagram opens it, and
+/// the flow is that end (own).
+pub fn what_is_greeted_is_opened()
+    ensures { GreetingsOpen }
 {}

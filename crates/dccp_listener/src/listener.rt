@@ -2,10 +2,10 @@
 ghost use Rattle.std.specs.Prelude.{◌≡◌};
 
 use crate::flows::Held;
-use crate::meeting::{arrive, perform};
+use crate::meeting::{arrive, greet_alone, perform};
 use crate::{Act, Heard, ListenConfig, NoFlow, Peer};
 use ccid_two::Kinds;
-use dccp_endpoint::{Endpoint, Feature, NoMemory, Outbox, Place, Seen, Seq48, UserCall};
+use dccp_endpoint::{Endpoint, Feature, NoMemory, Outbox, Outcome, Place, Seen, Seq48, UserCall};
 use std::alloc::Global;
 use std::collections::BTreeMap;
 use std::marker::Model;
@@ -23,7 +23,7 @@ use std::marker::Model;
 /// # Flows
 ///
 /// A peer's flow begins where its datagram lets a fresh end leave LISTEN, and ends where its end is CLOSED. At most
-/// `most` stand at a time. A datagram that would open one more is answered with a Reset that says so, and `Busy`.
+/// `most` are at a time. A datagram that would open one more is answered with a Reset that says so, and `Busy`.
 ///
 /// # Sizes
 ///
@@ -50,10 +50,11 @@ impl Model for Listener {
 }
 
 impl Listener {
-    ghost use Rattle.std.specs.Prelude.{◌≡◌, ◌≤◌, ◌<◌, ◌↔◌, [], None, Some, Ok, IfOk, IfSome, IsErr, IsNone, OnErr, MatchOption, length, slice_get};
+    ghost use Rattle.std.specs.Prelude.{◌≡◌, ◌≤◌, ◌<◌, ◌↔◌, [], None, Some, Ok, IfOk, IfSome, IsErr, IsNone, OnErr, OnOk, MatchOption, length, slice_get};
     ghost use Rattle.std.specs.Map.{keys_of};
     ghost use Rattle.dccp_listener.specs.Calls.{Arrived, IsStep, seen_if};
     ghost use Rattle.dccp_listener.specs.Chain.{Arrives, Calls, asked, call_of};
+    ghost use Rattle.dccp_listener.specs.Greeting.{greets};
     ghost use Rattle.dccp_listener.specs.Listens.{AreInOrder, listens};
     ghost use Rattle.dccp_listener.specs.Peers.{end_of_peer};
     ghost use Rattle.dccp_listener.specs.Runs.{IsTurn, Stepped, arrival, call_turn, told_of};
@@ -143,6 +144,24 @@ impl Listener {
         perform(&self.config, &mut self.flows, peer, call, out)
     }
 
+    /// What a fresh end makes of a datagram of a peer, at most 2,044 bytes; it hears the datagram and goes, so that
+    /// nothing is kept, whether the peer has a flow or none (own). NoMemory where none is to be had for the end, and then
+    /// nothing goes out.
+    pub fn greet(
+        &self,
+        peer: Peer,
+        iss: Seq48,
+        bytes: &[u8],
+        out: &mut Outbox,
+    ) -> Result<Outcome, NoMemory>
+        requires { length bytes.now ≤ 2044 }
+        ensures sent { OnOk result (out.new ≡ (greets self.now peer iss bytes.now).frame) }
+        ensures told { IfOk result (λ outcome. outcome ≡ (greets self.now peer iss bytes.now).answer) }
+        ensures unmet { OnErr result (out.new ≡ None) }
+    {
+        greet_alone(self.alloc, &self.config, peer, iss, bytes, out)
+    }
+
     /// A peer's end, or None exactly where it has none. It was made for this peer, and is neither CLOSED nor in LISTEN.
     pub fn flow(&self, peer: Peer) -> Option<&Endpoint<Kinds>>
         ensures value { MatchOption result (end_of_peer self.now.flows peer ≡ None) (λ end. end_of_peer self.now.flows peer ≡ Some end.now) }
@@ -152,6 +171,13 @@ impl Listener {
             Some(held) => Some(held.end()),
             None => None,
         }
+    }
+
+    /// What it was made from; its ends make the offers of these lists.
+    pub fn config(&self) -> &ListenConfig
+        ensures { result.now ≡ self.now.config }
+    {
+        &self.config
     }
 
     /// How many flows stand, at most `most`.

@@ -7,6 +7,7 @@ ghost use Rattle.dccp_endpoint.specs.Incoming.{parts_of_packet};
 ghost use Rattle.dccp_packets.specs.Grammar.{decoded};
 ghost use Rattle.dccp_listener.specs.Calls.{Arrived, IsStep, seen_if};
 ghost use Rattle.dccp_listener.specs.Chain.{Arrives, Calls, asked};
+ghost use Rattle.dccp_listener.specs.Greeting.{greets_by};
 ghost use Rattle.dccp_listener.specs.Listens.{listens};
 ghost use Rattle.dccp_listener.specs.Moves.{IsTakenIn};
 ghost use Rattle.dccp_listener.specs.Peers.{end_of_peer, is_peer};
@@ -17,8 +18,9 @@ use crate::config::config_for;
 use crate::flows::{Held, act_at, hear_at, put_flow};
 use crate::greeting::{greet, refuse};
 use crate::{Heard, ListenConfig, NoFlow, Peer};
+use ccid_two::Kinds;
 use dccp_endpoint::{
-    Config, NoMemory, Outbox, Outcome, Seen, Seq48, UserCall, Why, answer_stranger,
+    Config, Endpoint, NoMemory, Outbox, Outcome, Seen, Seq48, UserCall, Why, answer_stranger,
 };
 use dccp_packets::{Packet, decode};
 use std::alloc::Global;
@@ -113,6 +115,76 @@ pub(crate) fn arrive(
     match decode(bytes) {
         Ok(packet) => meet(alloc, config, flows, peer, iss, &packet, bytes, out),
         Err(fault) => Ok(Heard::Flow(Outcome::Dropped(Why::Malformed(fault)))),
+    }
+}
+
+// A fresh end hears a datagram that was decoded, and goes.
+fn greet_once(
+    alloc: Global,
+    config: &Config,
+    packet: &Packet<'_>,
+    bytes: &[u8],
+    out: &mut Outbox,
+) -> Result<Outcome, NoMemory>
+    requires empty { out.old ≡ None }
+    requires short { length bytes.now ≤ 2044 }
+    requires read { decoded bytes.now ≡ Ok (parts_of_packet packet.now) }
+    requires options { length packet.now.options.now ≤ 1008 }
+    ensures met { IfOk result (λ outcome. (out.new ≡ (receiving kinds_control (begins kinds_control config.now at_first) bytes.now).frame) × (outcome ≡ (receiving kinds_control (begins kinds_control config.now at_first) bytes.now).answer)) }
+    ensures unmet { OnErr result (out.new ≡ None) }
+{
+    match greet(alloc, config, packet, bytes, out) {
+        Ok(met) => Ok(let_go(met)),
+        Err(fault) => Err(fault),
+    }
+}
+
+// The end goes, and its answer stays.
+fn let_go(met: (Endpoint<Kinds>, Outcome)) -> Outcome
+    ensures { result ≡ met.1 }
+{
+    met.1
+}
+
+// The same of a listener.
+fn greet_packet(
+    alloc: Global,
+    config: &ListenConfig,
+    peer: Peer,
+    iss: Seq48,
+    packet: &Packet<'_>,
+    bytes: &[u8],
+    out: &mut Outbox,
+) -> Result<Outcome, NoMemory>
+    requires empty { out.old ≡ None }
+    requires short { length bytes.now ≤ 2044 }
+    requires read { decoded bytes.now ≡ Ok (parts_of_packet packet.now) }
+    requires options { length packet.now.options.now ≤ 1008 }
+    ensures met { IfOk result (λ outcome. (out.new ≡ (greets_by config.now peer iss bytes.now).frame) × (outcome ≡ (greets_by config.now peer iss bytes.now).answer)) }
+    ensures unmet { OnErr result (out.new ≡ None) }
+{
+    let own = config_for(config, peer, iss, packet, bytes);
+    greet_once(alloc, &own, packet, bytes, out)
+}
+
+/// A fresh end hears a datagram of a peer, and goes.
+#[tactic(auto, unfolding(dccp_endpoint::specs::Receiving::receives))]
+pub(crate) fn greet_alone(
+    alloc: Global,
+    config: &ListenConfig,
+    peer: Peer,
+    iss: Seq48,
+    bytes: &[u8],
+    out: &mut Outbox,
+) -> Result<Outcome, NoMemory>
+    requires { length bytes.now ≤ 2044 }
+    ensures met { IfOk result (λ outcome. (out.new ≡ (greets_by config.now peer iss bytes.now).frame) × (outcome ≡ (greets_by config.now peer iss bytes.now).answer)) }
+    ensures unmet { OnErr result (out.new ≡ None) }
+{
+    out.clear();
+    match decode(bytes) {
+        Ok(packet) => greet_packet(alloc, config, peer, iss, &packet, bytes, out),
+        Err(fault) => Ok(Outcome::Dropped(Why::Malformed(fault))),
     }
 }
 

@@ -83,7 +83,7 @@ played-size : (run : Running) (event : Event) → size (played run event).report
 unfolding played
 played-size run event = event-size run (happens_to kinds_control run.world event)
 
--- the events behind the first
+-- the events after the first
 pub opened-few : (events : ℕ) (run opened : Running) → 1 ≤ events → size run.report + 2 * events < 2 ^ 62 → opened ≡ played run Open
     → size opened.report + 2 * (events - 1) < 2 ^ 62
 opened-few events run opened some few is =

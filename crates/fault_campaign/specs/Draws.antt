@@ -17,7 +17,7 @@ use Rattle.world_events.specs.declared.event.Side.TheVariants.{Client, Server}
 unfoldable pub generator : ℕ → Lcg
 generator seed = pcg32_of_seed (pcg32_seed 16 seed)
 
--- its next word of 32 bits, and the generator behind it
+-- its next word of 32 bits, and the generator after it
 unfoldable pub word : Lcg → ℕ
 word g = (pcg32 g).0
 
@@ -25,7 +25,7 @@ word g = (pcg32 g).0
 unfoldable pub behind_word : Lcg → Lcg
 behind_word g = (pcg32 g).1
 
--- behind two words
+-- after two words
 abbrev pub behind_two : Lcg → Lcg
 behind_two g = behind_word (behind_word g)
 

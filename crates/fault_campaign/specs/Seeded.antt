@@ -48,7 +48,7 @@ abbrev pub after_event : Running → Result (ControlledStep Both) WorldFault →
 after_event run (Ok step) = record run { world = step.after; report = with_seen run.report step.seen }
 after_event run (Err fault) = run
 
--- a run behind this event, with what was counted of it
+-- a run after this event, with what was counted of it
 unfoldable pub played : Running → Event → Running
 played run event = after_event run (happens_to kinds_control run.world event)
 
@@ -56,11 +56,11 @@ played run event = after_event run (happens_to kinds_control run.world event)
 abbrev pub next_event : Running → Event
 next_event run = drawn (word run.words) (word (behind_word run.words)) (frames_of run Client) (frames_of run Server)
 
--- a run behind its next event, for which two words were drawn
+-- a run after its next event, for which two words were drawn
 abbrev pub goes_on : Running → Running
 goes_on run = played (record run { words = behind_two run.words }) (next_event run)
 
--- a run behind so many further events
+-- a run after so many further events
 abbrev pub goes_on_for : ℕ → Running → Running
 goes_on_for zero run = run
 goes_on_for (suc n) run = goes_on_for n (goes_on run)

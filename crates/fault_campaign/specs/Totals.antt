@@ -10,7 +10,7 @@ use Rattle.fault_campaign.specs.Seeded.{seeded_report}
 use Rattle.fault_campaign.specs.declared.report.Report.{Report}
 use Rattle.fault_campaign.specs.declared.workers.Job.{Job}
 
--- one field of the seed behind the first by so many
+-- one field of the seed after the first by so many
 abbrev pub field_at : ℕ → ℕ → (Report → ℕ) → ℕ → ℕ
 field_at first events field index = field (seeded_report (first + index) events)
 

@@ -51,7 +51,7 @@ pub fn seeded_runs_are_safe()
     data_are_delivered_once::<Kinds>();
 }
 
-/// The totals of seeds, and those of the seeds behind them, are the totals of all of them, count by count (own). So a
+/// The totals of seeds, and those of the seeds after them, are the totals of all of them, count by count (own). So a
 /// campaign may be run in parts, on as many machines as there are.
 pub fn parts_of_a_campaign_add_up()
     ensures { (first some more events : ℕ)
@@ -59,7 +59,7 @@ pub fn parts_of_a_campaign_add_up()
 {}
 
 /// The draws on which no count of a report depends (own), by values that were worked out apart. The first words of seed
-/// 1 are 33a70be6, 7dbcf3ee, cadf4751 and 11ac71c0. Of the first the last 16 bits stand before the 32 of the second,
+/// 1 are 33a70be6, 7dbcf3ee, cadf4751 and 11ac71c0. Of the first the last 16 bits come before the 32 of the second,
 /// and that is the initial number of the client; the third and the fourth give the server's. 0000ffff and ffffffff give
 /// the greatest number. Data are the four bytes of a word, the highest first, and lists of feature 8 are wished for in
 /// this order.

@@ -186,7 +186,7 @@ numbers_now flow before after seen has none updates q = by (is_at (key_cmp (key_
       ∙ has q
       ∙ sym (passed (same_flow q) first_further seen flow apart)
 
--- flows in a set and behind it
+-- flows in a set and after it
 
 found-in-front : (t : Flow → Bool) (i n : ℕ) (xs ys : List Flow) → position_from t i xs ≡ Some n → position_from t i (xs ++ ys) ≡ Some n
 found-in-front t i n [] ys is = cc is
@@ -218,7 +218,7 @@ number_in_first flow first further place is =
 none-first : (flow : Flow) (first : List Flow) → position (same_flow flow) first ≡ None → number_if_seen flow first ≡ None
 none-first flow first none = placed flow first ∙ ap (option_map (λ n. n + 1)) none
 
--- behind a set that is full the numbers go on, and behind one that is not there is no flow
+-- after a set that is full the numbers go on, and after one that is not there is no flow
 numbers-go-on : (flow : Flow) (first further : List Flow) (full : Bool) → nat_lt (length first) most_first ≡ full → IsSplit first further
     → position_from (same_flow flow) (1 + length first) further ≡ flow_number_from first_further flow further
 numbers-go-on flow first further true is split =
@@ -274,7 +274,7 @@ pub put_further : (flow : Flow) (first further : List Flow) → most_first ≤ l
     → IsSplit first (further ++ flow ∷ [])
 put_further flow first further full few = record { few = few; full = λ less. absurd (omega (arith, full, less)) }
 
--- what comes of a flow that is put behind the set
+-- what comes of a flow that is put after the set
 pub noted_further : {A E : Type 0} (result : Result A E) (flow : Flow) (first further more seen : List Flow) → first ++ further ≡ seen
     → number_if_seen flow seen ≡ None
     → OnOk result (more ≡ further ++ flow ∷ []) → OnOk result (first ++ more ≡ with_flow flow seen)

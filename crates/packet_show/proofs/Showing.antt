@@ -1,4 +1,4 @@
--- A capture while it is shown: what was written, what stands in the text and what is left make the whole.
+-- A capture while it is shown: what was written, what is in the text and what is left make the whole.
 use Rattle.std.proofs.Common.{◌≡◌, ◌≢◌, ◌⊎◌, refl, sym, ap, ◌∙◌, subst, inl, inr, ℕ, ◌+◌, ◌<◌, List, [], ◌∷◌, ◌++◌, length, drop, Option, Some, None, Result, Ok, Err, IfSome, OnOk, append_assoc, arith}
 use Rattle.std.proofs.lemmas.List.{drop-drop}
 use Rattle.std.proofs.lemmas.Option.{IfSome_then}
@@ -54,7 +54,7 @@ along-start format left before input is = record {
   end_is = refl;
 }
 
--- where a record or a fault stands there are bytes
+-- where a record or a fault is, there are bytes
 some-for : (format : Format) (number given : ℕ) (bytes : List ℕ) (entry : RecordParts) → next_of format number given bytes ≡ Ok (Some entry) → 0 < length bytes
 some-for format number given [] entry is = cc is
 some-for format number given (byte ∷ bytes) entry is = omega arith
@@ -153,7 +153,7 @@ over-by format number given left tally text before after whole input end along o
   end_is = along.end_is ∙ ap (λ (c : Captured). c.end) over;
 }
 
--- behind them a text was closed
+-- after them a text was closed
 over-closed : (tally : Tally) (text : List ℕ) (end : Option CaptureFault) (before after later left : Option (List ℕ)) (whole : Captured) (result : JobEnd)
     → Over tally text end before after whole → Closes (text ++ last_line tally end) end result after later → (result ≡ ended.Done → left ≡ Some [])
     → Answers (shown_text whole) (is_some whole.end) result left before later

@@ -53,17 +53,17 @@ counts_line tally =
     labelled_number (codes "records ") (tally.shown + tally.skipped) ++ labelled_number (codes " shown ") tally.shown
     ++ labelled_number (codes " skipped ") tally.skipped ++ labelled_number (codes " flows ") (length tally.flows) ++ codes "\n"
 
--- a fault's line tells how many whole records stand before it
+-- a fault's line tells how many whole records come before it
 abbrev pub fault_line : Tally → CaptureFault → List ℕ
 fault_line tally why =
     codes "capture " ++ fault_name why ++ codes " after " ++ labelled_number (codes "record ") (tally.shown + tally.skipped) ++ codes "\n"
 
--- what stands behind the lines of a capture's records: the counts, or the fault that ended them
+-- what follows the lines of a capture's records: the counts, or the fault that ended them
 abbrev pub last_line : Tally → Option CaptureFault → List ℕ
 last_line tally None = counts_line tally
 last_line tally (Some why) = fault_line tally why
 
--- the text of these records, and of what ended them, behind those that were tallied
+-- the text of these records, and of what ended them, after those that were tallied
 abbrev pub text_from : Tally → List RecordParts → Option CaptureFault → List ℕ
 text_from tally [] end = last_line tally end
 text_from tally (entry ∷ entries) end = record_text tally entry ++ text_from (tallied tally entry) entries end

@@ -98,7 +98,7 @@ flow_number_from first flow seen = position_from (same_flow flow) first seen
 abbrev pub number_if_seen : Flow → List Flow → Option ℕ
 number_if_seen flow seen = flow_number_from 1 flow seen
 
--- So many flows stand in a set, and further ones in a map by an order (own).
+-- So many flows are in a set, and further ones in a map by an order (own).
 abbrev pub most_first : ℕ
 most_first = 4096
 
@@ -106,7 +106,7 @@ most_first = 4096
 abbrev pub first_further : ℕ
 first_further = 4097
 
--- Flows stand in a set and behind it, which begins where the set is full.
+-- Flows are in a set and after it, which begins where the set is full.
 pub record IsSplit (first further : List Flow) : Type 0 where
   pub few : length first ≤ most_first
   pub full : length first < most_first → further ≡ []

@@ -26,7 +26,7 @@ pub record Showing : Type 0 where
   pub shown : Shown
   pub flows : List Flow
 
--- the text was written behind what stood there, the flows are those, and that was answered
+-- the text was written after what stood there, the flows are those, and that was answered
 pub record Shows (showing : Showing) (old new : List ℕ) (seen : List Flow) (answer : Shown) : Type 0 where
   pub written : new ≡ old ++ showing.text
   pub noted : seen ≡ showing.flows

@@ -47,7 +47,7 @@ option_name kind =
     else if kinds.is_ccid_specific kind then codes "ccid"
     else codes "option"
 
--- what stands behind the name: nothing for Slow Receiver, a feature's number for Change and Confirm, the type for
+-- what follows the name: nothing for Slow Receiver, a feature's number for Change and Confirm, the type for
 -- options that have no name of their own, and the data
 abbrev pub option_form : ℕ → OptionForm
 option_form kind =

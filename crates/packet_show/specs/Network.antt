@@ -51,7 +51,7 @@ is_v4 bytes =
     && is_unfragmented bytes
     && slice_index bytes 9 == 33
 
--- the DCCP packet behind an IPv4 header
+-- the DCCP packet after an IPv4 header
 abbrev pub behind_v4 : List ℕ → DatagramParts
 behind_v4 bytes = record {
   pseudo = V4 (bytes_at 12 4 bytes) (bytes_at 16 4 bytes);
@@ -71,7 +71,7 @@ v6_payload bytes = number_at 4 2 bytes
 abbrev pub is_v6 : List ℕ → Bool
 is_v6 bytes = nat_le 40 (length bytes) && version bytes == 6 && slice_index bytes 6 == 33
 
--- the DCCP packet behind an IPv6 header
+-- the DCCP packet after an IPv6 header
 abbrev pub behind_v6 : List ℕ → DatagramParts
 behind_v6 bytes = record {
   pseudo = V6 (bytes_at 8 16 bytes) (bytes_at 24 16 bytes);
@@ -91,7 +91,7 @@ in_ip bytes = if is_v4 bytes then in_v4 bytes else in_v6 bytes
 abbrev pub in_frame : ℕ → List ℕ → Option DatagramParts
 in_frame kind bytes = if kind == 2048 then in_v4 bytes else if kind == 34525 then in_v6 bytes else None
 
--- the DCCP packet in a frame of Ethernet, which is found behind the type in its header
+-- the DCCP packet in a frame of Ethernet, which is found after the type in its header
 abbrev pub in_ethernet : List ℕ → Option DatagramParts
 in_ethernet bytes = if nat_lt (length bytes) 14 then None else in_frame (number_at 12 2 bytes) (drop 14 bytes)
 

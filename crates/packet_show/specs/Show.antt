@@ -13,7 +13,7 @@ use Rattle.tool_text.specs.declared.output.status.JobEnd.TheVariants as ended
 use Rattle.packet_show.specs.CaptureText.{tallied, record_text, fault_line, first_tally, text_from, size_of}
 use Rattle.tool_text.specs.Ends.{IsAnswered, IsCutOff, HasTaken, HasBegun, Answers}
 
--- One turn: the record that stands next was read, tallied and put; or the records ended, and nothing else changed.
+-- One turn: the record that comes next was read, tallied and put; or the records ended, and nothing else changed.
 -- Where memory was not found, the text stays as it was.
 abbrev pub Turns : {S : Type 0} → (S → Option (List ℕ)) → (S → ℕ) → (S → ℕ) → CapturesState S → CapturesState S → Tally → Tally → List ℕ → List ℕ
     → Result Turn no_memory.NoMemory → Type 0
@@ -27,7 +27,7 @@ Turns left faults lender old new tally after text written (Ok turn.Failed) =
     Advances left faults lender old new (Err ReadFault) × (written ≡ text)
 Turns left faults lender old new tally after text written (Err _) = (lender new.source ≡ lender old.source) × (written ≡ text)
 
--- Behind a capture's records: the text and the last line were written, whole with an answer and otherwise a front of
+-- After a capture's records: the text and the last line were written, whole with an answer and otherwise a front of
 -- both.
 pub record Closes (text : List ℕ) (end : Option CaptureFault) (result : JobEnd) (before after : Option (List ℕ)) : Type 0 where
   pub whole : IsAnswered result → HasTaken before after text
@@ -46,7 +46,7 @@ ShowsHeaderFault why result before after = Closes (fault_line first_tally why) (
 abbrev pub shown_text : Captured → List ℕ
 shown_text whole = text_from first_tally whole.records whole.end
 
--- The records of an input behind its file header were shown: what was written, how it ended, and, where a fault ended
+-- The records of an input after its file header were shown: what was written, how it ended, and, where a fault ended
 -- them, how far the input was read past the last whole record.
 pub record ShowsRecords (whole : Captured) (input : List ℕ) (result : JobEnd) (left before after : Option (List ℕ)) : Type 0 where
   pub answers : Answers (shown_text whole) (is_some whole.end) result left before after

@@ -22,7 +22,7 @@ zeros_before width digits = take (width - length digits) (codes "000000000")
 abbrev pub width_of : Bool → ℕ
 width_of nanos = if nanos then 9 else 6
 
--- the digits behind the point of a time, as many as its unit has
+-- the digits after the point of a time, as many as its unit has
 abbrev pub fraction_text : Bool → ℕ → List ℕ
 fraction_text nanos fraction = zeros_before (width_of nanos) (decimal fraction) ++ decimal fraction
 
@@ -36,7 +36,7 @@ without_zeros (digit ∷ next ∷ rest) = if digit == 48 then without_zeros (nex
 abbrev pub group_text : ℕ → ℕ → List ℕ
 group_text high low = without_zeros (encode_lower (high ∷ low ∷ []))
 
--- groups, each behind a colon
+-- groups, each after a colon
 abbrev pub groups_text : List ℕ → List ℕ
 groups_text (high ∷ low ∷ rest) = codes ":" ++ (group_text high low ++ groups_text rest)
 groups_text (_ ∷ []) = []
@@ -56,12 +56,12 @@ abbrev pub to_text : Pseudo → List ℕ
 to_text (V4 from to) = v4_text to
 to_text (V6 from to) = v6_text to
 
--- a sequence or acknowledgement number, as it stands in its form
+-- a sequence or acknowledgement number, as it is in its form
 abbrev pub number_text : Number → List ℕ
 number_text (Long n) = decimal n
 number_text (Short n) = decimal n
 
--- the acknowledgement number of a packet, behind its word
+-- the acknowledgement number of a packet, after its word
 abbrev pub ack_text : Number → List ℕ
 ack_text ack = codes " ack " ++ number_text ack
 
@@ -97,7 +97,7 @@ abbrev pub feature_text : ℕ → List ℕ → List ℕ
 feature_text kind [] = numbered_text (codes "option") kind []
 feature_text kind (feature ∷ rest) = numbered_text (option_name kind) feature rest
 
--- the name of an option, and behind it what an option of this form has
+-- the name of an option, and after it what an option of this form has
 abbrev pub option_by_form : OptionForm → ℕ → List ℕ → List ℕ
 option_by_form forms.Bare kind body = option_name kind
 option_by_form forms.Data kind body = option_name kind ++ codes " " ++ hex_or_dash body
@@ -117,7 +117,7 @@ abbrev pub item_text : Result Entry OptFault → List ℕ
 item_text (Ok o) = codes " [" ++ (mark_text o.mandatory ++ option_text o.kind o.body) ++ codes "]"
 item_text (Err _) = codes " [mandatory fault]"
 
--- the options of a packet in the order in which they stand there, each in brackets
+-- the options of a packet in the order in which they are there, each in brackets
 abbrev pub options_text : List (Result Entry OptFault) → List ℕ
 options_text [] = []
 options_text (item ∷ items) = item_text item ++ options_text items

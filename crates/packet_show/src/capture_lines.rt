@@ -1,4 +1,4 @@
-//! The last line that `show` writes. It is written by itself, behind all others, so that none of them is lost where
+//! The last line that `show` writes. It is written by itself, after all others, so that none of them is lost where
 //! memory for it runs out.
 ghost use Rattle.std.specs.Prelude.{◌≡◌, ◌++◌, OnOk};
 ghost use Rattle.packet_show.specs.CaptureText.{CountsFit, fault_name, counts_line, fault_line, last_line};
@@ -45,7 +45,7 @@ fn put_fault(text: &mut Vec<u8>, tally: &Tally, fault: CaptureFault) -> Result<(
     put(text, b"\n")
 }
 
-/// Puts the line behind a capture's records: how many there were, or the fault that ended them.
+/// Puts the line after a capture's records: how many there were, or the fault that ended them.
 pub(crate) fn put_last_line(
     text: &mut Vec<u8>,
     tally: &Tally,

@@ -34,13 +34,13 @@ pub type FlowEnd = (u128, u16);
 /// A flow: the version of IP, and both ends, the lesser first.
 pub(crate) type Flow = (u8, FlowEnd, FlowEnd);
 
-// So many flows stand in the set of the first ones.
+// So many flows are in the set of the first ones.
 const MOST_FIRST: usize = 4_096;
 
 /// The flows that were seen, in the order in which they were first seen (own). A flow is the pair of both ends, in
 /// either direction. Contracts see the list of flows.
 ///
-/// The first 4,096 stand in a set that is hashed by a rule which everybody knows, so whoever chose the ends can have
+/// The first 4,096 are in a set that is hashed by a rule which everybody knows, so whoever chose the ends can have
 /// each found among all of them, and no more. Further ones are found in an order.
 #[derive(Drop)]
 pub struct Flows {

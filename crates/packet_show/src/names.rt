@@ -39,14 +39,14 @@ pub fn sum_name(checked: Result<(), SumFault>) -> &'static [u8]
     }
 }
 
-/// What stands behind an option's name.
+/// What follows an option's name.
 #[derive(Clone, Copy)]
 pub(crate) enum OptionForm {
     /// Nothing.
     Bare,
     /// The data.
     Data,
-    /// The feature's number, and the data behind it.
+    /// The feature's number, and the data after it.
     Feature,
     /// The option's type, and the data.
     Numbered,

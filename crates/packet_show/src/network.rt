@@ -41,7 +41,7 @@ const DCCP: u8 = 33;
 
 const WORD: usize = 4;
 
-// The number of 16 bits that stands there.
+// The number of 16 bits that is there.
 fn read_u16(bytes: &[u8], place: usize) -> u16
     requires { place + 2 ≤ length bytes.now }
     ensures { result ≡ number_at place 2 bytes.now }
@@ -49,7 +49,7 @@ fn read_u16(bytes: &[u8], place: usize) -> u16
     BigEndian::read_u16(&bytes[place..])
 }
 
-// The address of IPv4 that stands there.
+// The address of IPv4 that is there.
 fn v4_address(bytes: &[u8], place: usize) -> [u8; 4]
     requires { place + 4 ≤ length bytes.now }
     ensures { result ≡ bytes_at place 4 bytes.now }
@@ -59,7 +59,7 @@ fn v4_address(bytes: &[u8], place: usize) -> [u8; 4]
     address
 }
 
-// The address of IPv6 that stands there.
+// The address of IPv6 that is there.
 fn v6_address(bytes: &[u8], place: usize) -> [u8; 16]
     requires { place + 16 ≤ length bytes.now }
     ensures { result ≡ bytes_at place 16 bytes.now }

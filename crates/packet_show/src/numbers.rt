@@ -65,7 +65,7 @@ fn put_group(text: &mut Vec<u8>, high: u8, low: u8) -> Result<(), NoMemory>
     }
 }
 
-// Puts groups, each behind a colon.
+// Puts groups, each after a colon.
 #[tactic(auto, using(tool_text::proofs::Keeping::keeps_itself, tool_text::proofs::Keeping::keeps_on, tool_text::proofs::Keeping::keeps_more, tool_text::proofs::Keeping::keeps_through))]
 fn put_groups(text: &mut Vec<u8>, bytes: &[u8]) -> Result<(), NoMemory>
     ensures ok { OnOk result (text.new.items ≡ text.old.items ++ groups_text bytes.now) }
@@ -113,7 +113,7 @@ pub fn put_to(text: &mut Vec<u8>, pseudo: &Pseudo) -> Result<(), NoMemory>
     }
 }
 
-/// Puts a sequence or acknowledgement number, as it stands in its form.
+/// Puts a sequence or acknowledgement number, as it is in its form.
 pub(crate) fn put_sequence(text: &mut Vec<u8>, number: Number) -> Result<(), NoMemory>
     ensures ok { OnOk result (text.new.items ≡ text.old.items ++ number_text number) }
     ensures front { Keeps text.old.items text.new.items }

@@ -157,7 +157,7 @@ fn put_rest(text: &mut Vec<u8>, there: &Datagram<'_>, packet: &Packet<'_>) -> Re
 }
 
 /// Puts the line of a packet of the flow of this number, and a newline (own). NoMemory comes where the text could not
-/// grow; then a front of the line may stand there.
+/// grow; then a front of the line may be there.
 pub fn put_packet(
     text: &mut Vec<u8>,
     item: &Record<'_>,
@@ -180,7 +180,7 @@ pub fn put_packet(
 }
 
 /// Puts what a packet says (own): its type and its numbers, what the type carries, its options, and how many bytes of
-/// data are there, each behind a space. NoMemory comes where the text could not grow.
+/// data are there, each after a space. NoMemory comes where the text could not grow.
 pub fn put_words(text: &mut Vec<u8>, packet: &Packet<'_>) -> Result<(), NoMemory>
     requires options { length packet.now.options.now ≤ 1008 }
     ensures ok { OnOk result (text.new.items ≡ text.old.items ++ words_text (parts_by packet.now)) }

@@ -160,7 +160,7 @@ fn show_all<S: Source + Drop, K: Sink>(
     }
 }
 
-// Shows the records behind the file header.
+// Shows the records after the file header.
 fn show_records<S: Source + Drop, K: Sink>(
     alloc: Global,
     captures: &mut Captures<S>,

@@ -189,7 +189,7 @@ pub spelled-frame : (text : List ℕ) (said : Option FrameLine) → IsFrameLine 
 spelled-frame text None is = (line-idle replay_row.said text).1 (record { says = is.0; short = is.1; text = is.2 })
 spelled-frame text (Some frame) is = (line-accepted replay_row replay-is text frame).1 (spoken-by text frame frame.seal refl is is.words)
 
--- behind `seal` a frame has eight bytes
+-- after `seal` a frame has eight bytes
 covered-found : (seal : Bool) (words : List (List ℕ)) (frame : FrameLine) → (frame_row seal).Spells frame words → frame.seal ≡ true → 8 ≤ length frame.bytes
 covered-found seal words frame is =
     let found = found-by seal words frame is in

@@ -57,7 +57,7 @@ offer-back : (ours : Bool) → ours ≡ true → (if ours then None else Some wh
 offer-back true is = refl
 offer-back false is = cc is
 
--- the words behind a first one are these
+-- the words after a first one are these
 behind : (text : List ℕ) (name : List ℕ) (rest are : List (List ℕ)) → text ≡ joined (name ∷ rest) → rest ≡ are → text ≡ joined (name ∷ are)
 behind text name rest are words is = words ∙ ap (λ (ps : List (List ℕ)). joined (name ∷ ps)) is
 

@@ -65,7 +65,7 @@ a_version left = word_fault why.BadNumber (is_some (schedule_version (first_word
 abbrev pub some_values : Judge
 some_values left = word_fault why.BadNumber (is_some (values_of (first_word left).text)) (first_word left)
 
--- a name that begins with neither letter is no word that may stand there; otherwise its rest should be an index
+-- a name that begins with neither letter is no word that may be there; otherwise its rest should be an index
 abbrev pub name_cause : List ℕ → LineWhy
 name_cause [] = why.UnknownWord
 name_cause (letter ∷ index) = if letter == 99 || letter == 115 then why.BadNumber else why.UnknownWord
@@ -79,7 +79,7 @@ names_frame (letter ∷ index) = (letter == 99 || letter == 115) && is_some (num
 abbrev pub a_name : Judge
 a_name left = word_fault (name_cause (first_word left).text) (names_frame (first_word left).text) (first_word left)
 
--- the first byte that is no digit, or the place behind an odd number of digits
+-- the first byte that is no digit, or the place after an odd number of digits
 abbrev pub bad_digit : WordAt → Option ℕ → Option LineFault
 bad_digit word None = None
 bad_digit word (Some place) = Some (fault_at (word.column + place) why.BadHex)
@@ -102,7 +102,7 @@ maybe_first (word ∷ words) = word_fault why.UnknownWord (bytes_eq word.text (c
 abbrev pub maybe_mandatory : Judge
 maybe_mandatory left = maybe_first left.words
 
--- The table of forms: what stands behind the first word.
+-- The table of forms: what follows the first word.
 abbrev pub judges_of : Form → List Judge
 judges_of form.Version = a_version ∷ []
 judges_of form.Plain = []
@@ -157,12 +157,12 @@ end_fault form.Timer left = None
 end_fault form.Close left = None
 end_fault form.Abort left = None
 
--- the words behind a known first word are judged before what an end may not have
+-- the words after a known first word are judged before what an end may not have
 abbrev pub form_fault : Option Form → WordsLeft → Option LineFault
 form_fault None left = None
 form_fault (Some form) left = first_or (words_fault (judges_of form) left) (end_fault form left)
 
--- the first fault of a line that says something: its first word, then what its form has behind that
+-- the first fault of a line that says something: its first word, then what its form has after that
 abbrev pub spoken_fault : WordsLeft → Option LineFault
 spoken_fault left =
     first_or (word_fault why.UnknownWord (is_some (form_named (first_word left).text)) (first_word left))

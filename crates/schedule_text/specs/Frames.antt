@@ -13,7 +13,7 @@ use Rattle.tool_text.specs.Rows.{◌>>◌, Row, ◌▷◌, end_row, row_as, judg
 use Rattle.tool_text.specs.Lines.{clean, says_nothing, text_read, first_other, no_text}
 use Rattle.schedule_text.specs.Faults.{digits_fault}
 
--- a frame, whose checksum is to be set or stands in it
+-- a frame, whose checksum is to be set or is in it
 abbrev pub frame_line : Bool → List ℕ → FrameLine
 frame_line seal bytes = record { seal = seal; bytes = bytes }
 
@@ -32,7 +32,7 @@ digits_frame seal s = frame_line seal s.0
 abbrev pub size_judged : Bool → List ℕ × Unit {0} → Option LineWhy
 size_judged seal s = size_cause seal (length s.0)
 
--- its digits, and nothing behind them
+-- its digits, and nothing after them
 abbrev pub frame_row : Bool → Row FrameLine
 frame_row seal = row_as (digits_frame seal) (judged_row 0 (size_judged seal) (hex_kind ▷ end_row))
 
@@ -52,7 +52,7 @@ read_frame text = do
 
 -- The first fault of such a line, as a table.
 
--- the word `seal` may stand before the digits
+-- the word `seal` may come before the digits
 abbrev pub seals : WordsLeft → Bool
 seals left = bytes_eq (first_word left).text (codes "seal")
 
@@ -63,7 +63,7 @@ size_fault seal column bytes =
     else if seal && nat_lt (length bytes) 8 then Some (fault_at column why.SealShort)
     else None
 
--- a flaw in the digits comes before a word behind them, and that before a size that no frame has
+-- a flaw in the digits comes before a word after them, and that before a size that no frame has
 abbrev pub digits_line_fault : Bool → WordsLeft → Option LineFault
 digits_line_fault seal left =
     first_or (digits_fault (first_word left))

@@ -66,7 +66,7 @@ abbrev pub from_sender : Side → Result ℕ Flaw → Result (Side × ℕ) Flaw
 from_sender from (Ok index) = Ok (from, index)
 from_sender from (Err flaw) = Err flaw
 
--- the frame of this sender whose index stands here
+-- the frame of this sender whose index is here
 abbrev pub frame_sent_by : Side → List ℕ → Result (Side × ℕ) Flaw
 frame_sent_by from index = from_sender from (found_or why.BadNumber (number_below indices index))
 

@@ -40,7 +40,7 @@ set_cause s = wish_cause (wish_of s.1.1.0 s.1.0 s.1.1.1.0)
 abbrev pub offer_cause : Side × (Place × (Feature × Bool)) → Option LineWhy
 offer_cause s = if is_ours s.1.1.0 s.1.0 then None else Some why.NotOurs
 
--- The rows behind the first word, by the form that it names.
+-- The rows after the first word, by the form that it names.
 abbrev pub rows : Form → Row Line
 rows form.Version = row_as (λ s. line.Version s.0) (version_kind ▷ end_row)
 rows form.Plain = row_as (λ s. line.Plain) end_row
@@ -60,7 +60,7 @@ rows form.Timer = row_as (λ s. line.Event (event.Timer s.0 s.1.0)) (side_kind �
 rows form.Close = row_as (λ s. line.Event (event.Close s.0)) (side_kind ▷ end_row)
 rows form.Abort = row_as (λ s. line.Event (event.Abort s.0)) (side_kind ▷ end_row)
 
--- a line that says something: its form, and what that form has behind it
+-- a line that says something: its form, and what that form has after it
 abbrev pub line_row : Row Line
 line_row = choice form_kind rows
 

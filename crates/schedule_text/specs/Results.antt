@@ -58,7 +58,7 @@ abbrev pub taken_text : List ℕ → Option (ℕ × ℕ) → List ℕ
 taken_text bytes None = codes "took"
 taken_text bytes (Some place) = data_text (slice_range bytes place.0 place.1)
 
--- a byte as a decimal number, behind a space
+-- a byte as a decimal number, after a space
 abbrev pub decimal_byte : ℕ → List ℕ
 decimal_byte byte = codes " " ++ decimal byte
 
@@ -85,7 +85,7 @@ seen_text bytes (Received outcome) = outcome_text bytes outcome
 abbrev pub told_text : ℕ → Event → List ℕ
 told_text number event = decimal number ++ codes " " ++ event_text event
 
--- what was seen, behind its event
+-- what was seen, after its event
 abbrev pub result_text : List ℕ → Seen → List ℕ
 result_text bytes seen = codes ": " ++ seen_text bytes seen ++ codes "\n"
 
@@ -97,7 +97,7 @@ seen_line number event seen bytes = told_text number event ++ result_text bytes 
 abbrev pub result_line : ℕ → Seen → List ℕ → List ℕ
 result_line number seen bytes = decimal number ++ result_text bytes seen
 
--- Data that is delivered stands in the frame.
+-- Data that is delivered is in the frame.
 
 -- the first and the past-last index of data are in order and within these bytes
 abbrev pub IsPlaceIn : List ℕ → Option (ℕ × ℕ) → Type 0

@@ -25,7 +25,7 @@ fn size_cause(seal: bool, length: usize) -> Option<LineWhy>
     }
 }
 
-// The digits of a frame, and nothing behind them.
+// The digits of a frame, and nothing after them.
 fn frame<'a>(seal: bool, words: &mut Words<'a>) -> Result<FrameLine<'a>, LineFault>
     ensures { result ≡ (spec.frame_row seal).said (left_of words.old) }
 {
@@ -44,10 +44,10 @@ fn frame<'a>(seal: bool, words: &mut Words<'a>) -> Result<FrameLine<'a>, LineFau
 }
 
 /// The words of a frame (own): `seal` where the checksum is to be set, then the digits of its bytes, one to 2,044 of
-/// them; behind `seal` at least eight.
-pub struct AFrame;
+/// them; after `seal` at least eight.
+pub struct FrameWords;
 
-impl<'a> Row<'a> for AFrame {
+impl<'a> Row<'a> for FrameWords {
     type Said = FrameLine<'a>;
 
     ghost said = { spec.replay_row.said };
@@ -66,10 +66,10 @@ impl<'a> Row<'a> for AFrame {
 /// The frame that a line of a replay says, or None exactly where the line is empty or a comment; or the first of the
 /// line's faults in the order of `LineWhy`, with its column (own). The line comes without its newline.
 ///
-/// A frame stands as digits of its bytes, one to 2,044 of them; behind the word `seal` at least eight.
+/// A frame stands as digits of its bytes, one to 2,044 of them; after the word `seal` at least eight.
 pub fn read_frame(line: &[u8]) -> Result<Option<FrameLine<'_>>, LineFault>
     ensures value { result ≡ spec.read_frame line.now }
     ensures seals { IfOk result (λ said. IfSome said (λ frame. frame.seal ≡ true → 8 ≤ length frame.bytes)) }
 {
-    read_line::<AFrame>(line)
+    read_line::<FrameWords>(line)
 }

@@ -11,9 +11,9 @@ use tool_text::{Flag, Flaw, WordKind, found_or};
 use world_events::Side;
 
 /// The first word of a line.
-pub(crate) struct AForm;
+pub(crate) struct FormWord;
 
-impl<'a> WordKind<'a> for AForm {
+impl<'a> WordKind<'a> for FormWord {
     type Read = Form;
 
     ghost reads = { form_kind.reads };
@@ -24,9 +24,9 @@ impl<'a> WordKind<'a> for AForm {
 }
 
 /// The word for a side.
-pub(crate) struct ASide;
+pub(crate) struct SideWord;
 
-impl<'a> WordKind<'a> for ASide {
+impl<'a> WordKind<'a> for SideWord {
     type Read = Side;
 
     ghost reads = { side_kind.reads };
@@ -37,9 +37,9 @@ impl<'a> WordKind<'a> for ASide {
 }
 
 /// The word for where a feature is located.
-pub(crate) struct APlace;
+pub(crate) struct PlaceWord;
 
-impl<'a> WordKind<'a> for APlace {
+impl<'a> WordKind<'a> for PlaceWord {
     type Read = Place;
 
     ghost reads = { place_kind.reads };
@@ -51,9 +51,9 @@ impl<'a> WordKind<'a> for APlace {
 
 /// The word for a timer (own): `request`, `ack`, `negotiate`, `rto`, `close` or `timewait`; every other word is
 /// UnknownWord.
-pub struct ATimer;
+pub struct TimerWord;
 
-impl<'a> WordKind<'a> for ATimer {
+impl<'a> WordKind<'a> for TimerWord {
     type Read = Timer;
 
     ghost reads = { timer_kind.reads };
@@ -64,9 +64,9 @@ impl<'a> WordKind<'a> for ATimer {
 }
 
 /// A sequence number.
-pub(crate) struct ANumber;
+pub(crate) struct NumberWord;
 
-impl<'a> WordKind<'a> for ANumber {
+impl<'a> WordKind<'a> for NumberWord {
     type Read = Seq48;
 
     ghost reads = { sequence_kind.reads };
@@ -77,9 +77,9 @@ impl<'a> WordKind<'a> for ANumber {
 }
 
 /// A feature by its number.
-pub(crate) struct AFeature;
+pub(crate) struct FeatureWord;
 
-impl<'a> WordKind<'a> for AFeature {
+impl<'a> WordKind<'a> for FeatureWord {
     type Read = Feature;
 
     ghost reads = { feature_kind.reads };
@@ -90,9 +90,9 @@ impl<'a> WordKind<'a> for AFeature {
 }
 
 /// The version of a schedule.
-pub(crate) struct AVersion;
+pub(crate) struct VersionWord;
 
-impl<'a> WordKind<'a> for AVersion {
+impl<'a> WordKind<'a> for VersionWord {
     type Read = u8;
 
     ghost reads = { version_kind.reads };
@@ -125,9 +125,9 @@ fn sent_by(from: Side, index: &[u8]) -> Result<(Side, u64), Flaw>
 }
 
 /// A frame's name: its sender and its index.
-pub(crate) struct AName;
+pub(crate) struct FrameNameWord;
 
-impl<'a> WordKind<'a> for AName {
+impl<'a> WordKind<'a> for FrameNameWord {
     type Read = (Side, u64);
 
     ghost reads = { frame_kind.reads };

@@ -13,7 +13,7 @@ ghost use Rattle.schedule_text.specs.Range.{IsPrintable};
 ghost use Rattle.schedule_text.specs.Reading.{read_line};
 
 /// What is printed of an event is read as that event, as long as one line has room for it: an index below 2^47, one to
-/// nine values below 2^48, at most 2,042 bytes of data; and but for early data, of which no line speaks (own).
+/// nine values below 2^48, at most 2,042 bytes of data; and except for early data, of which no line speaks (own).
 pub fn printed_events_are_read()
     ensures { (event : Event) → IsPrintable event → read_line (event_text event) ≡ Ok (line.Event event) }
 {}

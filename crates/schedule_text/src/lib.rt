@@ -14,8 +14,8 @@ mod numbers;
 mod printing;
 mod reading;
 
-pub use crate::frames::{AFrame, read_frame};
-pub use crate::kinds::ATimer;
+pub use crate::frames::{FrameWords, read_frame};
+pub use crate::kinds::TimerWord;
 pub use crate::laws::{
     frames_are_their_forms, lines_are_their_forms, printed_events_are_read,
     the_first_fault_is_answered, the_first_fault_of_a_frame_is_answered,

@@ -286,7 +286,7 @@ fn put_told(text: &mut Vec<u8>, line: u64, event: &Event) -> Result<(), NoMemory
 }
 
 /// Puts `: RESULT`, what was seen, and the line's end (own). `input` is the bytes of the frame that arrived, and is
-/// empty where none did. NoMemory comes where the text could not grow; then a front of it may stand there.
+/// empty where none did. NoMemory comes where the text could not grow; then a front of it may be there.
 pub fn put_result(text: &mut Vec<u8>, input: &[u8], seen: &Seen) -> Result<(), NoMemory>
     requires { spec.IsSeenOf input.now seen.now }
     ensures ok { OnOk result (text.new.items ≡ text.old.items ++ spec.result_text input.now seen.now) }

@@ -8,7 +8,8 @@ ghost use Rattle.schedule_text.specs.Reading as spec;
 ghost use Rattle.feature_lists.specs.Wishes.{is_ours, wish_of};
 
 use crate::kinds::{
-    AFeature, AForm, AName, ANumber, APlace, ASide, ATimer, AVersion, Mandatory, SomeValues,
+    FeatureWord, FormWord, FrameNameWord, Mandatory, NumberWord, PlaceWord, SideWord, SomeValues,
+    TimerWord, VersionWord,
 };
 use crate::names::Form;
 use crate::{Event, Line, LineFault, LineWhy, Payload, Timer, Values};
@@ -64,7 +65,7 @@ fn version(words: &mut Words<'_>, said: &mut Line) -> Result<(), LineFault>
         (λ fault. (spec.rows Form.Version).said (left_of words.old) ≡ Err fault) }
     ensures kept { OnErr result (said.new ≡ said.old) }
 {
-    let (number, ()) = <(AVersion, ())>::read(words)?;
+    let (number, ()) = <(VersionWord, ())>::read(words)?;
     *said = Line::Version { number };
     Ok(())
 }
@@ -86,16 +87,16 @@ fn iss(words: &mut Words<'_>, said: &mut Line) -> Result<(), LineFault>
         (λ fault. (spec.rows Form.Iss).said (left_of words.old) ≡ Err fault) }
     ensures kept { OnErr result (said.new ≡ said.old) }
 {
-    let (side, (number, ())) = <(ASide, (ANumber, ()))>::read(words)?;
+    let (side, (number, ())) = <(SideWord, (NumberWord, ()))>::read(words)?;
     *said = Line::Iss { side, number };
     Ok(())
 }
 
 // A list of values for a feature, as `set` and `prefer` have it.
-type AList = (ASide, (APlace, (AFeature, (SomeValues, ()))));
+type ListWord = (SideWord, (PlaceWord, (FeatureWord, (SomeValues, ()))));
 
 // A feature with or without Mandatory, as `offer` has it.
-type AnOffer = (ASide, (APlace, (AFeature, MaybeFlag<Mandatory>)));
+type OfferWord = (SideWord, (PlaceWord, (FeatureWord, MaybeFlag<Mandatory>)));
 
 fn set(words: &mut Words<'_>, said: &mut Line) -> Result<(), LineFault>
     ensures value { MatchResult result
@@ -104,7 +105,7 @@ fn set(words: &mut Words<'_>, said: &mut Line) -> Result<(), LineFault>
     ensures kept { OnErr result (said.new ≡ said.old) }
 {
     let all = *words;
-    let (side, (place, (feature, (values, ())))) = <AList>::read(words)?;
+    let (side, (place, (feature, (values, ())))) = <ListWord>::read(words)?;
     allow(&all, 3, wish_cause(feature, place, &values))?;
     *said = Line::Set {
         side,
@@ -122,7 +123,7 @@ fn offer(words: &mut Words<'_>, said: &mut Line) -> Result<(), LineFault>
     ensures kept { OnErr result (said.new ≡ said.old) }
 {
     let all = *words;
-    let (side, (place, (feature, mandatory))) = <AnOffer>::read(words)?;
+    let (side, (place, (feature, mandatory))) = <OfferWord>::read(words)?;
     allow(&all, 2, offer_cause(feature, place))?;
     *said = Line::Offer {
         side,
@@ -160,7 +161,7 @@ fn deliver(words: &mut Words<'_>, said: &mut Line) -> Result<(), LineFault>
         (λ fault. (spec.rows Form.Deliver).said (left_of words.old) ≡ Err fault) }
     ensures kept { OnErr result (said.new ≡ said.old) }
 {
-    let ((from, index), ()) = <(AName, ())>::read(words)?;
+    let ((from, index), ()) = <(FrameNameWord, ())>::read(words)?;
     say_delivery(said, from, index);
     Ok(())
 }
@@ -215,7 +216,7 @@ fn send(words: &mut Words<'_>, said: &mut Line) -> Result<(), LineFault>
         (λ fault. (spec.rows Form.Send).said (left_of words.old) ≡ Err fault) }
     ensures kept { OnErr result (said.new ≡ said.old) }
 {
-    let (side, (digits, ())) = <(ASide, (HexOrDash, ()))>::read(words)?;
+    let (side, (digits, ())) = <(SideWord, (HexOrDash, ()))>::read(words)?;
     say_sending(said, side, &digits);
     Ok(())
 }
@@ -248,7 +249,7 @@ fn prefer(words: &mut Words<'_>, said: &mut Line) -> Result<(), LineFault>
         (λ fault. (spec.rows Form.Prefer).said (left_of words.old) ≡ Err fault) }
     ensures kept { OnErr result (said.new ≡ said.old) }
 {
-    let (side, (place, (feature, (values, ())))) = <AList>::read(words)?;
+    let (side, (place, (feature, (values, ())))) = <ListWord>::read(words)?;
     say_wish(said, side, feature, place, values);
     Ok(())
 }
@@ -269,7 +270,7 @@ fn timer(words: &mut Words<'_>, said: &mut Line) -> Result<(), LineFault>
         (λ fault. (spec.rows Form.Timer).said (left_of words.old) ≡ Err fault) }
     ensures kept { OnErr result (said.new ≡ said.old) }
 {
-    let (side, (timer, ())) = <(ASide, (ATimer, ()))>::read(words)?;
+    let (side, (timer, ())) = <(SideWord, (TimerWord, ()))>::read(words)?;
     say_timer(said, side, timer);
     Ok(())
 }
@@ -280,7 +281,7 @@ fn close(words: &mut Words<'_>, said: &mut Line) -> Result<(), LineFault>
         (λ fault. (spec.rows Form.Close).said (left_of words.old) ≡ Err fault) }
     ensures kept { OnErr result (said.new ≡ said.old) }
 {
-    let (side, ()) = <(ASide, ())>::read(words)?;
+    let (side, ()) = <(SideWord, ())>::read(words)?;
     *said = Line::Event(Event::Close { side });
     Ok(())
 }
@@ -291,7 +292,7 @@ fn abort(words: &mut Words<'_>, said: &mut Line) -> Result<(), LineFault>
         (λ fault. (spec.rows Form.Abort).said (left_of words.old) ≡ Err fault) }
     ensures kept { OnErr result (said.new ≡ said.old) }
 {
-    let (side, ()) = <(ASide, ())>::read(words)?;
+    let (side, ()) = <(SideWord, ())>::read(words)?;
     *said = Line::Event(Event::Abort { side });
     Ok(())
 }
@@ -323,7 +324,7 @@ pub fn read_line_into(line: &[u8], said: &mut Line) -> Result<(), LineFault>
         return Ok(());
     }
     let mut words = Words::of(line);
-    match read_word::<AForm>(words.next_word())? {
+    match read_word::<FormWord>(words.next_word())? {
         Form::Version => version(&mut words, said),
         Form::Plain => plain(&mut words, said),
         Form::Iss => iss(&mut words, said),

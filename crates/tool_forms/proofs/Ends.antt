@@ -1,4 +1,4 @@
--- What a form's command comes to behind the last word.
+-- What a form's command comes to after the last word.
 use Rattle.std.proofs.Common.{◌≡◌, ◌∙◌, ◌&&◌, refl, sym, ap, ap₂, subst, ℕ, Bool, true, false, List, [], ◌∷◌, ◌++◌, map, Option, Some, None, is_some, option_and_then, codes}
 use Rattle.std.specs.Prelude.{if◌then◌else◌}
 use Rattle.clap.specs.Kinds.{Kinds, or_else}
@@ -344,7 +344,7 @@ with-unmarked : (pairs : Pairs) → has Plain pairs ≡ false → with_default (
 unfolding unmarked
 with-unmarked pairs none = rw (has-row Plain pairs ∙ none) (unmet Plain (more_values DefaultValue (codes "false" ∷ [])) (unmarked ∷ []) pairs none)
 
--- a setting is found in front of the rows behind it
+-- a setting is found in front of the rows after it
 given-before : (setting : Setting) (more : List Row) (pairs : Pairs) → is_given (bare_name setting) more ≡ false
     → is_given (bare_name setting) (rows pairs ++ more) ≡ has setting pairs
 given-before setting more [] none = none
@@ -365,7 +365,7 @@ first-before setting more (pair ∷ pairs) none = go (is_same pair.0 setting) re
     go true same rest = rw same refl
     go false other rest = rw other rest
 
--- a setting that is not given is found behind
+-- a setting that is not given is found after
 first-behind : (setting : Setting) (more : List Row) (pairs : Pairs) → has setting pairs ≡ false
     → first_of (bare_name setting) (rows pairs ++ more) ≡ first_of (bare_name setting) more
 first-behind setting more [] none = refl
@@ -444,7 +444,7 @@ module _ {X : Type 0} (judge : List Row → Option X) where
 abbrev replay_at : Pairs → Option Form
 replay_at pairs = replay_from (text_at Side pairs) (has Plain pairs) (text_at Buffer pairs)
 
--- behind the rows of all settings
+-- after the rows of all settings
 replay-read : (pairs : Pairs) (end : List Row) → first_of (codes "side") end ≡ text_at Side pairs → is_yes (first_of (codes "plain") end) ≡ has Plain pairs
     → first_of (codes "buffer") end ≡ text_at Buffer pairs → replay_in end ≡ replay_at pairs
 replay-read pairs end side plain buffer =

@@ -33,7 +33,7 @@ value-marked way.Mark setting text is = refl
 abbrev pub assigned : Setting → Text → Option Assignment
 assigned setting text = option_and_then (λ v. Some (record { setting = setting; value = v })) (value_of setting text)
 
--- the pairs, in front of what is given behind them
+-- the pairs, in front of what is given after them
 abbrev pub onto : Pairs → Option (List Assignment) → Option (List Assignment)
 onto [] all = all
 onto (pair ∷ pairs) all = preceded (assigned pair.0 pair.1) (onto pairs all)

@@ -167,7 +167,7 @@ unmet setting change missing (pair ∷ pairs) none = go (is_same pair.0 setting)
     go false other none rest = let no : has setting pairs ≡ false = rw other at none in
         rw other (ap (λ (more : List Row). row pair ∷ more) (rest no))
 
--- one setting more behind the others
+-- one setting more after the others
 abbrev pub with_pair : Pairs → Setting → Text → Pairs
 with_pair pairs setting text = pairs ++ (setting, text) ∷ []
 
@@ -276,7 +276,7 @@ other-way one other apart = go (is_same other one) refl
         let never : true ≡ false = sym (is-itself one) ∙ no in cc never
     go false other = other
 
--- none has it in the front, nor behind
+-- none has it in the front, nor after
 none-in : (setting : Setting) (pair : Setting × Text) (pairs : Pairs) → has setting (pair ∷ pairs) ≡ false → (is_same pair.0 setting ≡ false)
     × (has setting pairs ≡ false)
 none-in setting pair pairs none = go (is_same pair.0 setting) refl

@@ -34,7 +34,7 @@ module _ {X : Type 0} (judge : List Row → Option X) (s : Shape) (short : (x : 
   none-passed [] = refl
   none-passed (k ∷ ks) = refl
 
-  -- what is held may be counted before the next words as well as behind them
+  -- what is held may be counted before the next words as well as after them
   pub counted-now : (rows : List Row) (p : Option (Text × List Text)) (words : List Text) → Clear words
       → verdict judge s (rests rows p) words
       ≡ passed (settle_fault s.rules s.args_override_self (holding rows p)) (verdict judge s (rests (settled_rows s.rules p rows) None) words)
@@ -105,7 +105,7 @@ module _ {X : Type 0} (judge : List Row → Option X) (s : Shape) (short : (x : 
       go None is = refuses _ word words (stray s short index rows None word apart long is)
       go (Some flags) is = refuses _ word words (bundled s short index rows None word flags apart long is)
 
-  -- `--name`, and its value behind it
+  -- `--name`, and its value after it
   module _ (a : Rule) (by_id : arg_by_id s.rules a.id ≡ Some a) (same : bytes_eq a.id a.id ≡ true) (range : unwrap_or_range a.range ≡ one)
       (takes : takes_values a ≡ true) (most : most_values a ≡ 1) where
     named-waits : (rows : List Row) (word name : Text) (words : List Text) → bytes_eq word (45 ∷ 45 ∷ []) ≡ false

@@ -1,4 +1,4 @@
--- What the words behind the second program's `seed` and `frames` ask for (own): two settings, each given once.
+-- What the words after the second program's `seed` and `frames` ask for (own): two settings, each given once.
 use Rattle.std.specs.Prelude.{ℕ, ◌^◌, ◌<◌, ◌≤◌, List, Option, Some, option_and_then, String}
 use Rattle.std.specs.declared.alloc.Global.{Global}
 use Rattle.world_events.specs.declared.event.Side.{Side as EndSide}
@@ -13,7 +13,7 @@ use Rattle.tool_forms.specs.Words.{side_given}
 abbrev pub seed_run_from : Option ℕ → Option ℕ → Option SeedRun
 seed_run_from seed events = option_and_then (λ seed. option_and_then (λ events. Some (record { seed = seed; events = events })) events) seed
 
--- The run that the words behind `seed` ask for.
+-- The run that the words after `seed` ask for.
 abbrev pub seed_run_of : List (String Global) → Option SeedRun
 seed_run_of words = seed_run_from (given_once table.Seed Seed words) (given_once table.Seed Events words)
 
@@ -21,7 +21,7 @@ seed_run_of words = seed_run_from (given_once table.Seed Seed words) (given_once
 abbrev pub flow_side_from : Option ℕ → Option EndSide → Option FlowSide
 flow_side_from flow side = option_and_then (λ flow. option_and_then (λ side. Some (record { flow = flow; side = side })) side) flow
 
--- The side that the words behind `frames` ask for, and its flow.
+-- The side that the words after `frames` ask for, and its flow.
 abbrev pub flow_side_of : List (String Global) → Option FlowSide
 flow_side_of words = flow_side_from (given_once table.Frames Flow words) (side_given (words_give table.Frames Side words))
 

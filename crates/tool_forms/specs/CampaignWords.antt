@@ -1,4 +1,4 @@
--- What the words behind `campaign` ask for (own): four numbers, each given once.
+-- What the words after `campaign` ask for (own): four numbers, each given once.
 use Rattle.std.specs.Prelude.{ℕ, ◌+◌, ◌^◌, ◌≤◌, nat_le, if◌then◌else◌, List, Option, Some, None, option_and_then, String}
 use Rattle.std.specs.declared.alloc.Global.{Global}
 use Rattle.tool_forms.specs.declared.campaign_words.Campaign.{Campaign}

@@ -1,5 +1,5 @@
 -- The settings that words give to a form (own): in any order, each a name and its value, as two words or as one with
--- `=` between them, but for a mark, which has no value.
+-- `=` between them, except for a mark, which has no value.
 --
 -- One table has them: whose each is, its name, how it is given, and the least and the most of its number. They are
 -- looked up one by one: what words mean is a list and a question to it, and a second time is refused.
@@ -135,17 +135,17 @@ is_equals byte = byte == 61
 abbrev pub is_joined : List ℕ → Bool
 is_joined word = nat_lt (position_or_len is_equals word) (length word)
 
--- what stands before the first `=` is the name, and all that follows it is the value
+-- what comes before the first `=` is the name, and all that follows it is the value
 abbrev pub joined_given : Table → List ℕ → Option Assignment
 joined_given table word = given_of table (before_first is_equals word) (after_first is_equals word)
 
--- what is given first, in front of what is given behind it
+-- what is given first, in front of what is given after it
 abbrev pub preceded : Option Assignment → Option (List Assignment) → Option (List Assignment)
 preceded None all = None
 preceded (Some given) None = None
 preceded (Some given) (Some all) = Some (given ∷ all)
 
--- What words give, one setting behind the other, where they are nothing else.
+-- What words give, one setting after the other, where they are nothing else.
 abbrev pub all_given : Table → List (List ℕ) → Option (List Assignment)
 all_given table [] = Some []
 all_given table (word ∷ []) =

@@ -40,12 +40,12 @@ abbrev pub replays : Option (Option Value) → Option Side → Option (Option Va
 replays (Some plain) (Some side) (Some buffer) = Some (replay_with side (is_some plain) (number_given buffer))
 replays _ _ _ = None
 
--- The words behind `replay`: the side once, and `--plain` and `--buffer` at most once.
+-- The words after `replay`: the side once, and `--plain` and `--buffer` at most once.
 abbrev pub replay_of : List (String Global) → Option Form
 replay_of words =
     replays (words_give table.Replay setting.Plain words) (side_given (words_give table.Replay setting.Side words)) (words_give table.Replay setting.Buffer words)
 
--- The words behind `campaign`.
+-- The words after `campaign`.
 abbrev pub campaigns : List (String Global) → Option Form
 campaigns words = option_and_then (λ campaign. Some (form.Campaign campaign)) (campaign_of words)
 
@@ -53,7 +53,7 @@ campaigns words = option_and_then (λ campaign. Some (form.Campaign campaign)) (
 abbrev pub listener_for : Option ℕ → Option Form
 listener_for most = option_and_then (λ most. Some (form.Listen most)) most
 
--- The words behind `listen`: how many flows may stand, once.
+-- The words after `listen`: how many flows may stand, once.
 abbrev pub listen_of : List (String Global) → Option Form
 listen_of words = listener_for (given_once table.Listen setting.Most words)
 
@@ -84,7 +84,7 @@ IsFormWithinBounds form.Show = Unit {0}
 IsFormWithinBounds (form.Listen most) = (1 ≤ most) × (most ≤ 1024)
 IsFormWithinBounds form.Ecn = Unit {0}
 
--- Only the words behind `replay`, `campaign` and `listen` are settings.
+-- Only the words after `replay`, `campaign` and `listen` are settings.
 abbrev pub has_settings : List (String Global) → Bool
 has_settings [] = false
 has_settings (first ∷ words) = is_word first (codes "replay") || (is_word first (codes "campaign") || is_word first (codes "listen"))

@@ -1,4 +1,4 @@
-//! What the words behind the second program's `seed` and `frames` ask for.
+//! What the words after the second program's `seed` and `frames` ask for.
 ghost use Rattle.std.specs.Prelude.{◌≡◌, IfOk, IfSome};
 ghost use Rattle.clap.specs.Words.{found_of, rows_of};
 ghost use Rattle.tool_forms.specs.BridgeWords.{IsFlowWithinBounds, IsRunWithinBounds, flow_side_of, seed_run_of};
@@ -43,7 +43,7 @@ fn seed_run_in(matches: &ArgMatches) -> Option<SeedRun>
     })
 }
 
-/// The run that the words behind `seed` ask for, both settings once, or None where they ask for none (own). NoMemory
+/// The run that the words after `seed` ask for, both settings once, or None where they ask for none (own). NoMemory
 /// says nothing of them.
 pub fn seed_run_of(alloc: Global, words: &[String]) -> Result<Option<SeedRun>, NoMemory>
     ensures value { WordsSay result (seed_run_of words.now) }
@@ -66,7 +66,7 @@ fn flow_side_in(matches: &ArgMatches) -> Option<FlowSide>
     Some(FlowSide { flow, side })
 }
 
-/// The side of a flow that the words behind `frames` ask for, both settings once, or None where they ask for none
+/// The side of a flow that the words after `frames` ask for, both settings once, or None where they ask for none
 /// (own). NoMemory says nothing of them.
 pub fn flow_side_of(alloc: Global, words: &[String]) -> Result<Option<FlowSide>, NoMemory>
     ensures value { WordsSay result (flow_side_of words.now) }

@@ -77,7 +77,7 @@ fn replay_in(matches: &ArgMatches) -> Option<Form>
     Some(form)
 }
 
-// The job that the words behind `replay` ask for.
+// The job that the words after `replay` ask for.
 fn replay_of(alloc: Global, words: &[String]) -> Result<Option<Form>, NoMemory>
     ensures value { WordsSay result (replay_of words.now) }
     ensures within { IfOk result (λ form. IfSome form IsFormWithinBounds) }
@@ -97,7 +97,7 @@ fn takes_no_word(form: Form, words: &[String]) -> Option<Form>
     if words.is_empty() { Some(form) } else { None }
 }
 
-// The job that the words behind `campaign` ask for.
+// The job that the words after `campaign` ask for.
 fn campaigns(alloc: Global, words: &[String]) -> Result<Option<Form>, NoMemory>
     ensures value { WordsSay result (campaigns words.now) }
     ensures within { IfOk result (λ form. IfSome form IsFormWithinBounds) }
@@ -117,7 +117,7 @@ fn listen_in(matches: &ArgMatches) -> Option<Form>
     Some(Form::Listen { most: most as u16 })
 }
 
-// The job that the words behind `listen` ask for.
+// The job that the words after `listen` ask for.
 fn listen_of(alloc: Global, words: &[String]) -> Result<Option<Form>, NoMemory>
     ensures value { WordsSay result (listen_of words.now) }
     ensures within { IfOk result (λ form. IfSome form IsFormWithinBounds) }
@@ -128,7 +128,7 @@ fn listen_of(alloc: Global, words: &[String]) -> Result<Option<Form>, NoMemory>
     }
 }
 
-// The job that this word and those behind it ask for.
+// The job that this word and those after it ask for.
 #[tactic(auto, unfolding(crate::specs::Words::form_of))]
 fn form_behind(alloc: Global, first: &String, words: &[String]) -> Result<Option<Form>, NoMemory>
     ensures value { IfOk result (λ form. form ≡ form_of (first.now ∷ words.now)) }
@@ -157,7 +157,7 @@ fn form_behind(alloc: Global, first: &String, words: &[String]) -> Result<Option
 }
 
 /// The job that these words ask for, those after the program's name, or None where they are none of the forms (own).
-/// NoMemory comes only for words behind `replay`, `campaign` and `listen`, whose settings are read by a command of
+/// NoMemory comes only for words after `replay`, `campaign` and `listen`, whose settings are read by a command of
 /// `clap`, and then says nothing of them.
 #[tactic(auto, unfolding(crate::specs::Words::form_of))]
 pub fn form_of(alloc: Global, words: &[String]) -> Result<Option<Form>, NoMemory>

@@ -1,4 +1,4 @@
--- The flow at a place is that of the peer who stands there.
+-- The flow at a place is that of the peer who is there.
 use Rattle.std.proofs.Common.{◌≡◌, refl, sym, ap, ◌∙◌, ℕ, zero, suc, ◌+◌, ◌≤◌, List, [], ◌∷◌, ◌++◌, length, drop, append_assoc, append-nil, Option, Some, None, arith}
 use Rattle.std.specs.Prelude.{flat_map, option_map, slice_get}
 use Rattle.std.specs.Map.{keys_of}
@@ -18,7 +18,7 @@ none-by : (found : Option (Peer × FlowEnd)) → option_map (λ (flow : Peer × 
 none-by None key = refl
 none-by (Some flow) key = cc key
 
--- no peer stands at the place
+-- no peer is at the place
 pub none_there : (flows : Flows) (place : ℕ) → slice_get (keys_of flows) place ≡ None → flow_line_if (slice_get flows place) ≡ []
 none_there flows place key = none-by (slice_get flows place) (sym (keys-at flows place) ∙ key)
 
@@ -35,13 +35,13 @@ flow-by flows place peer e (Some flow) ordered there key has =
           ap (λ (p : Peer). Some (p, flow.1)) same ∙ ap (λ (x : FlowEnd). Some (peer, x)) equal,
     )
 
--- a peer stands there, and has an end
+-- a peer is there, and has an end
 pub flow_there : (flows : Flows) (place : ℕ) (peer : Peer) (end : FlowEnd) → AreInOrder flows → slice_get (keys_of flows) place ≡ Some peer
     → end_of_peer flows peer ≡ Some end → slice_get flows place ≡ Some (peer, end)
 flow_there flows place peer end ordered key has =
     (flow-by flows place peer (Some end) (slice_get flows place) ordered refl (sym (keys-at flows place) ∙ key) has).1 end refl
 
--- who stands there has an end
+-- who is there has an end
 pub always_there : (flows : Flows) (place : ℕ) (peer : Peer) → AreInOrder flows → slice_get (keys_of flows) place ≡ Some peer → end_of_peer flows peer ≡ None
     → ⊥
 always_there flows place peer ordered key has =

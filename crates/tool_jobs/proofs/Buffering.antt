@@ -13,7 +13,7 @@ data-told bytes (Synced number) within = tt
 data-told bytes (WasReset code) within = tt
 data-told bytes (SentReset code detail) within = tt
 
--- four pieces, put one behind the other
+-- four pieces, put one after the other
 pub in-turn : (old a b c d : List ℕ) → old ++ a ++ b ++ c ++ d ≡ old ++ (a ++ b ++ c ++ d)
 in-turn old a b c d =
     ap (λ (text : List ℕ). text ++ c ++ d) (append_assoc old a b) ∙ ap (λ (text : List ℕ). text ++ d) (append_assoc old (a ++ b) c)

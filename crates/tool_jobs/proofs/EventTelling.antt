@@ -1,4 +1,4 @@
--- Data that are delivered stand within the bytes that arrived, so the line of each event can tell them.
+-- Data that are delivered are within the bytes that arrived, so the line of each event can tell them.
 use Rattle.std.proofs.Common.{◌≡◌, refl, sym, ap, ◌∙◌, subst, ℕ, List, Bool, true, false, if◌then◌else◌, Option, Some, None, Result, Ok, Err, slice_get}
 use Rattle.ccid_two.specs.Kinds.{Both, kinds_control}
 use Rattle.dccp_endpoint.specs.Calling.{aborts, closes, opens, prefers, sends_payload}

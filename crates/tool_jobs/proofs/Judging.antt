@@ -14,7 +14,7 @@ use Rattle.tool_text.specs.declared.words.faults.LineWhy.TheVariants as why
 use Rattle.two_ends.specs.Controlled.{Controlled}
 use Rattle.world_events.specs.declared.event.Event.{Event}
 
--- a schedule behind an event that took place
+-- a schedule after an event that took place
 abbrev led_on : Play → Controlled Both → Play
 led_on old w = record old { events = old.events + 1; world = Some w }
 

@@ -1,4 +1,4 @@
--- The exchanges of an input are what its lines say, in order; the flows that are written stand in the order of their peers; and Busy is
+-- The exchanges of an input are what its lines say, in order; the flows that are written are in the order of their peers; and Busy is
 -- answered where the table is full.
 use Rattle.std.proofs.Common.{◌≡◌, ◌↔◌, refl, ap, sym, ◌∙◌, subst, ℕ, ◌+◌, ◌≤◌, List, [], ◌∷◌, ◌++◌, length, Bool, true, false, if◌then◌else◌, nat_le, nat_lt, Option, Some, None, Result, Ok, Err}
 use Rattle.std.proofs.lemmas.Bool.{le-leb, leb-true}

@@ -130,7 +130,7 @@ few-at client server None n few Client = omega arith
 few-at client server None n few Server = omega arith
 few-at client server (Some w) n few side = few side
 
--- a schedule behind the line of an event
+-- a schedule after the line of an event
 pub playable-behind : (old made : Play) (after : Controlled Both) → made ≡ record old { world = Some (world_of old) } → IsPlayable old
     → SentFew after (old.events + 1)
     → IsPlayable (record made { events = made.events + 1; world = Some after })

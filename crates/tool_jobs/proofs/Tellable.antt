@@ -1,4 +1,4 @@
--- What a listener tells of a call: data that are delivered stand in the bytes that arrived, and the listener is left as it is computed.
+-- What a listener tells of a call: data that are delivered are in the bytes that arrived, and the listener is left as it is computed.
 use Rattle.std.proofs.Common.{◌≡◌, sym, ap, ◌∙◌, subst, ℕ, List, [], Bool, true, false, Option, Some, None, Result, Ok, Err}
 use Rattle.std.specs.Prelude.{IfOk, OnOk}
 use Rattle.ccid_two.specs.Kinds.{Both, kinds_control}

@@ -1,6 +1,6 @@
 -- The first line that says something says how many options the ends' Ack Vectors have, and no line after it does.
 --
--- Before it a play has said nothing (`IsUnsaid`), behind it it is settled (`IsSettled`). A line leads from the one to the other (`Opens`),
+-- Before it a play has said nothing (`IsUnsaid`), after it it is settled (`IsSettled`). A line leads from the one to the other (`Opens`),
 -- and of a settled play to a settled one with the same vectors (`Stays`); the two inductions over lines follow.
 use Rattle.std.proofs.Common.{◌≡◌, refl, sym, ◌∙◌, ℕ, ◌+◌, Bool, true, false, if◌then◌else◌, List, [], ◌∷◌, length, Option, Some, None, Result, Ok, Err, inl, inr}
 use Rattle.std.specs.Prelude.{⊤, ◌⊎◌, is_some, nat_lt}
@@ -29,7 +29,7 @@ use Rattle.world_events.specs.declared.event.Event.{Event}
 use Rattle.world_events.specs.declared.event.Side.{Side}
 use Rattle.world_events.specs.declared.event.Side.TheVariants.{Client, Server}
 
--- a line that stands before all events, or an event, was accepted
+-- a line that comes before all events, or an event, was accepted
 abbrev IsSettled : Play → Type 0
 IsSettled play = (play.is_configured ≡ true) ⊎ (is_some play.world ≡ true)
 

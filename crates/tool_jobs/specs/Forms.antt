@@ -34,7 +34,7 @@ nonce_kind = number_kind 2
 abbrev pub index_kind : Kind ℕ
 index_kind = number_kind (2 ^ 47)
 
--- The rows behind the first word, by the form that it names.
+-- The rows after the first word, by the form that it names.
 abbrev pub ecn_rows : Form → Row EcnEvent
 ecn_rows form.Send = row_as (λ s. event.Send (s.0 == 1)) (nonce_kind ▷ end_row)
 ecn_rows form.Deliver = row_as (λ s. event.Deliver s.0) (index_kind ▷ end_row)

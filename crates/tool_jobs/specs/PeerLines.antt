@@ -15,14 +15,14 @@ said_by_line number (Ok (Some said)) = (number, said.0, deed_of said.0 said.1) �
 said_by_line number (Ok None) = []
 said_by_line number (Err fault) = []
 
--- the same by what stands next in an input, where a line may be too long or too much
+-- the same by what comes next in an input, where a line may be too long or too much
 abbrev pub said_next : ℕ → Next → List (ℕ × Peer × Deed)
 said_next number End = []
 said_next number (Line line) = said_by_line number (read_call (text_of line))
 said_next number (Long front) = []
 said_next number Much = []
 
--- The same by lines, of which the first has this number, behind so many bytes of their input.
+-- The same by lines, of which the first has this number, after so many bytes of their input.
 abbrev pub said_by_lines : ℕ → ℕ → List (List ℕ) → List (ℕ × Peer × Deed)
 said_by_lines number given [] = []
 said_by_lines number given (line ∷ lines) =

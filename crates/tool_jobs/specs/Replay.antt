@@ -22,7 +22,7 @@ pub record ReplayState (E : Type 0) : Type 0 where
   pub side : Side
   pub end : E
 
--- What an end does: the line that is written of it, the end behind it, and the frame that it sends, if any.
+-- What an end does: the line that is written of it, the end after it, and the frame that it sends, if any.
 pub record Act (E : Type 0) : Type 0 where
   pub text : List ℕ
   pub after : E
@@ -34,7 +34,7 @@ pub record Heeded (E : Type 0) : Type 0 where
   pub after : E
 
 -- An end of some kind, as a replay has it: what it does at the call `open`, and with bytes that the line of this number
--- made arrive; which lines say what it is to do itself, and what it does then; and the end whose line stands last.
+-- made arrive; which lines say what it is to do itself, and what it does then; and the end whose line comes last.
 pub record Acts (E : Type 0) : Type 0 where
   pub opening : E → Act E
   pub hearing : E → ℕ → List ℕ → Act E
@@ -69,11 +69,11 @@ first_replay side end = record { sent = 0; side = side; end = end }
 abbrev pub act_lines : {E : Type 0} → ReplayState E → Act E → List ℕ
 act_lines replay act = act.text ++ reply_line replay.side replay.sent act.frame
 
--- the end behind it, and how many frames it has sent then
+-- the end after it, and how many frames it has sent then
 abbrev pub after_act : {E : Type 0} → ReplayState E → Act E → ReplayState E
 after_act replay act = record { sent = replay.sent + count act.frame; side = replay.side; end = act.after }
 
--- What stands before the first line: its text, and where the replay then stands.
+-- What comes before the first line: its text, and where the replay then stands.
 pub record Begun (E : Type 0) : Type 0 where
   pub text : List ℕ
   pub replay : ReplayState E
@@ -83,7 +83,7 @@ abbrev pub begun_from : {E : Type 0} → Acts E → ReplayState E → Side → B
 begun_from acts replay Client = record { text = act_lines replay (acts.opening replay.end); replay = after_act replay (acts.opening replay.end) }
 begun_from acts replay Server = record { text = []; replay = replay }
 
--- what stands before the first line of a replay of this side, at this new end
+-- what comes before the first line of a replay of this side, at this new end
 abbrev pub begun_replay : {E : Type 0} → Acts E → Side → E → Begun E
 begun_replay acts side end = begun_from acts (first_replay side end) side
 
@@ -119,7 +119,7 @@ replay_of_input acts side end input = gone_through (replay_job acts) (begun_repl
 abbrev pub text_of_replay : {E : Type 0} → Acts E → Side → E → List ℕ → List ℕ
 text_of_replay acts side end input = (begun_replay acts side end).text ++ text_of_job (replay_job acts) (replay_of_input acts side end input)
 
--- An act was done so: its line stands at the text's end.
+-- An act was done so: its line is at the text's end.
 abbrev pub Performs : {E : Type 0} → Act E → E → Option Outgoing → List ℕ → List ℕ → Type 0
 Performs act after frame old new = (after ≡ act.after) × (frame ≡ act.frame) × (new ≡ old ++ act.text)
 

@@ -20,7 +20,7 @@ answer_text bytes (Stepped None) = codes ": refused NoFlow\n"
 answer_text bytes WasBusy = codes ": busy\n"
 answer_text bytes HadNoMemory = []
 
--- data that an answer delivers stand in the bytes that arrived
+-- data that an answer delivers are in the bytes that arrived
 abbrev pub CanBeTold : List ℕ → CallTold → Type 0
 CanBeTold bytes (Stepped (Some seen)) = IsSeenOf bytes seen
 CanBeTold bytes (Stepped None) = Unit {0}
@@ -63,6 +63,6 @@ abbrev pub flow_line_if : Option (Peer × FlowEnd) → List ℕ
 flow_line_if None = []
 flow_line_if (Some flow) = flow_line flow
 
--- how many flows stand at the end, and each of them in the order of their peers
+-- how many flows are at the end, and each of them in the order of their peers
 abbrev pub flow_lines : Flows → List ℕ
 flow_lines flows = labelled_number (codes "flows ") (length flows) ++ codes "\n" ++ flat_map flow_line flows

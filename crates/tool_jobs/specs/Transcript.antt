@@ -37,7 +37,7 @@ use Rattle.tool_text.specs.Jobs.{Gone, Job, Verdict, Accepted, Refused, gone_thr
 use Rattle.tool_jobs.specs.Scenes.{Scene, scene_text}
 use Rattle.tool_jobs.specs.WorldLines.{end_lines}
 
--- Where a schedule stands before its first line: the two usual ends are configured.
+-- Where a schedule is before its first line: the two usual ends are configured.
 abbrev pub first_play : Play
 first_play = record { events = 0; is_configured = false; client = usual role.Client; server = usual role.Server; world = None }
 
@@ -54,15 +54,15 @@ world_or_start client server (Some w) = w
 abbrev pub world_of : Play → Controlled Both
 world_of play = world_or_start play.client play.server play.world
 
--- A delivery names no frame; its name stands behind `deliver `.
+-- A delivery names no frame; its name follows `deliver `.
 abbrev pub no_such_frame : LineFault
 no_such_frame = record { column = 9; why = why.NoSuchFrame }
 
--- a schedule with a line that stands before all events
+-- a schedule with a line that comes before all events
 abbrev pub with_header : Play → Play
 with_header play = record play { is_configured = true }
 
--- A line that stands before all events changes the configurations.
+-- A line that comes before all events changes the configurations.
 abbrev pub configures : Play → (Play → Play) → Verdict Scene Play
 configures play change = if is_some play.world then Refused (whole_line why.HeaderLate) else Accepted None (change (with_header play))
 
@@ -85,7 +85,7 @@ abbrev pub with_vectors : Vectors → Play → Play
 with_vectors vectors play =
     record play { client = record play.client { vectors = vectors }; server = record play.server { vectors = vectors } }
 
--- The version stands before every other line that says something, and so once.
+-- The version comes before every other line that says something, and so once.
 abbrev pub says_version : Play → ℕ → Verdict Scene Play
 says_version play version =
     if play.is_configured then Refused (whole_line why.HeaderLate) else configures play (with_vectors (vectors_of version))
@@ -145,7 +145,7 @@ is_of_wish why.BadList = true
 is_of_wish why.NotOurs = true
 is_of_wish _ = false
 
--- It is judged behind that its line stands before all events.
+-- It is judged once its line is known to come before all events.
 abbrev pub in_place : Play → LineFault → LineFault
 in_place play fault = if is_some play.world && is_of_wish fault.why then whole_line why.HeaderLate else fault
 
@@ -161,7 +161,7 @@ by_line play number (Ok (line.Offer side place feature mandatory)) = configures 
 by_line play number (Ok (line.Event event)) = says_event play number event
 
 -- A line of this number, without its newline. Its faults are judged in this order: the line by itself up to its words,
--- that it stands before all events, what an end may wish, the count of events, the frame that it names.
+-- that it comes before all events, what an end may wish, the count of events, the frame that it names.
 unfoldable pub judged_line : Play → ℕ → List ℕ → Verdict Scene Play
 judged_line play number line = by_line play number (read_line line)
 

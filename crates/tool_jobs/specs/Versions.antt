@@ -10,7 +10,7 @@ use Rattle.tool_jobs.specs.Transcript.{vectors_of}
 use Rattle.tool_jobs.specs.declared.run.play.Play.{Play}
 use Rattle.tool_text.specs.declared.words.faults.LineFault.{LineFault}
 
--- The ends' Ack Vectors by a line: one that says nothing leaves that to the lines behind it, and one with a fault stops
+-- The ends' Ack Vectors by a line: one that says nothing leaves that to the lines after it, and one with a fault stops
 -- the schedule.
 abbrev pub vectors_by : Result words.Line LineFault → Vectors → Vectors
 vectors_by (Err fault) later = One
@@ -22,14 +22,14 @@ vectors_by (Ok (line.Set side place feature values)) later = One
 vectors_by (Ok (line.Offer side place feature mandatory)) later = One
 vectors_by (Ok (line.Event event)) later = One
 
--- the same by what stands next in an input, where a line may be too long or too much
+-- the same by what comes next in an input, where a line may be too long or too much
 abbrev pub vectors_next : Next → Vectors → Vectors
 vectors_next End later = later
 vectors_next (Line line) later = vectors_by (read_line (text_of line)) later
 vectors_next (Long front) later = One
 vectors_next Much later = One
 
--- The same by lines, behind so many bytes of their input: two options exactly where the first line that says something
+-- The same by lines, after so many bytes of their input: two options exactly where the first line that says something
 -- is `version 2`.
 abbrev pub vectors_said : ℕ → List (List ℕ) → Vectors
 vectors_said given [] = One

@@ -4,6 +4,7 @@
 mod frames;
 mod lines;
 
-pub use crate::ends::frames::role_of;
-pub(crate) use crate::ends::frames::{arriving, put_arriving};
+pub(crate) use crate::ends::frames::put_arriving;
+pub use crate::ends::frames::{arriving, role_of};
+pub use crate::ends::lines::put_end_rows;
 pub(crate) use crate::ends::lines::{phase_name, put_end_line, put_frame_line};

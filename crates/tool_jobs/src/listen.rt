@@ -18,3 +18,4 @@ pub use crate::listen::laws::{
     the_first_fault_of_a_peer_line_is_answered,
 };
 pub use crate::listen::listening::listen_to_peers;
+pub use crate::listen::peers::{peer_of, put_peer};

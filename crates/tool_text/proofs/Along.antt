@@ -1,21 +1,21 @@
--- On the way through an input: what was written, what stands in the text and what is left make the whole.
-use Rattle.std.proofs.Common.{arith, ◌≡◌, refl, sym, ap, ◌∙◌, subst, inr, ℕ, ◌+◌, true, false, List, [], ◌∷◌, ◌++◌, length, drop, Option, Some, None, Ok, IfSome, append_assoc}
+-- On the way through an input: what was written, what is in the text and what is left make the whole.
+use Rattle.std.proofs.Common.{arith, ◌≡◌, refl, sym, ap, ◌∙◌, subst, inr, ℕ, ◌+◌, Bool, true, false, List, [], ◌∷◌, ◌++◌, length, drop, Option, Some, None, Ok, IfSome, append_assoc}
 use Rattle.std.proofs.lemmas.Grind.{flat_map-append}
 use Rattle.std.proofs.lemmas.List.{append-nil, drop-drop}
 use Rattle.std.specs.Io.KnownBytes.{append_known, prepend_known}
 use Rattle.std.specs.Prelude.{flat_map, is_some}
 use Rattle.dccp_io.specs.Fronts.{GivesAtMost}
 use Rattle.dccp_io.specs.Lines.{Line, first_line, lines_of, next_in_bytes, text_of}
-use Rattle.tool_text.specs.Jobs.{Job, Verdict, Accepted, Refused, Judges, Gone, GoesThrough, by_next, deeds_of, gone_by, gone_from, gone_so_far, gone_through, last_lines, line_text, onto, text_of_job}
+use Rattle.tool_text.specs.Jobs.{Job, Verdict, Accepted, Refused, Judges, Gone, GoesIn, by_next, deeds_of, gone_by, gone_from, gone_so_far, gone_through, last_in, line_text, onto, refusal_at, refusal_in, refusal_told, text_in}
 use Rattle.tool_text.specs.Turns.{Leaves}
 use Rattle.tool_text.proofs.FirstLine.{gone-cut, is-line}
 use Rattle.tool_text.specs.Ends.{HasBegun, IsCutOff, IsMovedOut}
-use Rattle.tool_text.specs.declared.output.status.JobEnd.{JobEnd}
+use Rattle.tool_text.specs.declared.lines.loops.LinesEnd.{LinesEnd}
 use Rattle.tool_text.specs.declared.output.status.JobEnd.TheVariants as ended
 use Rattle.tool_text.proofs.Ending.{answers-early, append-none, append-twice, begun-behind, begun-longer, none-left, not-both}
 use Rattle.tool_text.specs.declared.words.faults.LineFault.{LineFault}
 
--- Before a line of this number, behind so many bytes that were given, where `left` is what is left of the input and `text` was not
+-- Before a line of this number, after so many bytes that were given, where `left` is what is left of the input and `text` was not
 -- written yet.
 pub record Along {P V : Type 0} (job : Job P V) (first state : V) (number given : ℕ) (left : Option (List ℕ)) (front text : List ℕ)
     (before after : Option (List ℕ)) (input : List ℕ) : Type 0 where
@@ -121,74 +121,76 @@ module _ {P V : Type 0} (job : Job P V) (first : V) where
       (job.judged state number (text_of line))
       (here.1 ∙ ap Some moved) refl goes judges
 
-  -- the text of what is left stands behind that of what was done
-  text-onto : (front : List ℕ) (deeds : List P) (rest : Gone P V)
-      → front ++ text_of_job job (onto deeds rest) ≡ (front ++ flat_map job.told deeds) ++ text_of_job job rest
-  text-onto front deeds rest =
-      let last = last_lines job rest.last rest.number rest.refusal in
+  -- the text of what is left follows that of what was done
+  text-onto : (apart : Bool) (front : List ℕ) (deeds : List P) (rest : Gone P V)
+      → front ++ text_in apart job (onto deeds rest) ≡ (front ++ flat_map job.told deeds) ++ text_in apart job rest
+  text-onto apart front deeds rest =
+      let last = last_in apart job rest.last rest.number rest.refusal in
       ap (λ (told : List ℕ). front ++ (told ++ last)) (flat_map-append job.told deeds rest.deeds)
       ∙ ap (λ (more : List ℕ). front ++ more) (append_assoc (flat_map job.told deeds) (flat_map job.told rest.deeds) last)
-      ∙ sym (append_assoc front (flat_map job.told deeds) (text_of_job job rest))
+      ∙ sym (append_assoc front (flat_map job.told deeds) (text_in apart job rest))
 
-  whole-text : (rest : Gone P V) (state : V) (number given : ℕ) (left : Option (List ℕ)) (front text : List ℕ) (before after : Option (List ℕ)) (input : List ℕ)
+  whole-text : (apart : Bool) (rest : Gone P V) (state : V) (number given : ℕ) (left : Option (List ℕ)) (front text : List ℕ) (before after : Option (List ℕ)) (input : List ℕ)
       (along : Along job first state number given left front text before after input)
       → gone_from job state number given (lines_of (drop given input)) ≡ rest
-      → front ++ text_of_job job (gone_through job first input) ≡ along.written ++ (text ++ text_of_job job rest)
-  whole-text rest state number given left front text before after input along is =
-      ap (λ (gone : Gone P V). front ++ text_of_job job gone) (along.whole ∙ ap (onto along.deeds) is)
-      ∙ text-onto front along.deeds rest
-      ∙ ap (λ (told : List ℕ). told ++ text_of_job job rest) (sym along.told)
-      ∙ append_assoc along.written text (text_of_job job rest)
+      → front ++ text_in apart job (gone_through job first input) ≡ along.written ++ (text ++ text_in apart job rest)
+  whole-text apart rest state number given left front text before after input along is =
+      ap (λ (gone : Gone P V). front ++ text_in apart job gone) (along.whole ∙ ap (onto along.deeds) is)
+      ∙ text-onto apart front along.deeds rest
+      ∙ ap (λ (told : List ℕ). told ++ text_in apart job rest) (sym along.told)
+      ∙ append_assoc along.written text (text_in apart job rest)
 
-  module _ (Keeps : V → ℕ → Type 0) (state : V) (number given : ℕ) (left known : Option (List ℕ)) (front text : List ℕ) (before after later : Option (List ℕ))
+  module _ (apart : Bool) (Keeps : V → ℕ → Type 0) (state : V) (number given : ℕ) (left known : Option (List ℕ)) (front text : List ℕ) (before after later : Option (List ℕ))
       (input : List ℕ)
-      (result : JobEnd) (along : Along job first state number given left front text before after input) where
+      (result : LinesEnd) (along : Along job first state number given left front text before after input) where
     -- the job ended early
-    pub through-early : IsCutOff result → HasBegun after later text → GoesThrough job Keeps first front input result known before later
+    pub through-early : IsCutOff result.end → HasBegun after later text → GoesIn apart job Keeps first front input result known before later
     through-early off begun =
         let rest = gone_from job state number given (lines_of (drop given input)) in
         record {
-          answers = answers-early (front ++ text_of_job job (gone_through job first input))
-              (is_some (gone_through job first input).refusal) result known before later off
-              (subst (HasBegun before later) (sym (whole-text rest state number given left front text before after input along refl))
-              (begun-behind before after later along.written (text ++ text_of_job job rest) along.taken_is
-              (begun-longer after later text (text_of_job job rest) begun)));
-          past = λ is. absurd (not-both result (inr is) off);
-          kept = λ answered. absurd (not-both result answered off);
+          answers = answers-early (front ++ text_in apart job (gone_through job first input))
+              (is_some (gone_through job first input).refusal) result.end known before later off
+              (subst (HasBegun before later) (sym (whole-text apart rest state number given left front text before after input along refl))
+              (begun-behind before after later along.written (text ++ text_in apart job rest) along.taken_is
+              (begun-longer after later text (text_in apart job rest) begun)));
+          past = λ is. absurd (not-both result.end (inr is) off);
+          kept = λ answered. absurd (not-both result.end answered off);
+          refused = λ answered. absurd (not-both result.end answered off);
         }
 
-    -- behind the last turn the rest of the text was left, and the last lines
+    -- after the last turn the rest of the text was left, and the last lines
     through-last : (refusal : Option LineFault) → gone_from job state number given (lines_of (drop given input)) ≡ gone_so_far state number given refusal
-        → Keeps state number
-        → Leaves (text ++ last_lines job state number refusal) (is_some refusal) result after later
-        → (result ≡ ended.Done → known ≡ Some []) → (result ≡ ended.Input → GivesAtMost 16384 (Some (drop given input)) known)
-        → GoesThrough job Keeps first front input result known before later
-    through-last refusal is kept leaves none far =
+        → Keeps state number → result.refusal ≡ refusal_at number refusal
+        → Leaves (text ++ last_in apart job state number refusal) (is_some refusal) result.end after later
+        → (result.end ≡ ended.Done → known ≡ Some []) → (result.end ≡ ended.Input → GivesAtMost 16384 (Some (drop given input)) known)
+        → GoesIn apart job Keeps first front input result known before later
+    through-last refusal is kept told leaves none far =
         let rest = gone_so_far state number given refusal in
         let whole : gone_through job first input ≡ onto along.deeds rest = along.whole ∙ ap (onto along.deeds) is in
-        let parts = whole-text rest state number given left front text before after input along is in
+        let parts = whole-text apart rest state number given left front text before after input along is in
         let refused : is_some (gone_through job first input).refusal ≡ is_some refusal = ap (λ (gone : Gone P V). is_some gone.refusal) whole in
         record {
           answers = record {
             whole = λ answered.
-                leaves.whole answered ∙ ap (λ (known : Option (List ℕ)). append_known known (text ++ text_of_job job rest)) along.taken_is
-                ∙ append-twice before along.written (text ++ text_of_job job rest) ∙ ap (append_known before) (sym parts);
+                leaves.whole answered ∙ ap (λ (known : Option (List ℕ)). append_known known (text ++ text_in apart job rest)) along.taken_is
+                ∙ append-twice before along.written (text ++ text_in apart job rest) ∙ ap (append_known before) (sym parts);
             front = λ off. subst (HasBegun before later) (sym parts)
-                (begun-behind before after later along.written (text ++ text_of_job job rest) along.taken_is (leaves.front off));
+                (begun-behind before after later along.written (text ++ text_in apart job rest) along.taken_is (leaves.front off));
             done = λ done. (refused ∙ leaves.done done, none done);
             input = λ is_input. refused ∙ leaves.input is_input;
           };
           past = λ is_input. subst (λ (n : ℕ). GivesAtMost 16384 (Some (drop n input)) known) (sym (ap (λ (gone : Gone P V). gone.accepted) whole))
               (far is_input);
           kept = λ _. (number, subst (λ (last : V). Keeps last number) (sym (ap (λ (gone : Gone P V). gone.last) whole)) kept);
+          refused = λ _. told ∙ sym (ap refusal_told whole);
         }
 
     -- the input is at its end
     pub through-end : (pending : List ℕ) → Keeps state number → IfSome left (λ bytes. (bytes ≡ []) × (prepend_known pending known ≡ Some []))
-        → Leaves (text ++ job.ending state) false result after later → GoesThrough job Keeps first front input result known before later
-    through-end pending kept ends leaves =
+        → result.refusal ≡ None → Leaves (text ++ job.ending state) false result.end after later → GoesIn apart job Keeps first front input result known before later
+    through-end pending kept ends told leaves =
         let here = subst (λ (all : Option (List ℕ)). IfSome all (λ bytes. (bytes ≡ []) × (prepend_known pending known ≡ Some []))) along.rest_is ends in
-        through-last None (ap (λ (bytes : List ℕ). gone_from job state number given (lines_of bytes)) here.0) kept leaves
+        through-last None (ap (λ (bytes : List ℕ). gone_from job state number given (lines_of bytes)) here.0) kept told leaves
         (λ _. none-left pending known here.1) (λ is. cc (leaves.input is))
 
     refused-by : (bytes : List ℕ) (fault : LineFault) → by_next job state number (next_in_bytes given bytes) ≡ Refused fault
@@ -199,13 +201,14 @@ module _ {P V : Type 0} (job : Job P V) (first : V) where
         ∙ ap (λ (v : Verdict P V). gone_by state number given v (λ (next : V).
         gone_from job next (number + 1) (given + length (first_line (byte ∷ bytes))) (lines_of (drop (length (first_line (byte ∷ bytes))) (byte ∷ bytes))))) is
 
-    -- what stands next is refused
+    -- what comes next is refused
     pub through-refused : (fault : LineFault) → Keeps state number → IfSome left (λ bytes. GivesAtMost 12289 (Some bytes) known)
         → IfSome left (λ bytes. by_next job state number (next_in_bytes given bytes) ≡ Refused fault)
-        → Leaves (text ++ last_lines job state number (Some fault)) true result after later → GoesThrough job Keeps first front input result known before later
-    through-refused fault kept past refused leaves =
+        → result.refusal ≡ refusal_at number (Some fault)
+        → Leaves (text ++ refusal_in apart number fault) true result.end after later → GoesIn apart job Keeps first front input result known before later
+    through-refused fault kept past refused told leaves =
         let bytes = drop given input in
         let far = subst (λ (all : Option (List ℕ)). IfSome all (λ bs. GivesAtMost 12289 (Some bs) known)) along.rest_is past in
         let here = subst (λ (all : Option (List ℕ)). IfSome all
         (λ bs. by_next job state number (next_in_bytes given bs) ≡ Refused fault)) along.rest_is refused in
-        through-last (Some fault) (refused-by bytes fault here) kept leaves (λ is. cc (leaves.done is)) (λ _. (far.0, omega (arith, far.1), far.2))
+        through-last (Some fault) (refused-by bytes fault here) kept told leaves (λ is. cc (leaves.done is)) (λ _. (far.0, omega (arith, far.1), far.2))

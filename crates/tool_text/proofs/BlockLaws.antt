@@ -1,4 +1,4 @@
--- What is looked for stands behind what was judged: blocks without it, or bytes near the beginning.
+-- What is looked for follows what was judged: blocks without it, or bytes near the beginning.
 use Rattle.std.proofs.Common.{◌≡◌, refl, sym, ap, ◌∙◌, ℕ, zero, suc, ◌+◌, ◌-◌, List, [], ◌∷◌, length, take, drop, Bool, true, false, not, cond, ◌&&◌, Option, Some, None, arith}
 use Rattle.std.specs.List.{list_all, position_from}
 use Rattle.std.proofs.lemmas.Grind.{common_steps}
@@ -42,7 +42,7 @@ further p (suc count) more (x ∷ xs) all block =
     ap (λ (n : ℕ). list_all p (take n (x ∷ xs))) same
     ∙ and-true (p x) (list_all p (take (count + more) xs)) both.0 (further p count more xs both.1 block)
 
--- nor does it stand in what was judged with one block more
+-- nor is it in what was judged with one block more
 pub block_further : (t : ℕ → Bool) (count size : ℕ) (text : List ℕ) → list_all (λ byte. not (t byte)) (take count text) ≡ true
     → list_all (λ byte. not (t byte)) (take (count + size - count) (drop count text)) ≡ true → list_all (λ byte. not (t byte)) (take (count + size) text) ≡ true
 block_further t count size text all block =
@@ -67,7 +67,7 @@ moved t count from (x ∷ xs) =
     moved-test (t x) count from (position_from t (count + from + 1) xs) (position_from t (from + 1) xs)
     (ap (λ (n : ℕ). position_from t n xs) same ∙ moved t count (from + 1) xs)
 
--- what is found behind is found in the whole
+-- what is found later is found in the whole
 found_behind : (t : ℕ → Bool) (count : ℕ) (text : List ℕ) (found : Option ℕ) → list_all (λ x. not (t x)) (take count text) ≡ true
     → found ≡ position_from t 0 (take (length text - count) (drop count text)) → moved_by count found ≡ position_from t 0 text
 found_behind t count text found all is =

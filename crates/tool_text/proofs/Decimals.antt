@@ -1,4 +1,4 @@
--- A number's last digit stands behind the number that the others are, and each number of an address behind its dot.
+-- A number's last digit follows the number that the others are, and each number of an address after its dot.
 use Rattle.std.proofs.Common.{arith, ◌≡◌, sym, ap, ◌∙◌, ℕ, ◌+◌, ◌/◌, ◌%◌, ◌<◌, ◌≤◌, List, [], ◌∷◌, ◌++◌, append_assoc}
 use Rattle.std.specs.Prelude.{codes, decimal, slice_index}
 use Rattle.std.proofs.lemmas.Fmt.{decimal_step}

@@ -1,4 +1,4 @@
--- What stands next in an input, in the terms of its lines.
+-- What comes next in an input, in the terms of its lines.
 use Rattle.std.proofs.Common.{arith, ◌≡◌, sym, ap, ◌∙◌, ℕ, ◌+◌, ◌<◌, Bool, true, false, if◌then◌else◌, List, [], ◌∷◌, length, drop}
 use Rattle.dccp_io.specs.Lines.{Next, Line, Long, Much, first_line, lines_of, next_in_bytes, next_in_lines}
 use Rattle.dccp_io.proofs.LineList.{lines-cut, next-first}
@@ -9,12 +9,12 @@ with-line true true front first line is = cc is
 with-line true false front first line is = cc is
 with-line false long front first line is = cc is
 
--- a line stands next
+-- a line comes next
 pub is-line : (given : ℕ) (bytes line : List ℕ) → next_in_bytes given bytes ≡ Line line → (0 < length bytes) × (first_line bytes ≡ line)
 is-line given [] line is = cc is
 is-line given (byte ∷ bytes) line is = (omega arith, with-line _ _ _ _ line is)
 
--- where some are left, the first line comes to what stands next, and then the lines behind it
+-- where some are left, the first line comes to what comes next, and then the lines after it
 pub gone-cut : {P V : Type 0} (job : Job P V) (state : V) (number given : ℕ) (bytes : List ℕ) → 0 < length bytes
     → gone_from job state number given (lines_of bytes)
     ≡ gone_by state number given (by_next job state number (next_in_bytes given bytes))

@@ -1,10 +1,10 @@
--- The first piece of a text, and the pieces behind it.
+-- The first piece of a text, and the pieces after it.
 use Rattle.std.proofs.lemmas.Grind.{common_steps}
 use Rattle.std.proofs.Common.{◌≡◌, refl, ap, ◌∙◌, ℕ, zero, suc, ◌+◌, ◌-◌, ◌<◌, ◌==◌, List, [], ◌∷◌, length, take, drop, Bool, true, false, cond, Some, None, arith}
 use Rattle.std.specs.List.{slice_split, onto_first, position_from}
 use Rattle.tool_text.specs.Words.{WordsLeft, parted_by, placed, later, word_at, is_over}
 
--- an element parts a list: so many stand before it, and these pieces follow it
+-- an element parts a list: so many come before it, and these pieces follow it
 record IsCut {X : Type 0} (p : X → Bool) (from : ℕ) (xs : List X) (place : ℕ) : Type 0 where
   pub count : ℕ
   pub at : place ≡ from + count
@@ -43,7 +43,7 @@ whole_from : {X : Type 0} (p : X → Bool) (from : ℕ) (xs : List X) → positi
 whole_from p from [] none = refl
 whole_from p from (x ∷ xs) none = whole_by p from x xs (p x) refl none (whole_from p (from + 1) xs)
 
--- a text is parted where the mark stands first
+-- a text is parted where the mark comes first
 pub parted : (mark : ℕ) (text : List ℕ) (place : ℕ) → position_from (λ byte. byte == mark) 0 text ≡ Some place
     → parted_by mark text ≡ take place text ∷ parted_by mark (drop (place + 1) text)
 parted mark text place found =
@@ -81,7 +81,7 @@ some_left column text = ap (λ (texts : List (List ℕ)). is_over (placed column
 pub tail_whole : (text : List ℕ) (place : ℕ) → take (length text - place) (drop place text) ≡ drop place text
 tail_whole text place = grind (arith, common_steps)
 
--- the word at a place is the one before it among those behind the first
+-- the word at a place is the one before it among those after the first
 pub one_further : (place : ℕ) (left : WordsLeft) → 0 < place → word_at (place - 1) (later left) ≡ word_at place left
 one_further zero left some = absurd (omega arith)
 one_further (suc place) left some = let same : suc place - 1 ≡ place = omega arith in ap (λ (n : ℕ). word_at n (later left)) same

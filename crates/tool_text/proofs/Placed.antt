@@ -1,4 +1,4 @@
--- The words of a line stand at their columns.
+-- The words of a line are at their columns.
 use Rattle.std.proofs.Common.{◌≡◌, refl, ap, ◌∙◌, subst, ℕ, ◌+◌, ◌-◌, ◌==◌, List, [], ◌∷◌, ◌++◌, length, length-append, take, drop, append_assoc, Bool, true, false, ◌&&◌, not, cond, arith}
 use Rattle.std.specs.Prelude.{map, All}
 use Rattle.std.specs.List.{list_all, onto_first}

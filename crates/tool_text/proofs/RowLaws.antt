@@ -219,7 +219,7 @@ module _ {A B : Type 0} (kind : Kind A) (rows : A → Row B) (is_kind : IsExactK
     are_words = choice-words;
   }
 
--- a row behind a word
+-- a row after a word
 test-fault : {A : Type 0} (test : Bool) (r s : Result A LineFault) (one other : Option LineFault) → fault_in r ≡ one → fault_in s ≡ other
     → fault_in (if test then r else s) ≡ (if test then one else other)
 test-fault true r s one other p q = p

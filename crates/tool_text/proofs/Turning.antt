@@ -1,11 +1,12 @@
 -- The turns of the loop over lines, and its ends.
-use Rattle.std.proofs.Common.{arith, ◌≡◌, refl, ◌∙◌, subst, inl, inr, ℕ, ◌+◌, ◌≤◌, false, true, List, ◌++◌, Option, None, Result, Ok, IfSome, OnOk, OnErr}
+use Rattle.std.proofs.Common.{arith, ◌≡◌, refl, ◌∙◌, subst, inl, inr, ℕ, ◌+◌, ◌≤◌, Bool, false, true, List, ◌++◌, Option, Some, None, Result, Ok, IfSome, OnOk, OnErr}
 use Rattle.std.proofs.lemmas.Option.{IfSome_then}
 use Rattle.std.specs.Prelude.{is_err}
 use Rattle.dccp_io.specs.Fronts.{TakesFront}
 use Rattle.dccp_io.specs.Lines.{LinesState, rest_of_input}
-use Rattle.tool_text.specs.Jobs.{Job, GoesThrough}
-use Rattle.tool_text.specs.Turns.{Leaves, TakesTurn}
+use Rattle.tool_text.specs.Jobs.{GoesIn, Job, refusal_in}
+use Rattle.tool_text.specs.Turns.{Leaves, TakesTurn, unrefused}
+use Rattle.tool_text.specs.declared.lines.loops.LinesEnd.{LinesEnd}
 use Rattle.tool_text.specs.declared.lines.turns.Turn.{Turn}
 use Rattle.tool_text.specs.declared.lines.turns.Turn.TheVariants as turn
 use Rattle.tool_text.proofs.Along.{Along, along-first, along-line, along-moved, through-early, through-end, through-refused}
@@ -13,7 +14,6 @@ use Rattle.tool_text.specs.Ends.{HasBegun, IsMovedOut}
 use Rattle.tool_text.specs.declared.output.status.JobEnd.{JobEnd}
 use Rattle.tool_text.specs.declared.output.status.JobEnd.TheVariants as ended
 use Rattle.tool_text.proofs.Ending.{on-err, on-ok, unwritten}
-use Rattle.tool_text.specs.Refusals.{refusal_line}
 use Rattle.tool_text.specs.declared.words.faults.LineFault.{LineFault}
 
 -- Before each turn: the reader has not stopped, the number fits what it gave, the job keeps what it keeps, the counts of faults never
@@ -32,7 +32,7 @@ pub record InLoop {S K P V : Type 0} (left : S → Option (List ℕ)) (faults le
       (λ input. Along job start state number now.given (rest_of_input left now) front text (taken opened) (taken output) input)
 
 module _ {S K P V : Type 0} (left : S → Option (List ℕ)) (faults lender : S → ℕ) (taken : K → Option (List ℕ)) (failed empty : K → ℕ)
-    (job : Job P V) (Keeps : V → ℕ → Type 0) (start : V) (first : LinesState S) (opened : K) (front : List ℕ) where
+    (job : Job P V) (Keeps : V → ℕ → Type 0) (apart : Bool) (start : V) (first : LinesState S) (opened : K) (front : List ℕ) where
   pub begins : first.stop ≡ None → first.given ≡ 0 → Keeps start 1
       → InLoop left faults lender taken failed empty job Keeps start start first first opened opened front front 1
   begins unstopped given kept = record {
@@ -48,8 +48,8 @@ module _ {S K P V : Type 0} (left : S → Option (List ℕ)) (faults lender : S 
   }
 
   -- what the loop comes to
-  abbrev pub Through : S → Option (List ℕ) → JobEnd → Type 0
-  Through source later result = IfSome (rest_of_input left first) (λ input. GoesThrough job Keeps start front input result (left source) (taken opened) later)
+  abbrev pub Through : S → Option (List ℕ) → LinesEnd → Type 0
+  Through source later result = IfSome (rest_of_input left first) (λ input. GoesIn apart job Keeps start front input result (left source) (taken opened) later)
 
   module _ (state : V) (old : LinesState S) (output : K) (text : List ℕ) (number : ℕ)
       (before : InLoop left faults lender taken failed empty job Keeps start state first old opened output front text number) where
@@ -74,20 +74,20 @@ module _ {S K P V : Type 0} (left : S → Option (List ℕ)) (faults lender : S 
 
     -- the sink failed
     pub unmoved : {A E : Type 0} (later : K) (flushed : Result A E) → OnErr flushed (TakesFront (taken output) (taken later) text) → is_err flushed ≡ true
-        → Through old.source (taken later) ended.Write
+        → Through old.source (taken later) (unrefused ended.Write)
     unmoved later flushed taken_front failing =
         let begun = on-err flushed (TakesFront (taken output) (taken later) text) taken_front failing in
         IfSome_then (rest_of_input left first) before.along (λ (input : List ℕ) along.
-        through-early job start Keeps state number old.given (rest_of_input left old) (left old.source) front text (taken opened) (taken output)
-        (taken later) input ended.Write along
+        through-early job start apart Keeps state number old.given (rest_of_input left old) (left old.source) front text (taken opened) (taken output)
+        (taken later) input (unrefused ended.Write) along
         (inr (inl refl)) (begun.0, begun.2))
 
     -- no memory was left
-    pub out-of-memory : (source : S) → Through source (taken output) ended.Memory
+    pub out-of-memory : (source : S) → Through source (taken output) (unrefused ended.Memory)
     out-of-memory source =
         IfSome_then (rest_of_input left first) before.along (λ (input : List ℕ) along.
-        through-early job start Keeps state number old.given (rest_of_input left old) (left source) front text (taken opened) (taken output)
-        (taken output) input ended.Memory along
+        through-early job start apart Keeps state number old.given (rest_of_input left old) (left source) front text (taken opened) (taken output)
+        (taken output) input (unrefused ended.Memory) along
         (inr (inr refl)) (unwritten text (taken output) (taken output) refl))
 
     module _ (new : LinesState S) (next : V) (written : List ℕ) (t : Turn)
@@ -115,34 +115,38 @@ module _ {S K P V : Type 0} (left : S → Option (List ℕ)) (faults lender : S 
 
       -- the input is at its end
       pub turned-to-end : (later : Option (List ℕ)) (result : JobEnd) → t ≡ turn.Ended → Leaves (written ++ job.ending next) false result (taken output) later
-          → Through new.source later result
+          → Through new.source later (unrefused result)
       turned-to-end later result is leaves =
           let ended = subst (λ (s : Turn). TakesTurn left faults lender job Keeps number old new state next text written s) is turns in
           let same = subst (λ (v : V). Leaves (text ++ job.ending v) false result (taken output) later) ended.1
           (subst (λ (w : List ℕ). Leaves (w ++ job.ending next) false result (taken output) later) ended.2 leaves) in
           IfSome_then (rest_of_input left first) before.along (λ (input : List ℕ) along.
-          through-end job start Keeps state number old.given (rest_of_input left old) (left new.source) front text (taken opened)
-          (taken output) later input result along
-          new.pending before.kept ended.0.answer.next same)
+          through-end job start apart Keeps state number old.given (rest_of_input left old) (left new.source) front text (taken opened)
+          (taken output) later input (unrefused result) along
+          new.pending before.kept ended.0.answer.next refl same)
 
-      -- what stands next is refused
+      -- the loop ended so, and the line that is next is refused
+      abbrev pub refused-with : JobEnd → LineFault → LinesEnd
+      refused-with result fault = record { end = result; refusal = Some (record { number = number; fault = fault }) }
+
+      -- what comes next is refused
       pub turned-down : (later : Option (List ℕ)) (fault : LineFault) (result : JobEnd) → t ≡ turn.Refused fault
-          → Leaves (written ++ refusal_line number fault) true result (taken output) later → Through new.source later result
+          → Leaves (written ++ refusal_in apart number fault) true result (taken output) later → Through new.source later (refused-with result fault)
       turned-down later fault result is leaves =
           let refused = subst (λ (s : Turn). TakesTurn left faults lender job Keeps number old new state next text written s) is turns in
-          let same = subst (λ (w : List ℕ). Leaves (w ++ refusal_line number fault) true result (taken output) later) refused.1 leaves in
+          let same = subst (λ (w : List ℕ). Leaves (w ++ refusal_in apart number fault) true result (taken output) later) refused.1 leaves in
           IfSome_then (rest_of_input left first) before.along (λ (input : List ℕ) along.
-          through-refused job start Keeps state number old.given (rest_of_input left old) (left new.source) front text (taken opened)
-          (taken output) later input result along
-          fault before.kept refused.0.past refused.0.refused same)
+          through-refused job start apart Keeps state number old.given (rest_of_input left old) (left new.source) front text (taken opened)
+          (taken output) later input (refused-with result fault) along
+          fault before.kept refused.0.past refused.0.refused refl same)
 
       -- the source failed
       pub turned-off : (later : Option (List ℕ)) (out : List ℕ) (result : JobEnd) → t ≡ turn.Failed → out ≡ written → result ≡ ended.Read
           → HasBegun (taken output) later out
-          → Through new.source later result
+          → Through new.source later (unrefused result)
       turned-off later out result is same read begun =
           let ended = subst (λ (s : Turn). TakesTurn left faults lender job Keeps number old new state next text written s) is turns in
           IfSome_then (rest_of_input left first) before.along (λ (input : List ℕ) along.
-          through-early job start Keeps state number old.given (rest_of_input left old) (left new.source) front text (taken opened)
-          (taken output) later input result along
+          through-early job start apart Keeps state number old.given (rest_of_input left old) (left new.source) front text (taken opened)
+          (taken output) later input (unrefused result) along
           (inl read) (subst (HasBegun (taken output) later) (same ∙ ended.1) begun))

@@ -4,14 +4,14 @@ use Rattle.std.specs.List.{list_all}
 use Rattle.tool_text.specs.Words.{WordAt, WordsLeft}
 use Rattle.tool_text.specs.Words.{joined}
 
--- a word stands in a line: from its column on, counted in bytes from 1, the line has its text, in which no space stands
+-- a word is in a line: from its column on, counted in bytes from 1, the line has its text, in which no space stands
 pub record StandsIn (line : List ℕ) (word : WordAt) : Type 0 where
   pub from_one : 1 ≤ word.column
   pub text : take (length word.text) (drop (word.column - 1) line) ≡ word.text
   pub whole : list_all (λ byte. not (byte == 32)) word.text ≡ true
 
--- the words of a line: parted by one space they are the line, each stands at its column, and a word that is absent
--- would stand behind the line and a space
+-- the words of a line: parted by one space they are the line, each is at its column, and a word that is absent
+-- would follow the line and a space
 pub record AreWordsOf (line : List ℕ) (left : WordsLeft) : Type 0 where
   pub parted : joined (map (λ word. word.text) left.words) ≡ line
   pub columns : All (StandsIn line) left.words

@@ -62,7 +62,7 @@ IsAnswered result = (result ≡ ended.Done) ⊎ (result ≡ ended.Input)
 abbrev pub IsCutOff : JobEnd → Type 0
 IsCutOff result = (result ≡ ended.Read) ⊎ ((result ≡ ended.Write) ⊎ (result ≡ ended.Memory))
 
--- Where an input is refused, at most so many bytes were read behind those that were accepted.
+-- Where an input is refused, at most so many bytes were read after those that were accepted.
 abbrev pub StopsWithin : ℕ → ℕ → List ℕ → JobEnd → Option (List ℕ) → Type 0
 StopsWithin most accepted bytes result left = result ≡ ended.Input → GivesAtMost most (Some (drop accepted bytes)) left
 

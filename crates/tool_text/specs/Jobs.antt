@@ -1,5 +1,5 @@
 -- What a job makes of the lines of an input, and what is written of it (own).
-use Rattle.std.specs.Prelude.{ℕ, ◌+◌, ◌++◌, is_some, List, [], ◌∷◌, length, flat_map, Option, Some, None, Result, Ok, Err, ◌≡◌}
+use Rattle.std.specs.Prelude.{ℕ, ◌+◌, ◌++◌, Bool, true, false, is_some, List, [], ◌∷◌, length, flat_map, Option, Some, None, Result, Ok, Err, ◌≡◌}
 use Rattle.dccp_io.specs.Lines.{Next, End, Line, Long, Much, lines_of, next_in_lines, text_of}
 use Rattle.tool_text.specs.Ends.{Answers, IsAnswered, StopsWithin}
 use Rattle.tool_text.specs.declared.output.status.JobEnd.{JobEnd}
@@ -7,9 +7,11 @@ use Rattle.tool_text.specs.Refusals.{refusal_line, whole_line}
 use Rattle.tool_text.specs.declared.lines.error.LineError.{LineError}
 use Rattle.tool_text.specs.declared.lines.error.LineError.TheVariants as line_error
 use Rattle.tool_text.specs.declared.words.faults.LineFault.{LineFault}
+use Rattle.tool_text.specs.declared.lines.loops.LinesEnd.{LinesEnd}
+use Rattle.tool_text.specs.declared.lines.refusals.Refusal.{Refusal}
 use Rattle.tool_text.specs.declared.words.faults.LineWhy.TheVariants as why
 
--- What a line comes to: it is accepted, with what it does, if it does anything, and the state behind it, or it is
+-- What a line comes to: it is accepted, with what it does, if it does anything, and the state after it, or it is
 -- refused.
 pub data Verdict (P V : Type 0) : Type 0 where
   Accepted : (deed : Option P) (next : V) → Verdict P V
@@ -42,16 +44,16 @@ most_events = 16384
 abbrev pub too_long : LineFault
 too_long = record { column = 4097; why = why.LineTooLong }
 
--- What stands next in an input comes to this: a line as the job judges it, and one that is too long, or too much for an
--- input, is refused. Where no line stands next, nothing is done.
+-- What comes next in an input comes to this: a line as the job judges it, and one that is too long, or too much for an
+-- input, is refused. Where no line comes next, nothing is done.
 abbrev pub by_next : {P V : Type 0} → Job P V → V → ℕ → Next → Verdict P V
 by_next job state number (Line line) = job.judged state number (text_of line)
 by_next job state number (Long front) = Refused too_long
 by_next job state number Much = Refused (whole_line why.TooMuchInput)
 by_next job state number End = Accepted None state
 
--- What the lines of an input come to: what they did, the state behind them, the number of the line behind the last that
--- was accepted, how many bytes the accepted ones have, and why the line behind them is refused, if it is.
+-- What the lines of an input come to: what they did, the state after them, the number of the line after the last that
+-- was accepted, how many bytes the accepted ones have, and why the line after them is refused, if it is.
 pub record Gone (P V : Type 0) : Type 0 where
   pub deeds : List P
   pub last : V
@@ -72,12 +74,12 @@ onto deeds rest = record rest { deeds = deeds ++ rest.deeds }
 abbrev pub gone_so_far : {P V : Type 0} → V → ℕ → ℕ → Option LineFault → Gone P V
 gone_so_far state number given refusal = record { deeds = []; last = state; number = number; accepted = given; refusal = refusal }
 
--- the lines that follow count behind an accepted line; a refused one is the last
+-- the lines that follow count after an accepted line; a refused one is the last
 abbrev pub gone_by : {P V : Type 0} → V → ℕ → ℕ → Verdict P V → (V → Gone P V) → Gone P V
 gone_by state number given (Accepted deed next) rest = onto (deeds_of deed) (rest next)
 gone_by state number given (Refused fault) rest = gone_so_far state number given (Some fault)
 
--- What these lines come to, behind so many bytes that were given; the first has this number.
+-- What these lines come to, after so many bytes that were given; the first has this number.
 abbrev pub gone_from : {P V : Type 0} → Job P V → V → ℕ → ℕ → List (List ℕ) → Gone P V
 gone_from job state number given [] = gone_so_far state number given None
 gone_from job state number given (line ∷ lines) =
@@ -87,19 +89,54 @@ gone_from job state number given (line ∷ lines) =
 abbrev pub gone_through : {P V : Type 0} → Job P V → V → List ℕ → Gone P V
 gone_through job first input = gone_from job first 1 0 (lines_of input)
 
--- what stands last: the text at the input's end, or the line of the refusal
+-- the line of a refusal, where it is not told apart from the output
+abbrev pub refusal_in : Bool → ℕ → LineFault → List ℕ
+refusal_in true number fault = []
+refusal_in false number fault = refusal_line number fault
+
+-- what comes last: the text at the input's end, or the line of the refusal, where it is not told apart
+abbrev pub last_in : {P V : Type 0} → Bool → Job P V → V → ℕ → Option LineFault → List ℕ
+last_in apart job last number None = job.ending last
+last_in apart job last number (Some fault) = refusal_in apart number fault
+
+-- what comes last: the text at the input's end, or the line of the refusal
 abbrev pub last_lines : {P V : Type 0} → Job P V → V → ℕ → Option LineFault → List ℕ
-last_lines job last number None = job.ending last
-last_lines job last number (Some fault) = refusal_line number fault
+last_lines job last number refusal = last_in false job last number refusal
+
+-- What is written of an input, where the line of a refusal is told apart or not: the text of each deed, and what stands
+-- last.
+abbrev pub text_in : {P V : Type 0} → Bool → Job P V → Gone P V → List ℕ
+text_in apart job gone = flat_map job.told gone.deeds ++ last_in apart job gone.last gone.number gone.refusal
 
 -- What is written of an input: the text of each deed, and the last lines.
 abbrev pub text_of_job : {P V : Type 0} → Job P V → Gone P V → List ℕ
-text_of_job job gone = flat_map job.told gone.deeds ++ last_lines job gone.last gone.number gone.refusal
+text_of_job job gone = text_in false job gone
 
--- The lines of an input were gone through behind a text that stood first: what was written and how it ended, how far
+-- What is written of an input whose refusal is told apart: the text of each deed, and the text at the input's end.
+abbrev pub text_apart : {P V : Type 0} → Job P V → Gone P V → List ℕ
+text_apart job gone = text_in true job gone
+
+-- the refusal of the line of this number, if it is refused
+abbrev pub refusal_at : ℕ → Option LineFault → Option Refusal
+refusal_at number None = None
+refusal_at number (Some fault) = Some (record { number = number; fault = fault })
+
+-- The refusal that an input comes to, if it has one.
+abbrev pub refusal_told : {P V : Type 0} → Gone P V → Option Refusal
+refusal_told gone = refusal_at gone.number gone.refusal
+
+-- The lines of an input were gone through after a text that stood first: what was written and how it ended, how far
 -- the input was read past the last accepted line where one was refused, and what holds of the last state.
 pub record GoesThrough {P V : Type 0} (job : Job P V) (Keeps : V → ℕ → Type 0) (first : V) (front input : List ℕ) (result : JobEnd)
     (left before after : Option (List ℕ)) : Type 0 where
   pub answers : Answers (front ++ text_of_job job (gone_through job first input)) (is_some (gone_through job first input).refusal) result left before after
   pub past : StopsWithin 16384 (gone_through job first input).accepted input result left
   pub kept : IsAnswered result → (number : ℕ) × Keeps (gone_through job first input).last number
+
+-- The same where the line of a refusal is told apart or not, with the refusal that the input comes to.
+pub record GoesIn {P V : Type 0} (apart : Bool) (job : Job P V) (Keeps : V → ℕ → Type 0) (first : V) (front input : List ℕ) (ended : LinesEnd)
+    (left before after : Option (List ℕ)) : Type 0 where
+  pub answers : Answers (front ++ text_in apart job (gone_through job first input)) (is_some (gone_through job first input).refusal) ended.end left before after
+  pub past : StopsWithin 16384 (gone_through job first input).accepted input ended.end left
+  pub kept : IsAnswered ended.end → (number : ℕ) × Keeps (gone_through job first input).last number
+  pub refused : IsAnswered ended.end → ended.refusal ≡ refusal_told (gone_through job first input)

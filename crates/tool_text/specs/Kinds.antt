@@ -20,7 +20,7 @@ pub record Kind (A : Type 0) : Type 1 where
 
 -- Faults of words
 
--- a flaw of this cause, behind so many bytes
+-- a flaw of this cause, after so many bytes
 abbrev pub flaw_behind : ℕ → LineWhy → Flaw
 flaw_behind place cause = record { place = place; why = cause }
 

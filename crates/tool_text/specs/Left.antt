@@ -9,6 +9,6 @@ use Rattle.tool_text.specs.declared.words.split.Words.{Words}
 abbrev pub word_of : Word → WordAt
 word_of word = word_at_column word.column word.text.now
 
--- the words in the rest of a line, and the column that a word behind them would have
+-- the words in the rest of a line, and the column that a word after them would have
 abbrev pub left_of : Words → WordsLeft
 left_of words = words_left (placed words.column (pieces_left 32 words.rest)) (words.column + rest_length words.rest)

@@ -56,7 +56,7 @@ abbrev pub none_left : List WordAt → Result (Unit {0}) LineFault
 none_left [] = Ok tt
 none_left (word ∷ words) = Err (fault_at word.column why.Trailing)
 
--- no word may stand behind those of a row
+-- no word may follow those of a row
 abbrev pub ended : WordsLeft → Result (Unit {0}) LineFault
 ended left = none_left left.words
 
@@ -132,12 +132,12 @@ abbrev pub ByTest : Bool → Type 0 → Type 0 → Type 0
 ByTest true Holds Fails = Holds
 ByTest false Holds Fails = Fails
 
--- the words behind this one, where it is the first, and otherwise all of them
+-- the words after this one, where it is the first, and otherwise all of them
 abbrev pub AreAfter : {A : Type 0} → List ℕ → (A → List (List ℕ) → Type 0) → (A → List (List ℕ) → Type 0) → A → List (List ℕ) → Type 0
 AreAfter name Behind Other x [] = Other x []
 AreAfter name Behind Other x (word ∷ words) = ByTest (bytes_eq word name) (Behind x words) (Other x (word ∷ words))
 
--- a row behind this word, or another row where the first word is not this one
+-- a row after this word, or another row where the first word is not this one
 abbrev pub after_word : {A : Type 0} → List ℕ → Row A → Row A → Row A
 after_word name row other = record {
   said = λ left. if bytes_eq (first_word left).text name then row.said (later left) else other.said left;
@@ -176,7 +176,7 @@ flag_read name word = if bytes_eq word name then Ok tt else Err (flaw_behind 0 w
 abbrev pub flag_flaw : List ℕ → List ℕ → Option Flaw
 flag_flaw name word = if bytes_eq word name then None else Some (flaw_behind 0 why.UnknownWord)
 
--- whether this word is left; no other may be, nor one behind it
+-- whether this word is left; no other may be, nor one after it
 abbrev pub flag_said : List ℕ → List WordAt → Result Bool LineFault
 flag_said name [] = Ok false
 flag_said name (word ∷ words) = word_read (flag_read name) word >>= (λ is. none_left words >>= (λ over. Ok true))

@@ -6,7 +6,7 @@ use Rattle.hex.specs.Hex.{encode_lower}
 pub record Keeps (old new : List ℕ) : Type 0 where
   pub front : take (length old) new ≡ old
 
--- a number behind its word
+-- a number after its word
 abbrev pub labelled_number : List ℕ → ℕ → List ℕ
 labelled_number word number = word ++ decimal number
 

@@ -1,10 +1,11 @@
 -- What the turns of the loop over lines do (own).
-use Rattle.std.specs.Prelude.{◌≡◌, ℕ, ◌+◌, ◌≤◌, Bool, true, false, List, Option, Some, IfSome, Result, Ok, Err}
+use Rattle.std.specs.Prelude.{◌≡◌, ℕ, ◌+◌, ◌≤◌, Bool, true, false, List, Option, Some, None, IfSome, Result, Ok, Err}
 use Rattle.dccp_io.specs.Fronts.{GivesAtMost}
 use Rattle.dccp_io.specs.Lines.{LinesState, Finds, next_in_bytes, rest_of_input, text_of}
 use Rattle.dccp_io.specs.declared.lines.Stop.{Stop}
 use Rattle.dccp_io.specs.declared.lines.Stop.TheVariants as stop
 use Rattle.tool_text.specs.Jobs.{Job, Judges, Refused, by_next, too_long}
+use Rattle.tool_text.specs.declared.lines.loops.LinesEnd.{LinesEnd}
 use Rattle.tool_text.specs.declared.lines.turns.Turn.{Turn}
 use Rattle.tool_text.specs.declared.lines.turns.Turn.TheVariants as turn
 use Rattle.tool_text.specs.Ends.{HasBegun, HasTaken, IsAnswered, IsCutOff}
@@ -27,14 +28,14 @@ judged_turn (Ok _) = turn.Accepted
 judged_turn (Err (line_error.Refused fault)) = turn.Refused fault
 judged_turn (Err line_error.NoMemory) = turn.NoMemory
 
--- What stands next is refused. At most 8,192 bytes were read behind it, and of a line 4,097 at most.
+-- What comes next is refused. At most 8,192 bytes were read after it, and of a line 4,097 at most.
 pub record RefusesNext {S : Type 0} (left : S → Option (List ℕ)) (faults lender : S → ℕ) (old new : LinesState S) (IsRefused : List ℕ → Type 0) : Type 0 where
   pub never_falls : faults old.source ≤ faults new.source
   pub same_lender : lender new.source ≡ lender old.source
   pub past : IfSome (rest_of_input left old) (λ bytes. GivesAtMost 12289 (Some bytes) (left new.source))
   pub refused : IfSome (rest_of_input left old) IsRefused
 
--- One turn: the line that stands next was judged and accepted, or what stands next is refused, or the input is at its
+-- One turn: the line that comes next was judged and accepted, or what comes next is refused, or the input is at its
 -- end, and nothing else changed.
 abbrev pub TakesTurn : {S P V : Type 0} → (S → Option (List ℕ)) → (S → ℕ) → (S → ℕ) → Job P V → (V → ℕ → Type 0) → ℕ → LinesState S → LinesState S → V → V
     → List ℕ → List ℕ → Turn → Type 0
@@ -47,6 +48,10 @@ TakesTurn left faults lender job Keeps number old new state next text written (t
 TakesTurn left faults lender job Keeps number old new state next text written turn.Failed =
     Finds left faults lender old new (Err stop.Failed) × (written ≡ text)
 TakesTurn left faults lender job Keeps number old new state next text written turn.NoMemory = lender new.source ≡ lender old.source
+
+-- no line was refused
+abbrev pub unrefused : JobEnd → LinesEnd
+unrefused end = record { end = end; refusal = None }
 
 -- What was left of a text was written: whole with an answer, and otherwise a front of it.
 pub record Leaves (text : List ℕ) (refused : Bool) (result : JobEnd) (before after : Option (List ℕ)) : Type 0 where

@@ -15,11 +15,11 @@ pub record WordAt : Type 0 where
 abbrev pub word_at_column : ℕ → List ℕ → WordAt
 word_at_column column text = record { column = column; text = text }
 
--- one of the text's bytes stands there
+-- one of the text's bytes is there
 abbrev pub IsPlaceOf : List ℕ → ℕ → Type 0
 IsPlaceOf text place = place < length text
 
--- Words one after another, the first at this column: a word begins behind the one before it and a space.
+-- Words one after another, the first at this column: a word begins after the one before it and a space.
 abbrev pub placed : ℕ → List (List ℕ) → List WordAt
 placed column [] = []
 placed column (text ∷ texts) = word_at_column column text ∷ placed (column + length text + 1) texts
@@ -33,7 +33,7 @@ pub record WordsLeft : Type 0 where
 abbrev pub words_left : List WordAt → ℕ → WordsLeft
 words_left words absent = record { words = words; absent = absent }
 
--- A line's words. Columns count from 1; an absent word would stand behind the line and a space.
+-- A line's words. Columns count from 1; an absent word would follow the line and a space.
 abbrev pub words_of : List ℕ → WordsLeft
 words_of line = words_left (placed 1 (parted_by 32 line)) (length line + 2)
 
@@ -46,12 +46,12 @@ first_of absent (word ∷ words) = word
 abbrev pub first_word : WordsLeft → WordAt
 first_word left = first_of left.absent left.words
 
--- no word stands there any more
+-- no word is there any more
 abbrev pub is_over : List WordAt → Bool
 is_over [] = true
 is_over (word ∷ words) = false
 
--- the words behind the first
+-- the words after the first
 abbrev pub words_behind : List WordAt → List WordAt
 words_behind [] = []
 words_behind (word ∷ words) = words
@@ -60,7 +60,7 @@ words_behind (word ∷ words) = words
 abbrev pub later : WordsLeft → WordsLeft
 later left = words_left (words_behind left.words) left.absent
 
--- the words behind the first so many
+-- the words after the first so many
 abbrev pub later_by : ℕ → WordsLeft → WordsLeft
 later_by zero left = left
 later_by (suc n) left = later_by n (later left)

@@ -13,7 +13,9 @@ mod output;
 mod text;
 mod words;
 
-pub use crate::lines::{LineError, LineJob, MOST_EVENTS, run_lines};
+pub use crate::lines::{
+    LineError, LineJob, LinesEnd, MOST_EVENTS, Refusal, put_refusal, run_lines, run_lines_apart,
+};
 pub use crate::names::malformed_name;
 pub use crate::numbers::number_up_to;
 pub use crate::output::{JobEnd, Status, answered, cut_off, flush, flush_if_full};
@@ -21,7 +23,7 @@ pub use crate::text::{
     is_text, put, put_counted, put_hex, put_hex_or_dash, put_named, put_number, put_v4,
 };
 pub use crate::words::{
-    Below, Digits, Flag, Flaw, Hex, HexOrDash, LineFault, LineWhy, MaybeFlag, Name, Named, Row,
+    Below, Digits, Flag, Flaw, Hex, HexOrDash, LineFault, LineWhy, MaybeFlag, Name, NameWord, Row,
     Word, WordKind, Words, clean, first_piece, found_or, line_why_name, read_line, read_word,
     says_nothing, whole_line, words_stand_at_their_columns,
 };

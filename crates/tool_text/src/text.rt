@@ -40,8 +40,8 @@ pub fn put_number(text: &mut Vec<u8>, number: u64) -> Result<(), NoMemory>
     put(text, buffer.format(number).as_bytes())
 }
 
-/// Puts a name behind what is said of it, as `refused ` (own). NoMemory comes where the text could not grow; then what
-/// is said may stand there alone.
+/// Puts a name after what is said of it, as `refused ` (own). NoMemory comes where the text could not grow; then what
+/// is said may be there alone.
 // What is said is mostly written out where this is called: inlined, it is put as bytes of a known number.
 #[inline(always)]
 pub fn put_named(text: &mut Vec<u8>, what: &[u8], name: &[u8]) -> Result<(), NoMemory>
@@ -52,8 +52,8 @@ pub fn put_named(text: &mut Vec<u8>, what: &[u8], name: &[u8]) -> Result<(), NoM
     put(text, name)
 }
 
-/// Puts a number in decimal behind its word (own). NoMemory comes where the text could not grow; then the word may
-/// stand there alone.
+/// Puts a number in decimal after its word (own). NoMemory comes where the text could not grow; then the word may
+/// are there alone.
 // Inlined as `put_named` is.
 #[inline(always)]
 pub fn put_counted(text: &mut Vec<u8>, word: &[u8], number: u64) -> Result<(), NoMemory>
@@ -65,7 +65,7 @@ pub fn put_counted(text: &mut Vec<u8>, word: &[u8], number: u64) -> Result<(), N
 }
 
 /// Puts bytes in lower-case hexadecimal, and nothing for none (own). NoMemory comes where the text could not grow; then
-/// the digits of the first bytes may stand there.
+/// the digits of the first bytes may be there.
 pub fn put_hex(text: &mut Vec<u8>, bytes: &[u8]) -> Result<(), NoMemory>
     ensures ok { OnOk result (text.new.items ≡ text.old.items ++ encode_lower bytes.now) }
     ensures front { Keeps text.old.items text.new.items }
@@ -130,7 +130,7 @@ fn put_byte(text: &mut Vec<u8>, number: u8) -> Result<(), NoMemory>
     Ok(())
 }
 
-// Puts the number of a byte of an address behind its dot.
+// Puts the number of a byte of an address after its dot.
 fn put_dotted(text: &mut Vec<u8>, number: u8) -> Result<(), NoMemory>
     ensures ok { OnOk result (text.new.items ≡ text.old.items ++ labelled_number (codes ".") number) }
     ensures front { Keeps text.old.items text.new.items }
@@ -140,7 +140,7 @@ fn put_dotted(text: &mut Vec<u8>, number: u8) -> Result<(), NoMemory>
 }
 
 /// Puts an address of IPv4: four numbers, parted by dots (own). NoMemory comes where the text could not grow; then the
-/// first numbers may stand there.
+/// first numbers may be there.
 pub fn put_v4(text: &mut Vec<u8>, address: [u8; 4]) -> Result<(), NoMemory>
     ensures ok { OnOk result (text.new.items ≡ text.old.items ++ v4_text address) }
     ensures front { Keeps text.old.items text.new.items }

@@ -15,7 +15,7 @@ mod split;
 pub use crate::words::digits::Digits;
 pub use crate::words::faults::{LineFault, LineWhy, line_why_name, whole_line};
 pub use crate::words::kinds::{
-    Below, Flaw, Hex, HexOrDash, Name, Named, WordKind, found_or, read_word,
+    Below, Flaw, Hex, HexOrDash, Name, NameWord, WordKind, found_or, read_word,
 };
 pub use crate::words::laws::words_stand_at_their_columns;
 pub use crate::words::lines::{clean, read_line, says_nothing};

@@ -123,7 +123,7 @@ module _ (w : WorldState) (logs : Side → List Logged)
       any-logged (config side) (key_of pair side) says_change refl (spoken side).logged
       ∙ any-change (peer_iss side) (key_of pair side) (logs side) ((spoken side).well (key_of pair side))
 
-  -- what the view has at some count stands in a frame
+  -- what the view has at some count is in a frame
   pub list-sent : (pair : FeatureAt) (side : Side) (greatest count : ℕ) (list : List ℕ) → IsServerPriority pair
       → wish_carried (carried_at (view_at w logs greatest pair side).frames count) ≡ Some list → HasSent w pair side list
   list-sent pair side greatest count list priority shown =

@@ -53,7 +53,7 @@ starts-send n old new = by (old == new) where
   by true = refl
   by false = refl
 
--- A report tells of a number, by the Ack Vectors behind this acknowledgement number.
+-- A report tells of a number, by the Ack Vectors after this acknowledgement number.
 pub record IsToldBy (ack : Option ℕ) (options : List (Result Entry OptFault)) (n : ℕ) : Type 0 where
   pub number : ℕ
   pub bytes : List ℕ

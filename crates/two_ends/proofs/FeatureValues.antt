@@ -1,4 +1,4 @@
--- Each value was given to its row: the wishes that led to it stand in frames, and frames never change.
+-- Each value was given to its row: the wishes that led to it are in frames, and frames never change.
 use Rattle.std.proofs.Common.{◌≡◌, ℕ, suc, Bool, List, length, refl, sym, subst, arith}
 use Rattle.std.specs.Prelude.{Option, Some, None, unwrap_or}
 use Rattle.two_ends.specs.FeatureView.{Carried, FeatureSide, carried_at, with_frame, wish_carried}

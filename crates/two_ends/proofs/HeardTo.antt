@@ -64,7 +64,7 @@ waiting-dead phases.Listen is = refl
 waiting-dead phases.Request is = refl
 waiting-dead _ is = cc
 
--- a number by its place behind ISS, and its count
+-- a number by its place after ISS, and its count
 pub is-number : (iss place number : ℕ) → iss < 2 ^ 48 → place < 2 ^ 47 → number ≡ residue (iss + place)
     → IsNumber iss number × (count_of iss number ≡ place + 1)
 is-number iss place number fits few is =

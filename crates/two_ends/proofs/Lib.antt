@@ -1,3 +1,4 @@
+pub mod Forms
 pub mod Processing
 pub mod Logged
 pub mod ReadBack

@@ -1,4 +1,4 @@
--- What the numbered frames of a side carry is one list: the n-th of them, from 0, stands at place n.
+-- What the numbered frames of a side carry is one list: the n-th of them, from 0, is at place n.
 use Rattle.std.proofs.Common.{◌≡◌, refl, subst, ℕ, ◌+◌, zero, suc, ◌≤◌, ◌%◌, ◌^◌, Bool, List, [], ◌∷◌, ◌++◌, Some, slice_get, length, true, false, arith}
 use Rattle.std.proofs.lemmas.List.Elements.{All-get_or}
 use Rattle.std.proofs.lemmas.Option.{get_or_from_slice_get, same_Some, slice_get_within}

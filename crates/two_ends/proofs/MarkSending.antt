@@ -92,7 +92,7 @@ module _ (act : Act) (own : IsOrdered act.side) (peer_ordered : IsOrdered act.pe
   own-frames : length view.frames ≡ length act.side.log
   own-frames = frames-length here.frames
 
-  -- a record that is looked up: the floor rises behind what its vector told
+  -- a record that is looked up: the floor rises after what its vector told
   module _ (old : KeptNumbers) (t : IsTaking act view peer old) (a : Incoming) (was : WasTaken e act.given f.hearing a) (acking : is_acking a.kind ≡ true)
       (number : ℕ) (acks : a.ack ≡ Some number) (r : Record) (found : newest_whole number old.records ≡ Some r) where
     abbrev its : IsRecorded own_iss iss view.frames r

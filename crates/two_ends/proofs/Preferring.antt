@@ -85,7 +85,7 @@ end-keeps effects e given proper calm k =
     ap (λ (x : EndState). latest (row_at x.rows k.0 k.1)) has.after_is
     ∙ turns-keep k has.effect.turns e.rows proper.rows.sound (turns-calm calm has.because.turns)
 
--- A preference is refused, and nothing changes; or it is a turn of its row, behind which Changes go out.
+-- A preference is refused, and nothing changes; or it is a turn of its row, after which Changes go out.
 data Preference (e : EndState) (k : Key) (values : List ℕ) : Called PreferFault → Type 0 where
   Refuses : (step : Called PreferFault) (why : PreferFault) → step.after ≡ e → step.answer ≡ Err why → Preference e k values step
   Takes : (step : Called PreferFault) (wish : Wanted) (keys : List Key) → wish_of k.0 k.1 values ≡ Ok wish

@@ -29,7 +29,7 @@ equal-so m n same = grind arith
 pub has-at : (ns : List ℕ) (i n : ℕ) → i < length ns → slice_index_or ns i 0 ≡ n → has ns n ≡ true
 has-at ns i n below is = list_any_at (λ m. m == n) ns i 0 below (equal-so (slice_index_or ns i 0) n is)
 
--- a number of a list stands at a place of it
+-- a number of a list is at a place of it
 pub at-has : (ns : List ℕ) (n : ℕ) → has ns n ≡ true → (i : ℕ) × (i < length ns) × (slice_index_or ns i 0 ≡ n)
 at-has [] n is = cc is
 at-has (m ∷ ms) n is = by (m == n) refl is (λ later. at-has ms n later) where

@@ -1,4 +1,4 @@
--- Each number is processed once, every Ack Vector tells what was processed, and what none tells any more was told or is far behind.
+-- Each number is processed once, every Ack Vector tells what was processed, and what none tells any more was told or is far back.
 use Rattle.std.proofs.Common.{◌≡◌, refl, ap, sym, ◌∙◌, subst, ℕ, zero, suc, ◌+◌, ◌^◌, ◌<◌, ◌≤◌, Bool, true, false, List, [], ◌∷◌, Option, Some, None, slice_get, length, arith, inl, inr}
 use Rattle.std.proofs.lemmas.List.Elements.{All-get_or}
 use Rattle.std.proofs.lemmas.Option.{same_Some}
@@ -55,7 +55,7 @@ within-counts : (iss floor count ack n low : ℕ) → iss < 2 ^ 48 → 1 ≤ flo
     → low ≡ number_of iss floor → IsWithin n low (number_of iss ack)
 within-counts iss floor count ack n low fits some from below early n_is low_is = omega (arith, fits, some, from, below, early, n_is, low_is)
 
--- what a number lies behind, by counts
+-- what a number lies after, by counts
 count-of : (iss first floor n isr low : ℕ) → iss < 2 ^ 48 → 1 ≤ first → first ≤ floor → floor ≤ 2 ^ 47 → n < 2 ^ 48 → isr ≡ number_of iss first
     → low ≡ number_of iss floor → distance isr n < distance isr low
     → (n ≡ number_of iss (first + distance isr n)) × (first + distance isr n < floor)
@@ -86,7 +86,7 @@ module _ (w : WorldState) (logs : Side → List Logged) (side : Side) (own : IsO
   abbrev is_whole : (ℕ → Bool) → ℕ → ℕ → Bool
   is_whole taken floor ack = is_whole_under taken floor ack setting
 
-  -- a packet of the peer's log stands in a frame
+  -- a packet of the peer's log is in a frame
   sent-number : (n : ℕ) → IsPacketOf iss y.log n → HasSentNumber w (other side) n
   sent-number n p =
       let at = sent-at (config_of y) p.place p.logged others.logged p.is_there in

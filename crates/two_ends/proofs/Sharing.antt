@@ -297,7 +297,7 @@ across-is feature Client Server = refl
 across-is feature Server Client = refl
 across-is feature Server Server = refl
 
--- whose list stands first
+-- whose list comes first
 for-side : (r : Role2) (side : Side) (own theirs : List ℕ) → r ≡ end_at side → reconciled_for side own theirs ≡ reconciled_by r own theirs
 for-side r Client own theirs is = sym (ap (λ (x : Role2). reconciled_by x own theirs) is)
 for-side r Server own theirs is = sym (ap (λ (x : Role2). reconciled_by x own theirs) is)

@@ -72,7 +72,7 @@ some-first (suc first) greatest none some = omega arith
 apart : (a b : ℕ) → (a ≡ b → ⊥) → (a == b) ≡ false
 apart a b differ = grind arith
 
--- what stands at a place does not depend on the default
+-- what is at a place does not depend on the default
 pub or-any : (ns : List ℕ) (i d e : ℕ) → i < length ns → slice_index_or ns i d ≡ slice_index_or ns i e
 or-any [] i d e below = absurd (omega (arith, below))
 or-any (n ∷ ns) zero d e below = refl

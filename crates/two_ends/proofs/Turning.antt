@@ -14,7 +14,7 @@ pub turned-append : (row : Row) (a b : List RowEvent) → row_turned row (a ++ b
 turned-append row [] b = refl
 turned-append row (event ∷ a) b = turned-append (row_step row event).row a b
 
--- there are as many rows behind turns
+-- there are as many rows after turns
 pub turned-size : (rows : List Row) (turns : List Turn) → length (turned rows turns) ≡ length rows
 turned-size rows [] = refl
 turned-size rows (first ∷ rest) =

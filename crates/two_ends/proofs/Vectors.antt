@@ -41,7 +41,7 @@ no-vectors place (item ∷ items) all =
     by true vector none = cc vector
     by false vector none = none
 
--- The only Ack Vectors are those that stand in front.
+-- The only Ack Vectors are those that are in front.
 parts-written : (parts : List (List ℕ)) (place : ℕ) (rest : List Item) → All IsNegotiating rest
     → ack_vectors (map Ok (entries_at place (map vector_item parts ++ rest))) ≡ parts
 parts-written [] place rest all = no-vectors place rest all

@@ -43,7 +43,7 @@ pub record AgreeByLocation (location remote : FeatureSide) : Type 0 where
   pub last_sent : AreStable location remote → IsTrue (was_negotiated location remote)
       → last_change location.frames ≡ Some (location.value ∷ [])
 
--- A value is the initial one, or stands in a Change of the location.
+-- A value is the initial one, or is in a Change of the location.
 pub data IsToldValue (initial : ℕ) (locations : List Carried) (value : ℕ) : Type 0 where
   Untold : value ≡ initial → IsToldValue initial locations value
   Told : (count : ℕ) → carried_at locations count ≡ Change (value ∷ []) → IsToldValue initial locations value

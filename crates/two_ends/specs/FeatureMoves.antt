@@ -8,7 +8,7 @@ use Rattle.two_ends.specs.FeatureView.{Carried, FeatureSide, carried_at, with_fr
 use Rattle.feature_machine.specs.declared.stands.Stand.TheVariants.{Stable, Changing, Unstable}
 use Rattle.two_ends.specs.FeatureView.Carried.{Nothing, Change, Confirm}
 
--- the value that two wishes lead to, if they lead to one; the acting side's wish stands first
+-- the value that two wishes lead to, if they lead to one; the acting side's wish comes first
 abbrev pub Rule : Type 0
 Rule = List ℕ → List ℕ → Option ℕ
 

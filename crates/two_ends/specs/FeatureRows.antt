@@ -81,7 +81,7 @@ abbrev pub proposed_by : Bool → ℕ → List ℕ → List ℕ
 proposed_by true width body = body
 proposed_by false width body = big_number width body ∷ []
 
--- what a Change with these data behind the feature number carries
+-- what a Change with these data after the feature number carries
 abbrev pub change_in : Feature → List ℕ → Carried
 change_in feature body = Change (proposed_by (described feature).is_server_priority (described feature).width body)
 
@@ -96,7 +96,7 @@ abbrev pub confirm_in : Feature → ℕ → List ℕ → Carried
 confirm_in feature acknowledged body =
     confirmed_by (described feature).is_server_priority (described feature).width acknowledged body
 
--- the data of a Change with this wish, behind the feature number
+-- the data of a Change with this wish, after the feature number
 abbrev pub change_data : Feature → Wanted → List ℕ
 change_data feature (wanted.List list) = list
 change_data feature (wanted.Number number) = big_bytes (described feature).width number

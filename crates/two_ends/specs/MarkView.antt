@@ -4,7 +4,7 @@
 -- The records of vectors sent are left out: a side may raise its floor for any whole vector among its frames that the
 -- peer acknowledged, and the ring of records only forgets some. So are the number of bytes of a vector and its runs: it
 -- says something of each count from the acknowledged one to the floor, and a side may believe any part of it. The list
--- of what was processed stands beside the place of each frame in it, so that no fact says that something exists;
+-- of what was processed is beside the place of each frame in it, so that no fact says that something exists;
 -- `each_frame_is_processed_once` says that they are one.
 use Rattle.std.specs.Prelude.{ℕ, ◌+◌, ◌-◌, ◌==◌, max, Bool, false, List, [], ◌∷◌, ◌++◌, slice_index_or, if◌then◌else◌}
 

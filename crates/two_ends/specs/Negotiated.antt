@@ -27,7 +27,7 @@ side_changed w pair side = list_any (λ frame. says_change (said_by pair side fr
 abbrev pub pair_was_negotiated : WorldState → FeatureAt → Bool
 pair_was_negotiated w pair = side_changed w pair Client || side_changed w pair Server
 
--- the preference list that a Change or a Confirm carries; a Confirm has one behind its value, if any
+-- the preference list that a Change or a Confirm carries; a Confirm has one after its value, if any
 abbrev pub confirmed_list : List ℕ → Option (List ℕ)
 confirmed_list [] = None
 confirmed_list (value ∷ []) = None
@@ -80,14 +80,14 @@ pub record AgreeOn (w : WorldState) (pair : FeatureAt) : Type 0 where
 abbrev pub Agree : WorldState → Type 0
 Agree w = (pair : FeatureAt) → IsSettled w pair → AgreeOn w pair
 
--- A list stands in some frame of a side.
+-- A list is in some frame of a side.
 pub record HasSent (w : WorldState) (pair : FeatureAt) (side : Side) (list : List ℕ) : Type 0 where
   pub index : ℕ
   pub frame : SentFrame
   pub is_there : slice_get (half_of w side).frames index ≡ Some frame
   pub is_said : list_said (said_by pair side frame.bytes) ≡ Some list
 
--- A value stands in some Change of the location.
+-- A value is in some Change of the location.
 pub record HasTold (w : WorldState) (pair : FeatureAt) (value : ℕ) : Type 0 where
   pub index : ℕ
   pub frame : SentFrame

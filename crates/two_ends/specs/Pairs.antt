@@ -45,12 +45,12 @@ abbrev pub confirm_option : Place → ℕ
 confirm_option Here = 33
 confirm_option There = 35
 
--- an option for this feature carries its number first, and values behind it
+-- an option for this feature carries its number first, and values after it
 abbrev pub values_for : ℕ → List ℕ → Option (List ℕ)
 values_for number [] = None
 values_for number (first ∷ values) = if first == number then Some values else None
 
--- the values that stand behind the feature number in a Change or a Confirm
+-- the values that follow the feature number in a Change or a Confirm
 abbrev pub change_or_confirm : Bool → List ℕ → Saying
 change_or_confirm is_change values = if is_change then Change values else Confirm values
 

@@ -22,7 +22,7 @@ ghost use Rattle.two_ends.specs.Placed.{count_of_own_numbers, has_own_number};
 ghost use Rattle.two_ends.specs.World.{WorldState, half_of};
 
 /// A side's frames carry its first number, the next, and so on up to its greatest number sent, Resets without a
-/// connection left out: a frame's number lies as far behind the first as frames went before it. There are fewer than
+/// connection left out: a frame's number lies as far after the first as frames went before it. There are fewer than
 /// 2^47 (RFC 4340, section 7.1). A Reset without a connection carries no option (own).
 pub fn frames_are_numbered_in_order()
     ensures number { (w : WorldState) → Facts w → (side : Side) (index : ℕ) (frame : SentFrame)
@@ -39,7 +39,7 @@ pub fn frames_are_numbered_in_order()
         → has_own_number (half_of w side).end.config.role (packet_of frame.bytes) ≡ false → options_in frame.bytes ≡ [] }
 {}
 
-/// In a phase in which a first number was received, that number and the greatest received lie behind the other side's
+/// In a phase in which a first number was received, that number and the greatest received lie after the other side's
 /// first by less than it sent frames of the connection, and the first is not the later one; so it is where one of the
 /// two is not 0. What is known acknowledged is a number of the own side, once this has sent one (RFC 4340, section
 /// 7.1).

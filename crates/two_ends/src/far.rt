@@ -12,14 +12,15 @@ use dccp_packets::{Number, decode};
 use seq_circle::Seq48;
 use validity_windows::Marks;
 
-// The end is asked first: most ends take no short numbers, and then no frame is looked at.
+// The end is asked first, and then the numbers, which were told: so a frame is decoded only where one of them is far.
+#[tactic(auto, using(crate::proofs::Forms::none_is_far, crate::proofs::Forms::form_decides))]
 pub(crate) fn is_far_frame<C: Congestion>(end: &Endpoint<C>, frame: &SentFrame) -> bool
     ensures { result ≡ is_far_frame end.now.state frame.now }
 {
     if !end.takes_short() {
         return false;
     }
-    is_short_packet(frame.bytes.as_slice()) && has_far_numbers(frame, &end.marks())
+    has_far_numbers(frame, &end.marks()) && is_short_packet(frame.bytes.as_slice())
 }
 
 // The bytes are a packet with short numbers.

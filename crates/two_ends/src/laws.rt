@@ -53,7 +53,7 @@ use dccp_endpoint::every_step_has_one_effect;
 
 /// What *agree* comes to. A feature that both ends call settled has one value: what the client holds of its own is what
 /// the server holds of the client's, and the other way round. Where it was negotiated by lists both have sent one, and
-/// the value is the server's first entry, in its last list, that stands in the client's last (RFC 4340, section
+/// the value is the server's first entry, in its last list, that is in the client's last (RFC 4340, section
 /// 6.3.1). The value of a feature that is not negotiable is, at the other end too, the last one that its location told.
 pub fn settled_features_are_alike<C: Congestion>()
     ensures clients { (w : Controlled C) → Safe C.control w → (feature : Feature)

@@ -1,8 +1,8 @@
 //! The world: two ends and every frame that either ever sent, with what holds after every schedule.
 //!
 //! Both ends have one kind of congestion control, `C`. A kind that is a choice (`Kinds` of ccid_two) lets them differ
-//! while they run. That the world was reached by some schedule is the invariant of its type, so that `safe` is owed in
-//! one place.
+//! while they run. That some schedule leads to the world is the invariant of its type, so that `safe` is proved in one
+//! place.
 ghost use Rattle.std.specs.Prelude.{◌≡◌, ◌<◌, ◌^◌, List};
 ghost use Rattle.dccp_endpoint.specs.Drafts.{Fits};
 ghost use Rattle.two_ends.specs.Controlled.{begins_with, plays_from_start};
@@ -26,23 +26,24 @@ use std::marker::Model;
 /// open, to send data, to prefer other values of a feature, or to close; a timer of it has run out; or a frame arrives.
 /// After each step the world is safe and its facts hold, whatever was sent, preferred, delivered, lost, repeated or
 /// reordered before, and whatever the congestion controls do: so both ends agree on each feature that they call
-/// settled, and each value was given to them; each number is processed once, each Ack Vector that was ever sent tells
-/// just what its sender had processed, and a floor passes a number only where the other side was told of it or it lies
-/// more than 2,047 below one that was processed; and what an end believes received, by its congestion control, the
-/// other one processed. A frame with short numbers arrives only while these can be told, and is refused otherwise.
+/// settled, and each value was given to them; each number is processed once; each Ack Vector that was ever sent reports
+/// just what its sender had processed; a floor passes a number only if it was reported to the other side, or is more
+/// than 2,047 below one that was processed; and what an end believes received, by its congestion control, the other one
+/// processed. A frame with short numbers is refused if its receiver could not tell them apart.
 ///
-/// The facts: a side's frames, but for Resets without a connection, carry its first number, the next, and so on up to
+/// The facts: a side's frames, except for Resets without a connection, carry its first number, the next, and so on up to
 /// its greatest number sent, in this order (RFC 4340, section 7.1); there are fewer than 2^47. The bytes of each frame
-/// spell the numbers that are kept of it, whole or their low 24 bits. A Reset without a connection, whose code is 3 or
-/// a server's 8, carries no option. Once an end has received a first number (in CLOSED and TIMEWAIT numbers that are 0
+/// spell the numbers that are kept for it, in full or their low 24 bits. A Reset without a connection, whose code is 3
+/// or a server's 8, has no option. Once an end has received a first number (in CLOSED and TIMEWAIT numbers that are 0
 /// may mean none), that and its greatest number received are numbers of such frames of the other side, and the first is
 /// not the later one. Once it has sent such a frame, GAR, the greatest acknowledgement number that it received or its
 /// first number, is the number of one of its own. No number that a side processed is after its greatest number
 /// received. From its floor up to that, its set has just the numbers that it processed; the floor is not after the
-/// next. Where that number's frame is an Ack or a DataAck, the side processed it, unless its phase is CLOSED. Each
-/// record of an Ack Vector is one of the end's own frames, with that frame's numbers, and tells whether its vector was
-/// whole. A Reset that arrives moves nothing received, nothing acknowledged, no row and nothing that was marked. No
-/// frame says two things of one feature and side, and none has an Ack Vector without an acknowledgement number.
+/// next. If the frame of its greatest number is an Ack or a DataAck, the side processed it, unless its phase is CLOSED.
+/// Each record of an Ack Vector is of one of the end's own frames, with that frame's numbers, and says whether its
+/// vector was whole. A Reset that arrives changes nothing received, nothing acknowledged, no row and nothing that was
+/// marked. No frame says two things about one feature and side, and none has an Ack Vector without an acknowledgement
+/// number.
 #[derive(Drop)]
 pub struct World<C: Congestion> {
     sides: Sides<C>,
@@ -101,19 +102,18 @@ impl<C: Congestion> World<C> {
     ghost use Rattle.two_ends.specs.Safe.{Safe};
     ghost use Rattle.two_ends.specs.Numbered.{Facts};
 
-    /// Lets one event happen: exactly what `happens_to` says of it. Refusals, in this order: `NoSuchFrame` exactly
-    /// where a delivery's index is not below the number of frames of its sender, `Full` exactly where otherwise the
-    /// side that would act has sent 2^47 - 1 frames, `FarShort` exactly where otherwise a frame with short numbers
-    /// arrives at an end that takes these, and its number lies 2^23 or more from that end's greatest number received,
-    /// or the one that it acknowledges from the greatest number sent, up and down the circle; `NoMemory`. Each leaves
-    /// the world unchanged: all memory that the step may need is taken before it. While both sides have sent fewer than
-    /// 2^23 frames, `FarShort` never comes.
+    /// Lets one event happen, exactly as `happens_to` says. It is refused for the first of these causes. `NoSuchFrame`:
+    /// a delivery's index is not below the number of frames of its sender. `Full`: the acting side has sent 2^47 - 1
+    /// frames. `FarShort`: a frame with short numbers arrives at an end that takes these, and its number is 2^23 or
+    /// more from that end's greatest number received, or the one that it acknowledges from the greatest number sent, up
+    /// and down the circle. `NoMemory`. A refusal leaves the world unchanged, since all memory that the step may need
+    /// is taken before it. While both sides have sent fewer than 2^23 frames, `FarShort` never comes.
     ///
     /// Data that it delivers are those of the frame that arrives: `place`, as the outcome has it, is where the payload
     /// of the frame's bytes lies, and the receiving side has processed the frame's number by that step
     /// ([`data_are_delivered_once`]).
     ///
-    /// After it, refused or not, the world is safe, and the facts hold that stand over [`World`].
+    /// After it, refused or not, the world is safe, and the facts at [`World`] hold.
     pub fn step(&mut self, event: &Event) -> Result<Seen, WorldFault>
         ensures ok { IfOk result (λ seen. happens_to C.control self.old event.now ≡ Ok (record { after = self.new; seen = seen })) }
         ensures no_such_frame { (result ≡ Err WorldFault.NoSuchFrame) ↔ (happens_to C.control self.old event.now ≡ Err WorldFault.NoSuchFrame) }
@@ -185,7 +185,7 @@ pub fn every_run_is_safe<C: Congestion>()
     every_step_has_one_effect();
 }
 
-/// The world's facts, as they stand over [`World`], after every list of events, with any congestion control, from any
+/// The world's facts, as at [`World`], after every list of events, with any congestion control, from any
 /// two configurations, whatever their roles, whose fields fit their widths.
 pub fn every_run_numbers_its_frames<C: Congestion>()
     ensures { (client server : Config) (for_client for_server : C) (events : List Event) → Fits client → Fits server

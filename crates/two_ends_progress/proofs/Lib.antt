@@ -24,3 +24,4 @@ pub mod Widening
 pub mod Sent
 pub mod Plainly
 pub mod Opened
+pub mod Greatest

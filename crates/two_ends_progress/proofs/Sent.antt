@@ -54,7 +54,7 @@ module _ {C : Type 0} (control : Control C) (effects : EveryStepHasOneEffect) wh
       few-plays more (next control w event) events
       (few-next control effects (more + length events) w event (λ side. omega (arith, few side)))
 
--- a way and another behind it
+-- a way and another after it
 passive-joined : (events more : List Event) → ArePassive events → ArePassive more → ArePassive (events ++ more)
 passive-joined [] more first second = second
 passive-joined (event ∷ events) more first second = (first.0, passive-joined events more first.1 second)

@@ -3,3 +3,4 @@ pub mod Opening
 pub mod Paired
 pub mod Settled
 pub mod GettingThrough
+pub mod Greatest

@@ -1,8 +1,8 @@
 //! The laws, each over every list of events and every kind of congestion control.
-ghost use Rattle.std.specs.Prelude.{◌≡◌, ◌≢◌, ◌⊎◌, ◌≤◌, ◌<◌, ◌+◌, ◌^◌, ℕ, false, List, [], ◌∷◌, Some, None, Ok, length, drop, slice_get};
+ghost use Rattle.std.specs.Prelude.{◌≡◌, ◌≢◌, ◌⊎◌, ◌≤◌, ◌<◌, ◌+◌, ◌^◌, ℕ, true, false, List, [], ◌∷◌, ◌++◌, Some, None, Ok, Contains, length, drop, slice_get};
 ghost use Rattle.dccp_endpoint.specs.Calling.{lacks_vectors};
 ghost use Rattle.dccp_endpoint.specs.Drafts.{Fits};
-ghost use Rattle.dccp_endpoint.specs.End.{held_of, value_in};
+ghost use Rattle.dccp_endpoint.specs.End.{held_of, is_live, value_in};
 ghost use Rattle.dccp_endpoint.specs.Steps.{next_number};
 ghost use Rattle.dccp_endpoint.specs.declared.config.Config.{Config};
 ghost use Rattle.dccp_states.specs.declared.calls.Timer.{Timer};
@@ -16,15 +16,18 @@ ghost use Rattle.feature_lists.specs.declared.features.Place.{Place};
 ghost use Rattle.feature_lists.specs.declared.features.Place.TheVariants as place;
 ghost use Rattle.feature_machine.specs.declared.stands.Stand.TheVariants.{Stable};
 ghost use Rattle.two_ends.specs.Controlled.{Controlled, ControlledStep, happens_to, plays, plays_from_start};
+ghost use Rattle.two_ends.specs.Reached.{IsBeginning};
 ghost use Rattle.two_ends.specs.World.{WorldState, half_of};
 ghost use Rattle.two_ends.specs.declared.frames.SentFrame.{SentFrame};
 ghost use Rattle.two_ends_progress.specs.GettingThrough.{AreFew, GetsThrough, LacksReports};
+ghost use Rattle.two_ends_progress.specs.Greatest.{GreatestIsMet};
 ghost use Rattle.two_ends_progress.specs.Leading.{AreOpen, AreOver, HaveRoomFor, HasWay};
 ghost use Rattle.two_ends_progress.specs.Opening.{AreConnected, HasEnded, IsInHandshake};
 ghost use Rattle.two_ends_progress.specs.Paired.{AreForEachOther};
 ghost use Rattle.two_ends_progress.specs.Settled.{AreSettled, HaveAgreed};
 ghost use Rattle.validity_windows.specs.Verdict.{by_window};
 ghost use Rattle.validity_windows.specs.declared.verdict.Verdict.TheVariants as verdicts;
+ghost use Rattle.world_events.specs.Actors.{other};
 ghost use Rattle.world_events.specs.declared.event.Event.{Event};
 ghost use Rattle.world_events.specs.declared.event.Event.TheVariants as event;
 ghost use Rattle.world_events.specs.declared.event.Side.{Side};
@@ -220,4 +223,31 @@ pub fn a_sender_lacks_reports_by_agreement()
         → (held_of (half_of w each).end feature place).stand ≡ Stable }
     ensures ccid { (w : WorldState) (side : Side) → LacksReports w side → value_in (half_of w side).end.rows Ccid place.Here ≡ 2 }
     ensures vectors { (w : WorldState) (side : Side) → LacksReports w side → value_in (half_of w side).end.rows SendAckVector place.There ≢ 1 }
+{}
+
+/// Where the greatest number received comes from, after every list of events, from any two configurations whose fields
+/// fit. Once an end has received a first number, in every phase but CLOSED, TIMEWAIT among them, it processed its GSR; or
+/// a frame with that number arrived, valid and of a type that the phase did not expect, and a Sync of the number answered
+/// it (RFC 4340, section 8.5, step 7). So no other packet raises GSR.
+pub fn the_greatest_number_was_processed_or_refused<C: Congestion>()
+    ensures { (start : Controlled C) (events : List Event) → IsBeginning C.control start → (side : Side) → GreatestIsMet C.control start events side }
+{
+    every_step_has_one_effect();
+}
+
+/// What this comes to, in plain words. The side's phase is not CLOSED, and a first number was received: its phase says so,
+/// or it has processed a number. Then GSR is among the numbers that it processed; or the events have a front, and next the
+/// arrival of a frame of the other side with just this number, which a Sync of the number answered.
+pub fn a_number_that_is_not_processed_was_answered_by_a_sync<C: Congestion>()
+    ensures { (start : Controlled C) (events : List Event) (side : Side) → GreatestIsMet C.control start events side
+        → (half_of (plays C.control start events).world side).end.phase ≢ phases.Closed
+        → (is_live (half_of (plays C.control start events).world side).end.phase ≡ true)
+        ⊎ (1 ≤ length (half_of (plays C.control start events).world side).processed)
+        → Contains (half_of (plays C.control start events).world side).processed (half_of (plays C.control start events).world side).end.marks.gsr
+        ⊎ ((early : List Event) × ((index : ℕ) × ((later : List Event) × ((frame : SentFrame) × ((after : Controlled C)
+        × ((events ≡ early ++ event.Deliver (other side) index ∷ later)
+        × ((slice_get (half_of (plays C.control start early).world (other side)).frames index ≡ Some frame)
+        × ((frame.number ≡ (half_of (plays C.control start events).world side).end.marks.gsr)
+        × (happens_to C.control (plays C.control start early) (event.Deliver (other side) index)
+        ≡ Ok (record { after = after; seen = seen.Received (outcome.Synced (half_of (plays C.control start events).world side).end.marks.gsr) })))))))))) }
 {}

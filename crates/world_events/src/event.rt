@@ -43,7 +43,7 @@ impl Values {
         }
     }
 
-    /// Puts a number behind the others, or answers false and changes nothing, exactly where nine stand there.
+    /// Puts a number after the others, or answers false and changes nothing, exactly where nine are there.
     pub fn push(&mut self, number: u64) -> bool
         ensures put { result ≡ true → (length self.old < 9) × (self.new ≡ self.old ++ number ∷ []) }
         ensures full { result ≡ false → (length self.old ≡ 9) × (self.new ≡ self.old) }

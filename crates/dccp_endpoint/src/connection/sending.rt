@@ -234,7 +234,7 @@ impl Connection {
         self.unacked = 0;
     }
 
-    // Sends an Ack: behind its Ack Vector the Confirms. Beside these there is no room for Changes of all rows.
+    // Sends an Ack: after its Ack Vector the Confirms. Beside these there is no room for Changes of all rows.
     #[tactic(auto, using(crate::proofs::Frames::fixed_part_is_short))]
     pub(crate) fn send_ack_confirming(
         &mut self,
@@ -256,7 +256,7 @@ impl Connection {
         self.record(whole);
     }
 
-    // Sends an Ack: behind its Ack Vector the Changes of these rows, which are in CHANGING.
+    // Sends an Ack: after its Ack Vector the Changes of these rows, which are in CHANGING.
     #[tactic(auto, using(crate::proofs::Frames::fixed_part_is_short))]
     pub(crate) fn send_ack_asking(
         &mut self,

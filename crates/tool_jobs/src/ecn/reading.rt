@@ -4,16 +4,16 @@ ghost use Rattle.tool_jobs.specs.Forms as spec;
 
 use crate::ecn::names::Form;
 use dccp_ecn::EcnEvent;
-use tool_text::{Below, LineFault, Named, Row, Words, read_line, read_word};
+use tool_text::{Below, LineFault, NameWord, Row, Words, read_line, read_word};
 
 // Indices of packets and reports are below this (own).
 const INDEX_END: u64 = 1 << 47;
 
 // A nonce: 0 or 1.
-type ANonce = (Below<2>, ());
+type NonceWord = (Below<2>, ());
 
 // The index of a packet or a report.
-type AnIndex = (Below<INDEX_END>, ());
+type IndexWord = (Below<INDEX_END>, ());
 
 // The words of a line.
 struct EcnLine;
@@ -24,17 +24,17 @@ impl<'a> Row<'a> for EcnLine {
     ghost said = { spec.ecn_row.said };
 
     fn read(words: &mut Words<'a>) -> Result<EcnEvent, LineFault> {
-        match read_word::<Named<Form>>(words.next_word())? {
+        match read_word::<NameWord<Form>>(words.next_word())? {
             Form::Send => {
-                let (nonce, ()) = <ANonce>::read(words)?;
+                let (nonce, ()) = <NonceWord>::read(words)?;
                 Ok(EcnEvent::Send(nonce == 1))
             }
             Form::Deliver => {
-                let (index, ()) = <AnIndex>::read(words)?;
+                let (index, ()) = <IndexWord>::read(words)?;
                 Ok(EcnEvent::Deliver(index))
             }
             Form::Mark => {
-                let (index, ()) = <AnIndex>::read(words)?;
+                let (index, ()) = <IndexWord>::read(words)?;
                 Ok(EcnEvent::Mark(index))
             }
             Form::Report => {
@@ -42,11 +42,11 @@ impl<'a> Row<'a> for EcnLine {
                 Ok(EcnEvent::Report)
             }
             Form::Check => {
-                let (index, ()) = <AnIndex>::read(words)?;
+                let (index, ()) = <IndexWord>::read(words)?;
                 Ok(EcnEvent::Check(index))
             }
             Form::Forge => {
-                let (index, ()) = <AnIndex>::read(words)?;
+                let (index, ()) = <IndexWord>::read(words)?;
                 Ok(EcnEvent::Forge(index))
             }
         }

@@ -18,8 +18,8 @@ pub fn role_of(side: Side) -> Role
     }
 }
 
-/// The frame that a line makes arrive: its checksum is set for these addresses where the line says so.
-pub(crate) fn arriving(addresses: &Pseudo, said: &FrameLine<'_>) -> Frame
+/// The frame that a line makes arrive (own): its checksum is set for these addresses where the line says so.
+pub fn arriving(addresses: &Pseudo, said: &FrameLine<'_>) -> Frame
     requires { CanBeSealed said.now }
     ensures { result ≡ arriving addresses.now said.now }
 {

@@ -83,8 +83,10 @@ fn put_row(text: &mut Vec<u8>, end: &Endpoint<Kinds>, feature: Feature) -> Resul
     put_held(text, end.held(feature, Place::There))
 }
 
+/// Puts the values of an end's features as its line has them (own): of each, after a blank, its number, and its value
+/// here and there, marked where it is not settled. NoMemory comes where the text could not grow.
 #[tactic(auto, unfolding(crate::specs::EndLines::end_rows))]
-fn put_rows(text: &mut Vec<u8>, end: &Endpoint<Kinds>) -> Result<(), NoMemory>
+pub fn put_end_rows(text: &mut Vec<u8>, end: &Endpoint<Kinds>) -> Result<(), NoMemory>
     ensures { OnOk result (text.new.items ≡ text.old.items ++ end_rows end.now.state) }
 {
     for feature in &Feature::ALL {
@@ -118,6 +120,6 @@ pub(crate) fn put_end_line(
 {
     put_end_name(text, side, end)?;
     put_end_counts(text, end)?;
-    put_rows(text, end)?;
+    put_end_rows(text, end)?;
     put(text, b"\n")
 }

@@ -3,9 +3,9 @@ ghost use Rattle.std.specs.Prelude.{◌≡◌, IfOk, IfSome};
 ghost use Rattle.tool_text.specs.Left.{left_of};
 ghost use Rattle.tool_jobs.specs.Calls as spec;
 
-use crate::listen::peers::APeer;
+use crate::listen::peers::PeerWord;
 use dccp_listener::Peer;
-use schedule_text::{AFrame, ATimer, FrameLine, LineFault, Timer};
+use schedule_text::{FrameLine, FrameWords, LineFault, Timer, TimerWord};
 use tool_text::{Digits, HexOrDash, Row, Words, read_line};
 
 /// What happens to a peer. A frame's bytes and data are decoded where they are wanted.
@@ -33,7 +33,7 @@ fn send<'a>(words: &mut Words<'a>) -> Result<PeerCall<'a>, LineFault>
 fn timer<'a>(words: &mut Words<'a>) -> Result<PeerCall<'a>, LineFault>
     ensures { result ≡ spec.timer_row.said (left_of words.old) }
 {
-    let (timer, ()) = <(ATimer, ())>::read(words)?;
+    let (timer, ()) = <(TimerWord, ())>::read(words)?;
     Ok(PeerCall::Timer(timer))
 }
 
@@ -54,14 +54,14 @@ fn abort<'a>(words: &mut Words<'a>) -> Result<PeerCall<'a>, LineFault>
 fn arrival<'a>(words: &mut Words<'a>) -> Result<PeerCall<'a>, LineFault>
     ensures { result ≡ spec.arrival_row.said (left_of words.old) }
 {
-    let frame = AFrame::read(words)?;
+    let frame = FrameWords::read(words)?;
     Ok(PeerCall::Frame(frame))
 }
 
-// The words behind a peer. Those of a frame have no word in front that says so.
-struct ACall;
+// The words after a peer. Those of a frame have no word in front that says so.
+struct CallWords;
 
-impl<'a> Row<'a> for ACall {
+impl<'a> Row<'a> for CallWords {
     type Said = PeerCall<'a>;
 
     ghost said = { spec.call_row.said };
@@ -89,5 +89,5 @@ pub(crate) fn read_call(line: &[u8]) -> Result<Option<(Peer, PeerCall<'_>)>, Lin
     ensures value { result ≡ spec.read_call line.now }
     ensures seals { IfOk result (λ said. IfSome said (λ s. spec.SealsInFull s.1)) }
 {
-    read_line::<(APeer, ACall)>(line)
+    read_line::<(PeerWord, CallWords)>(line)
 }

@@ -1,4 +1,4 @@
-//! The lines of the flows that stand at the end.
+//! The lines of the flows that are at the end.
 ghost use Rattle.std.specs.Prelude.{◌≡◌, ◌++◌, OnOk, flat_map, slice_get};
 ghost use Rattle.tool_jobs.specs.Telling.{flow_line, flow_line_if, flow_lines, peer_in_phase};
 

@@ -17,7 +17,7 @@ ghost use Rattle.tool_jobs.specs.declared.listen.calls.PeerCall.{PeerCall};
 
 /// Of every input, what is written is the run of a listener (`run`), so each peer is answered and sent what a server of
 /// its own would have given it on that peer's lines alone, those left out that found the listener busy (`chains`).
-/// Where no line is refused, the text is that of the exchanges, one after another, and of the flows that stand at last
+/// Where no line is refused, the text is that of the exchanges, one after another, and of the flows that are at last
 /// (`text`), in the order of their peers (`ordered`); and the exchanges are of just the lines that say something, in
 /// their order: with the line's number, its peer and what it says (`lines`). Busy is answered exactly where the peer
 /// has no flow and would get one, and as many stand as may (`busy`; own).

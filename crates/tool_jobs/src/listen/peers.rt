@@ -50,8 +50,10 @@ fn address_of(text: &[u8]) -> Option<[u8; 4]>
     }
 }
 
+/// The peer that a word is, as `10.0.0.1:40000`, or None where it is none (own): an address and a port in decimal,
+/// without leading zeros.
 #[tactic(auto, using(crate::proofs::Parts::three_parts))]
-fn peer_of(word: &[u8]) -> Option<Peer>
+pub fn peer_of(word: &[u8]) -> Option<Peer>
     ensures { result ≡ spec.peer_of word.now }
 {
     let (address, rest) = first_piece(b':', word);
@@ -67,9 +69,9 @@ fn peer_of(word: &[u8]) -> Option<Peer>
 }
 
 /// A peer: its address and its port in decimal, as `10.0.0.1:40000`.
-pub(crate) struct APeer;
+pub(crate) struct PeerWord;
 
-impl<'a> WordKind<'a> for APeer {
+impl<'a> WordKind<'a> for PeerWord {
     type Read = Peer;
 
     ghost reads = { spec.peer_kind.reads };
@@ -79,9 +81,9 @@ impl<'a> WordKind<'a> for APeer {
     }
 }
 
-/// Puts a peer as its line has it.
+/// Puts a peer as its line has it (own). NoMemory comes where no memory was left.
 #[tactic(auto, unfolding(crate::specs::Peers::peer_text))]
-pub(crate) fn put_peer(text: &mut Vec<u8>, peer: Peer) -> Result<(), NoMemory>
+pub fn put_peer(text: &mut Vec<u8>, peer: Peer) -> Result<(), NoMemory>
     ensures { OnOk result (text.new.items ≡ text.old.items ++ spec.peer_text peer) }
 {
     put_v4(text, peer.address)?;

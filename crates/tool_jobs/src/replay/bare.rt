@@ -57,7 +57,7 @@ impl ReplayEnd for Endpoint<Kinds> {
     }
 }
 
-// The step of the end alone. Data that it delivers stand within the bytes.
+// The step of the end alone. Data that it delivers are within the bytes.
 fn arrive(end: &mut Endpoint<Kinds>, bytes: &[u8], out: &mut Outbox) -> Outcome
     requires { length bytes.now ≤ 2044 }
     ensures step { record { after = end.new; frame = out.new; answer = result } ≡ with_control kinds_control end.old.congestion (receives end.old.state bytes.now) }

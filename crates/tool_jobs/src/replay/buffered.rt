@@ -89,7 +89,7 @@ fn stop(end: &mut BufferedEnd<Kinds>, number: u64, text: &mut Vec<u8>) -> Result
     put_numbered(text, number, b": ok\n")
 }
 
-// Puts a line's number, and a text behind it.
+// Puts a line's number, and a text after it.
 fn put_numbered(text: &mut Vec<u8>, number: u64, rest: &[u8]) -> Result<(), NoMemory>
     ensures { OnOk result (text.new.items ≡ text.old.items ++ decimal number ++ rest.now) }
 {
@@ -128,7 +128,7 @@ fn put_arrival(number: u64, got: &Got, bytes: &[u8], text: &mut Vec<u8>) -> Resu
     }
 }
 
-// The step of the end with its inbox alone. Data that it delivers stand within the bytes.
+// The step of the end with its inbox alone. Data that it delivers are within the bytes.
 fn arrive(end: &mut BufferedEnd<Kinds>, bytes: &[u8], out: &mut Outbox) -> Got
     requires { length bytes.now ≤ 2044 }
     ensures step { record { after = end.new; frame = out.new; outcome = result.outcome; arrival = result.arrival } ≡ buffers kinds_control end.old bytes.now }

@@ -52,7 +52,7 @@ pub(crate) trait ReplayEnd {
     fn heed(&mut self, number: u64, line: &[u8], text: &mut Vec<u8>) -> Result<(), NoMemory>
         ensures { OnOk result (Heeds (acts.heeding self.old number line.now) self.new text.old.items text.new.items) };
 
-    /// The end whose line stands last.
+    /// The end whose line comes last.
     fn standing(&self) -> &Endpoint<Kinds>
         ensures { result.now ≡ acts.standing self.now };
 }
@@ -130,7 +130,7 @@ impl<E: ReplayEnd> Replay<E> {
 }
 
 impl<E: ReplayEnd + Drop> Replay<E> {
-    // Where a replay stands before its first line: a client has opened then, and the lines of that were put.
+    // Where a replay is before its first line: a client has opened then, and the lines of that were put.
     fn begin(side: Side, end: E, text: &mut Vec<u8>) -> Result<Replay<E>, NoMemory>
         ensures value { IfOk result (λ replay. replay ≡ (begun_replay E.acts side end).replay) }
         ensures text { OnOk result (text.new.items ≡ text.old.items ++ (begun_replay E.acts side end).text) }

@@ -12,10 +12,10 @@ ghost use Rattle.tool_jobs.specs.WorldLines.{end_lines};
 use ccid_two::Kinds;
 use two_ends::{Event, WorldFault, few_frames_are_never_far};
 
-/// The events of which a schedule's text tells are one run (own): each took place in the world that the one before it
-/// left, the first in that of the two ends as they are configured at last, and the end lines are of the world that the
-/// last one left. So the world before the event told as the n-th is the one to which the n events before it lead. Where
-/// no line is refused, the text is that of these events, and then the end lines of the world to which they lead.
+/// The events of a schedule's text are one run (own). Each took place in the world that the one before it left, the
+/// first in the world of the two ends as configured last; and the end lines are those of the world that the last one
+/// left. So the world before the n-th event is the one to which the n events before it lead. If no line is refused, the
+/// text is that of these events, and then the end lines of the world to which they lead.
 pub fn every_schedule_is_a_run()
     ensures run { (input : List ℕ)
         → IsRun (world_at_first (performed input)) (performed input).deeds (world_of (performed input).last) }
@@ -28,8 +28,8 @@ pub fn every_schedule_is_a_run()
         ++ end_lines (plays kinds_control (world_at_first (performed input)) (scene_events (performed input).deeds)) }
 {}
 
-/// What the clause on safe worlds comes to, by events (own). Where it holds of an input, the first of its accepted
-/// events, however many, lead to a safe world, whether a line behind them is refused or not.
+/// What the clause on safe worlds means for events (own). If it holds for an input, any number of its first accepted
+/// events lead to a safe world, whether a line after them is refused or not.
 pub fn the_first_events_lead_to_a_safe_world()
     ensures { (input : List ℕ) (n : ℕ) → SafeThroughout input
         → Safe kinds_control (plays kinds_control (world_at_first (performed input)) (take n (scene_events (performed input).deeds))) }

@@ -21,12 +21,12 @@ use std::alloc::Global;
 use tool_text::{LineError, LineFault, LineWhy, MOST_EVENTS, whole_line};
 use two_ends::{Event, Side, World, WorldFault};
 
-/// Where a schedule stands.
+/// The state of a schedule.
 #[derive(Drop)]
 pub(crate) struct Play {
     /// How many events took place.
     pub(crate) events: u32,
-    /// A line that stands before all events was accepted.
+    /// A line that comes before all events was accepted.
     pub(crate) is_configured: bool,
     /// What the client is made from.
     pub(crate) client: Config,
@@ -50,9 +50,9 @@ impl Play {
         }
     }
 
-    /// Plays the line of this number, by what was read of it, or answers why it is refused. The faults that need more
-    /// than the line are judged here, each at its place among those of the line itself: that it has to stand before all
-    /// events (but before what an end may wish), the limit of events, and a frame that was not sent.
+    /// Plays the line of this number, as it was read, or answers why it is refused. Faults that need more than the line
+    /// are judged here, each at its place among those of the line: that it has to be before all events (which is judged
+    /// before the wish), the limit of events, and a frame that was not sent.
     pub(crate) fn say(
         &mut self,
         alloc: Global,
@@ -85,7 +85,7 @@ impl Play {
         }
     }
 
-    /// What an end may not wish is judged behind that its line stands before all events.
+    /// What an end may not wish is judged once its line is known to come before all events.
     pub(crate) fn in_place(&self, fault: LineFault) -> LineFault
         ensures { result ≡ in_place self.now fault }
     {
@@ -97,7 +97,7 @@ impl Play {
         }
     }
 
-    // A line that stands before all events comes before the first.
+    // A line that comes before all events comes before the first.
     fn begin_header(&mut self) -> Result<(), LineFault>
         ensures answer { result ≡ (if is_some self.old.world then Err (whole_line LineWhy.HeaderLate) else Ok tt) }
         ensures accepted { OnOk result (self.new ≡ with_header self.old) }
@@ -348,7 +348,7 @@ fn show_event(
     }
 }
 
-// The name of a frame stands behind `deliver `.
+// The name of a frame follows `deliver `.
 fn no_such_frame() -> LineFault
     ensures { result ≡ no_such_frame }
 {

@@ -1,5 +1,5 @@
 //! `run`: a job over a schedule's lines.
-ghost use Rattle.std.specs.Prelude.{◌≡◌, ℕ, List, Some, OnOk};
+ghost use Rattle.std.specs.Prelude.{◌≡◌, ℕ, List, MatchOption, None, Some, OnOk};
 ghost use Rattle.dccp_io.specs.Counts.{Rose};
 ghost use Rattle.tool_text.specs.Ends.{IsAnswered, Answers, SinkFails, StopsWithin, EndsForCause};
 ghost use Rattle.tool_text.specs.Jobs.{Judges};
@@ -13,12 +13,12 @@ use seq_circle::NoMemory;
 use std::alloc::Global;
 use std::marker::Model;
 use tool_text::{JobEnd, LineError, LineJob, run_lines};
-use two_ends::every_run_is_safe;
+use two_ends::{World, every_run_is_safe};
 
-/// A schedule while it is played, with room for what one line says: for one that sends data by itself, since a line that
-/// becomes one of another kind is cleared with its room for data. Contracts see where the schedule stands.
+/// A schedule while it is played (own), with room for what one line says: for one that sends data by itself, since a line
+/// that becomes one of another kind is cleared with its room for data. Contracts see where the schedule stands.
 #[derive(Drop)]
-struct Schedule {
+pub struct Schedule {
     play: Play,
     sending: Line,
     other: Line,
@@ -33,9 +33,9 @@ impl Model for Schedule {
 }
 
 impl Schedule {
-    // Before the first line.
+    /// Before the first line: the two usual ends are configured, and no event took place.
     #[tactic(auto, using(crate::proofs::SchedulesRunning::playable_at_first))]
-    fn new() -> Schedule
+    pub fn new() -> Schedule
         ensures value { result ≡ first_play }
         ensures playable { IsPlayable result }
     {
@@ -43,6 +43,16 @@ impl Schedule {
             play: Play::new(),
             sending: Line::Nothing,
             other: Line::Nothing,
+        }
+    }
+
+    /// The two ends, from the first event on.
+    pub fn world(&self) -> Option<&World<Kinds>>
+        ensures { MatchOption result (self.now.world ≡ None) (λ w. self.now.world ≡ Some w.now) }
+    {
+        match &self.play.world {
+            Some(world) => Some(world),
+            None => None,
         }
     }
 }
@@ -100,10 +110,10 @@ fn judge_into(
 }
 
 /// Plays a schedule (own): it reads the lines of `input` one by one, and writes to `output` a line for each event and
-/// for each frame that was sent, and at last the state of both ends or the line of the first refusal. With status 0 or
-/// 1 the output is the text of the whole input, and each event took place in a safe world and left a safe one; with
-/// another it is a front of that text. Read comes where the source failed, Write where the sink did, and Memory where
-/// no memory was left.
+/// for each frame that was sent, and at the end the state of both ends or the line of the first refusal. With status 0
+/// or 1 the output is the text of the whole input, and each event took place in a safe world and left a safe one; with
+/// another status it is a prefix of that text. Read means that the source failed, Write that the sink did, and Memory
+/// that no memory was left.
 pub fn run_schedule<S: Source, K: Sink>(alloc: Global, input: &mut S, output: &mut K) -> JobEnd
     ensures transcript { (bytes : List ℕ) → S.left input.old ≡ Some bytes
         → Answers (transcript bytes) (is_refused bytes) result (S.left input.new) (K.taken output.old) (K.taken output.new) }

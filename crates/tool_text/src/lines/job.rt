@@ -6,7 +6,7 @@ use crate::lines::error::LineError;
 use seq_circle::NoMemory;
 use std::alloc::Global;
 
-/// So many events a job over lines of events plays at most (own): what comes behind is refused as TooManyEvents.
+/// So many events a job over lines of events plays at most (own): what comes after is refused as TooManyEvents.
 pub const MOST_EVENTS: u32 = 16_384;
 
 /// A job over the lines of an input (own). Contracts see what a line does, and what a job makes of lines: what each

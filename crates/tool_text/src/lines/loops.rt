@@ -1,14 +1,13 @@
 //! The loop over the lines of an input.
-ghost use Rattle.std.specs.Prelude.{◌≡◌, ℕ, ◌++◌, List, Bool, true, false, None, Some, IfSome};
+ghost use Rattle.std.specs.Prelude.{◌≡◌, ℕ, ◌++◌, List, true, false, None, Some, IfSome};
 ghost use Rattle.dccp_io.specs.Counts.{Rose};
 ghost use Rattle.dccp_io.specs.Lines.{rest_of_input};
 ghost use Rattle.tool_text.specs.Ends.{EndsForCause, SinkFails};
-ghost use Rattle.tool_text.specs.Refusals.{refusal_line};
-ghost use Rattle.tool_text.specs.Jobs.{GoesThrough};
+ghost use Rattle.tool_text.specs.Jobs.{GoesIn, GoesThrough, refusal_in};
 ghost use Rattle.tool_text.specs.Turns.{Leaves};
 
 use crate::lines::job::LineJob;
-use crate::lines::refusals::put_refusal;
+use crate::lines::refusals::{Refusal, put_refusal};
 use crate::lines::turns::{Turn, flush_if_due, judge_next};
 use crate::output::{JobEnd, answered, cut_off};
 use crate::words::LineFault;
@@ -27,18 +26,25 @@ fn leave<K: Sink>(output: &mut K, text: &[u8], refused: bool) -> JobEnd
     }
 }
 
-// Writes the rest of the text, and the line of a refusal behind it, under the number of the line that is refused.
-fn refuse<K: Sink>(output: &mut K, text: &mut Vec<u8>, number: u64, fault: LineFault) -> JobEnd
-    ensures leaves { Leaves (text.old.items ++ refusal_line number fault) true result (K.taken output.old) (K.taken output.new) }
+// Writes the rest of the text, and the line of a refusal after it, under the number of the line that is refused, where
+// it is not told apart.
+fn refuse<K: Sink>(
+    output: &mut K,
+    text: &mut Vec<u8>,
+    apart: bool,
+    number: u64,
+    fault: LineFault,
+) -> JobEnd
+    ensures leaves { Leaves (text.old.items ++ refusal_in apart number fault) true result (K.taken output.old) (K.taken output.new) }
     ensures cause { EndsForCause result ⊥ (SinkFails K.faults K.empty_takes output.old output.new) }
 {
-    if put_refusal(text, number, fault).is_err() {
+    if !apart && put_refusal(text, number, fault).is_err() {
         return JobEnd::Memory;
     }
     leave(output, text, true)
 }
 
-// Writes the rest of the text, and the text at the input's end behind it.
+// Writes the rest of the text, and the text at the input's end after it.
 fn end<J: LineJob, K: Sink>(
     alloc: Global,
     job: &mut J,
@@ -55,35 +61,86 @@ fn end<J: LineJob, K: Sink>(
     leave(output, text, false)
 }
 
-// The loop. What it works on is lent, so that none of its ends has anything to drop.
+/// How a job over lines ended (own), and the line that was refused, if one was.
+#[derive(Clone, Copy, Debug, PartialEq, Eq)]
+pub struct LinesEnd {
+    pub end: JobEnd,
+    pub refusal: Option<Refusal>,
+}
+
+// The loop, which tells a refusal apart from the output or not. What it works on is lent, so that none of its ends has
+// anything to drop.
 fn go_through<J: LineJob, S: Source + Drop, K: Sink>(
     alloc: Global,
     job: &mut J,
     lines: &mut Lines<S>,
     output: &mut K,
     text: &mut Vec<u8>,
-) -> JobEnd
+    apart: bool,
+) -> LinesEnd
     requires kept { J.keeps job.old 1 }
     requires given { lines.old.given ≡ 0 }
     requires unstopped { lines.old.stop ≡ None }
-    ensures through { IfSome (rest_of_input S.left lines.old) (λ bytes. GoesThrough J.job J.keeps job.old text.old.items bytes result
+    ensures through { IfSome (rest_of_input S.left lines.old) (λ bytes. GoesIn apart J.job J.keeps job.old text.old.items bytes result
         (S.left lines.new.source) (K.taken output.old) (K.taken output.new)) }
     ensures same_lender { S.lender lines.new.source ≡ S.lender lines.old.source }
-    ensures cause { EndsForCause result (Rose (S.faults lines.old.source) (S.faults lines.new.source)) (SinkFails K.faults K.empty_takes output.old output.new) }
+    ensures cause { EndsForCause result.end (Rose (S.faults lines.old.source) (S.faults lines.new.source)) (SinkFails K.faults K.empty_takes output.old output.new) }
 {
     let mut number = 1;
     loop {
         if flush_if_due(lines, output, text).is_err() {
-            return JobEnd::Write;
+            return LinesEnd {
+                end: JobEnd::Write,
+                refusal: None,
+            };
         }
         match judge_next(alloc, job, number, lines, text) {
             Turn::Accepted => number += 1,
-            Turn::Ended => return end(alloc, job, output, text),
-            Turn::Refused(fault) => return refuse(output, text, number, fault),
-            Turn::Failed => return cut_off(output, text, JobEnd::Read),
-            Turn::NoMemory => return JobEnd::Memory,
+            Turn::Ended => return LinesEnd {
+                end: end(alloc, job, output, text),
+                refusal: None,
+            },
+            Turn::Refused(fault) => {
+                return LinesEnd {
+                    end: refuse(output, text, apart, number, fault),
+                    refusal: Some(Refusal { number, fault }),
+                };
+            }
+            Turn::Failed => return LinesEnd {
+                end: cut_off(output, text, JobEnd::Read),
+                refusal: None,
+            },
+            Turn::NoMemory => return LinesEnd {
+                end: JobEnd::Memory,
+                refusal: None,
+            },
         }
     }
+}
+
+// The same over an input.
+fn go_over<J: LineJob, S: Source, K: Sink>(
+    alloc: Global,
+    job: &mut J,
+    text: &mut Vec<u8>,
+    input: &mut S,
+    output: &mut K,
+    apart: bool,
+) -> LinesEnd
+    requires { J.keeps job.old 1 }
+    ensures through { (bytes : List ℕ) → S.left input.old ≡ Some bytes
+        → GoesIn apart J.job J.keeps job.old text.old.items bytes result (S.left input.new) (K.taken output.old) (K.taken output.new) }
+    ensures cause { EndsForCause result.end (Rose (S.faults input.old) (S.faults input.new)) (SinkFails K.faults K.empty_takes output.old output.new) }
+{
+    let Ok(mut lines) = Lines::new(alloc, &mut *input) else {
+        return LinesEnd {
+            end: JobEnd::Memory,
+            refusal: None,
+        };
+    };
+    let ended = go_through(alloc, job, &mut lines, output, text, apart);
+    let _ = lines.into_source();
+    ended
 }
 
 /// Does a job over the lines of an input, one by one as they are read (own): it writes the text that it is given, then
@@ -105,10 +162,22 @@ pub fn run_lines<J: LineJob, S: Source, K: Sink>(
         → GoesThrough J.job J.keeps job.old text.old.items bytes result (S.left input.new) (K.taken output.old) (K.taken output.new) }
     ensures cause { EndsForCause result (Rose (S.faults input.old) (S.faults input.new)) (SinkFails K.faults K.empty_takes output.old output.new) }
 {
-    let Ok(mut lines) = Lines::new(alloc, &mut *input) else {
-        return JobEnd::Memory;
-    };
-    let status = go_through(alloc, job, &mut lines, output, text);
-    let _ = lines.into_source();
-    status
+    go_over(alloc, job, text, input, output, false).end
+}
+
+/// Does a job over the lines of an input as [`run_lines`] does, but writes no line of a refusal (own): the refusal is
+/// answered, if there is one and all that comes before it was written.
+pub fn run_lines_apart<J: LineJob, S: Source, K: Sink>(
+    alloc: Global,
+    job: &mut J,
+    text: &mut Vec<u8>,
+    input: &mut S,
+    output: &mut K,
+) -> LinesEnd
+    requires { J.keeps job.old 1 }
+    ensures through { (bytes : List ℕ) → S.left input.old ≡ Some bytes
+        → GoesIn true J.job J.keeps job.old text.old.items bytes result (S.left input.new) (K.taken output.old) (K.taken output.new) }
+    ensures cause { EndsForCause result.end (Rose (S.faults input.old) (S.faults input.new)) (SinkFails K.faults K.empty_takes output.old output.new) }
+{
+    go_over(alloc, job, text, input, output, true)
 }

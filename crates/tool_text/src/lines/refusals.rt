@@ -17,8 +17,16 @@ pub(crate) fn too_long() -> LineFault
     }
 }
 
-/// Puts the line of a refusal, under the number of the line that is refused.
-pub(crate) fn put_refusal(text: &mut Vec<u8>, number: u64, fault: LineFault) -> Result<(), NoMemory>
+/// A line that is refused (own): its number, from 1, and its first fault.
+#[derive(Clone, Copy, Debug, PartialEq, Eq)]
+pub struct Refusal {
+    pub number: u64,
+    pub fault: LineFault,
+}
+
+/// Puts the line of a refusal, under the number of the line that is refused. NoMemory comes where the text could not
+/// grow.
+pub fn put_refusal(text: &mut Vec<u8>, number: u64, fault: LineFault) -> Result<(), NoMemory>
     ensures { OnOk result (text.new.items ≡ text.old.items ++ refusal_line number fault) }
 {
     put(text, b"line ")?;

@@ -4,7 +4,7 @@ ghost use Rattle.std.specs.List.{list_all, position_from};
 ghost use Rattle.tool_text.specs.Words.{IsPlaceOf};
 
 /// What is looked for in a text, byte by byte.
-pub(crate) trait Sought {
+pub(crate) trait ByteSearch {
     ghost sought: { Self → ℕ → Bool };
 
     /// Tells whether a byte is looked for.
@@ -16,7 +16,7 @@ pub(crate) trait Sought {
 const NEAR: usize = 10;
 
 // Whether a block has no such byte; none of its bytes ends the search.
-fn lacks<S: Sought>(what: &S, block: &[u8]) -> bool
+fn lacks<S: ByteSearch>(what: &S, block: &[u8]) -> bool
     ensures { result ≡ list_all (λ byte. not (S.sought what.now byte)) block.now }
 {
     let mut lacks = true;
@@ -29,7 +29,7 @@ fn lacks<S: Sought>(what: &S, block: &[u8]) -> bool
 // How many bytes without such a byte a text begins with, going on from so many by whole blocks. The bytes of a block
 // are judged side by side.
 #[tactic(auto, using(crate::proofs::BlockLaws::block_further))]
-fn blocks_from<const BLOCK: usize, S: Sought>(what: &S, text: &[u8], front: usize) -> usize
+fn blocks_from<const BLOCK: usize, S: ByteSearch>(what: &S, text: &[u8], front: usize) -> usize
     requires some { 0 < BLOCK }
     requires without { list_all (λ byte. not (S.sought what.now byte)) (take front text.now) ≡ true }
     requires within { front ≤ length text.now }
@@ -43,16 +43,16 @@ fn blocks_from<const BLOCK: usize, S: Sought>(what: &S, text: &[u8], front: usiz
     done
 }
 
-fn first_in<S: Sought>(what: &S, text: &[u8]) -> Option<usize>
+fn first_in<S: ByteSearch>(what: &S, text: &[u8]) -> Option<usize>
     ensures first { result ≡ position_from (S.sought what.now) 0 text.now }
     ensures within { IfSome result (IsPlaceOf text.now) }
 {
     text.iter().position(|byte| what.is_sought(*byte))
 }
 
-// The first one behind so many bytes that are none.
+// The first one after so many bytes that are none.
 #[tactic(auto, using(crate::proofs::BlockLaws::none_behind, crate::proofs::BlockLaws::some_behind))]
-fn first_behind<S: Sought>(what: &S, text: &[u8], front: usize) -> Option<usize>
+fn first_behind<S: ByteSearch>(what: &S, text: &[u8], front: usize) -> Option<usize>
     requires without { list_all (λ byte. not (S.sought what.now byte)) (take front text.now) ≡ true }
     requires within { front ≤ length text.now }
     ensures first { result ≡ position_from (S.sought what.now) 0 text.now }
@@ -65,7 +65,7 @@ fn first_behind<S: Sought>(what: &S, text: &[u8], front: usize) -> Option<usize>
 }
 
 // The same, by large blocks and then by small ones.
-fn far_from<S: Sought>(what: &S, text: &[u8], front: usize) -> usize
+fn far_from<S: ByteSearch>(what: &S, text: &[u8], front: usize) -> usize
     requires without { list_all (λ byte. not (S.sought what.now byte)) (take front text.now) ≡ true }
     requires within { front ≤ length text.now }
     ensures without { list_all (λ byte. not (S.sought what.now byte)) (take result text.now) ≡ true }
@@ -76,7 +76,7 @@ fn far_from<S: Sought>(what: &S, text: &[u8], front: usize) -> usize
 }
 
 /// The place of the first byte that is looked for, where it seldom stands anywhere.
-pub(crate) fn first_far<S: Sought>(what: &S, text: &[u8]) -> Option<usize>
+pub(crate) fn first_far<S: ByteSearch>(what: &S, text: &[u8]) -> Option<usize>
     ensures first { result ≡ position_from (S.sought what.now) 0 text.now }
     ensures within { IfSome result (IsPlaceOf text.now) }
 {
@@ -87,7 +87,7 @@ pub(crate) fn first_far<S: Sought>(what: &S, text: &[u8]) -> Option<usize>
 
 /// The same, where it mostly stands near.
 #[tactic(auto, using(crate::proofs::BlockLaws::none_there, crate::proofs::BlockLaws::some_near))]
-pub(crate) fn first_near<S: Sought>(what: &S, text: &[u8]) -> Option<usize>
+pub(crate) fn first_near<S: ByteSearch>(what: &S, text: &[u8]) -> Option<usize>
     ensures first { result ≡ position_from (S.sought what.now) 0 text.now }
     ensures within { IfSome result (IsPlaceOf text.now) }
 {

@@ -3,7 +3,7 @@ ghost use Rattle.std.specs.Prelude.{◌≡◌, ◌+◌, ◌*◌, ◌≤◌, ◌<
 ghost use Rattle.hex.specs.Hex.{is_hex_digit};
 ghost use Rattle.tool_text.specs.Digits.{digits_flaw, digit_value, bytes_of_digits, ArePairs};
 
-use crate::words::blocks::{Sought, first_far};
+use crate::words::blocks::{ByteSearch, first_far};
 use dccp_packets::{Frame, MOST_FRAME_BYTES};
 use std::marker::Model;
 
@@ -21,7 +21,7 @@ fn is_hex_digit(byte: u8) -> bool
 #[derive(Drop)]
 struct NoDigit;
 
-impl Sought for NoDigit {
+impl ByteSearch for NoDigit {
     ghost sought = { λ s byte. not (is_hex_digit byte) };
 
     fn is_sought(&self, byte: u8) -> bool {
@@ -29,7 +29,7 @@ impl Sought for NoDigit {
     }
 }
 
-/// The place of the first byte that is no digit, or that behind an odd number of digits (own).
+/// The place of the first byte that is no digit, or that after an odd number of digits (own).
 pub(crate) fn flaw_in_digits(word: &[u8]) -> Option<usize>
     ensures value { result ≡ digits_flaw word.now }
     ensures within { IfSome result (λ place. place ≤ length word.now) }

@@ -22,14 +22,14 @@ pub enum LineWhy {
     NotText,
     /// A word is empty or absent: at its place, which for an absent one is the line's length plus 2.
     Missing,
-    /// A word is none of those that may stand there: at that word.
+    /// A word is none of those that may be there: at that word.
     UnknownWord,
     /// A word should be a peer, an IPv4 address and a port, and is not: at that word.
     BadPeer,
     /// A word should be a number, a feature or a list of numbers and is not, or the index of a name is none: at that
     /// word.
     BadNumber,
-    /// A word should be digits of bytes and is not: at the first other byte, or behind an odd number of digits.
+    /// A word should be digits of bytes and is not: at the first other byte, or after an odd number of digits.
     BadHex,
     /// More words follow: at the first of them.
     Trailing,
@@ -37,7 +37,7 @@ pub enum LineWhy {
     FrameTooLong,
     /// A frame whose checksum is to be set has fewer than 8 bytes: at its digits.
     SealShort,
-    /// It must stand before all events and comes after one. The program judges this, at column 1.
+    /// It must come before all events and comes after one. The program judges this, at column 1.
     HeaderLate,
     /// The values are not allowed for the feature: at the values.
     BadList,

@@ -12,7 +12,7 @@ use crate::words::digits::{Digits, flaw_in_digits};
 use crate::words::faults::{LineFault, LineWhy};
 use crate::words::split::Word;
 
-/// What is wrong with a word, and how many of its bytes stand before that (own).
+/// What is wrong with a word, and how many of its bytes come before that (own).
 #[derive(Clone, Copy, Debug, PartialEq, Eq)]
 pub struct Flaw {
     pub place: u32,
@@ -93,9 +93,9 @@ pub trait Name: Drop {
 }
 
 /// The names of a type; every other word is UnknownWord (own).
-pub struct Named<T>(T);
+pub struct NameWord<T>(T);
 
-impl<'a, T: Name> WordKind<'a> for Named<T> {
+impl<'a, T: Name> WordKind<'a> for NameWord<T> {
     type Read = T;
 
     ghost reads = { λ text. spec.found_or why.UnknownWord (T.named text) };
@@ -106,7 +106,7 @@ impl<'a, T: Name> WordKind<'a> for Named<T> {
 }
 
 /// Digits of bytes in hexadecimal, in either case, of one byte at least (own). BadHex comes at the first byte that is
-/// no digit, and otherwise behind an odd number of digits.
+/// no digit, and otherwise after an odd number of digits.
 pub struct Hex;
 
 impl<'a> WordKind<'a> for Hex {

@@ -2,7 +2,7 @@
 ghost use Rattle.std.specs.Prelude.{◌≡◌, ◌≤◌, not, length, OnOk};
 ghost use Rattle.tool_text.specs.Lines as spec;
 
-use crate::words::blocks::{Sought, first_far};
+use crate::words::blocks::{ByteSearch, first_far};
 use crate::words::faults::{LineFault, LineWhy};
 use crate::words::rows::Row;
 use crate::words::split::Words;
@@ -20,7 +20,7 @@ fn is_text(byte: u8) -> bool
 #[derive(Drop)]
 struct NoText;
 
-impl Sought for NoText {
+impl ByteSearch for NoText {
     ghost sought = { λ s byte. not (spec.is_text byte) };
 
     fn is_sought(&self, byte: u8) -> bool {

@@ -10,7 +10,7 @@ use crate::words::faults::{LineFault, LineWhy};
 use crate::words::kinds::{Flaw, WordKind, read_word};
 use crate::words::split::Words;
 
-/// A row of words, read from the left (own): a tuple of kinds that ends in `()`, as `(ASide, (ANumber, ()))`, or what a
+/// A row of words, read from the left (own): a tuple of kinds that ends in `()`, as `(SideWord, (NumberWord, ()))`, or what a
 /// grammar makes of such rows.
 pub trait Row<'a> {
     /// What the words say.
@@ -40,7 +40,7 @@ impl<'a> Row<'a> for () {
     }
 }
 
-/// A word of this kind, and then the row behind it.
+/// A word of this kind, and then the row after it.
 impl<'a, K: WordKind<'a>, R: Row<'a>> Row<'a> for (K, R) {
     type Said = (K::Read, R::Said);
 
@@ -63,7 +63,7 @@ pub trait Flag {
 }
 
 /// The end of a row in which this word may stand (own): UnknownWord where another does, and Trailing where one stands
-/// behind it.
+/// after it.
 pub struct MaybeFlag<F>(F);
 
 // The word for a flag, as a kind of words.

@@ -3,7 +3,7 @@ ghost use Rattle.std.specs.Prelude.{◌≡◌, ◌==◌, ◌+◌, ◌≤◌, ◌
 ghost use Rattle.tool_text.specs.Words.{parted_by};
 ghost use Rattle.tool_text.specs.Rest.{pieces_left, rest_length};
 
-use crate::words::blocks::{Sought, first_near};
+use crate::words::blocks::{ByteSearch, first_near};
 
 /// A word of a line, and the column of its first byte, from 1 (own). It has no bytes where the line has no such word.
 #[derive(Clone, Copy)]
@@ -18,7 +18,7 @@ struct Mark {
     byte: u8,
 }
 
-impl Sought for Mark {
+impl ByteSearch for Mark {
     ghost sought = { λ mark byte. byte == mark.byte };
 
     fn is_sought(&self, byte: u8) -> bool {
@@ -26,7 +26,7 @@ impl Sought for Mark {
     }
 }
 
-/// The first piece of a text that this byte parts, and what follows that byte, if it stands there (own).
+/// The first piece of a text that this byte parts, and what follows that byte, if it is there (own).
 #[tactic(auto, using(crate::proofs::Pieces::parted, crate::proofs::Pieces::not_parted))]
 pub fn first_piece(mark: u8, text: &[u8]) -> (&[u8], Option<&[u8]>)
     ensures pieces { parted_by mark text.now ≡ result.0.now ∷ pieces_left mark result.1 }
@@ -41,7 +41,7 @@ pub fn first_piece(mark: u8, text: &[u8]) -> (&[u8], Option<&[u8]>)
 /// The words of a line that are still to be read (own).
 #[derive(Clone, Copy)]
 pub struct Words<'a> {
-    // What follows, and None behind the last word.
+    // What follows, and None after the last word.
     rest: Option<&'a [u8]>,
     // The column of the next word.
     column: u32,

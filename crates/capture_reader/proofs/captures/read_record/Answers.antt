@@ -1,4 +1,4 @@
--- A header and the bytes behind it make a record, or what is wrong with these.
+-- A header and the bytes after it make a record, or what is wrong with these.
 use Rattle.std.proofs.Common.{arith, ◌≡◌, ◌∙◌, ◌-◌, Ok, Err, Some, None, Option, IfSome, length, subst}
 use Rattle.dccp_io.specs.Ahead.{ahead_of}
 use Rattle.capture_reader.specs.Records.{body_fault, found_in}

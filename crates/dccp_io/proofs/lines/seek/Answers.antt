@@ -1,4 +1,4 @@
--- The scan goes on behind what was scanned.
+-- The scan goes on after what was scanned.
 use Rattle.std.proofs.Common.{rules, ◌∙◌, ap}
 use Rattle.dccp_io.specs.Ahead.{BytesAhead}
 use Rattle.dccp_io.proofs.NextLine.{scanned}

@@ -1,4 +1,4 @@
--- What was sought settles what stands next.
+-- What was sought settles what comes next.
 use Rattle.std.proofs.Common.{◌≡◌, ℕ, List, subst}
 use Rattle.dccp_io.specs.Ahead.{ahead_of}
 use Rattle.dccp_io.specs.Lines.{made_out, next_in_bytes}

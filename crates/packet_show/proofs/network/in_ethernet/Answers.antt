@@ -1,4 +1,4 @@
--- The packet behind the header, of the type that the header says.
+-- The packet after the header, of the type that the header says.
 use Rattle.std.proofs.Common.{rules, ◌≡◌, ◌≤◌, false, length, nat_lt, refl, sym, ap, ◌∙◌, drop, List, ℕ}
 use Rattle.std.proofs.lemmas.Bool.{le-ltb}
 use Rattle.packet_show.specs.Network.{in_ethernet, in_frame}

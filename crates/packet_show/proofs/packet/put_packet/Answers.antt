@@ -1,4 +1,4 @@
--- The parts of a packet's line, one behind the other.
+-- The parts of a packet's line, one after the other.
 use Rattle.std.proofs.Common.{◌≡◌, ap, ◌∙◌, List, ℕ, ◌++◌, append_assoc}
 use Rattle.capture_reader.specs.Records.{entry_of}
 use Rattle.packet_show.specs.Network.{carried_by}

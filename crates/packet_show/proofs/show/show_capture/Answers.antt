@@ -1,4 +1,4 @@
--- A refused file header, and how far the input was read behind the file header.
+-- A refused file header, and how far the input was read after the file header.
 use Rattle.std.proofs.Common.{rules, ◌≡◌, ℕ, List, Option, Some, Ok, IfSome, drop, subst}
 use Rattle.capture_reader.specs.Format.{opened}
 use Rattle.capture_reader.specs.Records.{records_from}

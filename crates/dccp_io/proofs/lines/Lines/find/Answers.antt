@@ -3,8 +3,8 @@ use Rattle.std.proofs.Common.{rules, arith, ◌≡◌, ◌≤◌, ◌+◌, true,
 use Rattle.std.proofs.lemmas.List.{length-drop}
 use Rattle.dccp_io.specs.Ahead.{ahead_of}
 use Rattle.dccp_io.specs.Lines.{LinesState, Finds, next_in_bytes, made_out, IsLineOf}
-use Rattle.dccp_io.specs.declared.lines.Stands.{Stands}
-use Rattle.dccp_io.specs.declared.lines.Stands.TheVariants as stands
+use Rattle.dccp_io.specs.declared.lines.NextItem.{NextItem}
+use Rattle.dccp_io.specs.declared.lines.NextItem.TheVariants as next_item
 use Rattle.dccp_io.specs.declared.lines.Stop.TheVariants as stop
 use Rattle.dccp_io.proofs.Finding.{state, found-before, found-failed, found-long, found-much, found-end, found-line}
 use Rattle.dccp_io.proofs.lines.Lines.find.Goals as goal
@@ -36,8 +36,8 @@ returns-in-Ok-TooLong-clause-finds g c =
     let after = c.stands_next.new.source in
     let got = c.stands_next.new.ahead in
     let block : length got.pending ≤ 8192 = search rules in
-    let stood : c.in-Ok-TooLong.field-0 ≡ stands.TooLong = search rules in
-    let next = subst (λ (s : Stands). IfSome (ahead_of c.pass.new.self (g.S.Source.left inside.source))
+    let stood : c.in-Ok-TooLong.field-0 ≡ next_item.TooLong = search rules in
+    let next = subst (λ (s : NextItem). IfSome (ahead_of c.pass.new.self (g.S.Source.left inside.source))
     (λ bytes. next_in_bytes inside.given bytes ≡ made_out got.pending s)) stood c.in-Ok-TooLong.ensures.next in
     subst
     (λ (old : LinesState g.row.S.Denot). Finds g.S.Source.left g.S.Source.faults g.S.Source.lender old
@@ -52,8 +52,8 @@ returns-in-Ok-TooMuch-clause-finds g c =
     let after = c.stands_next.new.source in
     let got = c.stands_next.new.ahead in
     let block : length got.pending ≤ 8192 = search rules in
-    let stood : c.in-Ok-TooMuch.field-0 ≡ stands.TooMuch = search rules in
-    let next = subst (λ (s : Stands). IfSome (ahead_of c.pass.new.self (g.S.Source.left inside.source))
+    let stood : c.in-Ok-TooMuch.field-0 ≡ next_item.TooMuch = search rules in
+    let next = subst (λ (s : NextItem). IfSome (ahead_of c.pass.new.self (g.S.Source.left inside.source))
     (λ bytes. next_in_bytes inside.given bytes ≡ made_out got.pending s)) stood c.in-Ok-TooMuch.ensures.next in
     subst
     (λ (old : LinesState g.row.S.Denot). Finds g.S.Source.left g.S.Source.faults g.S.Source.lender old
@@ -68,8 +68,8 @@ returns-in-Ok-End-clause-finds g c =
     let after = c.stands_next.new.source in
     let got = c.stands_next.new.ahead in
     let block : length got.pending ≤ 8192 = search rules in
-    let stood : c.in-Ok-End.field-0 ≡ stands.End = search rules in
-    let next = subst (λ (s : Stands). IfSome (ahead_of c.pass.new.self (g.S.Source.left inside.source))
+    let stood : c.in-Ok-End.field-0 ≡ next_item.End = search rules in
+    let next = subst (λ (s : NextItem). IfSome (ahead_of c.pass.new.self (g.S.Source.left inside.source))
     (λ bytes. next_in_bytes inside.given bytes ≡ made_out got.pending s)) stood c.in-Ok-End.ensures.next in
     subst
     (λ (old : LinesState g.row.S.Denot). Finds g.S.Source.left g.S.Source.faults g.S.Source.lender old (state after got.pending 0 inside.given inside.stop)
@@ -84,10 +84,10 @@ returns-in-Ok-Line-clause-finds g c =
     let after = c.stands_next.new.source in
     let got = c.stands_next.new.ahead in
     let block : length got.pending ≤ 8192 = search rules in
-    let stood : c.in-Ok-Line.field-0 ≡ stands.Line c.in-Ok-Line.count = search rules in
-    let next = subst (λ (s : Stands). IfSome (ahead_of c.pass.new.self (g.S.Source.left inside.source))
+    let stood : c.in-Ok-Line.field-0 ≡ next_item.Line c.in-Ok-Line.count = search rules in
+    let next = subst (λ (s : NextItem). IfSome (ahead_of c.pass.new.self (g.S.Source.left inside.source))
     (λ bytes. next_in_bytes inside.given bytes ≡ made_out got.pending s)) stood c.in-Ok-Line.ensures.next in
-    let fits = subst (λ (s : Stands). IsLineOf inside.given got.pending s) stood c.in-Ok-Line.ensures.fits in
+    let fits = subst (λ (s : NextItem). IsLineOf inside.given got.pending s) stood c.in-Ok-Line.ensures.fits in
     subst
     (λ (old : LinesState g.row.S.Denot). Finds g.S.Source.left g.S.Source.faults g.S.Source.lender old
     (state after got.pending c.in-Ok-Line.count (inside.given + c.in-Ok-Line.count) inside.stop) (Ok true))

@@ -1,4 +1,4 @@
--- What is pending behind the line that was given, as far as it is asked for.
+-- What is pending after the line that was given, as far as it is asked for.
 use Rattle.std.proofs.Common.{rules, ◌≡◌, ◌∙◌, ap, ℕ, min, length, take, drop}
 use Rattle.std.proofs.lemmas.List.{take_min}
 use Rattle.dccp_io.specs.Lines.{LinesState}

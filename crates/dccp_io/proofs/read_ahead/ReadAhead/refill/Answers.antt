@@ -1,4 +1,4 @@
--- What came stands behind what was pending.
+-- What came follows what was pending.
 use Rattle.std.proofs.Common.{rules, ◌≡◌, ◌≤◌, ◌+◌, ◌++◌, take, drop, length, ap, ◌∙◌, List, ℕ}
 use Rattle.std.specs.Io.KnownBytes.{prepend_known}
 use Rattle.std.specs.Vec.{with_items}

@@ -1,4 +1,4 @@
--- A flow that was not seen, put behind the set where that is full.
+-- A flow that was not seen, put after the set where that is full.
 use Rattle.std.proofs.Common.{◌≡◌, ap, ◌∙◌, List}
 use Rattle.packet_show.specs.Flows.{Flow, number_if_seen}
 use Rattle.packet_show.proofs.Numbered.{none_further, noted_further}

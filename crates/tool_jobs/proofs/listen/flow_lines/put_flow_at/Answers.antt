@@ -1,4 +1,4 @@
--- Who stands at the place has an end, and the flow there is that peer's.
+-- Who is at the place has an end, and the flow there is that peer's.
 use Rattle.std.proofs.Common.{◌≡◌, ◌++◌, sym, ap, ◌∙◌, subst, ℕ, List}
 use Rattle.std.specs.Prelude.{OnOk}
 use Rattle.tool_jobs.specs.Telling.{flow_line_if, peer_in_phase}

@@ -1,4 +1,4 @@
--- The four pieces of the line, one behind the other.
+-- The four pieces of the line, one after the other.
 use Rattle.std.proofs.Common.{rules, ◌≡◌, ◌∙◌, ap, ℕ, List, ◌++◌, codes}
 use Rattle.std.specs.Prelude.{decimal}
 use Rattle.std.proofs.lemmas.Result.{IfOk-weaker}

@@ -6,19 +6,20 @@ use Rattle.tool_text.proofs.lines.loops.go_through.Goals as goal
 
 pub loop-alloc-init : goal.loop-alloc-init
 loop-alloc-init g c =
-    begins g.S.Source.left g.S.Source.faults g.S.Source.lender g.K.Sink.taken g.K.Sink.faults g.K.Sink.empty_takes g.J.LineJob.job g.J.LineJob.keeps
+    begins g.S.Source.left g.S.Source.faults g.S.Source.lender g.K.Sink.taken g.K.Sink.faults g.K.Sink.empty_takes g.J.LineJob.job g.J.LineJob.keeps c.args.apart
     c.args.job.now c.args.lines.now
     c.args.output.now c.args.text.now.items c.requires.unstopped c.requires.given c.requires.kept
 
 pub loop-alloc-preserved : goal.loop-alloc-preserved
 loop-alloc-preserved g c =
     let before = moved-on g.S.Source.left g.S.Source.faults g.S.Source.lender g.K.Sink.taken g.K.Sink.faults g.K.Sink.empty_takes g.J.LineJob.job
-    g.J.LineJob.keeps c.args.job.now c.args.lines.now
+    g.J.LineJob.keeps c.args.apart
+    c.args.job.now c.args.lines.now
     c.args.output.now c.args.text.now.items c.loop-alloc.job c.loop-alloc.lines c.loop-alloc.output c.loop-alloc.text.items c.loop-alloc.number
     c.loop-alloc.invariant
     c.flush_if_due.new.output c.flush_if_due.new.text.items c.flush_if_due.result c.flush_if_due.ensures.moved (sym c.is_err.ensures.value ∙ c.if-is_err.false)
     c.flush_if_due.ensures.never_falls c.flush_if_due.ensures.takes_never_fall in
-    turned-on g.S.Source.left g.S.Source.faults g.S.Source.lender g.K.Sink.taken g.K.Sink.faults g.K.Sink.empty_takes g.J.LineJob.job g.J.LineJob.keeps
+    turned-on g.S.Source.left g.S.Source.faults g.S.Source.lender g.K.Sink.taken g.K.Sink.faults g.K.Sink.empty_takes g.J.LineJob.job g.J.LineJob.keeps c.args.apart
     c.args.job.now c.args.lines.now
     c.args.output.now c.args.text.now.items c.loop-alloc.job c.loop-alloc.lines c.flush_if_due.new.output c.flush_if_due.new.text.items c.loop-alloc.number
     before
@@ -26,7 +27,7 @@ loop-alloc-preserved g c =
 
 pub returns-then-is_err-clause-through : goal.returns-then-is_err-clause-through
 returns-then-is_err-clause-through g c =
-    unmoved g.S.Source.left g.S.Source.faults g.S.Source.lender g.K.Sink.taken g.K.Sink.faults g.K.Sink.empty_takes g.J.LineJob.job g.J.LineJob.keeps
+    unmoved g.S.Source.left g.S.Source.faults g.S.Source.lender g.K.Sink.taken g.K.Sink.faults g.K.Sink.empty_takes g.J.LineJob.job g.J.LineJob.keeps c.args.apart
     c.args.job.now c.args.lines.now
     c.args.output.now c.args.text.now.items c.loop-alloc.job c.loop-alloc.lines c.loop-alloc.output c.loop-alloc.text.items c.loop-alloc.number
     c.loop-alloc.invariant
@@ -35,12 +36,13 @@ returns-then-is_err-clause-through g c =
 pub returns-in-Ended-clause-through : goal.returns-in-Ended-clause-through
 returns-in-Ended-clause-through g c =
     let before = moved-on g.S.Source.left g.S.Source.faults g.S.Source.lender g.K.Sink.taken g.K.Sink.faults g.K.Sink.empty_takes g.J.LineJob.job
-    g.J.LineJob.keeps c.args.job.now c.args.lines.now
+    g.J.LineJob.keeps c.args.apart
+    c.args.job.now c.args.lines.now
     c.args.output.now c.args.text.now.items c.loop-alloc.job c.loop-alloc.lines c.loop-alloc.output c.loop-alloc.text.items c.loop-alloc.number
     c.loop-alloc.invariant
     c.flush_if_due.new.output c.flush_if_due.new.text.items c.flush_if_due.result c.flush_if_due.ensures.moved (sym c.is_err.ensures.value ∙ c.if-is_err.false)
     c.flush_if_due.ensures.never_falls c.flush_if_due.ensures.takes_never_fall in
-    turned-to-end g.S.Source.left g.S.Source.faults g.S.Source.lender g.K.Sink.taken g.K.Sink.faults g.K.Sink.empty_takes g.J.LineJob.job g.J.LineJob.keeps
+    turned-to-end g.S.Source.left g.S.Source.faults g.S.Source.lender g.K.Sink.taken g.K.Sink.faults g.K.Sink.empty_takes g.J.LineJob.job g.J.LineJob.keeps c.args.apart
     c.args.job.now c.args.lines.now
     c.args.output.now c.args.text.now.items c.loop-alloc.job c.loop-alloc.lines c.flush_if_due.new.output c.flush_if_due.new.text.items c.loop-alloc.number
     before
@@ -51,12 +53,13 @@ returns-in-Ended-clause-through g c =
 pub returns-in-Refused-clause-through : goal.returns-in-Refused-clause-through
 returns-in-Refused-clause-through g c =
     let before = moved-on g.S.Source.left g.S.Source.faults g.S.Source.lender g.K.Sink.taken g.K.Sink.faults g.K.Sink.empty_takes g.J.LineJob.job
-    g.J.LineJob.keeps c.args.job.now c.args.lines.now
+    g.J.LineJob.keeps c.args.apart
+    c.args.job.now c.args.lines.now
     c.args.output.now c.args.text.now.items c.loop-alloc.job c.loop-alloc.lines c.loop-alloc.output c.loop-alloc.text.items c.loop-alloc.number
     c.loop-alloc.invariant
     c.flush_if_due.new.output c.flush_if_due.new.text.items c.flush_if_due.result c.flush_if_due.ensures.moved (sym c.is_err.ensures.value ∙ c.if-is_err.false)
     c.flush_if_due.ensures.never_falls c.flush_if_due.ensures.takes_never_fall in
-    turned-down g.S.Source.left g.S.Source.faults g.S.Source.lender g.K.Sink.taken g.K.Sink.faults g.K.Sink.empty_takes g.J.LineJob.job g.J.LineJob.keeps
+    turned-down g.S.Source.left g.S.Source.faults g.S.Source.lender g.K.Sink.taken g.K.Sink.faults g.K.Sink.empty_takes g.J.LineJob.job g.J.LineJob.keeps c.args.apart
     c.args.job.now c.args.lines.now
     c.args.output.now c.args.text.now.items c.loop-alloc.job c.loop-alloc.lines c.flush_if_due.new.output c.flush_if_due.new.text.items c.loop-alloc.number
     before
@@ -66,12 +69,13 @@ returns-in-Refused-clause-through g c =
 pub returns-in-Failed-clause-through : goal.returns-in-Failed-clause-through
 returns-in-Failed-clause-through g c =
     let before = moved-on g.S.Source.left g.S.Source.faults g.S.Source.lender g.K.Sink.taken g.K.Sink.faults g.K.Sink.empty_takes g.J.LineJob.job
-    g.J.LineJob.keeps c.args.job.now c.args.lines.now
+    g.J.LineJob.keeps c.args.apart
+    c.args.job.now c.args.lines.now
     c.args.output.now c.args.text.now.items c.loop-alloc.job c.loop-alloc.lines c.loop-alloc.output c.loop-alloc.text.items c.loop-alloc.number
     c.loop-alloc.invariant
     c.flush_if_due.new.output c.flush_if_due.new.text.items c.flush_if_due.result c.flush_if_due.ensures.moved (sym c.is_err.ensures.value ∙ c.if-is_err.false)
     c.flush_if_due.ensures.never_falls c.flush_if_due.ensures.takes_never_fall in
-    turned-off g.S.Source.left g.S.Source.faults g.S.Source.lender g.K.Sink.taken g.K.Sink.faults g.K.Sink.empty_takes g.J.LineJob.job g.J.LineJob.keeps
+    turned-off g.S.Source.left g.S.Source.faults g.S.Source.lender g.K.Sink.taken g.K.Sink.faults g.K.Sink.empty_takes g.J.LineJob.job g.J.LineJob.keeps c.args.apart
     c.args.job.now c.args.lines.now
     c.args.output.now c.args.text.now.items c.loop-alloc.job c.loop-alloc.lines c.flush_if_due.new.output c.flush_if_due.new.text.items c.loop-alloc.number
     before
@@ -81,12 +85,13 @@ returns-in-Failed-clause-through g c =
 pub returns-in-NoMemory-clause-through : goal.returns-in-NoMemory-clause-through
 returns-in-NoMemory-clause-through g c =
     let before = moved-on g.S.Source.left g.S.Source.faults g.S.Source.lender g.K.Sink.taken g.K.Sink.faults g.K.Sink.empty_takes g.J.LineJob.job
-    g.J.LineJob.keeps c.args.job.now c.args.lines.now
+    g.J.LineJob.keeps c.args.apart
+    c.args.job.now c.args.lines.now
     c.args.output.now c.args.text.now.items c.loop-alloc.job c.loop-alloc.lines c.loop-alloc.output c.loop-alloc.text.items c.loop-alloc.number
     c.loop-alloc.invariant
     c.flush_if_due.new.output c.flush_if_due.new.text.items c.flush_if_due.result c.flush_if_due.ensures.moved (sym c.is_err.ensures.value ∙ c.if-is_err.false)
     c.flush_if_due.ensures.never_falls c.flush_if_due.ensures.takes_never_fall in
-    out-of-memory g.S.Source.left g.S.Source.faults g.S.Source.lender g.K.Sink.taken g.K.Sink.faults g.K.Sink.empty_takes g.J.LineJob.job g.J.LineJob.keeps
+    out-of-memory g.S.Source.left g.S.Source.faults g.S.Source.lender g.K.Sink.taken g.K.Sink.faults g.K.Sink.empty_takes g.J.LineJob.job g.J.LineJob.keeps c.args.apart
     c.args.job.now c.args.lines.now
     c.args.output.now c.args.text.now.items c.loop-alloc.job c.loop-alloc.lines c.flush_if_due.new.output c.flush_if_due.new.text.items c.loop-alloc.number
     before

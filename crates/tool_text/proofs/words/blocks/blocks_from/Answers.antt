@@ -11,5 +11,5 @@ loop-done-preserved g c =
     let inside = c.loop-done.invariant.within in
     record {
       within = omega arith;
-      without = block_further (g.S.Sought.sought c.args.what.now) done g.row.BLOCK text c.loop-done.invariant.without (sym c.lacks.ensures ∙ c.if-lacks.true);
+      without = block_further (g.S.ByteSearch.sought c.args.what.now) done g.row.BLOCK text c.loop-done.invariant.without (sym c.lacks.ensures ∙ c.if-lacks.true);
     }

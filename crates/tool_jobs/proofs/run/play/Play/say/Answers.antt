@@ -1,4 +1,4 @@
--- The lines that stand before all events are judged as their calls say, and put no text.
+-- The lines that come before all events are judged as their calls say, and put no text.
 use Rattle.std.proofs.Common.{rules, ◌≡◌, sym, subst, Ok}
 use Rattle.schedule_text.specs.declared.line.Line.{Line}
 use Rattle.schedule_text.specs.declared.line.Line.TheVariants as line

@@ -1,4 +1,4 @@
--- Behind an event each side has sent one frame more at most, and its line was judged as it was shown.
+-- After an event each side has sent one frame more at most, and its line was judged as it was shown.
 use Rattle.std.proofs.Common.{rules, ◌≡◌, ◌<◌, sym, subst, Some, Result, Ok, Err}
 use Rattle.tool_jobs.specs.Transcript.{SentFew, ShowsEvent, event_shown, run_job, says_event, world_of}
 use Rattle.tool_jobs.specs.declared.run.play.Play.{Play}

@@ -1,7 +1,7 @@
 use Rattle.std.proofs.Common.{◌≡◌, ◌++◌, drop}
 use Rattle.std.specs.Prelude.{flat_map}
 use Rattle.tool_jobs.specs.EndLines.{row_text, all_features}
-use Rattle.tool_jobs.proofs.ends.lines.put_rows.Given as goal
+use Rattle.tool_jobs.proofs.ends.lines.put_end_rows.Given as goal
 
 abbrev pub invariant-loop-feature : goal.invariant-loop-feature
 invariant-loop-feature l =

@@ -1,6 +1,6 @@
 use Rattle.tool_jobs.specs.EndLines.{row_text, all_features}
 use Rattle.tool_jobs.proofs.RowTexts.{item_put}
-use Rattle.tool_jobs.proofs.ends.lines.put_rows.Goals as goal
+use Rattle.tool_jobs.proofs.ends.lines.put_end_rows.Goals as goal
 
 pub loop-feature-preserved : goal.loop-feature-preserved
 loop-feature-preserved c =

@@ -1,0 +1,34 @@
+-- A fresh end that hears a datagram and goes is the flow that the datagram opens.
+use Rattle.std.proofs.Common.{◌≡◌, ℕ, Bool, true, false, List, Option, Some, None, cond, ap, ◌∙◌}
+use Rattle.ccid_two.specs.Kinds.{Both}
+use Rattle.dccp_endpoint.specs.Controlled.{EndStep}
+use Rattle.dccp_endpoint.specs.Inputs.{Answer}
+use Rattle.dccp_endpoint.specs.Strangers.{stays_in}
+use Rattle.dccp_listener.specs.Chain.{Arrives, flow_step, fresh_end}
+use Rattle.dccp_listener.specs.Greeting.{GreetingsOpen}
+use Rattle.dccp_listener.specs.Listens.{Listened, fresh_met, is_table_full, listens, listens_by}
+use Rattle.dccp_listener.specs.Peers.{FlowEnd, Listening, end_of_peer}
+use Rattle.dccp_listener.specs.declared.peer.Peer.{Peer}
+use Rattle.dccp_listener.proofs.InOrder.{found_insert}
+use Rattle.dccp_listener.proofs.OnePeer.{peers_alike}
+
+module _ (l : Listening) (peer : Peer) (iss : ℕ) (bytes : List ℕ) where
+  abbrev step : EndStep Both Answer
+  step = flow_step (fresh_end l.config peer iss bytes) (Arrives iss bytes)
+
+  -- the datagram opens a flow
+  opened : end_of_peer l.flows peer ≡ None → is_table_full l ≡ false → stays_in step.after.state.phase ≡ true
+      → listens l peer (Arrives iss bytes) ≡ fresh_met l peer iss bytes step true false
+  opened none room stays =
+      ap (λ (found : Option FlowEnd). listens_by l peer found (Arrives iss bytes)) none
+      ∙ ap (λ (it : Bool). fresh_met l peer iss bytes step it (is_table_full l)) stays
+      ∙ ap (λ (it : Bool). fresh_met l peer iss bytes step true it) room
+
+pub greeted_opens : GreetingsOpen
+greeted_opens l peer iss bytes none room stays =
+    let is = opened l peer iss bytes none room stays in (
+      ap (λ (it : Listened). it.frame) is,
+      ap (λ (it : Listened). end_of_peer it.flows peer) is
+          ∙ found_insert peer peer (step l peer iss bytes).after l.flows
+          ∙ ap (λ (here : Bool). cond here (Some (step l peer iss bytes).after) (end_of_peer l.flows peer)) (peers_alike.refl peer),
+    )
