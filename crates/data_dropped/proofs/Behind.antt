@@ -1,7 +1,7 @@
--- The Data Dropped options behind those that an end wrote.
-use Rattle.std.proofs.Common.{◌≡◌, ℕ, ◌+◌, ◌-◌, ◌%◌, ◌==◌, Bool, true, false, List, [], ◌∷◌, ◌++◌, length, map, replicate, Result, Ok, if◌then◌else◌, refl, ap, sym, ◌∙◌, inl, inr, arith, append_assoc, All}
+-- The Data Dropped options after those that an end wrote.
+use Rattle.std.proofs.Common.{◌≡◌, ℕ, ◌+◌, ◌-◌, ◌%◌, ◌==◌, Bool, true, false, List, [], ◌∷◌, ◌++◌, length, map, replicate, Result, Ok, if◌then◌else◌, refl, ap, sym, subst, ◌∙◌, inl, inr, arith, append_assoc, All}
 use Rattle.std.proofs.lemmas.Bool.{cases_eq, eq-eqb, ne_eqb}
-use Rattle.std.proofs.lemmas.List.Elements.{All-head, All-tail}
+use Rattle.std.proofs.lemmas.List.Elements.{All-cons, All-head, All-nil, All-tail}
 use Rattle.dccp_options.specs.Grammar.{Entry, marked_entries, options_of}
 use Rattle.dccp_options.specs.Kinds.{data_dropped}
 use Rattle.dccp_options.specs.Written.{Item, IsWritable, entries_at, listed_from, spelled, written}
@@ -14,7 +14,7 @@ use Rattle.data_dropped.specs.Drops.{drop_bytes}
 use Rattle.data_dropped.specs.Frames.{drops_said, said, slow_said}
 use Rattle.data_dropped.specs.Inbox.{InboxState, is_slow}
 use Rattle.data_dropped.specs.Reports.{drop_options, dropped_in}
-use Rattle.data_dropped.specs.Telling.{one_option}
+use Rattle.data_dropped.specs.Telling.{IsPassedOver, one_option}
 
 pub drop_options-append : (front behind : List (Result Entry OptFault)) → drop_options (front ++ behind) ≡ drop_options front ++ drop_options behind
 drop_options-append [] behind = refl
@@ -60,7 +60,54 @@ said-tells place zeros bytes slow =
           ∙ drops-told place zeros bytes slow)
     ]
 
--- behind an end's own options, which are filled up with zeros
+-- and an end passes over all of it
+zeros-passed : (place zeros : ℕ) → All IsPassedOver (listed_from place (replicate zeros 0))
+zeros-passed place zeros = subst (λ (all : List (Result Entry OptFault)). All IsPassedOver all) (sym (entries-padding place zeros)) (All-nil IsPassedOver)
+
+slow-passed : (place zeros : ℕ) (slow : Bool) → All IsPassedOver (listed_from place (slow_said slow ++ replicate zeros 0))
+slow-passed place zeros false = zeros-passed place zeros
+slow-passed place zeros true =
+    subst (λ (raws : List _). All IsPassedOver (marked_entries false raws)) (sym (raws-one_byte place 2 (replicate zeros 0) (omega arith)))
+    (All-cons IsPassedOver _ (listed_from (place + 1) (replicate zeros 0)) (inr (refl, refl)) (zeros-passed (place + 1) zeros))
+
+drops-passed : (place zeros : ℕ) (bytes : List ℕ) (slow : Bool)
+    → All IsPassedOver (listed_from place (spelled false data_dropped bytes ++ (slow_said slow ++ replicate zeros 0)))
+drops-passed place zeros bytes slow =
+    subst (λ (all : List (Result Entry OptFault)). All IsPassedOver all)
+    (sym (entries-spelled place data_dropped false bytes (slow_said slow ++ replicate zeros 0) (omega arith)))
+    (All-cons IsPassedOver _ (listed_from (place + length (spelled false data_dropped bytes)) (slow_said slow ++ replicate zeros 0)) (inl refl)
+    (slow-passed (place + length (spelled false data_dropped bytes)) zeros slow))
+
+said-passed : (place zeros : ℕ) (bytes : List ℕ) (slow : Bool)
+    → All IsPassedOver (listed_from place ((drops_said bytes ++ slow_said slow) ++ replicate zeros 0))
+said-passed place zeros bytes slow =
+    elim (cases_eq (length bytes) 0) [
+      | inl none ↦ rw (eq-eqb (length bytes) 0 none) (slow-passed place zeros slow)
+      | inr some ↦ rw (ne_eqb (length bytes) 0 some)
+          (subst (λ (all : List ℕ). All IsPassedOver (listed_from place all))
+          (sym (append_assoc (spelled false data_dropped bytes) (slow_said slow) (replicate zeros 0)))
+          (drops-passed place zeros bytes slow))
+    ]
+
+-- what follows an end's own options in a longer area
+abbrev pub listed-behind : List Item → ℕ → InboxState → ℕ → List (Result Entry OptFault)
+listed-behind items zeros held ack =
+    listed_from (length (written items) + zeros)
+    (said held ack ++ replicate ((4 - length ((written items ++ replicate zeros 0) ++ said held ack) % 4) % 4) 0)
+
+pub behind-passed : (items : List Item) (zeros : ℕ) (held : InboxState) (ack : ℕ) → All IsPassedOver (listed-behind items zeros held ack)
+behind-passed items zeros held ack =
+    said-passed (length (written items) + zeros) ((4 - length ((written items ++ replicate zeros 0) ++ said held ack) % 4) % 4)
+    (drop_bytes held.drops ack) (is_slow held)
+
+pub area-lists : (items : List Item) (zeros : ℕ) (held : InboxState) (ack : ℕ) → All IsWritable items
+    → options_of (padded ((written items ++ replicate zeros 0) ++ said held ack)) false ≡ map Ok (entries_at 0 items) ++ listed-behind items zeros held ack
+area-lists items zeros held ack writable =
+    let more : ℕ = (4 - length ((written items ++ replicate zeros 0) ++ said held ack) % 4) % 4 in
+    ap (λ (all : List ℕ). options_of all false) (append_assoc (written items ++ replicate zeros 0) (said held ack) (replicate more 0))
+    ∙ options_behind_zeros items zeros (said held ack ++ replicate more 0) writable
+
+-- after an end's own options, which are filled up with zeros
 behind-tells : (items : List Item) (zeros more : ℕ) (held : InboxState) (ack : ℕ) → All IsWritable items → All IsOther items
     → drop_options (options_of (((written items ++ replicate zeros 0) ++ said held ack) ++ replicate more 0) false) ≡ one_option (drop_bytes held.drops ack)
 behind-tells items zeros more held ack writable others =

@@ -1,5 +1,5 @@
 -- The calls of an end with an inbox are calls of the inbox.
-use Rattle.std.proofs.Common.{◌≡◌, ℕ, ◌||◌, Bool, true, false, List, [], ◌∷◌, Some, None, refl, ap, sym, subst}
+use Rattle.std.proofs.Common.{◌≡◌, ℕ, ◌||◌, Bool, true, false, List, [], ◌∷◌, Some, None, refl, ap, sym, subst, append-nil}
 use Rattle.std.specs.Prelude.{slice_range}
 use Rattle.std.specs.List.{list_any}
 use Rattle.congestion_trait.specs.Control.{Control}
@@ -11,9 +11,12 @@ use Rattle.dccp_states.specs.declared.outcome.Outcome.{Outcome}
 use Rattle.dccp_states.specs.declared.outcome.Outcome.TheVariants.{Took, Dropped, Synced, WasReset, SentReset}
 use Rattle.data_dropped.specs.Buffering.{buffers, delivery_by, data_delivered}
 use Rattle.data_dropped.specs.Drops.{HaveCodes}
-use Rattle.data_dropped.specs.EndHistory.{BufferedPast, EndCall, EndCalls, EndReceives, EndTakes, EndStops, buffered_now, calls_by, data_call, is_end_stop, no_past, past_after, past_all}
-use Rattle.data_dropped.specs.History.{History, IsAccounted, Takes, Stops, history_after, history_after_all, is_stop}
-use Rattle.data_dropped.specs.Inbox.{InboxState, fits_item}
+use Rattle.data_dropped.specs.EndHistory.{BufferedPast, EndCall, EndCalls, EndReceives, EndTakes, EndStops, IsToldSo, buffered_now, calls_by, data_call, is_end_stop, no_past, past_after, past_all}
+use Rattle.data_dropped.specs.History.{History, IsAccounted, Takes, Stops, history_answered, history_after, history_after_all, is_stop}
+use Rattle.data_dropped.specs.Inbox.{InboxState, after_arrival, arrival_answer, dropping, fits_item, reason}
+use Rattle.data_dropped.specs.declared.answers.Arrival.{Arrival}
+use Rattle.data_dropped.specs.declared.answers.Arrival.TheVariants.{Kept}
+use Rattle.data_dropped.specs.declared.answers.Arrival.TheVariants as arrivals
 use Rattle.data_dropped.proofs.History.{all-accounted, history_after-accounted, counted-codes, first-accounted}
 
 -- data of any length
@@ -23,15 +26,38 @@ held-data h n payload true = refl
 held-data h n payload false = refl
 
 held-by : (h : History) (n : ℕ) (bytes : List ℕ) (outcome : Outcome)
-    → (delivery_by h.held n bytes outcome).inbox ≡ (history_after_all h (calls_by n bytes outcome)).held
+    → (delivery_by h.held n bytes outcome).inbox ≡ (history_after_all h (calls_by h.held n bytes outcome)).held
 held-by h n bytes (Took None) = refl
-held-by h n bytes (Took (Some place)) = held-data h n (slice_range bytes place.0 place.1) (fits_item (slice_range bytes place.0 place.1))
+held-by h n bytes (Took (Some place)) = held-data h n (slice_range bytes place.0 place.1) (fits_item h.held (slice_range bytes place.0 place.1))
 held-by h n bytes (Dropped why) = refl
 held-by h n bytes (Synced number) = refl
 held-by h n bytes (WasReset code) = refl
 held-by h n bytes (SentReset code detail) = refl
 
+-- what is told of data is what became of them
+told-answer : (h : History) (n : ℕ) (payload : List ℕ) (held : InboxState) (answer : Arrival) → IsToldSo n (Some answer) h (history_answered h answer n payload held)
+told-answer h n payload held Kept = ((payload, refl), append-nil h.dropped)
+told-answer h n payload held (arrivals.Dropped code) = (append-nil h.kept, refl)
+
+told-data : (h : History) (n : ℕ) (payload : List ℕ) (short : Bool)
+    → IsToldSo n (data_delivered short h.held n payload).arrival h (history_after h (data_call short n payload))
+told-data h n payload true = told-answer h n payload (after_arrival h.held n payload) (arrival_answer h.held)
+told-data h n payload false = told-answer h n [] (dropping h.held n) (arrivals.Dropped (reason h.held))
+
+told-by : (h : History) (n : ℕ) (bytes : List ℕ) (outcome : Outcome)
+    → IsToldSo n (delivery_by h.held n bytes outcome).arrival h (history_after_all h (calls_by h.held n bytes outcome))
+told-by h n bytes (Took None) = refl
+told-by h n bytes (Took (Some place)) = told-data h n (slice_range bytes place.0 place.1) (fits_item h.held (slice_range bytes place.0 place.1))
+told-by h n bytes (Dropped why) = refl
+told-by h n bytes (Synced number) = refl
+told-by h n bytes (WasReset code) = refl
+told-by h n bytes (SentReset code detail) = refl
+
 module _ {C : Type 0} (control : Control C) where
+  pub receives-tell : (p : BufferedPast C) (bytes : List ℕ)
+      → IsToldSo (last_taken (receives p.end.state bytes).after) (buffers control (buffered_now p) bytes).arrival p.past (past_after control p (EndReceives bytes)).past
+  receives-tell p bytes = told-by p.past (last_taken (receives p.end.state bytes).after) bytes (receives p.end.state bytes).answer
+
   -- receiving is what the definitions of one step say
   pub receives-held : (p : BufferedPast C) (bytes : List ℕ)
       → (buffers control (buffered_now p) bytes).after ≡ buffered_now (past_after control p (EndReceives bytes))
@@ -44,14 +70,14 @@ module _ {C : Type 0} (control : Control C) where
   data_call-goes_on true n payload = refl
   data_call-goes_on false n payload = refl
 
-  none-stops : (n : ℕ) (bytes : List ℕ) (outcome : Outcome) → list_any is_stop (calls_by n bytes outcome) ≡ false
-  none-stops n bytes (Took None) = refl
-  none-stops n bytes (Took (Some place)) =
-      ap (λ (b : Bool). b || false) (data_call-goes_on (fits_item (slice_range bytes place.0 place.1)) n (slice_range bytes place.0 place.1))
-  none-stops n bytes (Dropped why) = refl
-  none-stops n bytes (Synced number) = refl
-  none-stops n bytes (WasReset code) = refl
-  none-stops n bytes (SentReset code detail) = refl
+  none-stops : (held : InboxState) (n : ℕ) (bytes : List ℕ) (outcome : Outcome) → list_any is_stop (calls_by held n bytes outcome) ≡ false
+  none-stops held n bytes (Took None) = refl
+  none-stops held n bytes (Took (Some place)) =
+      ap (λ (b : Bool). b || false) (data_call-goes_on (fits_item held (slice_range bytes place.0 place.1)) n (slice_range bytes place.0 place.1))
+  none-stops held n bytes (Dropped why) = refl
+  none-stops held n bytes (Synced number) = refl
+  none-stops held n bytes (WasReset code) = refl
+  none-stops held n bytes (SentReset code detail) = refl
 
   or-false : (b : Bool) → (b || false) ≡ b
   or-false true = refl
@@ -63,8 +89,8 @@ module _ {C : Type 0} (control : Control C) where
   after-accounted capacity stopped p (EndReceives bytes) before =
       let n : ℕ = last_taken (receives p.end.state bytes).after in
       let outcome : Outcome = (receives p.end.state bytes).answer in
-      subst (λ (b : Bool). IsAccounted capacity (stopped || b) (history_after_all p.past (calls_by n bytes outcome))) (none-stops n bytes outcome)
-      (all-accounted capacity stopped p.past (calls_by n bytes outcome) before)
+      subst (λ (b : Bool). IsAccounted capacity (stopped || b) (history_after_all p.past (calls_by p.past.held n bytes outcome))) (none-stops p.past.held n bytes outcome)
+      (all-accounted capacity stopped p.past (calls_by p.past.held n bytes outcome) before)
   after-accounted capacity stopped p EndTakes before = history_after-accounted capacity stopped p.past Takes before
   after-accounted capacity stopped p EndStops before = history_after-accounted capacity stopped p.past Stops before
 

@@ -1,4 +1,4 @@
--- A packet with more options behind its own is read as such.
+-- A packet with more options after its own is read as such.
 use Rattle.std.proofs.Common.{◌≡◌, ℕ, ◌+◌, ◌==◌, not, nat_le, true, IsTrue, List, ◌++◌, length, Option, Some}
 use Rattle.std.proofs.lemmas.Bool.{and_parts, leb-true}
 use Rattle.dccp_packets.specs.Grammar.{Parts, header_length, is_valid, padded}

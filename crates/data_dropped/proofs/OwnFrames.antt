@@ -1,10 +1,11 @@
 -- The frames of an end tell the drops of its inbox.
-use Rattle.std.proofs.Common.{◌≡◌, ℕ, ◌-◌, ◌%◌, ◌^◌, ◌==◌, ◌&&◌, Bool, true, false, IsTrue, List, [], ◌∷◌, ◌++◌, length, map, Option, Some, None, Result, refl, ap, sym, ◌∙◌, subst, All}
+use Rattle.std.proofs.Common.{◌≡◌, ℕ, ◌-◌, ◌%◌, ◌^◌, ◌==◌, ◌&&◌, Bool, true, false, IsTrue, List, [], ◌∷◌, ◌++◌, length, map, Option, Some, None, Result, refl, ap, sym, ◌∙◌, subst, append-nil, All}
 use Rattle.ack_vectors.specs.declared.room.Vectors.{Vectors}
 use Rattle.std.proofs.Math.Nat.{mod-mod}
 use Rattle.std.proofs.lemmas.List.Elements.{All-append, All-cons, All-nil}
 use Rattle.std.proofs.lemmas.Option.{same_Some}
-use Rattle.dccp_options.specs.Grammar.{options_of}
+use Rattle.dccp_options.specs.Grammar.{Entry, options_of}
+use Rattle.dccp_options.specs.declared.option.OptFault.{OptFault}
 use Rattle.dccp_options.specs.Kinds.{data_dropped}
 use Rattle.dccp_options.specs.Written.{Item, written}
 use Rattle.dccp_packets.specs.Forms.{in_form, may_be_short, number_in_form}
@@ -46,8 +47,8 @@ use Rattle.data_dropped.specs.Drops.{drop_bytes}
 use Rattle.data_dropped.specs.Frames.{acknowledged_by, buffered_ack, buffered_packet, buffered_sent, lengthened, lengthened_if, said, says_more}
 use Rattle.data_dropped.specs.Inbox.{InboxState}
 use Rattle.data_dropped.specs.Reports.{drop_options}
-use Rattle.data_dropped.specs.Telling.{TellsItsDrops, told_by_ack, told_if}
-use Rattle.data_dropped.proofs.Behind.{IsOther, area-tells, others-tell_nothing}
+use Rattle.data_dropped.specs.Telling.{IsPassedOver, TellsItsDrops, options_in_packet, told_by_ack, told_if}
+use Rattle.data_dropped.proofs.Behind.{IsOther, area-lists, area-tells, behind-passed, listed-behind, others-tell_nothing}
 use Rattle.data_dropped.proofs.Frames.{lengthened-read}
 
 -- an end's own options are of other types
@@ -145,10 +146,17 @@ module _ (config : Config) (short : Bool) (number : ℕ) (draft : Draft) (held :
         packet = parts read.sum;
         was_packet = read.is_packet;
         is_packet = read.is_packet;
+        was_accepted = read.is_accepted;
         is_accepted = read.is_accepted;
         same_told = refl;
+        same_from = refl;
+        same_to = refl;
         same_number = refl;
         same_kind = refl;
+        same_data = refl;
+        more = [];
+        behind = sym (append-nil (options_in_packet (parts read.sum)));
+        are_passed_over = All-nil IsPassedOver;
         tells = ap drop_options read.are_listed ∙ others-tell_nothing 0 draft.options others ∙ sym none ∙ is;
       }
 
@@ -161,17 +169,27 @@ module _ (config : Config) (short : Bool) (number : ℕ) (draft : Draft) (held :
       let valid : IsTrue (is_valid p.header) = valid-read short number draft.kind sendable.is_long may in
       let sealed = lengthened-read config.pseudo_out own.ack ack p (said held ack) acks refl valid says in
       let area : List ℕ = padded (p.options ++ said held ack) in
+      let zeros : ℕ = (4 - length (written draft.options) % 4) % 4 in
       record {
         before = p;
         packet = record { header = record (in_widths p.header) { checksum = sealed.sum }; options = area; payload = p.payload };
         was_packet = read.is_packet;
         is_packet = sealed.is_packet;
+        was_accepted = read.is_accepted;
         is_accepted = sealed.is_accepted;
         same_told = refl;
+        same_from = mod-mod (own_header config short number draft.kind).from (2 ^ 16);
+        same_to = mod-mod (own_header config short number draft.kind).to (2 ^ 16);
         same_number = number-again (number_in_form short number);
         same_kind = kind-again (in_form short draft.kind);
+        same_data = refl;
+        more = listed-behind draft.options zeros held ack;
+        behind = ap (λ (b : Bool). options_of area b) (acking-no_data own.ack ack header.kind acks)
+            ∙ area-lists draft.options zeros held ack sendable.items
+            ∙ ap (λ (front : List (Result Entry OptFault)). front ++ listed-behind draft.options zeros held ack) (sym read.are_listed);
+        are_passed_over = behind-passed draft.options zeros held ack;
         tells = ap (λ (b : Bool). drop_options (options_of area b)) (acking-no_data own.ack ack header.kind acks)
-            ∙ area-tells draft.options ((4 - length (written draft.options) % 4) % 4) held ack sendable.items others
+            ∙ area-tells draft.options zeros held ack sendable.items others
             ∙ sym (ap (λ (b : Bool). told_if b (drop_bytes held.drops ack)) says)
             ∙ sym (ap (told_by_ack held p) acks);
       }

@@ -21,7 +21,7 @@ code-within body rest below code is =
     ap (λ (codes : List (Option ℕ)). code_at_place (slice_get codes below)) (states_of-append drop_coding body rest)
     ∙ ap code_at_place (slice_get-front (states_of drop_coding body) (states_of drop_coding rest) below inside ∙ is)
 
--- behind it
+-- after it
 pub code-behind : (body rest : List ℕ) (below left : ℕ) → length (states_of drop_coding body) + left ≡ below
     → slice_get (states_of drop_coding (body ++ rest)) below ≡ slice_get (states_of drop_coding rest) left
 code-behind body rest below left is =
@@ -53,7 +53,7 @@ module _ (bytes : List ℕ) (place count : ℕ) (inside : place < length bytes) 
       ∙ slice_get-front run (states_of drop_coding (drop (place + 1) bytes)) left fits
       ∙ slice_get-replicate (numbers_in (get_or bytes place 0)) (code_in (get_or bytes place 0)) left short
 
-  -- one of those behind it
+  -- one of those after it
   pub behind-byte : (left : ℕ) → count ≤ left
       → slice_get (states_of drop_coding (drop (place + 1) bytes)) (left - count) ≡ slice_get (states_of drop_coding (drop place bytes)) left
   behind-byte left far =

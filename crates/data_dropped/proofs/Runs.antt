@@ -8,7 +8,7 @@ use Rattle.data_dropped.specs.Drops.{drop_byte, drop_coding, most_numbers}
 use Rattle.data_dropped.specs.Writing.{IsRunAt, bytes_from}
 use Rattle.data_dropped.proofs.Lawful.{IsCode, drop_lawful}
 
--- the byte of a run, and those of the codes behind it
+-- the byte of a run, and those of the codes after it
 pub bytes_from-run : (codes : List (Option ℕ)) (place count : ℕ) → 1 ≤ count → count ≤ most_numbers (get_or codes place None) → IsRunAt codes place count
     → bytes_from codes place ≡ drop_byte (get_or codes place None) count ∷ bytes_from codes (place + count)
 bytes_from-run codes place count some few run =

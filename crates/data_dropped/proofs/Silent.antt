@@ -1,12 +1,12 @@
 -- An inbox without a drop that is not slow has nothing to say, and a frame goes out beside it as it is.
-use Rattle.std.proofs.Common.{◌≡◌, ℕ, zero, suc, Bool, true, false, List, [], ◌++◌, Option, Some, None, Result, Ok, Err, replicate, take, refl, ap, ◌∙◌, subst, sym}
+use Rattle.std.proofs.Common.{◌≡◌, ℕ, zero, suc, Bool, false, List, [], ◌++◌, Option, Some, None, Result, Ok, Err, replicate, take, refl, ap, ◌∙◌, sym}
 use Rattle.ack_vectors.specs.Coding.{coded_bytes}
 use Rattle.dccp_packets.specs.Grammar.{Parts, decoded}
 use Rattle.dccp_packets.specs.Outgoing.{Outgoing}
 use Rattle.dccp_packets.specs.declared.reading.Malformed.{Malformed}
 use Rattle.dccp_sum.specs.declared.pseudo_header.Pseudo.{Pseudo}
 use Rattle.data_dropped.specs.Drops.{before_codes, drop_bytes, drop_coding, up_to_last_code}
-use Rattle.data_dropped.specs.Frames.{acknowledged_by, buffered, buffered_ack, buffered_frame, buffered_packet, drops_said, lengthened_if, said, says_more, slow_said}
+use Rattle.data_dropped.specs.Frames.{acknowledged_by, buffered_ack, buffered_frame, buffered_packet, drops_said, lengthened_if, said, says_more, slow_said}
 use Rattle.data_dropped.specs.Inbox.{InboxState, is_slow}
 use Rattle.data_dropped.specs.declared.drops.DropEntry.{DropEntry}
 use Rattle.data_dropped.proofs.Table.{table-none}

@@ -36,7 +36,7 @@ data_delivered false held n payload = record { inbox = dropping held n; arrival 
 
 -- by their length
 abbrev pub delivered_data : InboxState → ℕ → List ℕ → Delivery
-delivered_data held n payload = data_delivered (fits_item payload) held n payload
+delivered_data held n payload = data_delivered (fits_item held payload) held n payload
 
 -- none were delivered
 abbrev pub nothing_delivered : InboxState → Delivery

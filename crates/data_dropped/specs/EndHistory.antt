@@ -1,5 +1,5 @@
 -- An end with an inbox, call by call (own).
-use Rattle.std.specs.Prelude.{ℕ, Bool, true, false, List, [], ◌∷◌, Option, Some, None, slice_range}
+use Rattle.std.specs.Prelude.{◌≡◌, ℕ, Bool, true, false, List, [], ◌∷◌, ◌++◌, Option, Some, None, slice_range}
 use Rattle.congestion_trait.specs.Control.{Control}
 use Rattle.dccp_endpoint.specs.End.{last_taken}
 use Rattle.dccp_endpoint.specs.Inputs.{Input, end_stepped}
@@ -10,7 +10,10 @@ use Rattle.dccp_states.specs.declared.outcome.Outcome.{Outcome}
 use Rattle.dccp_states.specs.declared.outcome.Outcome.TheVariants.{Took, Dropped, Synced, WasReset, SentReset}
 use Rattle.data_dropped.specs.Buffering.{Buffered}
 use Rattle.data_dropped.specs.History.{History, InboxCall, DataArrive, LongDataArrive, Takes, Stops, history_after, history_after_all, no_history}
-use Rattle.data_dropped.specs.Inbox.{fits_item}
+use Rattle.data_dropped.specs.Inbox.{InboxState, fits_item}
+use Rattle.data_dropped.specs.declared.answers.Arrival.{Arrival}
+use Rattle.data_dropped.specs.declared.answers.Arrival.TheVariants.{Kept}
+use Rattle.data_dropped.specs.declared.answers.Arrival.TheVariants as arrival
 
 -- a call of an end with an inbox that changes it: of the end alone, or of both
 pub data EndCall : Type 0 where
@@ -37,23 +40,23 @@ data_call true n payload = DataArrive n payload
 data_call false n payload = LongDataArrive n
 
 -- the calls of the inbox by the place of data that were delivered
-abbrev pub calls_from : ℕ → List ℕ → Option (ℕ × ℕ) → List InboxCall
-calls_from n bytes None = []
-calls_from n bytes (Some place) =
-    data_call (fits_item (slice_range bytes place.0 place.1)) n (slice_range bytes place.0 place.1) ∷ []
+abbrev pub calls_from : InboxState → ℕ → List ℕ → Option (ℕ × ℕ) → List InboxCall
+calls_from held n bytes None = []
+calls_from held n bytes (Some place) =
+    data_call (fits_item held (slice_range bytes place.0 place.1)) n (slice_range bytes place.0 place.1) ∷ []
 
 -- by the outcome of a packet of this number
-abbrev pub calls_by : ℕ → List ℕ → Outcome → List InboxCall
-calls_by n bytes (Took delivered) = calls_from n bytes delivered
-calls_by n bytes (Dropped why) = []
-calls_by n bytes (Synced number) = []
-calls_by n bytes (WasReset code) = []
-calls_by n bytes (SentReset code detail) = []
+abbrev pub calls_by : InboxState → ℕ → List ℕ → Outcome → List InboxCall
+calls_by held n bytes (Took delivered) = calls_from held n bytes delivered
+calls_by held n bytes (Dropped why) = []
+calls_by held n bytes (Synced number) = []
+calls_by held n bytes (WasReset code) = []
+calls_by held n bytes (SentReset code detail) = []
 
 -- an end's step, and the calls that it makes of the inbox
 abbrev pub past_step : {C : Type 0} → History → List ℕ → EndStep C Outcome → BufferedPast C
 past_step past bytes step =
-    record { end = step.after; past = history_after_all past (calls_by (last_taken step.after.state) bytes step.answer) }
+    record { end = step.after; past = history_after_all past (calls_by past.held (last_taken step.after.state) bytes step.answer) }
 
 -- one call more: the end's step is that of any end
 abbrev pub past_after : {C : Type 0} → Control C → BufferedPast C → EndCall → BufferedPast C
@@ -62,6 +65,13 @@ past_after control p (EndReceives bytes) =
     past_step p.past bytes (with_control control p.end.congestion (receives p.end.state bytes))
 past_after control p EndTakes = record p { past = history_after p.past Takes }
 past_after control p EndStops = record p { past = history_after p.past Stops }
+
+-- What is told of the data of a packet with this number is what became of them: the inbox kept them, it dropped them for
+-- this reason, or nothing was done with it.
+abbrev pub IsToldSo : ℕ → Option Arrival → History → History → Type 0
+IsToldSo n None old new = new ≡ old
+IsToldSo n (Some Kept) old new = ((payload : List ℕ) × (new.kept ≡ old.kept ++ record { number = n; payload = payload } ∷ [])) × (new.dropped ≡ old.dropped)
+IsToldSo n (Some (arrival.Dropped code)) old new = (new.kept ≡ old.kept) × (new.dropped ≡ old.dropped ++ record { number = n; code = code } ∷ [])
 
 -- these calls, in order
 abbrev pub past_all : {C : Type 0} → Control C → BufferedPast C → List EndCall → BufferedPast C

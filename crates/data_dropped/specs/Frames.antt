@@ -1,4 +1,4 @@
--- What an end with a bounded inbox says behind the options of its acknowledgements (own; RFC 4340, sections 11.6 and
+-- What an end with a bounded inbox says after the options of its acknowledgements (own; RFC 4340, sections 11.6 and
 -- 11.7).
 use Rattle.std.specs.Prelude.{ℕ, ◌+◌, ◌==◌, ◌&&◌, not, nat_le, Bool, true, false, List, [], ◌∷◌, ◌++◌, length, Option, Some, None, Result, Ok, Err, if◌then◌else◌}
 use Rattle.dccp_options.specs.Kinds.{data_dropped, slow_receiver}
@@ -30,7 +30,7 @@ said held ack = drops_said (drop_bytes held.drops ack) ++ slow_said (is_slow hel
 abbrev pub acknowledged_by : Option ℕ → Kind → Option ℕ
 acknowledged_by told kind = if is_acking (packet_type kind) then told else None
 
--- The packet has room for these options behind its own: a Data Offset counts 1,020 bytes at most (section 5.1), and a
+-- The packet has room for these options after its own: a Data Offset counts 1,020 bytes at most (section 5.1), and a
 -- frame has room for 1,024 bytes of data (own).
 abbrev pub has_room_for : Parts → List ℕ → Bool
 has_room_for p more = nat_le (header_length p.header + length (padded (p.options ++ more))) 1020 && nat_le (length p.payload) 1024
@@ -39,7 +39,7 @@ has_room_for p more = nat_le (header_length p.header + length (padded (p.options
 abbrev pub says_more : Parts → List ℕ → Bool
 says_more p more = not (length more == 0) && has_room_for p more
 
--- the packet with these options behind its own, and its checksum made anew
+-- the packet with these options after its own, and its checksum made anew
 abbrev pub lengthened : Pseudo → Parts → List ℕ → List ℕ
 lengthened pseudo p more = sealed pseudo (spelling p.header (p.options ++ more) p.payload)
 

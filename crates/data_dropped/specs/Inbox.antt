@@ -2,6 +2,7 @@
 -- sections 11.6 and 11.7).
 use Rattle.std.specs.Prelude.{◌≡◌, ℕ, ◌*◌, ◌≤◌, nat_le, nat_lt, not, ◌&&◌, Bool, true, false, List, [], ◌∷◌, ◌++◌, length, drop, Option, Some, None, if◌then◌else◌}
 use Rattle.circular_buffer.specs.Buffer.{Buffer, keep_last}
+use Rattle.data_dropped.specs.Drops.{HaveCodes}
 use Rattle.data_dropped.specs.declared.answers.Arrival.{Arrival}
 use Rattle.data_dropped.specs.declared.answers.Arrival.TheVariants.{Kept, Dropped}
 use Rattle.data_dropped.specs.declared.drops.DropEntry.{DropEntry}
@@ -12,23 +13,31 @@ pub record KeptData : Type 0 where
   pub payload : List ℕ
 
 -- The data that are held, the oldest first; the last 2,048 drops, the oldest first; whether the application has stopped
--- listening; and how many items may be held.
+-- listening; how many items may be held; and how many bytes an item may have.
 pub record InboxState : Type 0 where
   pub items : List KeptData
   pub drops : List DropEntry
   pub stopped : Bool
   pub capacity : ℕ
+  pub most : ℕ
 
--- an inbox of this capacity that was asked for nothing
+-- an inbox for so many items of up to so many bytes that was asked for nothing
+abbrev pub inbox_of : ℕ → ℕ → InboxState
+inbox_of most capacity = record { items = []; drops = []; stopped = false; capacity = capacity; most = most }
+
+-- one of this capacity whose items have up to 1,024 bytes, as many as an end sends at once (own)
 abbrev pub empty_inbox : ℕ → InboxState
-empty_inbox capacity = record { items = []; drops = []; stopped = false; capacity = capacity }
+empty_inbox capacity = inbox_of 1024 capacity
 
--- what always holds of an inbox: it holds no more than it may, which is 1 to 1,024 items, and has room for 2,048 drops
-pub record IsInbox (items : Buffer KeptData) (drops : Buffer DropEntry) : Type 0 where
+-- What always holds of an inbox: it holds no more than it may, which is 1 to 1,024 items; it has room for 2,048 drops,
+-- each with a Drop Code of three bits; and an item has no more bytes than a datagram brings.
+pub record IsInbox (items : Buffer KeptData) (drops : Buffer DropEntry) (most : ℕ) : Type 0 where
   pub within : length items.items ≤ items.capacity
   pub some : 1 ≤ items.capacity
   pub few : items.capacity ≤ 1024
   pub room : drops.capacity ≡ 2048
+  pub codes : HaveCodes drops.items
+  pub short : most ≤ 2032
 
 -- there is room for one item more, and the application listens
 abbrev pub takes_more : InboxState → Bool
@@ -46,7 +55,7 @@ buffer_full = 2
 abbrev pub reason : InboxState → ℕ
 reason held = if held.stopped then not_listening else buffer_full
 
--- one item more, behind the others
+-- one item more, after the others
 abbrev pub keeping : InboxState → ℕ → List ℕ → InboxState
 keeping held n payload = record held { items = held.items ++ record { number = n; payload = payload } ∷ [] }
 
@@ -64,7 +73,7 @@ abbrev pub answer_if : Bool → InboxState → Arrival
 answer_if true held = Kept
 answer_if false held = Dropped (reason held)
 
--- the inbox once data of at most 1,024 bytes arrived
+-- the inbox once data arrived that an item holds
 abbrev pub after_arrival : InboxState → ℕ → List ℕ → InboxState
 after_arrival held n payload = held_if (takes_more held) held n payload
 
@@ -72,9 +81,9 @@ after_arrival held n payload = held_if (takes_more held) held n payload
 abbrev pub arrival_answer : InboxState → Arrival
 arrival_answer held = answer_if (takes_more held) held
 
--- an item holds as much data: 1,024 bytes, as many as an end sends at once (own)
-abbrev pub fits_item : List ℕ → Bool
-fits_item payload = nat_le (length payload) 1024
+-- an item holds as much data
+abbrev pub fits_item : InboxState → List ℕ → Bool
+fits_item held payload = nat_le (length payload) held.most
 
 -- the number and the length of the first item
 abbrev pub first_taken : List KeptData → Option (ℕ × ℕ)

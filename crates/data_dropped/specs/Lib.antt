@@ -4,6 +4,7 @@ pub mod EndHistory
 pub mod Frames
 pub mod History
 pub mod Inbox
+pub mod Intakes
 pub mod Reports
 pub mod Telling
 pub mod Writing

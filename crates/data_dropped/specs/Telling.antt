@@ -1,7 +1,10 @@
 -- What the frames of an end with an inbox tell of drops (own; RFC 4340, section 11.7).
-use Rattle.std.specs.Prelude.{◌≡◌, ℕ, ◌==◌, ◌<◌, ◌^◌, Bool, true, false, IsTrue, List, [], ◌∷◌, length, Option, Some, None, Ok, if◌then◌else◌}
+use Rattle.std.specs.Prelude.{◌≡◌, ◌⊎◌, ℕ, ◌==◌, ◌<◌, ◌^◌, Bool, true, false, IsTrue, List, [], ◌∷◌, ◌++◌, length, Option, Some, None, Result, Ok, Err, if◌then◌else◌}
+use Rattle.std.specs.List.{All}
 use Rattle.seq_circle.specs.Circle.{distance}
-use Rattle.dccp_options.specs.Grammar.{options_of}
+use Rattle.dccp_options.specs.Grammar.{Entry, options_of}
+use Rattle.dccp_options.specs.Kinds.{data_dropped, slow_receiver}
+use Rattle.dccp_options.specs.declared.option.OptFault.{OptFault}
 use Rattle.dccp_options.specs.Vectors.{Report, joined_report}
 use Rattle.dccp_packets.specs.Grammar.{Parts, decoded, packet_type}
 use Rattle.dccp_packets.specs.Kinds.{is_data}
@@ -13,9 +16,13 @@ use Rattle.data_dropped.specs.Frames.{acknowledged_by, said, says_more}
 use Rattle.data_dropped.specs.Inbox.{InboxState}
 use Rattle.data_dropped.specs.Reports.{drop_options}
 
--- the data of the Data Dropped options of a packet
+-- the options of a packet
+abbrev pub options_in_packet : Parts → List (Result Entry OptFault)
+options_in_packet p = options_of p.options (is_data (packet_type p.header.kind))
+
+-- the data of its Data Dropped options
 abbrev pub drops_in_packet : Parts → List (List ℕ)
-drops_in_packet p = drop_options (options_of p.options (is_data (packet_type p.header.kind)))
+drops_in_packet p = drop_options (options_in_packet p)
 
 -- the report as one option, if it has a byte
 abbrev pub one_option : List ℕ → List (List ℕ)
@@ -32,17 +39,30 @@ abbrev pub told_by_ack : InboxState → Parts → Option ℕ → List (List ℕ)
 told_by_ack held p None = []
 told_by_ack held p (Some ack) = told_if (says_more p (said held ack)) (drop_bytes held.drops ack)
 
+-- an option that says nothing to an end: Data Dropped, or Slow Receiver
+abbrev pub IsPassedOver : Result Entry OptFault → Type 0
+IsPassedOver (Ok entry) = (entry.kind ≡ data_dropped) ⊎ ((entry.kind ≡ slow_receiver) × (entry.body ≡ []))
+IsPassedOver (Err fault) = ⊥
+
 -- A frame of the end went out as this one: the same numbers are told of it, it is a packet with the same number and
--- the same type and fields, its checksum fits, and its Data Dropped options are what is to be told.
+-- the same ports, type, fields and data, the checksums fit, its Data Dropped options are what is to be told, and after the
+-- options that it had stand only such as say nothing to an end.
 pub record TellsItsDrops (pseudo : Pseudo) (held : InboxState) (own frame : Outgoing) : Type 0 where
   pub before : Parts
   pub packet : Parts
   pub was_packet : decoded own.bytes ≡ Ok before
   pub is_packet : decoded frame.bytes ≡ Ok packet
+  pub was_accepted : checked pseudo own.bytes ≡ Ok tt
   pub is_accepted : checked pseudo frame.bytes ≡ Ok tt
   pub same_told : frame ≡ record own { bytes = frame.bytes }
+  pub same_from : packet.header.from ≡ before.header.from
+  pub same_to : packet.header.to ≡ before.header.to
   pub same_number : packet.header.number ≡ before.header.number
   pub same_kind : packet.header.kind ≡ before.header.kind
+  pub same_data : packet.payload ≡ before.payload
+  pub more : List (Result Entry OptFault)
+  pub behind : options_in_packet packet ≡ options_in_packet before ++ more
+  pub are_passed_over : All IsPassedOver more
   pub tells : drops_in_packet packet ≡ told_by_ack held before (acknowledged_by own.ack before.header.kind)
 
 -- the frame of a step went out, as one that tells its drops

@@ -1,16 +1,16 @@
-//! What the acknowledgements of an end with a bounded inbox say behind their own options.
+//! What the acknowledgements of an end with a bounded inbox say after their own options.
 //!
-//! A frame is read, and its packet written again with a longer option area. So no byte is moved by hand, and what was
-//! said before is read as it was: the end's options are filled up with zeros, which list nothing.
+//! A frame is read, and its packet is written again with a longer option area. So no byte is moved by hand, and the
+//! end's own options read as before: they are padded with zeros, which list nothing.
 ghost use Rattle.std.specs.Prelude.{◌≡◌, ◌≤◌, [], IsTrue, length};
 ghost use Rattle.std.specs.Bool.{OnFalse, OnTrue};
 ghost use Rattle.dccp_endpoint.specs.Incoming.{parts_of_packet};
 ghost use Rattle.dccp_packets.specs.Grammar.{HeaderFits, is_valid};
+ghost use Rattle.data_dropped.specs.Drops.{HaveCodes};
 ghost use Rattle.data_dropped.specs.Frames.{acknowledged_by, buffered, buffered_frame, drops_said, lengthened, said, says_more};
 
 use crate::drops::DropBytes;
-use crate::inbox::Inbox;
-use crate::item::MOST_DATA;
+use crate::inbox::BoundedInbox;
 use arrayvec::ArrayVec;
 use dccp_endpoint::seal_frame;
 use dccp_options::kinds::{DATA_DROPPED, SLOW_RECEIVER};
@@ -21,7 +21,10 @@ use seq_circle::Seq48;
 // A full Data Dropped option and Slow Receiver.
 type Said = ArrayVec<u8, 256>;
 
-// An option area with what is said behind it.
+// A frame has room for as many bytes of data (own).
+const MOST_DATA: usize = 1024;
+
+// An option area with what is said after it.
 type Area = ArrayVec<u8, 1264>;
 
 // The acknowledgement number that is told of a frame, of an Ack or a DataAck.
@@ -57,7 +60,7 @@ fn put_drops(out: &mut Said, bytes: &[u8])
 }
 
 // Writes what the inbox has to say at this acknowledgement number.
-fn put_said(out: &mut Said, inbox: &Inbox, ack: Seq48)
+fn put_said<const MOST: usize>(out: &mut Said, inbox: &BoundedInbox<MOST>, ack: Seq48)
     requires { out.old.items ≡ [] }
     ensures { out.new.items ≡ said inbox.now ack }
 {
@@ -69,9 +72,9 @@ fn put_said(out: &mut Said, inbox: &Inbox, ack: Seq48)
     }
 }
 
-// Writes the packet with more options behind its own, and its checksum anew, where there are any and it has room; tells
-// whether it did.
-fn lengthen(packet: &Packet<'_>, more: &[u8], pseudo: &Pseudo, longer: &mut Frame) -> bool
+/// Writes the packet with more options after its own, and its checksum anew, where there are any and it has room: a Data
+/// Offset counts 1,020 bytes at most (RFC 4340, section 5.1). Tells whether it did.
+pub fn lengthen(packet: &Packet<'_>, more: &[u8], pseudo: &Pseudo, longer: &mut Frame) -> bool
     requires valid { IsTrue (is_valid packet.now.header) }
     requires area { length packet.now.options.now ≤ 1008 }
     requires short { length more.now ≤ 256 }
@@ -91,11 +94,11 @@ fn lengthen(packet: &Packet<'_>, more: &[u8], pseudo: &Pseudo, longer: &mut Fram
     true
 }
 
-// Writes a frame with what is to be said behind its options, where anything is and it has room; tells whether it did.
-fn write_buffered(
+// Writes a frame with what is to be said after its options, where anything is and it has room; tells whether it did.
+fn write_buffered<const MOST: usize>(
     frame: &[u8],
     told: &Option<Seq48>,
-    inbox: &Inbox,
+    inbox: &BoundedInbox<MOST>,
     pseudo: &Pseudo,
     longer: &mut Frame,
 ) -> bool
@@ -117,7 +120,7 @@ fn write_buffered(
 // The same of the frame in the box, in whose place the longer one comes. It stands apart, for the room that it takes for
 // a second frame is large, and mostly nothing is to be said.
 #[inline(never)]
-fn lengthen_sent(out: &mut Outbox, inbox: &Inbox, pseudo: &Pseudo)
+fn lengthen_sent<const MOST: usize>(out: &mut Outbox, inbox: &BoundedInbox<MOST>, pseudo: &Pseudo)
     ensures { out.new ≡ buffered_frame pseudo.now inbox.now out.old }
 {
     let Some(sent) = out.sent() else {
@@ -133,10 +136,15 @@ fn lengthen_sent(out: &mut Outbox, inbox: &Inbox, pseudo: &Pseudo)
     }
 }
 
-/// The frame in the box as it goes out: an Ack or a DataAck says behind its options what the inbox has to say.
+/// The frame in the box as it goes out: an Ack or a DataAck says after its options what the inbox has to say.
 #[tactic(auto, using(crate::proofs::Silent::silent_same))]
-pub(crate) fn buffer(out: &mut Outbox, inbox: &Inbox, pseudo: &Pseudo)
-    ensures { out.new ≡ buffered_frame pseudo.now inbox.now out.old }
+pub(crate) fn buffer<const MOST: usize>(
+    out: &mut Outbox,
+    inbox: &BoundedInbox<MOST>,
+    pseudo: &Pseudo,
+)
+    ensures says { out.new ≡ buffered_frame pseudo.now inbox.now out.old }
+    ensures codes { HaveCodes inbox.now.drops }
 {
     if inbox.is_silent() {
         return;

@@ -1,11 +1,8 @@
 //! An end with a bounded inbox.
-ghost use Rattle.std.specs.Prelude.{◌≡◌, Some};
-ghost use Rattle.data_dropped.specs.Buffering.{HasDataWithin, delivery_by, delivered_data};
-
-use crate::answers::{Arrival, Got};
+use crate::answers::Got;
 use crate::appending::buffer;
+use crate::delivery::settle;
 use crate::inbox::Inbox;
-use crate::item::MOST_DATA;
 use congestion_trait::Congestion;
 use dccp_endpoint::{
     AbortFault, CloseFault, Config, Endpoint, Feature, NoMemory, OpenFault, Outbox, Outcome, Phase,
@@ -14,33 +11,9 @@ use dccp_endpoint::{
 use std::alloc::Global;
 use std::marker::Model;
 
-// Data were delivered.
-fn deliver(inbox: &mut Inbox, number: Seq48, payload: &[u8]) -> Arrival
-    ensures { record { inbox = inbox.new; arrival = Some result } ≡ delivered_data inbox.old number payload.now }
-{
-    if MOST_DATA < payload.len() {
-        inbox.too_long(number)
-    } else {
-        inbox.arrived(number, payload)
-    }
-}
-
-// What the outcome of a packet of this number means for the inbox.
-fn settle(inbox: &mut Inbox, number: Seq48, bytes: &[u8], outcome: &Outcome) -> Option<Arrival>
-    requires { HasDataWithin bytes.now outcome.now }
-    ensures { record { inbox = inbox.new; arrival = result } ≡ delivery_by inbox.old number bytes.now outcome.now }
-{
-    match *outcome {
-        Outcome::Took {
-            delivered: Some((first, past)),
-        } => Some(deliver(inbox, number, &bytes[first..past])),
-        _ => None,
-    }
-}
-
 /// An end whose application reads when it likes: data that the end delivers are held in an [`Inbox`], up to a number of
 /// packets, until they are taken. What is dropped for want of room, or after `stop`, the end's acknowledgements tell
-/// the peer by Data Dropped, and that three quarters of the room are taken by Slow Receiver, behind their own options
+/// the peer by Data Dropped, and that three quarters of the room are taken by Slow Receiver, after their own options
 /// and as far as they have room (RFC 4340, sections 11.6 and 11.7; that, and when, is own). Nothing else is changed of
 /// the end, and each packet is acknowledged whether its data were kept or dropped.
 ///
@@ -94,6 +67,7 @@ impl<C: Congestion> BufferedEnd<C> {
     ghost use Rattle.dccp_endpoint.specs.Early.{sends_early, sends_soon};
     ghost use Rattle.dccp_endpoint.specs.End.{is_connected, value_in};
     ghost use Rattle.data_dropped.specs.Buffering.{HasDataWithin, beside, buffers};
+    ghost use Rattle.data_dropped.specs.Drops.{HaveCodes};
     ghost use Rattle.data_dropped.specs.Frames.{buffered_frame};
     ghost use Rattle.data_dropped.specs.Inbox.{first_over, first_taken, stopping, taking};
 
@@ -109,7 +83,7 @@ impl<C: Congestion> BufferedEnd<C> {
         answer
     }
 
-    /// Sends data, as by `Endpoint::send`; a DataAck tells beside them of the drops.
+    /// Sends data, as by `Endpoint::send`; a DataAck also reports the drops.
     pub fn send(&mut self, payload: &[u8], out: &mut Outbox) -> Result<(), SendFault>
         ensures step { record { after = self.new; frame = out.new; answer = result } ≡ beside self.old.inbox (with_control C.control self.old.end.congestion (sends_payload self.old.end.state payload.now (may_send C.control self.old.end.congestion))) }
         ensures not_open { (result ≡ Err SendFault.NotOpen) ↔ (self.old.end.state.phase ≢ Phase.Open) }
@@ -181,7 +155,7 @@ impl<C: Congestion> BufferedEnd<C> {
         answer
     }
 
-    /// The end wants these values for a feature, as by `Endpoint::prefer`; an Ack tells of the drops beside its Change.
+    /// The end wants these values for a feature, as by `Endpoint::prefer`; an Ack also reports the drops.
     pub fn prefer(
         &mut self,
         feature: Feature,
@@ -201,7 +175,7 @@ impl<C: Congestion> BufferedEnd<C> {
         answer
     }
 
-    /// A timer has run out, as by `Endpoint::timer`; an Ack tells of the drops.
+    /// A timer has run out, as by `Endpoint::timer`; an Ack reports the drops.
     pub fn timer(&mut self, timer: Timer, out: &mut Outbox) -> bool
         ensures step { record { after = self.new; frame = out.new; answer = result } ≡ beside self.old.inbox (with_control C.control self.old.end.congestion (fires self.old.end.state timer (has_in_flight C.control self.old.end.congestion))) }
         ensures applies { result ≡ applies timer self.old.end.state (has_in_flight C.control self.old.end.congestion) }
@@ -215,19 +189,21 @@ impl<C: Congestion> BufferedEnd<C> {
 
     // The frame in the box says what the inbox has to say.
     fn speak(&self, out: &mut Outbox)
-        ensures { out.new ≡ buffered_frame self.now.end.state.config.pseudo_out self.now.inbox out.old }
+        ensures codes { HaveCodes self.now.inbox.drops }
+        ensures says { out.new ≡ buffered_frame self.now.end.state.config.pseudo_out self.now.inbox out.old }
     {
         buffer(out, &self.inbox, &self.end.pseudo_out());
     }
 
     /// Takes bytes that arrived, at most 2,044, as `Endpoint::receive` does. Data that are delivered come into the
     /// inbox under their packet's number, or are dropped; of these `arrival` tells, and it is None where none were
-    /// delivered. What goes out is the end's frame; an Ack or a DataAck tells behind its options of the drops, and that
+    /// delivered. What goes out is the end's frame; an Ack or a DataAck tells after its options of the drops, and that
     /// the inbox is slow, as the inbox is then, where there is anything to tell and the packet has room for it.
     pub fn receive(&mut self, bytes: &[u8], out: &mut Outbox) -> Got
         requires { length bytes.now ≤ 2044 }
         ensures step { record { after = self.new; frame = out.new; outcome = result.outcome; arrival = result.arrival } ≡ buffers C.control self.old bytes.now }
         ensures within { HasDataWithin bytes.now result.outcome }
+        ensures codes { HaveCodes self.new.inbox.drops }
     {
         let outcome = self.end.receive(bytes, out);
         let number = self.end.last_taken();
@@ -237,7 +213,7 @@ impl<C: Congestion> BufferedEnd<C> {
     }
 
     /// Takes the first item, as `Inbox::take` does.
-    pub fn take(&mut self, into: &mut [u8; MOST_DATA]) -> Option<(Seq48, usize)>
+    pub fn take(&mut self, into: &mut [u8; 1024]) -> Option<(Seq48, usize)>
         ensures rest { self.new ≡ record self.old { inbox = taking self.old.inbox } }
         ensures answer { result ≡ first_taken self.old.inbox.items }
         ensures data { into.new ≡ first_over self.old.inbox.items into.old }
@@ -246,7 +222,7 @@ impl<C: Congestion> BufferedEnd<C> {
         self.inbox.take(into)
     }
 
-    /// The application listens no more, as by `Inbox::stop`.
+    /// The application stops listening, as by `Inbox::stop`.
     pub fn stop(&mut self)
         ensures { self.new ≡ record self.old { inbox = stopping self.old.inbox } }
     {

@@ -1,7 +1,7 @@
 //! A bounded inbox.
 use crate::answers::Arrival;
 use crate::drops::{DropBytes, DropEntry, SPAN};
-use crate::item::{Item, MOST_DATA};
+use crate::item::Item;
 use crate::writing::write_drops;
 use circular_buffer::HeapCircularBuffer;
 use seq_circle::{NoMemory, Seq48};
@@ -13,39 +13,46 @@ const NOT_LISTENING: u8 = 1;
 
 const BUFFER_FULL: u8 = 2;
 
-/// The data of packets that an application has not read yet, at most `capacity` of them, and the last 2,048 drops. It
-/// drops what arrives while it is full or after `stop`, and never what it holds. Contracts see the items and the drops
-/// from the oldest on, whether it was stopped, and its capacity.
+/// The data of packets that an application has not read yet, at most `capacity` of them with up to `MOST` bytes each,
+/// and the last 2,048 drops. It drops what arrives while it is full or after `stop`, and never what it holds. Contracts
+/// see the items and the drops from the oldest on, whether it was stopped, its capacity, and `MOST`.
 ///
-/// Both rings are taken in `new`: an item has 1,040 bytes, a drop 16. No call after it takes memory.
+/// Both rings are taken in `new`: an item has 16 bytes and `MOST`, a drop 16. No call after it takes memory.
 #[derive(Drop)]
-pub struct Inbox {
-    items: HeapCircularBuffer<Item>,
+pub struct BoundedInbox<const MOST: usize> {
+    items: HeapCircularBuffer<Item<MOST>>,
     drops: HeapCircularBuffer<DropEntry>,
     stopped: bool,
 }
 
-impl Model for Inbox {
+/// An inbox whose items have up to 1,024 bytes, as many as an end sends at once (own).
+pub type Inbox = BoundedInbox<1024>;
+
+/// An inbox that has room for all data that a datagram of 2,044 bytes brings (own).
+pub type LongInbox = BoundedInbox<2032>;
+
+impl<const MOST: usize> Model for BoundedInbox<MOST> {
     ghost use Rattle.data_dropped.specs.Inbox.{InboxState, IsInbox};
 
     ghost Value = { InboxState };
 
-    ghost view = { λ i. record { items = i.items.items; drops = i.drops.items; stopped = i.stopped; capacity = i.items.capacity } };
+    ghost view = { λ i. record { items = i.items.items; drops = i.drops.items; stopped = i.stopped; capacity = i.items.capacity; most = MOST } };
 
-    ghost invariant = { λ i. IsInbox i.items i.drops };
+    ghost invariant = { λ i. IsInbox i.items i.drops MOST };
 }
 
-impl Inbox {
+impl<const MOST: usize> BoundedInbox<MOST> {
     ghost use Rattle.std.specs.Prelude.{◌≡◌, ◌↔◌, ◌<◌, ◌≤◌, [], IfOk, IsNone, false, length, true};
-    ghost use Rattle.data_dropped.specs.Drops.{drop_bytes, tells_all};
-    ghost use Rattle.data_dropped.specs.Inbox.{after_arrival, arrival_answer, dropping, empty_inbox, first_over, first_taken, is_slow, keeping, reason, stopping, takes_more, taking};
+    ghost use Rattle.data_dropped.specs.Drops.{HaveCodes, drop_bytes, tells_all};
+    ghost use Rattle.data_dropped.specs.Inbox.{after_arrival, arrival_answer, dropping, first_over, first_taken, inbox_of, is_slow, keeping, reason, stopping, takes_more, taking};
     ghost use Rattle.data_dropped.specs.declared.answers.Arrival.TheVariants.{Dropped, Kept};
 
     /// An inbox that holds nothing, for 1 to 1,024 items. `NoMemory` comes only here.
-    pub fn new(alloc: Global, capacity: u16) -> Result<Inbox, NoMemory>
+    pub fn new(alloc: Global, capacity: u16) -> Result<BoundedInbox<MOST>, NoMemory>
         requires some { 1 ≤ capacity }
         requires few { capacity ≤ 1024 }
-        ensures { IfOk result (λ inbox. inbox ≡ empty_inbox capacity) }
+        requires short { MOST ≤ 2032 }
+        ensures { IfOk result (λ inbox. inbox ≡ inbox_of MOST capacity) }
     {
         let Ok(items) = HeapCircularBuffer::with_capacity(alloc, usize::from(capacity)) else {
             return Err(NoMemory);
@@ -53,7 +60,7 @@ impl Inbox {
         let Ok(drops) = HeapCircularBuffer::with_capacity(alloc, SPAN) else {
             return Err(NoMemory);
         };
-        Ok(Inbox {
+        Ok(BoundedInbox {
             items,
             drops,
             stopped: false,
@@ -82,7 +89,7 @@ impl Inbox {
     // One item more.
     fn keep(&mut self, number: Seq48, payload: &[u8])
         requires room { takes_more self.old ≡ true }
-        requires short { length payload.now ≤ 1024 }
+        requires short { length payload.now ≤ MOST }
         ensures { self.new ≡ keeping self.old number payload.now }
     {
         self.items.push_back(Item::of(number, payload));
@@ -98,18 +105,36 @@ impl Inbox {
         Arrival::Dropped(code)
     }
 
+    /// How many items are held.
+    pub fn held(&self) -> usize
+        ensures { result ≡ length self.now.items }
+    {
+        self.items.len()
+    }
+
+    /// How many bytes an item may have: `MOST`.
+    pub fn most(&self) -> usize
+        ensures value { result ≡ self.now.most }
+        ensures same { result ≡ MOST }
+    {
+        // `len` gives the prover what `self` is.
+        let _count = self.items.len();
+        MOST
+    }
+
     // It has nothing to say: no drop counts, and it is not slow.
     pub(crate) fn is_silent(&self) -> bool
         ensures no_drop { result ≡ true → self.now.drops ≡ [] }
         ensures not_slow { result ≡ true → is_slow self.now ≡ false }
+        ensures codes { HaveCodes self.now.drops }
     {
         self.drops.is_empty() && !self.slow()
     }
 
-    /// Data of at most 1,024 bytes have arrived under this packet's number. `Dropped(1)` exactly after `stop`; then
-    /// `Dropped(2)` exactly where `capacity` items are held; otherwise they are kept, behind the others.
+    /// Data of at most `MOST` bytes have arrived under this packet's number. `Dropped(1)` exactly after `stop`; then
+    /// `Dropped(2)` exactly where `capacity` items are held; otherwise they are kept, after the others.
     pub fn arrived(&mut self, number: Seq48, payload: &[u8]) -> Arrival
-        requires { length payload.now ≤ 1024 }
+        requires { length payload.now ≤ MOST }
         ensures after { self.new ≡ after_arrival self.old number payload.now }
         ensures answer { result ≡ arrival_answer self.old }
         ensures stopped { (result ≡ Dropped 1) ↔ (self.old.stopped ≡ true) }
@@ -134,7 +159,7 @@ impl Inbox {
 
     /// Takes the first item: its data are written over the front of `into`, and its number and length are answered. The
     /// rest of `into` stays. None exactly where no item is held; then nothing changes.
-    pub fn take(&mut self, into: &mut [u8; MOST_DATA]) -> Option<(Seq48, usize)>
+    pub fn take(&mut self, into: &mut [u8; MOST]) -> Option<(Seq48, usize)>
         ensures rest { self.new ≡ taking self.old }
         ensures answer { result ≡ first_taken self.old.items }
         ensures data { into.new ≡ first_over self.old.items into.old }
@@ -145,8 +170,7 @@ impl Inbox {
         Some((item.number(), count))
     }
 
-    /// The application listens no more: all data that arrive from now on are dropped. Items that are held can still be
-    /// taken.
+    /// The application stops listening: all data that arrive later are dropped. Items that are held can still be taken.
     pub fn stop(&mut self)
         ensures { self.new ≡ stopping self.old }
     {
@@ -167,6 +191,7 @@ impl Inbox {
     pub fn write(&self, out: &mut DropBytes, ack: Seq48) -> bool
         ensures bytes { out.new.items ≡ drop_bytes self.now.drops ack }
         ensures whole { result ≡ tells_all self.now.drops ack }
+        ensures codes { HaveCodes self.now.drops }
     {
         write_drops(&self.drops, out, ack)
     }

@@ -4,18 +4,15 @@ ghost use Rattle.std.specs.Prelude.{◌≡◌, ◌≤◌, ◌++◌, drop, length
 use seq_circle::Seq48;
 use std::marker::Model;
 
-/// The most bytes of data that an item holds: as many as an end sends at once (own).
-pub(crate) const MOST_DATA: usize = 1024;
-
-/// The data of one packet under its number, at most 1,024 bytes. Contracts see the number and the bytes.
+/// The data of one packet under its number, at most `MOST` bytes. Contracts see the number and the bytes.
 #[derive(Drop)]
-pub(crate) struct Item {
+pub(crate) struct Item<const MOST: usize> {
     number: Seq48,
     count: usize,
-    bytes: [u8; MOST_DATA],
+    bytes: [u8; MOST],
 }
 
-impl Model for Item {
+impl<const MOST: usize> Model for Item<MOST> {
     ghost use Rattle.std.specs.Prelude.{◌≤◌, take};
     ghost use Rattle.data_dropped.specs.Inbox.{KeptData};
 
@@ -23,16 +20,16 @@ impl Model for Item {
 
     ghost view = { λ item. record { number = item.number; payload = take item.count item.bytes } };
 
-    ghost invariant = { λ item. item.count ≤ 1024 };
+    ghost invariant = { λ item. item.count ≤ MOST };
 }
 
-impl Item {
+impl<const MOST: usize> Item<MOST> {
     /// These data under this number.
-    pub(crate) fn of(number: Seq48, payload: &[u8]) -> Item
-        requires { length payload.now ≤ 1024 }
+    pub(crate) fn of(number: Seq48, payload: &[u8]) -> Item<MOST>
+        requires { length payload.now ≤ MOST }
         ensures { result ≡ record { number = number; payload = payload.now } }
     {
-        let mut bytes = [0; MOST_DATA];
+        let mut bytes = [0; MOST];
         let count = payload.len();
         bytes[..count].copy_from_slice(payload);
         Item {
@@ -50,7 +47,7 @@ impl Item {
     }
 
     /// Writes the data over the front of these bytes, and tells how many they are.
-    pub(crate) fn put(&self, into: &mut [u8; MOST_DATA]) -> usize
+    pub(crate) fn put(&self, into: &mut [u8; MOST]) -> usize
         ensures count { result ≡ length self.now.payload }
         ensures put { into.new ≡ self.now.payload ++ drop (length self.now.payload) into.old }
     {

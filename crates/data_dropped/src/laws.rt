@@ -4,7 +4,7 @@ ghost use Rattle.std.specs.List.{list_any};
 ghost use Rattle.seq_circle.specs.Circle.{distance};
 ghost use Rattle.dccp_options.specs.Vectors.{Report};
 ghost use Rattle.dccp_sum.specs.declared.pseudo_header.Pseudo.{Pseudo};
-ghost use Rattle.dccp_endpoint.specs.End.{IsProper};
+ghost use Rattle.dccp_endpoint.specs.End.{IsProper, last_taken};
 ghost use Rattle.dccp_endpoint.specs.Receiving.{receives};
 ghost use Rattle.dccp_endpoint.specs.declared.config.Config.{Config};
 ghost use Rattle.dccp_endpoint.specs.Controlled.{with_control};
@@ -12,7 +12,7 @@ ghost use Rattle.dccp_endpoint.specs.Inputs.{Input, end_stepped};
 ghost use Rattle.dccp_packets.specs.Outgoing.{Outgoing};
 ghost use Rattle.data_dropped.specs.Buffering.{Buffered, beside, buffers};
 ghost use Rattle.data_dropped.specs.Drops.{HaveCodes, code_at, drop_bytes, drop_code, numbers_reached, tells_all};
-ghost use Rattle.data_dropped.specs.EndHistory.{BufferedPast, EndCall, EndReceives, buffered_now, is_end_stop, no_past, past_after, past_all};
+ghost use Rattle.data_dropped.specs.EndHistory.{BufferedPast, EndCall, EndReceives, IsToldSo, buffered_now, is_end_stop, no_past, past_after, past_all};
 ghost use Rattle.data_dropped.specs.Frames.{acknowledged_by};
 ghost use Rattle.data_dropped.specs.History.{InboxCall, IsAccounted, history_after_all, is_stop, no_history};
 ghost use Rattle.data_dropped.specs.Inbox.{InboxState};
@@ -54,21 +54,23 @@ pub fn what_is_kept_is_taken()
 {}
 
 /// The same over every list of calls of an end with an inbox, whose packets are calls of its inbox where they deliver
-/// data (`received`).
+/// data (`received`); and what is told of these is what became of them (`told`).
 pub fn what_an_end_keeps_is_taken<C: Congestion>()
     ensures received { (p : BufferedPast C) (bytes : List ℕ)
         → (buffers C.control (buffered_now p) bytes).after ≡ buffered_now (past_after C.control p (EndReceives bytes)) }
+    ensures told { (p : BufferedPast C) (bytes : List ℕ)
+        → IsToldSo (last_taken (receives p.end.state bytes).after) (buffers C.control (buffered_now p) bytes).arrival p.past (past_after C.control p (EndReceives bytes)).past }
     ensures accounted { (config : Config) (congestion : C) (capacity : ℕ) (calls : List EndCall)
         → IsAccounted capacity (list_any is_end_stop calls) (past_all C.control (no_past C.control config congestion capacity) calls).past }
     ensures codes { (config : Config) (congestion : C) (capacity : ℕ) (calls : List EndCall)
         → HaveCodes (past_all C.control (no_past C.control config congestion capacity) calls).past.held.drops }
 {}
 
-/// Each frame of an end with an inbox tells its drops: it is a packet, its checksum fits, the numbers that are told of
-/// it are the end's, and beside the end's own options its Data Dropped options are just the report at the number that
-/// it acknowledges, as the inbox is after the step, where that has a byte and the packet has room for it; no other
-/// frame has one (own; RFC 4340, section 11.7). That holds of every input of the end beside any inbox (`calls`), and of
-/// bytes that arrive, whose data come into the inbox (`tells`). Where the end sends nothing, nothing goes out.
+/// Each frame of an end with an inbox reports its drops. It is a packet, its checksum fits, and its numbers are the
+/// end's. Besides the end's own options, its Data Dropped options are just the report of the inbox after the step, at
+/// the number that it acknowledges, if that report has a byte and the packet has room for it; no other frame has one
+/// (own; RFC 4340, section 11.7). That holds for every input of the end beside any inbox (`calls`), and for bytes that
+/// arrive, whose data go into the inbox (`tells`). If the end sends nothing, nothing goes out.
 pub fn every_frame_tells_its_drops<C: Congestion>()
     ensures calls { (b : Buffered C) (given : Input) (own : Outgoing) → IsProper b.end.state
         → (end_stepped b.end.state given).frame ≡ Some own

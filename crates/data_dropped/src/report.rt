@@ -27,7 +27,7 @@ impl<'a> Model for DropReport<'a> {
     ghost view = { λ report. record { ack = report.ack; bytes = drop_data report.options } };
 }
 
-// The data of the first Data Dropped option among these, which go on behind it.
+// The data of the first Data Dropped option among these, which go on after it.
 fn next_drops<'a>(options: &mut OptList<'a>) -> Option<&'a [u8]>
     ensures { MatchOption result
         ((drop_options options.old ≡ []) × (drop_options options.new ≡ []))
@@ -61,7 +61,7 @@ fn code_below(bytes: &[u8], below: u64) -> Result<Option<u8>, u64>
 
 impl<'a> DropReport<'a> {
     /// What the Data Dropped options among the options of a packet report, whose acknowledgement number this is. None
-    /// exactly where no Data Dropped option stands there.
+    /// exactly where no Data Dropped option is there.
     pub fn of(ack: Seq48, options: OptList<'a>) -> Option<DropReport<'a>>
         ensures none { IsNone result ↔ (drop_options options.entry ≡ []) }
         ensures value { result ≡ drop_report ack options.entry }

@@ -9,7 +9,7 @@ use Rattle.data_dropped.proofs.drops.fill.Goals.{in-Some, in_default}
 pub loop-index-init : goal.loop-index-init
 loop-index-init c = sym (table-none c.args.ack)
 
--- one drop more; one stands at every index below their number
+-- one drop more; one is at every index below their number
 pub loop-index-preserved : goal.loop-index-preserved
 loop-index-preserved c =
     elim c.match-get.branch [

@@ -10,7 +10,7 @@ returns-then-left-count c =
     ∙ within-byte c.args.bytes.now c.loop-byte.byte-index c.numbers_in-count.result inside c.numbers_in-count.ensures c.loop-byte.left c.if-left-count.true
     ∙ ap Some (sym c.code_in.ensures)
 
--- it lies behind it
+-- it lies after it
 pub loop-byte-preserved : goal.loop-byte-preserved
 loop-byte-preserved c =
     let inside : c.loop-byte.byte-index < length c.args.bytes.now = omega arith in

@@ -14,7 +14,7 @@ returns-in-Ok c =
     sym (code-within c.in-Some.body.now later c.loop-body.below c.in-Ok.code c.in-Ok.ensures)
     ∙ ap (λ (bytes : List ℕ). code_at_place (slice_get (states_of drop_coding bytes) c.loop-body.below)) (sym joined) ∙ c.loop-body.invariant
 
--- it lies behind it
+-- it lies after it
 pub loop-body-preserved : goal.loop-body-preserved
 loop-body-preserved c =
     let later : List ℕ = drop_data c.next_drops.new.options in

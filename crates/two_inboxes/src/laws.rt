@@ -1,0 +1,33 @@
+//! The laws.
+ghost use Rattle.two_inboxes.specs.Alike.{LongerFramesAreTakenAlike};
+ghost use Rattle.two_inboxes.specs.Apart.{TellOfTheirData};
+ghost use Rattle.two_inboxes.specs.Inboxes.{RunAsAlone};
+
+use congestion_trait::Congestion;
+use dccp_endpoint::every_step_has_one_effect;
+use two_ends::every_run_is_safe;
+
+/// The options that an inbox puts after those of an end's frame say nothing to the end that takes it: it takes the longer
+/// frame as it would take the end's own one (own).
+pub fn longer_frames_are_taken_alike()
+    ensures { LongerFramesAreTakenAlike }
+{}
+
+/// Two ends with inboxes are after every list of events where two ends alone are after the same events (own). So what
+/// holds of every schedule of two ends holds of them: agreement, truthful vectors, and data once among it.
+pub fn ends_with_inboxes_run_as_alone<C: Congestion>()
+    ensures { RunAsAlone C.control }
+{
+    every_step_has_one_effect();
+}
+
+/// No packet that a frame of an end calls dropped is one whose data its application took, before that frame or after it.
+/// Each packet whose data it took was processed; and of one that was processed before a frame went out, no Ack Vector of
+/// that frame says that it is missing. So it is at both ends, over every list of events (RFC 4340, sections 11.4 and
+/// 11.7).
+pub fn frames_tell_of_what_was_taken<C: Congestion>()
+    ensures { TellOfTheirData C.control }
+{
+    every_step_has_one_effect();
+    every_run_is_safe::<C>();
+}
