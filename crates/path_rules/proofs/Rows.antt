@@ -2,6 +2,7 @@
 -- and of docs/PROTOCOL.md.
 use Rattle.std.proofs.Common.{◌≡◌, refl, ◌-◌, ◌^◌, true, false, [], ◌∷◌, replicate, Option, Some, None}
 use Rattle.path_rules.specs.AckRatio.{ack_ratio_aim, period, wants_ack_ratio}
+use Rattle.path_rules.specs.Allowance.{allowed_after_acks, allowed_after_congestion, allowed_after_drops, allowed_after_timeout, is_within_round_trip}
 use Rattle.path_rules.specs.GivingUp.{asks_after_silence}
 use Rattle.path_rules.specs.Limits.{far_syncs, full, granted, is_near_greatest, near_syncs, resets_to_strangers}
 use Rattle.path_rules.specs.RoundTrip.{timeout, with_sample}
@@ -81,3 +82,28 @@ some_ask :
     (probes_first 15 ≡ false) × (probes_first 16 ≡ true) × (asks_after_silence 0 0 59999 ≡ false) × (asks_after_silence 0 0 60000 ≡ true)
     × (asks_after_silence 0 50001 60000 ≡ false) × (asks_after_silence 0 50000 60000 ≡ true)
 some_ask = (refl, refl, refl, refl, refl, refl)
+
+-- A window of 100: three drops leave 97, a slow receiver 100, and more drops than there are one; a smaller allowance counts in its place.
+an_allowance_falls :
+    ((allowed_after_drops None 100 3).most ≡ 97) × ((allowed_after_drops None 100 0).most ≡ 100) × ((allowed_after_drops None 100 100).most ≡ 1)
+    × ((allowed_after_drops (Some (record { most = 50; acked = 7 })) 100 3) ≡ record { most = 47; acked = 0 })
+    × ((allowed_after_drops (Some (record { most = 500; acked = 7 })) 100 3).most ≡ 97)
+    × ((allowed_after_congestion (Some (record { most = 51; acked = 7 })) 100).most ≡ 25) × ((allowed_after_congestion None 1).most ≡ 1)
+    × ((allowed_after_timeout (record { most = 9; acked = 0 })).most ≡ 4) × ((allowed_after_timeout (record { most = 3; acked = 0 })).most ≡ 2)
+an_allowance_falls = (refl, refl, refl, refl, refl, refl, refl, refl, refl)
+
+-- a packet more for each window of them, and none where the congestion control has no more
+an_allowance_grows :
+    (allowed_after_acks (record { most = 10; acked = 4 }) 20 5 ≡ record { most = 10; acked = 9 })
+    × (allowed_after_acks (record { most = 10; acked = 4 }) 20 6 ≡ record { most = 11; acked = 0 })
+    × (allowed_after_acks (record { most = 10; acked = 4 }) 20 600 ≡ record { most = 11; acked = 0 })
+    × (allowed_after_acks (record { most = 10; acked = 4 }) 10 6 ≡ record { most = 10; acked = 4 })
+    × (allowed_after_acks (record { most = 10; acked = 4 }) 11 6 ≡ record { most = 11; acked = 0 })
+an_allowance_grows = (refl, refl, refl, refl, refl)
+
+-- 100 milliseconds after a sample of 100; a millisecond where it took less; and until the acknowledgement where none was measured
+a_round_trip_goes_by :
+    (is_within_round_trip first_100 99 true ≡ true) × (is_within_round_trip first_100 100 false ≡ false)
+    × (is_within_round_trip (Some (with_sample None 0)) 0 true ≡ true) × (is_within_round_trip (Some (with_sample None 0)) 1 false ≡ false)
+    × (is_within_round_trip None 0 true ≡ false) × (is_within_round_trip None 9000 false ≡ true)
+a_round_trip_goes_by = (refl, refl, refl, refl, refl, refl)

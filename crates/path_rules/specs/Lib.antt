@@ -1,4 +1,5 @@
 pub mod AckRatio
+pub mod Allowance
 pub mod GivingUp
 pub mod Limits
 pub mod RoundTrip

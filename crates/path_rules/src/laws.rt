@@ -1,5 +1,6 @@
 //! What the rules come to.
 ghost use Rattle.path_rules.specs.AckRatio.{AckRatiosFit};
+ghost use Rattle.path_rules.specs.Allowance.{AllowancesAreKept};
 ghost use Rattle.path_rules.specs.Limits.{LimitsHold};
 ghost use Rattle.path_rules.specs.RoundTrip.{TimeoutsAreBounded};
 
@@ -18,4 +19,10 @@ pub fn timeouts_are_bounded()
 /// The Ack Ratio that a sender wants is one of 1, of 2, or of at most half its window (RFC 4341, section 6.1.2).
 pub fn ack_ratios_fit_the_window()
     ensures { AckRatiosFit }
+{}
+
+/// An allowance never closes the window, a report never raises it, and acknowledgements raise it by a packet at most (RFC
+/// 4341, section 5.2).
+pub fn allowances_are_kept()
+    ensures { AllowancesAreKept }
 {}

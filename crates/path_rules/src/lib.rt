@@ -1,12 +1,13 @@
 //! The rules by which the owner of an end fills its path and spares it: round trips and timeouts, the waits of timers,
-//! the Ack Ratio, limits of answers, and when an end is given up (RFC 4340; RFC 4341; RFC 6298; where these leave it
-//! open, own).
+//! the Ack Ratio, what a slow reader leaves of the window, limits of answers, and when an end is given up (RFC 4340; RFC
+//! 4341; RFC 6298; where these leave it open, own).
 //!
 //! All are functions of plain numbers, which take no memory and know no clock. Times are in milliseconds from any
 //! beginning; a time before one that was told counts as that one. Who keeps an end asks them (dccp_uses).
 #![tactic(auto)]
 
 mod ack_ratio;
+mod allowance;
 mod giving_up;
 mod laws;
 mod limits;
@@ -14,8 +15,14 @@ mod round_trip;
 mod waits;
 
 pub use crate::ack_ratio::{AckRatio, ack_ratio_aim, period, wants_ack_ratio};
+pub use crate::allowance::{
+    Allowance, allowed_after_acks, allowed_after_congestion, allowed_after_drops,
+    allowed_after_timeout, is_within_round_trip, window_within,
+};
 pub use crate::giving_up::{GIVES_UP_ASKING, GIVES_UP_ENDING, GIVES_UP_SILENT, asks_after_silence};
-pub use crate::laws::{ack_ratios_fit_the_window, limits_hold, timeouts_are_bounded};
+pub use crate::laws::{
+    ack_ratios_fit_the_window, allowances_are_kept, limits_hold, timeouts_are_bounded,
+};
 pub use crate::limits::{
     Bucket, Limit, Taking, far_syncs, is_near_greatest, near_syncs, resets_to_strangers,
 };

@@ -32,7 +32,7 @@ pub fn request_wait() -> Wait
     }
 }
 
-/// An Ack of an end that has nothing else to say: after 50 milliseconds, up to 20 seconds, so that what stands between
+/// An Ack of an end that has nothing else to say: after 50 milliseconds, up to 20 seconds, so that what is between
 /// the ends keeps the connection in mind (own; RFC 4340, section 8.1.5, has 200 for the client in PARTOPEN).
 pub fn ack_wait() -> Wait
     ensures { result ≡ ack_wait }

@@ -1,0 +1,2 @@
+pub mod ComeBack
+pub mod Fitting

@@ -1,0 +1,48 @@
+-- What a sender allows itself for the sake of the application that reads its data (RFC 4340, sections 11.6 and 11.7; RFC
+-- 4341, section 5.2; own).
+use Rattle.std.specs.Prelude.{ℕ, ◌+◌, ◌-◌, ◌/◌, ◌≤◌, max, min, nat_lt, nat_le, Bool, not, Option, Some, None, if◌then◌else◌}
+use Rattle.path_rules.specs.declared.allowance.Allowance.{Allowance}
+use Rattle.path_rules.specs.declared.round_trip.RoundTrip.{RoundTrip}
+
+-- the window of the sender: that of its congestion control, or what it is allowed where that is less
+abbrev pub window_within : Option Allowance → ℕ → ℕ
+window_within None window = window
+window_within (Some it) window = min it.most window
+
+-- An allowance that is at so many packets, of which none was acknowledged yet; one packet at least.
+abbrev pub allowance_of : ℕ → Allowance
+allowance_of packets = record { most = max 1 packets; acked = 0 }
+
+-- One packet less for each that the receive buffer dropped (RFC 4341, section 5.2). With none it stays where it is: so it
+-- does for a slow receiver (RFC 4340, section 11.6). Slow start is over with it (RFC 4341, section 5.2).
+abbrev pub allowed_after_drops : Option Allowance → ℕ → ℕ → Allowance
+allowed_after_drops it window drops = allowance_of (window_within it window - drops)
+
+-- half of it for congestion, as of the window (RFC 4341, section 5)
+abbrev pub allowed_after_congestion : Option Allowance → ℕ → Allowance
+allowed_after_congestion it window = allowance_of (window_within it window / 2)
+
+-- After a timeout slow start goes up to half of it, two packets at least, as up to the threshold (RFC 4341, section 5).
+abbrev pub allowed_after_timeout : Allowance → Allowance
+allowed_after_timeout it = allowance_of (max 2 (it.most / 2))
+
+-- one packet more for each window that was acknowledged (RFC 4341, section 5: congestion avoidance)
+abbrev pub grown : Allowance → ℕ → Allowance
+grown it acked = if nat_le it.most acked then allowance_of (it.most + 1) else record it { acked = acked }
+
+-- as long as the window of the congestion control is above it
+abbrev pub allowed_after_acks : Allowance → ℕ → ℕ → Allowance
+allowed_after_acks it window acked = if nat_lt it.most window then grown it (it.acked + acked) else it
+
+-- Less than a round trip has gone by: so long as it was measured, a millisecond at least; else until what was in flight is
+-- acknowledged.
+abbrev pub is_within_round_trip : Option RoundTrip → ℕ → Bool → Bool
+is_within_round_trip None elapsed acked = not acked
+is_within_round_trip (Some path) elapsed acked = nat_lt elapsed (max 1 (path.smoothed / 1000))
+
+-- It never closes, no report raises it above the window that there was, and acknowledgements raise it by a packet at most.
+pub record AllowancesAreKept : Type 0 where
+  pub some : (it : Option Allowance) (window drops : ℕ) → 1 ≤ (allowed_after_drops it window drops).most
+  pub falls : (it : Option Allowance) (window drops : ℕ) → 1 ≤ window_within it window → (allowed_after_drops it window drops).most ≤ window_within it window
+  pub halves : (it : Option Allowance) (window : ℕ) → 2 ≤ window_within it window → (allowed_after_congestion it window).most + (allowed_after_congestion it window).most ≤ window_within it window
+  pub creeps : (it : Allowance) (window acked : ℕ) → 1 ≤ it.most → (allowed_after_acks it window acked).most ≤ it.most + 1
