@@ -1,22 +1,24 @@
 -- Where no rule is followed, an end with its timers is a session with the timers alone.
-use Rattle.std.proofs.Common.{◌≡◌, refl, sym, ap, subst, ℕ, ◌-◌, ◌==◌, nat_lt, nat_le, List, length, Bool, true, false, not, ◌&&◌, is_some, if◌then◌else◌, Option, Some, None, Result, Ok, Err}
+use Rattle.std.proofs.Common.{◌≡◌, refl, sym, ap, subst, ℕ, nat_lt, nat_le, List, length, Bool, true, false, not, ◌&&◌, is_some, if◌then◌else◌, Some, None, Result, Ok, Err}
 use Rattle.std.proofs.Math.Bool.{and-true}
 use Rattle.congestion_trait.specs.Control.{Control, may_send}
 use Rattle.dccp_endpoint.specs.Calling.{aborts, closes, fires, opens, prefers}
 use Rattle.dccp_endpoint.specs.Controlled.{End, EndStep, has_in_flight, in_flight_of, with_control}
 use Rattle.dccp_endpoint.specs.Early.{sends_soon}
 use Rattle.dccp_endpoint.specs.Receiving.{receives}
+use Rattle.dccp_states.specs.declared.calls.SendFault.{SendFault}
 use Rattle.dccp_states.specs.declared.calls.Timer.{Timer}
 use Rattle.dccp_states.specs.declared.calls.Timer.TheVariants as timers
 use Rattle.dccp_states.specs.declared.outcome.Outcome.{Outcome}
 use Rattle.feature_lists.specs.declared.features.Feature.{Feature}
 use Rattle.feature_lists.specs.declared.features.Place.{Place}
 use Rattle.dccp_uses.specs.Alarms.{alarm_of, arranged, has_run_out, rung, with_delivery, with_progress}
-use Rattle.dccp_uses.specs.Classic.{ClassicIsTheSession, IsClassic, IsSessionStep, session_of}
+use Rattle.dccp_uses.specs.Classic.{ClassicIsTheSession, IsClassic, IsSessionStep, session_of, session_refusal_named}
 use Rattle.dccp_uses.specs.Path.{aimed, answered_probe, classic_pace, fell, heard_from, is_answered, path_heard, sight_of, with_flight}
+use Rattle.dccp_uses.specs.Reader.{reader_begins}
 use Rattle.dccp_uses.specs.Session.{SessionStep, after_hearing, called, calls, calls_anew, condition_of, goes_on_with, hears, is_delivery, tells_end, tells_news}
 use Rattle.dccp_uses.specs.Sessions.{session_hears, stands_still, tells_news_of}
-use Rattle.dccp_uses.specs.Timed.{TimedState, TimedStep, after_datagram, heard_out, is_taken, ruled_condition, timed_aborts, timed_called, timed_closes, timed_fires, timed_heard, timed_opens, timed_prefers, timed_sends, timers_go_on, timers_go_on_after}
+use Rattle.dccp_uses.specs.Timed.{TimedState, TimedStep, after_datagram, heard_out, is_taken, refusal_named, ruled_condition, timed_aborts, timed_called, timed_closes, timed_fires, timed_heard, timed_opens, timed_prefers, timed_sends, timers_go_on, timers_go_on_after, with_refusal_named}
 use Rattle.dccp_uses.specs.declared.alarms.Alarms.{Alarms}
 use Rattle.dccp_uses.specs.declared.path.Path.{Path}
 use Rattle.dccp_uses.specs.declared.sight.Sight.{Sight}
@@ -24,17 +26,18 @@ use Rattle.dccp_uses.specs.declared.news.News.TheVariants as news
 
 -- a path that follows no rule, with whatever else was kept of it
 abbrev bare : Path → Path
-bare path = record path { pace = classic_pace; ratio = None }
+bare path = record path { pace = classic_pace; ratio = None; reader = reader_begins }
 
 -- and of which nothing is due
 abbrev still : Path → Path
-still path = record path { pace = classic_pace; ratio = None; rules = None }
+still path = record path { pace = classic_pace; ratio = None; rules = None; reader = reader_begins }
 
 pub is_still : (path : Path) → IsClassic path → path ≡ still path
 is_still path classic =
-    subst (λ pace. path ≡ record path { pace = pace; ratio = None; rules = None }) classic.follows_none
-    (subst (λ ratio. path ≡ record path { ratio = ratio; rules = None }) classic.asks_nothing
-    (subst (λ rules. path ≡ record path { rules = rules }) classic.nothing_is_due refl))
+    subst (λ pace. path ≡ record path { pace = pace; ratio = None; rules = None; reader = reader_begins }) classic.follows_none
+    (subst (λ ratio. path ≡ record path { ratio = ratio; rules = None; reader = reader_begins }) classic.asks_nothing
+    (subst (λ rules. path ≡ record path { rules = rules; reader = reader_begins }) classic.nothing_is_due
+    (subst (λ reader. path ≡ record path { reader = reader }) classic.heeds_nothing refl)))
 
 module _ {C : Type 0} (control : Control C) where
   -- what the timers go by is what they always went by
@@ -54,7 +57,7 @@ module _ {C : Type 0} (control : Control C) where
         session_is = ap (λ alarms. record { end = step.after; alarms = alarms }) (alarms-are path alarms step.after now least);
         frame_is = refl;
         answer_is = refl;
-        stays_classic = record { follows_none = refl; asks_nothing = refl; nothing_is_due = refl };
+        stays_classic = record { follows_none = refl; asks_nothing = refl; nothing_is_due = refl; heeds_nothing = refl };
       }
 
   -- a call by its answer: one that was refused leaves all as it is
@@ -65,7 +68,7 @@ module _ {C : Type 0} (control : Control C) where
   called-by now s alarms path step classic (Err fault) = record { session_is = refl; frame_is = refl; answer_is = refl; stays_classic = classic }
 
   still-classic : (path : Path) → IsClassic (still path)
-  still-classic path = record { follows_none = refl; asks_nothing = refl; nothing_is_due = refl }
+  still-classic path = record { follows_none = refl; asks_nothing = refl; nothing_is_due = refl; heeds_nothing = refl }
 
   -- what holds of an end whose path is written out as one without rules holds of it
   for-still : (P : TimedState C → Type 0) (s : TimedState C) → IsClassic s.path → P (record s { path = still s.path }) → P s
@@ -78,15 +81,23 @@ module _ {C : Type 0} (control : Control C) where
       for-still (λ t. IsSessionStep (timed_opens control now t) (calls control now (session_of t) (with_control control t.end.congestion (opens t.end.state)))) s classic
       (called-by now (record s { path = still s.path }) s.alarms (still s.path) step (still-classic s.path) step.answer)
 
+  -- of data with their refusal named
+  named : {step : TimedStep C (Result (Unit {0}) SendFault)} {session : SessionStep C (Result (Unit {0}) SendFault)} → IsSessionStep step session
+      → IsSessionStep (with_refusal_named step) (session_refusal_named session)
+  named {step} {session} it =
+      record { session_is = it.session_is; frame_is = it.frame_is; answer_is = ap refusal_named it.answer_is; stays_classic = it.stays_classic }
+
   sent : (now : ℕ) (s : TimedState C) (payload : List ℕ) → IsClassic s.path
       → IsSessionStep (timed_sends control now s payload)
-      (calls control now (session_of s) (with_control control s.end.congestion (sends_soon s.end.state payload (may_send control s.end.congestion))))
+      (session_refusal_named
+      (calls control now (session_of s) (with_control control s.end.congestion (sends_soon s.end.state payload (may_send control s.end.congestion)))))
   sent now s payload classic =
       let step = with_control control s.end.congestion (sends_soon s.end.state payload (may_send control s.end.congestion)) in
       for-still
       (λ t. IsSessionStep (timed_sends control now t payload)
-      (calls control now (session_of t) (with_control control t.end.congestion (sends_soon t.end.state payload (may_send control t.end.congestion)))))
-      s classic (called-by now (record s { path = still s.path }) s.alarms (still s.path) step (still-classic s.path) step.answer)
+      (session_refusal_named
+      (calls control now (session_of t) (with_control control t.end.congestion (sends_soon t.end.state payload (may_send control t.end.congestion))))))
+      s classic (named (called-by now (record s { path = still s.path }) s.alarms (still s.path) step (still-classic s.path) step.answer))
 
   wished : (now : ℕ) (s : TimedState C) (feature : Feature) (place : Place) (values : List ℕ) → IsClassic s.path
       → IsSessionStep (timed_prefers control now s feature place values)
@@ -201,7 +212,7 @@ module _ {C : Type 0} (control : Control C) where
   pub classic_is_the_session : ClassicIsTheSession control
   classic_is_the_session = record {
     begins = λ config congestion. refl;
-    begins_classic = record { follows_none = refl; asks_nothing = refl; nothing_is_due = refl };
+    begins_classic = record { follows_none = refl; asks_nothing = refl; nothing_is_due = refl; heeds_nothing = refl };
     opens = opened;
     sends = sent;
     prefers = wished;

@@ -1,4 +1,4 @@
--- Data that the owner is told of stand within the datagram.
+-- Data that the owner is told of are within the datagram.
 use Rattle.std.proofs.Common.{◌≡◌, sym, ap, subst, ℕ, ◌≤◌, List, length, Bool, true, false, if◌then◌else◌, Option, Some, None, unwrap_or, arith}
 use Rattle.dccp_packets.specs.Grammar.{Parts}
 use Rattle.dccp_states.specs.declared.phase.Phase.{Phase}
@@ -12,7 +12,12 @@ use Rattle.dccp_states.specs.declared.outcome.Outcome.{Outcome}
 use Rattle.dccp_states.specs.declared.outcome.Outcome.TheVariants.{Took, Dropped, Synced, WasReset, SentReset}
 use Rattle.std.specs.Prelude.{IfSome}
 use Rattle.dccp_uses.specs.Session.{has_closed, news_of}
-use Rattle.dccp_uses.specs.Sessions.{news_if}
+use Rattle.data_dropped.specs.Intakes.{HasDataIfHeard}
+use Rattle.data_dropped.specs.declared.answers.Arrival.{Arrival}
+use Rattle.data_dropped.specs.declared.answers.Arrival.TheVariants.{Kept}
+use Rattle.data_dropped.specs.declared.answers.Arrival.TheVariants as arrivals
+use Rattle.data_dropped.proofs.Places.{data_within}
+use Rattle.dccp_uses.specs.Sessions.{news_if, news_kept}
 use Rattle.dccp_uses.specs.declared.news.News.{News}
 use Rattle.dccp_uses.specs.declared.news.News.TheVariants as news
 
@@ -49,12 +54,16 @@ taken-within e bytes place taken =
 abbrev first-or : News → ℕ
 first-or (news.Data first past) = first
 first-or (news.Ended code) = 0
+first-or news.Waits = 0
+first-or (news.Dropped code) = 0
 first-or news.Quiet = 0
 first-or news.TooLong = 0
 
 abbrev past-or : News → ℕ
 past-or (news.Data first past) = past
 past-or (news.Ended code) = 0
+past-or news.Waits = 0
+past-or (news.Dropped code) = 0
 past-or news.Quiet = 0
 past-or news.TooLong = 0
 
@@ -70,7 +79,7 @@ ended-news : (ended : Bool) (code first past : ℕ) → (if ended then news.Ende
 ended-news true code first past is = cc is
 ended-news false code first past is = cc is
 
--- What the owner is told to be data stands within the bytes that arrived.
+-- What the owner is told to be data is within the bytes that arrived.
 pub news_within : (e : EndState) (bytes : List ℕ) (outcome : Outcome) (was now : Phase) (first past : ℕ) → HasCause e bytes outcome
     → news_of outcome was now ≡ news.Data first past → (first ≤ past) × (past ≤ length bytes)
 news_within e bytes (Took (Some place)) was now first past cause is = data-news place first past is bytes (taken-within e bytes place cause)
@@ -104,3 +113,20 @@ never_too_long (SentReset code detail) was now is = ended-short (has_closed was 
 pub never_said_long : (outcome : Option Outcome) (was now : Phase) → news_if outcome was now ≡ news.TooLong → ⊥
 never_said_long (Some outcome) was now is = never_too_long outcome was now is
 never_said_long None was now is = cc is
+
+-- Data that came into an inbox are told as such, and all else as without one.
+pub told_as_data : (arrival : Option Arrival) (told : News) (first past : ℕ) → news_kept arrival told ≡ news.Data first past → told ≡ news.Data first past
+told_as_data None told first past is = is
+told_as_data (Some Kept) told first past is = cc is
+told_as_data (Some (arrivals.Dropped code)) told first past is = cc is
+
+pub told_as_long : (arrival : Option Arrival) (told : News) → news_kept arrival told ≡ news.TooLong → told ≡ news.TooLong
+told_as_long None told is = is
+told_as_long (Some Kept) told is = cc is
+told_as_long (Some (arrivals.Dropped code)) told is = cc is
+
+-- data that come into it lie within the datagram
+pub heard_within : (e : EndState) (bytes : List ℕ) (outcome : Option Outcome) → IfSome outcome (λ (o : Outcome). HasCause e bytes o)
+    → HasDataIfHeard bytes outcome
+heard_within e bytes None cause = tt
+heard_within e bytes (Some outcome) cause = data_within e bytes outcome cause

@@ -1,19 +1,18 @@
 -- What is due of an end, one after another.
-use Rattle.std.proofs.Common.{◌≡◌, refl, sym, ap, ◌∙◌, subst, ℕ, ◌≤◌, ◌-◌, ◌==◌, max, List, [], ◌∷◌, Bool, true, false, if◌then◌else◌, Option, Some, None, arith}
+use Rattle.std.proofs.Common.{◌≡◌, refl, sym, subst, ℕ, max, List, [], ◌∷◌, Bool, true, false, if◌then◌else◌, Option, Some, None, arith}
 use Rattle.congestion_trait.specs.Control.{Control}
-use Rattle.dccp_packets.specs.Outgoing.{Outgoing}
 use Rattle.dccp_endpoint.specs.Calling.{fires}
 use Rattle.dccp_endpoint.specs.Controlled.{End, has_in_flight, with_control}
 use Rattle.dccp_states.specs.declared.calls.Timer.{Timer}
 use Rattle.dccp_states.specs.declared.calls.Timer.TheVariants as timers
-use Rattle.dccp_uses.specs.Alarms.{alarm_of, arranged_by, has_run_out, rung_by, set_back, starting_wait_by}
-use Rattle.dccp_uses.specs.Handing.{Hands, HandsAll}
+use Rattle.dccp_uses.specs.Alarms.{alarm_of, has_run_out, rung_by, starting_wait_by}
+use Rattle.dccp_uses.specs.Handing.{HandsAll}
+use Rattle.dccp_uses.specs.Holding.{HoldingState}
 use Rattle.dccp_uses.specs.Path.{path_waits, rules_alarm, sight_of}
 use Rattle.dccp_uses.specs.Rules.{alarms_by_rule, due_rule, path_by_rule, rule_does}
-use Rattle.dccp_uses.specs.Sessions.{Does, NoneIsDue, rings_due, rings_each_due, stands_still}
-use Rattle.dccp_uses.specs.Timed.{TimedState, TimedStep, due_alarm, due_told, every_due, timers_go_on, ruled_condition, timed_fires}
+use Rattle.dccp_uses.specs.Sessions.{Does, NoneIsDue, holding_rings, rings_due, rings_each_due, stands_still}
+use Rattle.dccp_uses.specs.Timed.{TimedState, TimedStep, due_alarm, due_told, every_due, timers_go_on, ruled_condition}
 use Rattle.dccp_uses.specs.Path.{arranged_rules, rules_left, told_timer}
-use Rattle.dccp_uses.specs.declared.alarms.Alarm.{Alarm}
 use Rattle.dccp_uses.specs.declared.alarms.Alarms.{Alarms}
 use Rattle.dccp_uses.specs.declared.path.Path.{Path}
 use Rattle.dccp_uses.specs.declared.rule.Rule.{Rule}
@@ -138,8 +137,19 @@ module _ {C : Type 0} (control : Control C) (now : ℕ) where
       → has_run_out (alarm_of (rings_due control now s it).timed.alarms timer) now ≡ false
   other_rests s it timer quiet = another-by s it timer (has_run_out (due_alarm s it) now) quiet
 
+  -- each that is due, one after another, of an end by itself
+  abbrev pub rung_in_order : TimedState C → List Due → TimedState C
+  rung_in_order s [] = s
+  rung_in_order s (it ∷ rest) = rung_in_order (rings_due control now s it).timed rest
+
+  -- beside an inbox the same
+  pub rung_beside : (h : HoldingState C) (list : List Due)
+      → (rings_each_due control now h list).holding ≡ record { timed = rung_in_order h.timed list; inbox = h.inbox }
+  rung_beside h [] = refl
+  rung_beside h (it ∷ rest) = rung_beside (holding_rings control now h it).holding rest
+
   through : (list : List Due) (s : TimedState C) (timer : Timer) → has_run_out (alarm_of s.alarms timer) now ≡ false
-      → has_run_out (alarm_of (rings_each_due control now s list).timed.alarms timer) now ≡ false
+      → has_run_out (alarm_of (rung_in_order s list).alarms timer) now ≡ false
   through [] s timer quiet = quiet
   through (it ∷ rest) s timer quiet = through rest (rings_due control now s it).timed timer (other_rests s it timer quiet)
 
@@ -147,7 +157,7 @@ module _ {C : Type 0} (control : Control C) (now : ℕ) where
   once s it = (rings_due control now s it).timed
 
   -- Once each was looked at, none is due.
-  pub nothing_left : (s : TimedState C) → NoneIsDue now (rings_each_due control now s every_due).timed
+  pub nothing_left : (s : TimedState C) → NoneIsDue now (rung_in_order s every_due)
   nothing_left s it =
       let a = once s (due.Timer timers.Request) in
       let b = once a (due.Timer timers.Ack) in
@@ -171,34 +181,39 @@ module _ {C : Type 0} (control : Control C) (now : ℕ) where
         | due.Rules ↦ rung_rests f due.Rules
       ]
 
+module _ {C : Type 0} (control : Control C) (now : ℕ) where
+  pub nothing_due : (h : HoldingState C) → NoneIsDue now (rings_each_due control now h every_due).holding.timed
+  nothing_due h =
+      subst (λ (x : HoldingState C). NoneIsDue now x.timed) (sym (rung_beside control now h every_due)) (nothing_left control now h.timed)
+
 -- what a run of several leaves
-pub record RingsEachDue {C N : Type 0} (sends : N → List ℕ → N → Type 0) (control : Control C) (now : ℕ) (list : List Due) (s new : TimedState C)
+pub record RingsEachDue {C N : Type 0} (sends : N → List ℕ → N → Type 0) (control : Control C) (now : ℕ) (list : List Due) (s new : HoldingState C)
     (before after : N) : Type 0 where
-  pub session_is : new ≡ (rings_each_due control now s list).timed
+  pub session_is : new ≡ (rings_each_due control now s list).holding
   pub handed : HandsAll sends before (rings_each_due control now s list).frames after
 
 module _ {C N : Type 0} (sends : N → List ℕ → N → Type 0) (control : Control C) (now : ℕ) where
-  pub rung_none : (s : TimedState C) (network : N) → RingsEachDue sends control now [] s s network network
+  pub rung_none : (s : HoldingState C) (network : N) → RingsEachDue sends control now [] s s network network
   rung_none s network = record { session_is = refl; handed = refl }
 
   -- one, and then the others
-  pub rung_first : (it : Due) (rest : List Due) (s between new : TimedState C) (before middle after : N) (answer : Bool)
-      → Does sends (rings_due control now s it) between before middle answer → RingsEachDue sends control now rest between new middle after
+  pub rung_first : (it : Due) (rest : List Due) (s between new : HoldingState C) (before middle after : N) (answer : Bool)
+      → Does sends (holding_rings control now s it) between before middle answer → RingsEachDue sends control now rest between new middle after
       → RingsEachDue sends control now (it ∷ rest) s new before after
   rung_first it rest s between new before middle after answer first others =
-      let P : TimedState C → Type 0 = λ (x : TimedState C). RingsEachDue sends control now rest x new middle after in
-      let next : RingsEachDue sends control now rest (rings_due control now s it).timed new middle after = subst P first.session_is others in
+      let P : HoldingState C → Type 0 = λ (x : HoldingState C). RingsEachDue sends control now rest x new middle after in
+      let next : RingsEachDue sends control now rest (holding_rings control now s it).holding new middle after = subst P first.session_is others in
       record { session_is = next.session_is; handed = (middle, first.handed, next.handed) }
 
   -- all of them
-  pub rung_all : (s0 s1 s2 s3 s4 s5 s6 s7 : TimedState C) (n0 n1 n2 n3 n4 n5 n6 n7 : N) (a1 a2 a3 a4 a5 a6 a7 : Bool)
-      → Does sends (rings_due control now s0 (due.Timer timers.Request)) s1 n0 n1 a1
-      → Does sends (rings_due control now s1 (due.Timer timers.Ack)) s2 n1 n2 a2
-      → Does sends (rings_due control now s2 (due.Timer timers.Negotiate)) s3 n2 n3 a3
-      → Does sends (rings_due control now s3 (due.Timer timers.Rto)) s4 n3 n4 a4
-      → Does sends (rings_due control now s4 (due.Timer timers.Close)) s5 n4 n5 a5
-      → Does sends (rings_due control now s5 (due.Timer timers.TimeWait)) s6 n5 n6 a6
-      → Does sends (rings_due control now s6 due.Rules) s7 n6 n7 a7
+  pub rung_all : (s0 s1 s2 s3 s4 s5 s6 s7 : HoldingState C) (n0 n1 n2 n3 n4 n5 n6 n7 : N) (a1 a2 a3 a4 a5 a6 a7 : Bool)
+      → Does sends (holding_rings control now s0 (due.Timer timers.Request)) s1 n0 n1 a1
+      → Does sends (holding_rings control now s1 (due.Timer timers.Ack)) s2 n1 n2 a2
+      → Does sends (holding_rings control now s2 (due.Timer timers.Negotiate)) s3 n2 n3 a3
+      → Does sends (holding_rings control now s3 (due.Timer timers.Rto)) s4 n3 n4 a4
+      → Does sends (holding_rings control now s4 (due.Timer timers.Close)) s5 n4 n5 a5
+      → Does sends (holding_rings control now s5 (due.Timer timers.TimeWait)) s6 n5 n6 a6
+      → Does sends (holding_rings control now s6 due.Rules) s7 n6 n7 a7
       → RingsEachDue sends control now every_due s0 s7 n0 n7
   rung_all s0 s1 s2 s3 s4 s5 s6 s7 n0 n1 n2 n3 n4 n5 n6 n7 a1 a2 a3 a4 a5 a6 a7 d1 d2 d3 d4 d5 d6 d7 =
       let r6 = rung_first due.Rules [] s6 s7 s7 n6 n7 n7 a7 d7 (rung_none s7 n7) in
@@ -208,23 +223,3 @@ module _ {C N : Type 0} (sends : N → List ℕ → N → Type 0) (control : Con
       let r2 = rung_first (due.Timer timers.Negotiate) (due.Timer timers.Rto ∷ due.Timer timers.Close ∷ due.Timer timers.TimeWait ∷ due.Rules ∷ []) s2 s3 s7 n2 n3 n7 a3 d3 r3 in
       let r1 = rung_first (due.Timer timers.Ack) (due.Timer timers.Negotiate ∷ due.Timer timers.Rto ∷ due.Timer timers.Close ∷ due.Timer timers.TimeWait ∷ due.Rules ∷ []) s1 s2 s7 n1 n2 n7 a2 d2 r2 in
       rung_first (due.Timer timers.Request) (due.Timer timers.Ack ∷ due.Timer timers.Negotiate ∷ due.Timer timers.Rto ∷ due.Timer timers.Close ∷ due.Timer timers.TimeWait ∷ due.Rules ∷ []) s0 s1 s7 n0 n1 n7 a1 d1 r1
-
-  by-due : (s new : TimedState C) (it : Due) (n n' : N) (answer : Bool) (is : Bool) → is ≡ true
-      → Does sends (due_told control now s it) new n n' answer
-      → Does sends (if is then due_told control now s it else stands_still s) new n n' answer
-  by-due s new it n n' answer true is does = does
-  by-due s new it n n' answer false is does = cc is
-
-  -- one that is due, told by hand
-  pub rung_does : (s new : TimedState C) (it : Due) (n n' : N) (out : Option Outgoing) (answer : Bool)
-      → has_run_out (due_alarm s it) now ≡ true
-      → record { timed = new; frame = out; answer = answer } ≡ due_told control now s it
-      → Hands sends n out n'
-      → Does sends (rings_due control now s it) new n n' answer
-  rung_does s new it n n' out answer due is hands =
-      by-due s new it n n' answer (has_run_out (due_alarm s it) now) due
-      (record {
-        session_is = ap (λ (x : TimedStep C Bool). x.timed) is;
-        handed = subst (λ (f : Option Outgoing). Hands sends n f n') (ap (λ (x : TimedStep C Bool). x.frame) is) hands;
-        answer_is = ap (λ (x : TimedStep C Bool). x.answer) is;
-      })

@@ -6,5 +6,8 @@ pub mod Dues
 pub mod OneInput
 pub mod Classic
 mod RowsPath
+mod RowsReader
+pub mod Numbering
 pub mod Obeying
 pub mod Told
+mod Beside

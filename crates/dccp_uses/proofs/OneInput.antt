@@ -1,8 +1,7 @@
 -- Each step of an end with its timers is one input of the end, or none.
 use Rattle.std.proofs.Common.{◌≡◌, refl, ℕ, List, [], ◌∷◌, Bool, true, false, Option, Some, None, Result, Ok, Err}
 use Rattle.congestion_trait.specs.Control.{Control, may_send}
-use Rattle.dccp_packets.specs.Outgoing.{Outgoing}
-use Rattle.dccp_endpoint.specs.Controlled.{End, EndStep, has_in_flight, with_control}
+use Rattle.dccp_endpoint.specs.Controlled.{End, EndStep, has_in_flight, in_flight_of, with_control}
 use Rattle.dccp_endpoint.specs.End.{held_of}
 use Rattle.dccp_endpoint.specs.Calling.{aborts, closes, opens, prefers, sends_payload}
 use Rattle.dccp_endpoint.specs.Early.{is_part_open, sends_by, sends_early}
@@ -13,14 +12,15 @@ use Rattle.feature_lists.specs.declared.features.Feature.{Feature}
 use Rattle.feature_lists.specs.declared.features.Feature.TheVariants.{AckRatio}
 use Rattle.feature_lists.specs.declared.features.Place.{Place}
 use Rattle.feature_lists.specs.declared.features.Place.TheVariants.{Here}
-use Rattle.dccp_uses.specs.Alarms.{has_run_out}
 use Rattle.dccp_uses.specs.Inputs.{IsItsOwn, StepsAreInputs, TookOne, TookOneInput, end_after_input, frame_after_input}
+use Rattle.dccp_uses.specs.Reader.{restraint_of}
 use Rattle.dccp_uses.specs.Rules.{due_rule, rule_does}
 use Rattle.dccp_uses.specs.Syncs.{admitted}
 use Rattle.dccp_uses.specs.Path.{handshake_timed}
-use Rattle.dccp_uses.specs.Timed.{TimedState, TimedStep, due_told, heard_if, path_sent, timed_aborts, timed_called, timed_calls, timed_closes, timed_opens, timed_prefers}
+use Rattle.dccp_uses.specs.Timed.{TimedState, due_told, heard_if, path_sent, timed_aborts, timed_called, timed_calls, timed_closes, timed_opens, timed_prefers, timed_sends_by}
 use Rattle.dccp_uses.specs.declared.alarms.Alarms.{Alarms}
 use Rattle.dccp_uses.specs.declared.path.Path.{Path}
+use Rattle.dccp_uses.specs.declared.reader.Restraint.{Restraint}
 use Rattle.dccp_uses.specs.declared.rule.Rule.{Rule}
 use Rattle.dccp_uses.specs.declared.rule.Rule.TheVariants as rule
 use Rattle.dccp_uses.specs.declared.timed_end.Due.{Due}
@@ -55,6 +55,12 @@ module _ {C : Type 0} (control : Control C) where
   sent-one now s payload false =
       let step = with_control control s.end.congestion (sends_payload s.end.state payload (may_send control s.end.congestion)) in
       called-one now s s.alarms (path_sent control s.path step.after now) step (input.Sends payload (may_send control s.end.congestion)) refl refl refl
+
+  sent-by : (now : ℕ) (s : TimedState C) (payload : List ℕ) (why : Option Restraint) → TookOne control s (timed_sends_by control now s payload why)
+  sent-by now s payload None =
+      let one = sent-one now s payload (is_part_open s.end.state.phase) in
+      record { given = one.given; own = one.own; end_is = one.end_is; frame_is = one.frame_is }
+  sent-by now s payload (Some why) = none-taken s.end
 
   heard-one : (now : ℕ) (s : TimedState C) (path : Path) (bytes : List ℕ) (heard : Bool)
       → TookOne control s (heard_if control now (record s { path = path }) bytes heard)
@@ -103,7 +109,7 @@ module _ {C : Type 0} (control : Control C) where
   pub steps_are_inputs : StepsAreInputs control
   steps_are_inputs = record {
     opens = opened-one;
-    sends = λ now s payload. sent-one now s payload (is_part_open s.end.state.phase);
+    sends = λ now s payload. sent-by now s payload (restraint_of s.path.reader (in_flight_of control s.end.congestion));
     prefers = wished-one;
     closes = closed-one;
     aborts = aborted-one;

@@ -1,13 +1,12 @@
 -- Rows of what an owner keeps of a path, computed from the definitions; the values were worked out by hand.
-use Rattle.std.proofs.Common.{◌≡◌, refl, ℕ, true, false, List, [], ◌∷◌, Option, Some, None}
+use Rattle.std.proofs.Common.{◌≡◌, refl, ℕ, true, false, Option, Some, None}
 use Rattle.dccp_states.specs.declared.phase.Phase.{Phase}
 use Rattle.dccp_states.specs.declared.phase.Phase.TheVariants as phase
 use Rattle.dccp_states.specs.declared.calls.Timer.TheVariants as timers
-use Rattle.feature_machine.specs.declared.stands.Stand.{Stand}
 use Rattle.feature_machine.specs.declared.stands.Stand.TheVariants as stand
 use Rattle.path_rules.specs.RoundTrip.{with_sample}
-use Rattle.dccp_uses.specs.Alarms.{classic_waits, ack_hurried_by, no_alarms, rung_by, starting_wait_by}
-use Rattle.dccp_uses.specs.Path.{acked_sample, aim_of, aimed, arranged_path, classic_pace, data_timed, handshake_timed, measured, path_begins, path_heard, path_waits, patience, ruled_patience, used_window, usual_pace, with_flight}
+use Rattle.dccp_uses.specs.Alarms.{classic_waits, ack_hurried_by, no_alarms, rung_by}
+use Rattle.dccp_uses.specs.Path.{aim_of, aimed, arranged_path, classic_pace, data_timed, handshake_timed, measured, path_begins, path_heard, path_waits, patience, ruled_patience, used_window, usual_pace, with_flight}
 use Rattle.dccp_uses.specs.Rules.{alarms_by_rule, due_rule, path_by_rule}
 use Rattle.dccp_uses.specs.Timed.{acks_now, is_hole}
 use Rattle.dccp_uses.specs.declared.alarms.Alarm.{Alarm}

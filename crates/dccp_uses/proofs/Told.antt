@@ -1,5 +1,5 @@
 -- What a timer and a datagram have the end do is what the definitions say, where each part of it is told by itself.
-use Rattle.std.proofs.Common.{◌≡◌, refl, sym, ap, ◌∙◌, subst, ℕ, nat_lt, Bool, true, false, not, List, Option, Some, None, is_some}
+use Rattle.std.proofs.Common.{◌≡◌, sym, ap, ◌∙◌, ℕ, nat_lt, Bool, true, not, List, Option, Some, is_some}
 use Rattle.congestion_trait.specs.Control.{Control}
 use Rattle.dccp_packets.specs.Outgoing.{Outgoing}
 use Rattle.dccp_endpoint.specs.Calling.{fires}

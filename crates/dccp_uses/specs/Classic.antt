@@ -1,19 +1,22 @@
 -- What an end with its timers is where no rule of its path is followed: a session with the timers alone (own).
-use Rattle.std.specs.Prelude.{◌≡◌, ℕ, Bool, false, List, Option, None, Result}
+use Rattle.std.specs.Prelude.{◌≡◌, ℕ, false, List, None, Result}
 use Rattle.congestion_trait.specs.Control.{Control, may_send}
 use Rattle.dccp_endpoint.specs.Calling.{aborts, closes, opens, prefers}
 use Rattle.dccp_endpoint.specs.Controlled.{with_control}
 use Rattle.dccp_endpoint.specs.Early.{sends_soon}
 use Rattle.dccp_endpoint.specs.declared.config.Config.{Config}
+use Rattle.dccp_states.specs.declared.calls.SendFault.{SendFault}
 use Rattle.dccp_states.specs.declared.calls.Timer.{Timer}
 use Rattle.feature_lists.specs.declared.features.Feature.{Feature}
 use Rattle.feature_lists.specs.declared.features.Place.{Place}
 use Rattle.dccp_uses.specs.Alarms.{has_run_out}
 use Rattle.dccp_uses.specs.Path.{classic_pace, path_begins}
+use Rattle.dccp_uses.specs.Reader.{reader_begins}
 use Rattle.dccp_uses.specs.Session.{SessionState, SessionStep, calls, calls_anew, hears, rings, session_begins, tells_end}
 use Rattle.dccp_uses.specs.Sessions.{rings_due, session_hears}
-use Rattle.dccp_uses.specs.Timed.{TimedState, TimedStep, due_alarm, timed_aborts, timed_begins, timed_closes, timed_fires, timed_opens, timed_prefers, timed_sends}
+use Rattle.dccp_uses.specs.Timed.{TimedState, TimedStep, due_alarm, refusal_named, timed_aborts, timed_begins, timed_closes, timed_fires, timed_opens, timed_prefers, timed_sends}
 use Rattle.dccp_uses.specs.declared.path.Path.{Path}
+use Rattle.dccp_uses.specs.declared.reader.SendRefusal.{SendRefusal}
 use Rattle.dccp_uses.specs.declared.timed_end.Due.TheVariants as due
 
 -- no rule is followed, and none has anything to do
@@ -21,10 +24,15 @@ pub record IsClassic (path : Path) : Type 0 where
   pub follows_none : path.pace ≡ classic_pace
   pub asks_nothing : path.ratio ≡ None
   pub nothing_is_due : path.rules ≡ None
+  pub heeds_nothing : path.reader ≡ reader_begins
 
 -- an end and its alarms, without what is kept of a path
 abbrev pub session_of : {C : Type 0} → TimedState C → SessionState C
 session_of s = record { end = s.end; alarms = s.alarms }
+
+-- a session's step with the refusal of data named as that of an end with its timers
+abbrev pub session_refusal_named : {C : Type 0} → SessionStep C (Result (Unit {0}) SendFault) → SessionStep C (Result (Unit {0}) SendRefusal)
+session_refusal_named step = record { session = step.session; frame = step.frame; answer = refusal_named step.answer }
 
 -- A step that an end with its timers takes as a session does: the same end, alarms, frame and answer, and no rule is
 -- followed after it either.
@@ -43,7 +51,8 @@ pub record ClassicIsTheSession {C : Type 0} (control : Control C) : Type 0 where
       → IsSessionStep (timed_opens control now s) (calls control now (session_of s) (with_control control s.end.congestion (opens s.end.state)))
   pub sends : (now : ℕ) (s : TimedState C) (payload : List ℕ) → IsClassic s.path
       → IsSessionStep (timed_sends control now s payload)
-      (calls control now (session_of s) (with_control control s.end.congestion (sends_soon s.end.state payload (may_send control s.end.congestion))))
+      (session_refusal_named
+      (calls control now (session_of s) (with_control control s.end.congestion (sends_soon s.end.state payload (may_send control s.end.congestion)))))
   pub prefers : (now : ℕ) (s : TimedState C) (feature : Feature) (place : Place) (values : List ℕ) → IsClassic s.path
       → IsSessionStep (timed_prefers control now s feature place values)
       (calls_anew control now (session_of s) (with_control control s.end.congestion (prefers s.end.state (feature, place) values)))

@@ -1,5 +1,5 @@
 -- What the rules do to an end is what a schedule of the world may do to it (own).
-use Rattle.std.specs.Prelude.{◌≡◌, ℕ, Bool, List, Option, Some, None}
+use Rattle.std.specs.Prelude.{◌≡◌, ℕ, List, Option, Some, None}
 use Rattle.congestion_trait.specs.Control.{Control, may_send}
 use Rattle.dccp_packets.specs.Outgoing.{Outgoing}
 use Rattle.dccp_endpoint.specs.Controlled.{End, has_in_flight, with_control}

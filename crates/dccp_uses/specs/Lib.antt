@@ -1,10 +1,15 @@
 pub mod Additive
 pub mod Alarms
+pub mod DropRecord
 pub mod Handing
+pub mod Holding
 pub mod Session
 pub mod OneAtATime
 pub mod Listening
+pub mod Notice
+pub mod Numbers
 pub mod Path
+pub mod Reader
 pub mod Rules
 pub mod Timed
 pub mod Sessions

@@ -3,12 +3,13 @@ use Rattle.std.specs.Prelude.{◌≡◌, ℕ, List, Option}
 use Rattle.congestion_trait.specs.Control.{Control}
 use Rattle.dccp_endpoint.specs.declared.config.Config.{Config}
 use Rattle.dccp_uses.specs.Handing.{Hands}
-use Rattle.dccp_uses.specs.Sessions.{session_accepted, session_hears}
-use Rattle.dccp_uses.specs.Timed.{TimedState, timed_begins}
+use Rattle.dccp_uses.specs.Holding.{HoldingState, without_inbox}
+use Rattle.dccp_uses.specs.Sessions.{session_accepted, holding_hears}
+use Rattle.dccp_uses.specs.Timed.{timed_begins}
 use Rattle.dccp_uses.specs.declared.pace.Pace.{Pace}
 
 -- A fresh end hears the datagram; its answer is handed over, and it is a connection where it left LISTEN.
 pub record Accepts {C N : Type 0} (sends : N → List ℕ → N → Type 0) (control : Control C) (now : ℕ) (config : Config) (congestion : C)
-    (pace : Pace) (bytes : List ℕ) (before after : N) (made : Option (TimedState C)) : Type 0 where
-  pub made_is : made ≡ session_accepted (session_hears control now (timed_begins control config congestion pace) bytes)
-  pub handed : Hands sends before (session_hears control now (timed_begins control config congestion pace) bytes).frame after
+    (pace : Pace) (bytes : List ℕ) (before after : N) (made : Option (HoldingState C)) : Type 0 where
+  pub made_is : made ≡ session_accepted (holding_hears control now (without_inbox (timed_begins control config congestion pace)) bytes)
+  pub handed : Hands sends before (holding_hears control now (without_inbox (timed_begins control config congestion pace)) bytes).frame after

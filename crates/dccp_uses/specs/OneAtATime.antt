@@ -4,7 +4,7 @@ use Rattle.std.proofs.Math.Nat.{le-add_right}
 use Rattle.congestion_trait.specs.Control.{KeepsWindow}
 use Rattle.congestion_trait.specs.Kind.{Rules, control_by_rules}
 
--- It stands in for CCID 2, whose window is one packet at least: so it never sends faster. Beside the flight list it
+-- It is in place of CCID 2, whose window is one packet at least: so it never sends faster. Beside the flight list it
 -- keeps nothing.
 abbrev pub one_at_a_time : Rules (Unit {0})
 one_at_a_time = record {

@@ -15,26 +15,30 @@ use Rattle.feature_machine.specs.Lists.{with_offer, with_wish}
 use Rattle.feature_machine.specs.declared.stands.Stand.{Stand}
 use Rattle.feature_machine.specs.declared.stands.Stand.TheVariants as stands
 use Rattle.path_rules.specs.AckRatio.{ack_ratio_aim, period, wants_ack_ratio}
+use Rattle.path_rules.specs.Allowance.{window_within}
 use Rattle.path_rules.specs.Limits.{far_syncs, full, near_syncs}
 use Rattle.path_rules.specs.RoundTrip.{with_sample}
 use Rattle.path_rules.specs.Waits.{ack_wait, close_wait, negotiate_wait, probes_first, probing_wait, request_wait, rto_wait}
 use Rattle.path_rules.specs.declared.waits.Wait.{Wait}
 use Rattle.seq_circle.specs.Circle.{is_from}
 use Rattle.dccp_uses.specs.Alarms.{alarm_after, classic_waits, sooner}
+use Rattle.dccp_uses.specs.Notice.{no_notice}
+use Rattle.dccp_uses.specs.Reader.{reader_begins, reader_heard, reader_timed_out}
 use Rattle.dccp_uses.specs.declared.alarms.Alarm.{Alarm}
 use Rattle.dccp_uses.specs.declared.pace.Pace.{Pace}
 use Rattle.dccp_uses.specs.declared.path.Path.{Path}
 use Rattle.dccp_uses.specs.declared.path.Timed.{Timed}
+use Rattle.dccp_uses.specs.declared.reader.Reader.{Reader}
 use Rattle.dccp_uses.specs.declared.sight.Sight.{Sight}
 use Rattle.dccp_uses.specs.declared.waits.Waits.{Waits}
 
 -- all rules
 abbrev pub usual_pace : Pace
-usual_pace = record { measures = true; acks_soon = true; moves_ratio = true; probes = true; limits_syncs = true; gives_up = true }
+usual_pace = record { measures = true; acks_soon = true; moves_ratio = true; probes = true; limits_syncs = true; gives_up = true; heeds = true }
 
 -- no rule
 abbrev pub classic_pace : Pace
-classic_pace = record { measures = false; acks_soon = false; moves_ratio = false; probes = false; limits_syncs = false; gives_up = false }
+classic_pace = record { measures = false; acks_soon = false; moves_ratio = false; probes = false; limits_syncs = false; gives_up = false; heeds = false }
 
 -- nothing is known of the path
 abbrev pub path_begins : Pace → Path
@@ -57,6 +61,8 @@ path_begins pace =
       silence = None;
       give_up = None;
       rules = None;
+      reader = reader_begins;
+      notice = no_notice;
     }
 
 -- what the rules see of an end
@@ -193,15 +199,19 @@ with_flight path in_flight now = if not path.pace.moves_ratio then path else flo
 abbrev pub used_window : Path → ℕ → ℕ
 used_window path window = min window (2 * max path.most path.before)
 
+-- the window of the sender: what the application that reads its data leaves of that of the congestion control
+abbrev pub window_left : Path → Sight → ℕ
+window_left path sight = window_within path.reader.allowance sight.window
+
 -- the Ack Ratio that is wanted
 abbrev pub aim_of : Path → Sight → ℕ
-aim_of path sight = ack_ratio_aim sight.window (used_window path sight.window) (min sight.width (2 ^ 40))
+aim_of path sight = ack_ratio_aim (window_left path sight) (used_window path (window_left path sight)) (min sight.width (2 ^ 40))
 
 -- Under CCID 2, whose rule it is (RFC 4341, section 6.1.2), it is asked for in OPEN, while nothing is being negotiated of it.
 abbrev pub wants_aim : Path → Sight → ℕ → Bool
 wants_aim path sight now =
     if not path.pace.moves_ratio || (not (sight.ccid == 2) || (not (is_open_phase sight.phase) || not (is_stand_stable sight.ratio.stand))) then false
-    else wants_ack_ratio (record { held = sight.ratio.value; asked = path.asked }) (aim_of path sight) sight.window (period path.round_trip) now
+    else wants_ack_ratio (record { held = sight.ratio.value; asked = path.asked }) (aim_of path sight) (window_left path sight) (period path.round_trip) now
 
 -- and then at once
 abbrev pub aimed : Path → Sight → ℕ → Path
@@ -227,19 +237,36 @@ heard_from path false = path
 abbrev pub fell : Path → Bool → Path
 fell path progress = if progress && not (is_some path.probe) then record path { probing = None } else path
 
+-- what a packet that was taken has told of the peer's application
+abbrev pub reader_if : Path → Sight → Sight → Bool → ℕ → Reader
+reader_if path old new true now = reader_heard path.round_trip path.reader path.notice old new now
+reader_if path old new false now = path.reader
+
+-- What it tells counts, where that rule is followed.
+abbrev pub notice_heeded : Path → Sight → Sight → Bool → ℕ → Path
+notice_heeded path old new taken now =
+    if path.pace.heeds then record path { reader = reader_if path old new taken now; notice = no_notice } else path
+
 -- what is kept after a packet was heard
 abbrev pub path_heard : Path → Sight → Sight → Bool → ℕ → Path
 path_heard path old new taken now =
     answered_probe
-    (aimed (with_flight (fell (heard_from (measured path old new now) taken) (nat_lt new.in_flight old.in_flight)) new.in_flight now) new now)
+    (aimed
+    (with_flight (fell (heard_from (measured (notice_heeded path old new taken now) old new now) taken) (nat_lt new.in_flight old.in_flight)) new.in_flight now)
+    new now)
     new.gar now
 
--- what is kept after a timer was told: after a timeout no packet is timed, and the window is another
+-- After a timeout no packet is timed, and it is congestion for what is known of the peer's application, too.
+abbrev pub timed_out_path : Path → ℕ → Path
+timed_out_path path gss =
+    if path.pace.heeds then record path { timed = None; reader = reader_timed_out path.reader gss } else record path { timed = None }
+
+-- what is kept after a timer was told: after a timeout the window is another
 abbrev pub told_timer : Path → Timer → Sight → ℕ → Path
 told_timer path timers.Request sight now = handshake_timed path sight.gss now
 told_timer path timers.Ack sight now = path
 told_timer path timers.Negotiate sight now = path
-told_timer path timers.Rto sight now = aimed (record path { timed = None }) sight now
+told_timer path timers.Rto sight now = aimed (timed_out_path path sight.gss) sight now
 told_timer path timers.Close sight now = path
 told_timer path timers.TimeWait sight now = path
 

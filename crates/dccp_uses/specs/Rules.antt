@@ -1,5 +1,5 @@
 -- What a rule of a path has its end do (own).
-use Rattle.std.specs.Prelude.{ℕ, Bool, true, false, List, [], ◌∷◌, Option, Some, None, Result, is_ok, if◌then◌else◌}
+use Rattle.std.specs.Prelude.{ℕ, Bool, false, [], ◌∷◌, Option, Some, None, Result, is_ok, if◌then◌else◌}
 use Rattle.congestion_trait.specs.Control.{Control}
 use Rattle.dccp_endpoint.specs.Calling.{aborts, fires, prefers}
 use Rattle.dccp_endpoint.specs.Controlled.{End, EndStep, has_in_flight, with_control}
@@ -8,7 +8,7 @@ use Rattle.dccp_states.specs.declared.calls.Timer.TheVariants as timers
 use Rattle.feature_lists.specs.declared.features.Feature.TheVariants.{AckRatio}
 use Rattle.feature_lists.specs.declared.features.Place.TheVariants.{Here}
 use Rattle.dccp_uses.specs.Alarms.{has_run_out, rung_by}
-use Rattle.dccp_uses.specs.Path.{aimed}
+use Rattle.dccp_uses.specs.Path.{aimed, timed_out_path}
 use Rattle.dccp_uses.specs.declared.alarms.Alarms.{Alarms}
 use Rattle.dccp_uses.specs.declared.path.Path.{Path}
 use Rattle.dccp_uses.specs.declared.rule.Rule.{Rule}
@@ -61,7 +61,7 @@ alarms_by_rule waits alarms rule.Ratio now = record alarms { negotiate = None }
 abbrev pub path_by_rule : Path → Rule → Sight → ℕ → Path
 path_by_rule path rule.Nothing sight now = path
 path_by_rule path rule.GiveUp sight now = record path { give_up = None }
-path_by_rule path rule.TimeOut sight now = aimed (record path { probe = None; probing = None; timed = None }) sight now
+path_by_rule path rule.TimeOut sight now = aimed (timed_out_path (record path { probe = None; probing = None }) sight.gss) sight now
 path_by_rule path rule.Probe sight now = record path { probe = Some sight.gss; probing = Some (record { since = now; wait = 60000 }) }
 path_by_rule path rule.Ask sight now = record path { silence = Some (record { since = now; wait = 10000 }) }
 path_by_rule path rule.Ratio sight now = record path { ratio = None; asked = Some now }

@@ -52,7 +52,7 @@ abbrev pub called : {C Fault : Type 0} → Control C → ℕ → SessionState C 
 called control now s alarms step (Ok _) = goes_on_with control now alarms step
 called control now s alarms step (Err fault) = record { session = s; frame = None; answer = Err fault }
 
--- a call of the end, behind which its timers go on where they are still needed
+-- a call of the end, after which its timers go on where they are still needed
 abbrev pub calls : {C Fault : Type 0} → Control C → ℕ → SessionState C → EndStep C (Result (Unit {0}) Fault) → SessionStep C (Result (Unit {0}) Fault)
 calls control now s step = called control now s s.alarms step step.answer
 

@@ -5,7 +5,11 @@ use Rattle.dccp_packets.specs.Outgoing.{Outgoing}
 use Rattle.dccp_states.specs.declared.outcome.Outcome.{Outcome}
 use Rattle.dccp_states.specs.declared.phase.Phase.{Phase}
 use Rattle.dccp_uses.specs.Alarms.{has_run_out}
+use Rattle.data_dropped.specs.declared.answers.Arrival.{Arrival}
+use Rattle.data_dropped.specs.declared.answers.Arrival.TheVariants.{Kept, Dropped}
 use Rattle.dccp_uses.specs.Handing.{Hands}
+use Rattle.dccp_uses.specs.Holding.{HoldingState, HoldingStep, holds_heard, steps_beside}
+use Rattle.dccp_uses.specs.declared.holding.Reading.{Reading}
 use Rattle.dccp_uses.specs.Session.{is_listening, news_of}
 use Rattle.dccp_uses.specs.Timed.{TimedState, TimedStep, due_alarm, due_told, timed_takes}
 use Rattle.dccp_uses.specs.declared.news.News.{News}
@@ -13,9 +17,9 @@ use Rattle.dccp_uses.specs.declared.news.News.TheVariants as news
 use Rattle.dccp_uses.specs.declared.timed_end.Due.{Due}
 
 -- The session did that step: the frame that its end made was handed to the network.
-pub record Does {C N Answer : Type 0} (sends : N → List ℕ → N → Type 0) (step : TimedStep C Answer) (new : TimedState C) (before after : N)
+pub record Does {C N Answer : Type 0} (sends : N → List ℕ → N → Type 0) (step : HoldingStep C Answer) (new : HoldingState C) (before after : N)
     (answer : Answer) : Type 0 where
-  pub session_is : new ≡ step.timed
+  pub session_is : new ≡ step.holding
   pub handed : Hands sends before step.frame after
   pub answer_is : answer ≡ step.answer
 
@@ -35,6 +39,28 @@ session_hears control now s bytes =
     if nat_le (length bytes) 2044 then tells_news_of s (timed_takes control now s bytes)
     else record { timed = s; frame = None; answer = news.TooLong }
 
+-- what the owner is told of data that came into the inbox, and of all else as without one
+abbrev pub news_kept : Option Arrival → News → News
+news_kept None told = told
+news_kept (Some Kept) told = news.Waits
+news_kept (Some (Dropped code)) told = news.Dropped code
+
+-- the owner is told the news of a step by which a datagram arrived
+abbrev pub tells_reading : {C : Type 0} → HoldingState C → HoldingStep C Reading → HoldingStep C News
+tells_reading h step =
+    record {
+      holding = step.holding;
+      frame = step.frame;
+      answer = news_kept step.answer.arrival (news_if step.answer.heard h.timed.end.state.phase step.holding.timed.end.state.phase);
+    }
+
+-- A datagram arrives, and its data come into the inbox, where there is one. One that is longer than an end takes changes
+-- nothing.
+abbrev pub holding_hears : {C : Type 0} → Control C → ℕ → HoldingState C → List ℕ → HoldingStep C News
+holding_hears control now h bytes =
+    if nat_le (length bytes) 2044 then tells_reading h (holds_heard h.inbox bytes (timed_takes control now h.timed bytes))
+    else record { holding = h; frame = None; answer = news.TooLong }
+
 -- nothing happens
 abbrev pub stands_still : {C : Type 0} → TimedState C → TimedStep C Bool
 stands_still s = record { timed = s; frame = None; answer = false }
@@ -43,29 +69,34 @@ stands_still s = record { timed = s; frame = None; answer = false }
 abbrev pub rings_due : {C : Type 0} → Control C → ℕ → TimedState C → Due → TimedStep C Bool
 rings_due control now s due = if has_run_out (due_alarm s due) now then due_told control now s due else stands_still s
 
+-- the same beside an inbox
+abbrev pub holding_rings : {C : Type 0} → Control C → ℕ → HoldingState C → Due → HoldingStep C Bool
+holding_rings control now h due = steps_beside h.inbox (rings_due control now h.timed due)
+
 -- a session after several steps, and their frames
-pub record TimedSteps (C : Type 0) : Type 0 where
-  pub timed : TimedState C
+pub record HoldingSteps (C : Type 0) : Type 0 where
+  pub holding : HoldingState C
   pub frames : List (Option Outgoing)
 
 -- a step in front of those that come after it, with its frame as the first
-abbrev pub ring_first : {C : Type 0} → TimedStep C Bool → TimedSteps C → TimedSteps C
-ring_first step rest = record { timed = rest.timed; frames = step.frame ∷ rest.frames }
+abbrev pub ring_first : {C : Type 0} → HoldingStep C Bool → HoldingSteps C → HoldingSteps C
+ring_first step rest = record { holding = rest.holding; frames = step.frame ∷ rest.frames }
 
 -- each that is due, one after another
-abbrev pub rings_each_due : {C : Type 0} → Control C → ℕ → TimedState C → List Due → TimedSteps C
-rings_each_due control now s [] = record { timed = s; frames = [] }
-rings_each_due control now s (it ∷ rest) = ring_first (rings_due control now s it) (rings_each_due control now (rings_due control now s it).timed rest)
+abbrev pub rings_each_due : {C : Type 0} → Control C → ℕ → HoldingState C → List Due → HoldingSteps C
+rings_each_due control now h [] = record { holding = h; frames = [] }
+rings_each_due control now h (it ∷ rest) =
+    ring_first (holding_rings control now h it) (rings_each_due control now (holding_rings control now h it).holding rest)
 
 -- nothing is due
 abbrev pub NoneIsDue : {C : Type 0} → ℕ → TimedState C → Type 0
 NoneIsDue now s = (it : Due) → has_run_out (due_alarm s it) now ≡ false
 
 -- the session of an end that has left LISTEN
-abbrev pub unless_it_listens : {C : Type 0} → TimedState C → Bool → Option (TimedState C)
-unless_it_listens s true = None
-unless_it_listens s false = Some s
+abbrev pub unless_it_listens : {C : Type 0} → HoldingState C → Bool → Option (HoldingState C)
+unless_it_listens h true = None
+unless_it_listens h false = Some h
 
 -- the session that a first datagram has made, where its end has left LISTEN
-abbrev pub session_accepted : {C : Type 0} → TimedStep C News → Option (TimedState C)
-session_accepted step = unless_it_listens step.timed (is_listening step.timed.end.state.phase)
+abbrev pub session_accepted : {C : Type 0} → HoldingStep C News → Option (HoldingState C)
+session_accepted step = unless_it_listens step.holding (is_listening step.holding.timed.end.state.phase)

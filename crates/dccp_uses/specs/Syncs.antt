@@ -1,22 +1,20 @@
 -- Which datagrams an end does not hear, since it has sent too many Syncs (RFC 4340, section 7.5.4; own).
-use Rattle.std.specs.Prelude.{ℕ, Bool, true, false, not, ◌||◌, List, Option, Some, None, Result, Ok, Err, if◌then◌else◌}
-use Rattle.seq_circle.specs.Circle.{extended}
+use Rattle.std.specs.Prelude.{ℕ, Bool, true, false, not, ◌&&◌, ◌||◌, List, Option, Some, None, Result, Ok, Err, if◌then◌else◌}
 use Rattle.dccp_packets.specs.Forms.{ack_near}
 use Rattle.dccp_packets.specs.Grammar.{Parts, decoded, packet_type}
 use Rattle.dccp_packets.specs.declared.header.Kind.{Kind}
-use Rattle.dccp_packets.specs.declared.header.Number.{Number}
-use Rattle.dccp_packets.specs.declared.header.Number.TheVariants.{Long, Short}
 use Rattle.dccp_packets.specs.declared.reading.Malformed.{Malformed}
 use Rattle.validity_windows.specs.Verdict.{verdict}
 use Rattle.validity_windows.specs.declared.marks.Marks.{Marks}
 use Rattle.validity_windows.specs.declared.verdict.Verdict.{Verdict}
 use Rattle.validity_windows.specs.declared.verdict.Verdict.TheVariants.{Valid, SyncFor, Drop}
 use Rattle.dccp_endpoint.specs.End.{EndState}
-use Rattle.dccp_endpoint.specs.Receiving.{takes_short}
 use Rattle.dccp_states.specs.declared.phase.Phase.{Phase}
 use Rattle.dccp_states.specs.declared.phase.Phase.TheVariants as phases
 use Rattle.path_rules.specs.Limits.{far_syncs, is_near_greatest, near_syncs, token_taken}
 use Rattle.path_rules.specs.declared.limits.Taking.{Taking}
+use Rattle.dccp_uses.specs.Notice.{no_notice, notice_in}
+use Rattle.dccp_uses.specs.Numbers.{whole_number}
 use Rattle.dccp_uses.specs.declared.path.Path.{Path}
 use Rattle.dccp_uses.specs.declared.syncs.Admission.{Admission}
 
@@ -47,11 +45,6 @@ abbrev pub unanswered : Marks → Kind → Option ℕ → Option ℕ
 unanswered marks kind None = None
 unanswered marks kind (Some number) = if wants_sync marks kind number then Some number else None
 
--- a number in full; a short one is near GSR (section 7.6), where the end takes such
-abbrev pub whole_number : EndState → Number → Option ℕ
-whole_number e (Long number) = Some number
-whole_number e (Short number) = if takes_short e then Some (extended number e.marks.gsr) else None
-
 -- of what was read
 abbrev pub number_unanswered : EndState → Result Parts Malformed → Option ℕ
 number_unanswered e (Ok packet) = unanswered e.marks packet.header.kind (whole_number e packet.header.number)
@@ -80,7 +73,21 @@ admitted_by path None gsr now = record { heard = true; path = path }
 admitted_by path (Some number) gsr now = sync_bucketed path (is_near_greatest number gsr) now
 
 -- so is each where the rule is not followed
-abbrev pub admitted : EndState → Path → List ℕ → ℕ → Admission
-admitted e path bytes now =
+abbrev pub admitted_within : EndState → Path → List ℕ → ℕ → Admission
+admitted_within e path bytes now =
     if not path.pace.limits_syncs || not (has_windows e.phase) then record { heard = true; path = path }
     else admitted_by path (wanted_number e bytes) e.marks.gsr now
+
+-- what a datagram that is heard tells of the peer's application is in the path until its end has heard it
+abbrev pub noticed : EndState → List ℕ → Admission → Admission
+noticed e bytes it =
+    record it { path = record it.path { notice = if it.heard && has_windows e.phase then notice_in e it.path.reader bytes else no_notice } }
+
+-- where that rule is followed
+abbrev pub noticed_if : Bool → EndState → List ℕ → Admission → Admission
+noticed_if true e bytes it = noticed e bytes it
+noticed_if false e bytes it = it
+
+-- whether a datagram is heard, and what is kept then
+abbrev pub admitted : EndState → Path → List ℕ → ℕ → Admission
+admitted e path bytes now = noticed_if path.pace.heeds e bytes (admitted_within e path bytes now)

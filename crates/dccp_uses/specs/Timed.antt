@@ -1,5 +1,5 @@
 -- An end with its timers and the rules of its path (own; the end is RFC 4340's).
-use Rattle.std.specs.Prelude.{◌≡◌, ℕ, nat_lt, Bool, true, false, not, ◌&&◌, List, [], ◌∷◌, Option, Some, None, is_some, Result, Ok, Err, if◌then◌else◌}
+use Rattle.std.specs.Prelude.{ℕ, nat_lt, Bool, true, false, not, ◌&&◌, List, [], ◌∷◌, Option, Some, None, is_some, Result, Ok, Err, if◌then◌else◌}
 use Rattle.congestion_trait.specs.Control.{Control, may_send}
 use Rattle.dccp_packets.specs.Outgoing.{Outgoing}
 use Rattle.dccp_endpoint.specs.Calling.{aborts, closes, fires, opens, prefers}
@@ -21,6 +21,7 @@ use Rattle.feature_lists.specs.declared.wishes.PreferFault.{PreferFault}
 use Rattle.seq_circle.specs.Circle.{distance}
 use Rattle.dccp_uses.specs.Alarms.{alarm_of, arranged_by, ack_hurried_by, has_run_out, no_alarms, progressed_by, rung_by, sooner, starting_wait_by, until_first}
 use Rattle.dccp_uses.specs.Path.{arranged_path, data_timed, handshake_timed, is_probing, path_begins, path_heard, path_waits, sight_of, told_timer, with_flight}
+use Rattle.dccp_uses.specs.Reader.{restraint_of}
 use Rattle.dccp_uses.specs.Rules.{alarms_by_rule, due_rule, path_by_rule, rule_does}
 use Rattle.dccp_uses.specs.Session.{is_delivery}
 use Rattle.dccp_uses.specs.Syncs.{admitted}
@@ -29,6 +30,9 @@ use Rattle.dccp_uses.specs.declared.alarms.Alarms.{Alarms}
 use Rattle.dccp_uses.specs.declared.alarms.Condition.{Condition}
 use Rattle.dccp_uses.specs.declared.pace.Pace.{Pace}
 use Rattle.dccp_uses.specs.declared.path.Path.{Path}
+use Rattle.dccp_uses.specs.declared.reader.Restraint.{Restraint}
+use Rattle.dccp_uses.specs.declared.reader.SendRefusal.{SendRefusal}
+use Rattle.dccp_uses.specs.declared.reader.SendRefusal.TheVariants as refusals
 use Rattle.dccp_uses.specs.declared.rule.Rule.{Rule}
 use Rattle.dccp_uses.specs.declared.sight.Sight.{Sight}
 use Rattle.dccp_uses.specs.declared.timed_end.Due.{Due}
@@ -92,13 +96,31 @@ timed_opens control now s =
 abbrev pub path_sent : {C : Type 0} → Control C → Path → End C → ℕ → Path
 path_sent control path end now = with_flight (data_timed path end.state.marks.gss now) (in_flight_of control end.congestion) now
 
--- data go out: one packet at a time is timed
-abbrev pub timed_sends : {C : Type 0} → Control C → ℕ → TimedState C → List ℕ → TimedStep C (Result (Unit {0}) SendFault)
-timed_sends control now s payload =
+-- data go to the end: one packet at a time is timed
+abbrev pub timed_hands : {C : Type 0} → Control C → ℕ → TimedState C → List ℕ → TimedStep C (Result (Unit {0}) SendFault)
+timed_hands control now s payload =
     timed_calls control now s s.alarms
     (path_sent control s.path
     (with_control control s.end.congestion (sends_soon s.end.state payload (may_send control s.end.congestion))).after now)
     (with_control control s.end.congestion (sends_soon s.end.state payload (may_send control s.end.congestion)))
+
+-- a refusal of the end's, as one of the two that there are
+abbrev pub refusal_named : Result (Unit {0}) SendFault → Result (Unit {0}) SendRefusal
+refusal_named (Ok done) = Ok done
+refusal_named (Err fault) = Err (refusals.Refused fault)
+
+-- a step with its refusal named so
+abbrev pub with_refusal_named : {C : Type 0} → TimedStep C (Result (Unit {0}) SendFault) → TimedStep C (Result (Unit {0}) SendRefusal)
+with_refusal_named step = record { timed = step.timed; frame = step.frame; answer = refusal_named step.answer }
+
+-- Data go out, or have to wait: then nothing happens.
+abbrev pub timed_sends_by : {C : Type 0} → Control C → ℕ → TimedState C → List ℕ → Option Restraint → TimedStep C (Result (Unit {0}) SendRefusal)
+timed_sends_by control now s payload None = with_refusal_named (timed_hands control now s payload)
+timed_sends_by control now s payload (Some why) = record { timed = s; frame = None; answer = Err (refusals.Held why) }
+
+-- by what the peer's application leaves of the window
+abbrev pub timed_sends : {C : Type 0} → Control C → ℕ → TimedState C → List ℕ → TimedStep C (Result (Unit {0}) SendRefusal)
+timed_sends control now s payload = timed_sends_by control now s payload (restraint_of s.path.reader (in_flight_of control s.end.congestion))
 
 -- a wish for a feature: the timer negotiate starts anew
 abbrev pub timed_prefers : {C : Type 0} → Control C → ℕ → TimedState C → Feature → Place → List ℕ → TimedStep C (Result (Unit {0}) PreferFault)

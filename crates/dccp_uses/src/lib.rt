@@ -1,31 +1,34 @@
-//! How an end is used: what a voice, game or streaming transport writes around one `Endpoint` (own; the end is RFC
-//! 4340's).
+//! The loop around one `Endpoint`, for a voice, game or streaming transport (own; the end is RFC 4340's).
 //!
 //! A [`TimedEnd`] is an end with the timers that its owner keeps for it, and with the rules by which it fills its path
 //! and spares it. What happens goes in by its calls, each with the time: a datagram that arrived, data to send, a
 //! feature's new value, the end of the connection, and what is due. A [`Session`] is a `TimedEnd` over a [`Network`], to
-//! which each frame is handed. [`accept`] is what a server does with a datagram of a peer that it does not know. There
+//! which each frame is handed; it may hold the data that arrive in an inbox. [`accept`] is what a server does with a datagram of a peer that it does not know. There
 //! is no socket here and no clock, and no memory is taken once an end is made.
 //!
 //! A [`Pace`] says which rules are followed, and [`Path`] is what is kept of the path for them. The rules' formulas are
 //! those of path_rules. They have an end do only what a caller or a timer may (`rules_are_inputs`); where none is
-//! followed, a `TimedEnd` is an end with its timers alone (`classic_is_the_session`). Whoever keeps ends in another way
-//! has the same steps one by one, from [`Sight`], which is what the rules see of an end, to [`obey`].
+//! followed, a `TimedEnd` is an end with its timers alone (`classic_is_the_session`). An owner that keeps ends in
+//! another way finds the same steps one by one, from [`Sight`], which is what the rules see of an end, to [`obey`].
 //!
-//! Two kinds of congestion control are its own, [`OneAtATime`] and [`AdditiveWindow`]. This crate is an example to read
-//! whole and to copy from; a program over it is dccp_greeting.
+//! It has two kinds of congestion control, [`OneAtATime`] and [`AdditiveWindow`]. This crate is an example to read and
+//! to copy from; dccp_greeting is a program over it.
 #![tactic(auto)]
 
 mod additive_window;
 mod alarms;
+mod drop_record;
+mod holding;
 mod laws;
 mod listening;
 mod network;
 mod news;
+mod notice;
 mod offers;
 mod one_at_a_time;
 mod pace;
 mod path;
+mod reader;
 mod rule;
 mod session;
 mod sight;
@@ -38,16 +41,22 @@ pub use crate::alarms::{
     Alarm, Alarms, Condition, ack_hurried_by, arranged, arranged_by, has_run_out, progressed_by,
     rung, rung_by, sooner, starting_wait, with_delivery, with_progress,
 };
+pub use crate::drop_record::DropRecord;
+pub use crate::holding::{Reading, settle_heard, speak};
 pub use crate::laws::{classic_is_the_session, rules_are_inputs};
 pub use crate::listening::accept;
 pub use crate::network::Network;
 pub use crate::news::{News, is_delivery, is_taken};
+pub use crate::notice::{Drops, Notice, new_reach, notice_in};
 pub use crate::offers::widened;
 pub use crate::one_at_a_time::OneAtATime;
 pub use crate::pace::Pace;
 pub use crate::path::{
     Path, Timed, aimed, arranged_path, data_timed, handshake_timed, is_probing, path_heard,
     told_timer, with_flight,
+};
+pub use crate::reader::{
+    Reader, Restraint, SendRefusal, reader_heard, reader_timed_out, restraint_of,
 };
 pub use crate::rule::{Rule, alarms_by_rule, due_rule, obey, path_by_rule};
 pub use crate::session::Session;

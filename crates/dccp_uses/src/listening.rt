@@ -14,7 +14,7 @@ fn is_listening(phase: Phase) -> bool
 }
 
 /// Takes the first datagram of a peer. A Request for the server's service opens a connection, whose session is the
-/// answer; anything else is answered or dropped as RFC 4340, section 8.5 says, and leaves nothing behind: None. Where
+/// answer; anything else is answered or dropped as RFC 4340, section 8.5 says, and leaves nothing: None. Where
 /// an option of the Request is a fault, the session's end is CLOSED already, and may be let go. NoMemory where no
 /// memory is to be had for an end.
 ///

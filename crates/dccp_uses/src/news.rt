@@ -1,16 +1,22 @@
-//! What the owner of a session is told of a datagram.
+//! What a datagram means to the owner of a session.
 ghost use Rattle.std.specs.Prelude.{◌≡◌};
 ghost use Rattle.dccp_uses.specs.Session.{has_closed, is_closed, is_delivery, news_of};
-ghost use Rattle.dccp_uses.specs.Sessions.{news_if};
+ghost use Rattle.dccp_uses.specs.Sessions.{news_if, news_kept};
 ghost use Rattle.dccp_uses.specs.Timed.{is_taken};
 
+use data_dropped::Arrival;
 use dccp_endpoint::{Outcome, Phase};
 
 /// What a datagram that arrived means to the owner of the session.
 #[derive(Clone, Copy, Debug, PartialEq, Eq)]
 pub enum News {
-    /// It brought data: they stand in the datagram from the place `first` up to the place `past`.
+    /// It brought data: they are in the datagram from the place `first` up to the place `past`.
     Data { first: usize, past: usize },
+    /// It brought data to a session with an inbox: they wait there.
+    Waits,
+    /// It brought data that the inbox dropped, for the reason of this Drop Code (RFC 4340, section 11.7): 1, the
+    /// application listens no more; 2, the inbox is full.
+    Dropped { code: u8 },
     /// Nothing that the owner has to do with: it was taken, answered or dropped.
     Quiet,
     /// The connection has ended by a Reset with this code (RFC 4340, section 5.6), either end's. 1 is an orderly close,
@@ -61,6 +67,17 @@ pub(crate) fn news_if(outcome: Option<Outcome>, was: Phase, is: Phase) -> News
     match outcome {
         Some(outcome) => news_of(&outcome, was, is),
         None => News::Quiet,
+    }
+}
+
+// What it means where its data came into the inbox, and what it means else.
+pub(crate) fn news_kept(arrival: Option<Arrival>, told: News) -> News
+    ensures { result ≡ news_kept arrival told }
+{
+    match arrival {
+        Some(Arrival::Kept) => News::Waits,
+        Some(Arrival::Dropped(code)) => News::Dropped { code },
+        None => told,
     }
 }
 

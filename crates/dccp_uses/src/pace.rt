@@ -17,6 +17,9 @@ pub struct Pace {
     pub limits_syncs: bool,
     /// An end that hears nothing asks its peer, and is given up.
     pub gives_up: bool,
+    /// Data wait for the sake of the application that reads them: where it is slow, where its buffer is full, and where
+    /// none listens any more (RFC 4340, sections 11.6 and 11.7; RFC 4341, section 5.2).
+    pub heeds: bool,
 }
 
 impl Pace {
@@ -31,6 +34,7 @@ impl Pace {
             probes: true,
             limits_syncs: true,
             gives_up: true,
+            heeds: true,
         }
     }
 
@@ -45,6 +49,7 @@ impl Pace {
             probes: false,
             limits_syncs: false,
             gives_up: false,
+            heeds: false,
         }
     }
 }

@@ -1,15 +1,16 @@
 //! What the owner of an end keeps of its path, and how the rules change it.
 ghost use Rattle.std.specs.Prelude.{◌≡◌};
-ghost use Rattle.dccp_uses.specs.Path.{acked_sample, aim_of, aimed, answered_probe, arranged_path, arranged_rules, by_rule, data_timed, either_of, fell, first_sent, flown, handshake_over, handshake_timed, heard_from, is_answered, is_probing, kept_if, measured, path_begins, path_heard, path_waits, patience, patient_alarm, rules_alarm, rules_left, ruled_patience, sampled_if, sent_unless, since_sent, told_timer, none_timed, used_window, wants_aim, with_flight, with_rules};
+ghost use Rattle.dccp_uses.specs.Path.{acked_sample, aim_of, aimed, answered_probe, arranged_path, arranged_rules, by_rule, data_timed, either_of, fell, first_sent, flown, handshake_over, handshake_timed, heard_from, notice_heeded, is_answered, is_probing, kept_if, measured, path_begins, path_heard, path_waits, patience, patient_alarm, reader_if, rules_alarm, rules_left, ruled_patience, sampled_if, sent_unless, since_sent, timed_out_path, told_timer, none_timed, used_window, wants_aim, window_left, with_flight, with_rules};
 
 use crate::alarms::{Alarm, alarm_after, sooner};
+use crate::reader::{reader_heard, reader_timed_out};
 use crate::sight::{is_handshake, is_open_phase, is_stand_stable};
-use crate::{Pace, Sight, Waits};
+use crate::{Notice, Pace, Reader, Sight, Waits};
 use dccp_endpoint::{Phase, Seq48, Timer};
 use path_rules::{
     AckRatio, Bucket, RoundTrip, Wait, ack_ratio_aim, ack_wait, close_wait, far_syncs, near_syncs,
     negotiate_wait, period, probes_first, probing_wait, request_wait, rto_wait, wants_ack_ratio,
-    with_sample,
+    window_within, with_sample,
 };
 
 /// A packet that was sent, and when.
@@ -58,6 +59,10 @@ pub struct Path {
     pub give_up: Option<Alarm>,
     /// The first of these four has run out.
     pub rules: Option<Alarm>,
+    /// What is known of the application that reads the end's data.
+    pub reader: Reader,
+    /// What the datagram that was admitted last tells of it.
+    pub notice: Notice,
 }
 
 // A rule's wait, or the usual one where the rule is not followed.
@@ -90,6 +95,8 @@ impl Path {
             silence: None,
             give_up: None,
             rules: None,
+            reader: Reader::begins(),
+            notice: Notice::none(),
         }
     }
 
@@ -269,11 +276,19 @@ fn used_window(path: &Path, window: u32) -> u32
     u64::from(window).min(2 * most) as u32
 }
 
+// The window of the sender: what the application that reads its data leaves of that of the congestion control.
+fn window_left(path: &Path, sight: &Sight) -> u32
+    ensures { result ≡ window_left path.now sight.now }
+{
+    window_within(path.reader.allowance, sight.window)
+}
+
 fn aim_of(path: &Path, sight: &Sight) -> u64
     ensures { result ≡ aim_of path.now sight.now }
 {
-    let used = used_window(path, sight.window);
-    ack_ratio_aim(sight.window, used, sight.width.min(1 << 40))
+    let window = window_left(path, sight);
+    let used = used_window(path, window);
+    ack_ratio_aim(window, used, sight.width.min(1 << 40))
 }
 
 fn wants_aim(path: &Path, sight: &Sight, now: u64) -> bool
@@ -291,7 +306,8 @@ fn wants_aim(path: &Path, sight: &Sight, now: u64) -> bool
         asked: path.asked,
     };
     let aim = aim_of(path, sight);
-    wants_ack_ratio(&ratio, aim, sight.window, period(path.round_trip), now)
+    let window = window_left(path, sight);
+    wants_ack_ratio(&ratio, aim, window, period(path.round_trip), now)
 }
 
 // An alarm that has run out already.
@@ -362,17 +378,54 @@ fn fell(path: &Path, progress: bool) -> Path
     path
 }
 
+fn reader_if(path: &Path, old: &Sight, new: &Sight, taken: bool, now: u64) -> Reader
+    ensures { result ≡ reader_if path.now old.now new.now taken now }
+{
+    if !taken {
+        return path.reader;
+    }
+    reader_heard(path.round_trip, &path.reader, &path.notice, old, new, now)
+}
+
+// What the packet tells of the application that reads the end's data counts.
+fn notice_heeded(path: &Path, old: &Sight, new: &Sight, taken: bool, now: u64) -> Path
+    ensures { result ≡ notice_heeded path.now old.now new.now taken now }
+{
+    if !path.pace.heeds {
+        return *path;
+    }
+    let reader = reader_if(path, old, new, taken, now);
+    let mut path = *path;
+    path.reader = reader;
+    path.notice = Notice::none();
+    path
+}
+
 /// What is kept once the end has heard a packet at `now` (own). `old` and `new` are what there was to see of the end
 /// before it and is now; `taken` says whether the packet was taken.
 pub fn path_heard(path: &Path, old: &Sight, new: &Sight, taken: bool, now: u64) -> Path
     ensures { result ≡ path_heard path.now old.now new.now taken now }
 {
-    let path = measured(path, old, new, now);
+    let path = notice_heeded(path, old, new, taken, now);
+    let path = measured(&path, old, new, now);
     let path = heard_from(&path, taken);
     let path = fell(&path, new.in_flight < old.in_flight);
     let path = with_flight(&path, new.in_flight, now);
     let path = aimed(&path, new, now);
     answered_probe(&path, new.gar, now)
+}
+
+// What is kept after a timeout, at this GSS.
+pub(crate) fn timed_out_path(path: &Path, gss: Seq48) -> Path
+    ensures { result ≡ timed_out_path path.now gss }
+{
+    let reader = reader_timed_out(&path.reader, gss);
+    let mut path = *path;
+    path.timed = None;
+    if path.pace.heeds {
+        path.reader = reader;
+    }
+    path
 }
 
 /// What is kept once the end was told at `now` that a timer has run out, where this is to be seen of it afterwards (own):
@@ -382,11 +435,7 @@ pub fn told_timer(path: &Path, timer: Timer, sight: &Sight, now: u64) -> Path
 {
     match timer {
         Timer::Request => handshake_timed(path, sight.gss, now),
-        Timer::Rto => {
-            let mut path = *path;
-            path.timed = None;
-            aimed(&path, sight, now)
-        }
+        Timer::Rto => aimed(&timed_out_path(path, sight.gss), sight, now),
         Timer::Ack | Timer::Negotiate | Timer::Close | Timer::TimeWait => *path,
     }
 }

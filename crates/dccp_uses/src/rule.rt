@@ -3,7 +3,7 @@ ghost use Rattle.std.specs.Prelude.{◌≡◌};
 ghost use Rattle.dccp_uses.specs.Rules.{alarms_by_rule, asks_ratio, due_rule, path_by_rule, probe_rule, rule_does};
 
 use crate::alarms::{Alarm, Alarms, has_run_out, rung_by};
-use crate::path::aimed;
+use crate::path::{aimed, timed_out_path};
 use crate::{Path, Sight, Waits};
 use dccp_endpoint::{Congestion, Endpoint, Feature, Outbox, Place, Seq48, Timer};
 
@@ -108,8 +108,7 @@ pub fn path_by_rule(path: &Path, rule: Rule, sight: &Sight, now: u64) -> Path
         Rule::TimeOut => {
             path.probe = None;
             path.probing = None;
-            path.timed = None;
-            path = aimed(&path, sight, now);
+            path = aimed(&timed_out_path(&path, sight.gss), sight, now);
         }
         Rule::Probe => {
             path.probe = Some(sight.gss);

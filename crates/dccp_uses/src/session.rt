@@ -1,39 +1,47 @@
 //! An end with its timers over a network.
 ghost use Rattle.std.specs.Prelude.{◌≡◌};
 
+use crate::holding::{settle_heard, speak};
 use crate::network::hand_over;
-use crate::news::news_if;
-use crate::{Alarms, Due, Network, News, Pace, Path, TimedEnd};
+use crate::news::{news_if, news_kept};
+use crate::{Alarms, Due, Network, News, Pace, Path, SendRefusal, TimedEnd};
+use data_dropped::Intake;
 use dccp_endpoint::{
     AbortFault, CloseFault, Config, Congestion, Endpoint, Feature, MOST_FRAME_BYTES, NoMemory,
-    OpenFault, Outbox, Place, PreferFault, SendFault, Timer,
+    OpenFault, Outbox, Place, PreferFault, Seq48, Timer,
 };
+use path_rules::window_within;
 use std::alloc::Global;
 use std::marker::Model;
 
 /// An end with the timers that its owner keeps for it. Each call takes the time, in milliseconds from any beginning,
 /// and the network that carries the end's frames to its peer.
 ///
-/// The order of calls: a client is made (`new`) and opened (`open`); a server's end is made by `accept`. From then on
-/// each datagram from the peer goes into `arrived`, and `tick` is called as soon as `until_first` has gone by, which
-/// has to be asked after every other call. Data go out by `send` as long as there is `room`. `close` ends the
-/// connection in order, `abort` at once. It has ended once the phase of `end` is CLOSED; in TIMEWAIT the session has to
-/// be kept, since it answers what is still on its way.
+/// The order of calls: a client is made (`new`) and opened (`open`); a server's end is made by `accept`. After that
+/// each datagram from the peer goes into `arrived`, and `tick` is called once `until_first` has passed, which is asked
+/// again after every other call. `send` sends data as long as there is `room`. `close` ends the connection in order,
+/// `abort` at once. It has ended once the phase of `end` is CLOSED. Keep the session in TIMEWAIT, since it still
+/// answers late packets.
+///
+/// Data that arrive are in their datagram. If `holding` gives the session an inbox, they wait there until `read` takes
+/// them, and drops are reported to the peer.
 #[derive(Drop)]
 pub struct Session<C> {
     timed: TimedEnd<C>,
+    intake: Intake,
 }
 
 impl<C> Model for Session<C> {
-    ghost use Rattle.dccp_uses.specs.Timed.{TimedState};
+    ghost use Rattle.dccp_uses.specs.Holding.{HoldingState};
 
-    ghost Value = { TimedState C };
+    ghost Value = { HoldingState C };
 
-    ghost view = { λ s. s.timed };
+    ghost view = { λ s. record { timed = s.timed; inbox = s.intake } };
 }
 
 impl<C: Congestion + Drop> Session<C> {
     ghost use Rattle.std.specs.Prelude.{◌≡◌, IfOk, IsTrue};
+    ghost use Rattle.dccp_uses.specs.Holding.{without_inbox};
     ghost use Rattle.dccp_uses.specs.Timed.{timed_begins};
 
     /// A session of an end that has sent and received nothing, under the rules of this pace. The congestion control has
@@ -45,85 +53,140 @@ impl<C: Congestion + Drop> Session<C> {
         pace: Pace,
     ) -> Result<Session<C>, NoMemory>
         requires { IsTrue (C.control.is_known 2) }
-        ensures { IfOk result (λ s. s ≡ timed_begins C.control config congestion pace) }
+        ensures { IfOk result (λ s. s ≡ without_inbox (timed_begins C.control config congestion pace)) }
     {
         let timed = TimedEnd::new(alloc, config, congestion, pace)?;
-        Ok(Session { timed })
+        Ok(Session {
+            timed,
+            intake: Intake::none(),
+        })
+    }
+
+    /// The same session with this intake for its data. Data that waited in an earlier inbox are lost, so call it for a
+    /// new session.
+    pub fn holding(self, intake: Intake) -> Session<C>
+        ensures { result ≡ record self { inbox = intake } }
+    {
+        Session {
+            timed: self.timed,
+            intake,
+        }
     }
 }
 
 impl<C: Congestion> Session<C> {
-    ghost use Rattle.std.specs.Prelude.{◌≡◌, ◌≤◌, ◌<◌, ◌-◌, ◌↔◌, ℕ, OnErr, length};
+    ghost use Rattle.std.specs.Prelude.{◌≡◌, ◌≤◌, ◌<◌, ◌-◌, ◌↔◌, ℕ, None, OnErr, false, length};
     ghost use Rattle.dccp_endpoint.specs.Controlled.{in_flight_of, window_of};
-    ghost use Rattle.dccp_uses.specs.Handing.{HandsAll};
+    ghost use Rattle.data_dropped.specs.Intakes.{count_held, first_read, read_over, without_first, without_listener};
+    ghost use Rattle.path_rules.specs.Allowance.{window_within};
+    ghost use Rattle.dccp_uses.specs.Handing.{Hands, HandsAll};
+    ghost use Rattle.dccp_uses.specs.Holding.{spoken_by, steps_beside};
     ghost use Rattle.dccp_uses.specs.Timed.{every_due, first_wait_left, timed_aborts, timed_closes, timed_opens, timed_prefers, timed_sends};
-    ghost use Rattle.dccp_uses.specs.Sessions.{Does, NoneIsDue, session_hears, rings_due, rings_each_due};
+    ghost use Rattle.dccp_uses.specs.Sessions.{Does, NoneIsDue, holding_hears, holding_rings, rings_each_due};
 
     /// The end, to be read.
     pub fn end(&self) -> &Endpoint<C>
-        ensures { result.now ≡ self.now.end }
+        ensures { result.now ≡ self.now.timed.end }
     {
         self.timed.end()
     }
 
     /// The timers that run.
     pub fn alarms(&self) -> Alarms
-        ensures { result ≡ self.now.alarms }
+        ensures { result ≡ self.now.timed.alarms }
     {
         self.timed.alarms()
     }
 
     /// What is kept of its path.
     pub fn path(&self) -> Path
-        ensures { result ≡ self.now.path }
+        ensures { result ≡ self.now.timed.path }
     {
         self.timed.path()
     }
 
     /// How many milliseconds it is until `tick` has something to do, or None where it will have nothing.
     pub fn until_first(&self, now: u64) -> Option<u64>
-        ensures { result ≡ first_wait_left self.now now }
+        ensures { result ≡ first_wait_left self.now.timed now }
     {
         self.timed.until_first(now)
     }
 
-    /// How many further data packets the window has room for: where it is 0, `send` is refused with `WindowFull`.
+    /// How many further data packets the window has room for, by what the application that reads them leaves of it:
+    /// where it is 0, `send` is refused, with `WindowFull` or `Held`.
     pub fn room(&self) -> u32
-        ensures { result ≡ window_of C.control self.now.end.congestion - in_flight_of C.control self.now.end.congestion }
+        ensures { result ≡ window_within self.now.timed.path.reader.allowance (window_of C.control self.now.timed.end.congestion) - in_flight_of C.control self.now.timed.end.congestion }
     {
         let end = self.timed.end();
-        end.window().saturating_sub(end.in_flight())
+        let window = window_within(self.timed.path().reader.allowance, end.window());
+        window.saturating_sub(end.in_flight())
+    }
+
+    // Hands over the frame that the end has left, which says what the inbox has to say.
+    fn hand<N: Network>(&self, out: &mut Outbox, network: &mut N)
+        ensures handed { Hands N.sends network.old (spoken_by self.now.inbox self.now.timed out.old) network.new }
+        ensures quiet { out.old ≡ None → network.new ≡ network.old }
+    {
+        speak(&self.intake, &self.timed, out);
+        hand_over(out, network);
+    }
+
+    /// Takes the data that have waited longest in the inbox: they are written over the front of `into`, and their
+    /// packet's number and their length are answered. None where none wait; then nothing changes.
+    pub fn read(&mut self, into: &mut [u8; 2032]) -> Option<(Seq48, usize)>
+        ensures rest { self.new ≡ record self.old { inbox = without_first self.old.inbox } }
+        ensures answer { result ≡ first_read self.old.inbox }
+        ensures data { into.new ≡ read_over self.old.inbox into.old }
+    {
+        self.intake.read(into)
+    }
+
+    /// The application listens no more: data that arrive from now on are dropped, and the peer is told so (RFC 4340,
+    /// section 11.7). False where there is no inbox; then nothing changes.
+    pub fn stop(&mut self) -> bool
+        ensures stops { self.new ≡ record self.old { inbox = without_listener self.old.inbox } }
+        ensures no_inbox { (result ≡ false) ↔ (self.old.inbox ≡ None) }
+    {
+        self.intake.stop()
+    }
+
+    /// How many packets' data wait in the inbox.
+    pub fn held(&self) -> usize
+        ensures { result ≡ count_held self.now.inbox }
+    {
+        self.intake.held()
     }
 
     /// A client asks for its service, once: its Request goes out. Refused as `Endpoint::open` is; then nothing has
     /// changed and nothing is sent.
     pub fn open<N: Network>(&mut self, now: u64, network: &mut N) -> Result<(), OpenFault>
-        ensures does { Does N.sends (timed_opens C.control now self.old) self.new network.old network.new result }
+        ensures does { Does N.sends (steps_beside self.old.inbox (timed_opens C.control now self.old.timed)) self.new network.old network.new result }
         ensures refused { OnErr result (self.new ≡ self.old) }
         ensures sends_nothing { OnErr result (network.new ≡ network.old) }
     {
         let mut out = Outbox::new();
         let answer = self.timed.open(now, &mut out);
-        hand_over(&out, network);
+        self.hand(&mut out, network);
         answer
     }
 
     /// Sends data, at most 1,024 bytes, if the end takes them, in PARTOPEN too, so that a client may speak first.
-    /// Refused as `Endpoint::send_soon` is, with `WindowFull` where there is no room; then nothing has changed and
-    /// nothing is sent, and the data may be offered again.
+    /// `Held` where they have to wait for the sake of the application that reads them; else refused as
+    /// `Endpoint::send_soon` is, with `WindowFull` where there is no room. Then nothing has changed and nothing is sent,
+    /// and the data may be offered again, unless it is that no application listens any more.
     pub fn send<N: Network>(
         &mut self,
         payload: &[u8],
         now: u64,
         network: &mut N,
-    ) -> Result<(), SendFault>
-        ensures does { Does N.sends (timed_sends C.control now self.old payload.now) self.new network.old network.new result }
+    ) -> Result<(), SendRefusal>
+        ensures does { Does N.sends (steps_beside self.old.inbox (timed_sends C.control now self.old.timed payload.now)) self.new network.old network.new result }
         ensures refused { OnErr result (self.new ≡ self.old) }
         ensures sends_nothing { OnErr result (network.new ≡ network.old) }
     {
         let mut out = Outbox::new();
         let answer = self.timed.send(payload, now, &mut out);
-        hand_over(&out, network);
+        self.hand(&mut out, network);
         answer
     }
 
@@ -137,44 +200,45 @@ impl<C: Congestion> Session<C> {
         now: u64,
         network: &mut N,
     ) -> Result<(), PreferFault>
-        ensures does { Does N.sends (timed_prefers C.control now self.old feature place values.now) self.new network.old network.new result }
+        ensures does { Does N.sends (steps_beside self.old.inbox (timed_prefers C.control now self.old.timed feature place values.now)) self.new network.old network.new result }
         ensures refused { OnErr result (self.new ≡ self.old) }
         ensures sends_nothing { OnErr result (network.new ≡ network.old) }
     {
         let mut out = Outbox::new();
         let answer = self.timed.prefer(feature, place, values, now, &mut out);
-        hand_over(&out, network);
+        self.hand(&mut out, network);
         answer
     }
 
     /// Ends the connection in order. Refused as `Endpoint::close` is; then nothing has changed and nothing is sent.
     pub fn close<N: Network>(&mut self, now: u64, network: &mut N) -> Result<(), CloseFault>
-        ensures does { Does N.sends (timed_closes C.control now self.old) self.new network.old network.new result }
+        ensures does { Does N.sends (steps_beside self.old.inbox (timed_closes C.control now self.old.timed)) self.new network.old network.new result }
         ensures refused { OnErr result (self.new ≡ self.old) }
         ensures sends_nothing { OnErr result (network.new ≡ network.old) }
     {
         let mut out = Outbox::new();
         let answer = self.timed.close(now, &mut out);
-        hand_over(&out, network);
+        self.hand(&mut out, network);
         answer
     }
 
     /// Gives the connection up. Refused as `Endpoint::abort` is; then nothing has changed and nothing is sent.
     pub fn abort<N: Network>(&mut self, now: u64, network: &mut N) -> Result<(), AbortFault>
-        ensures does { Does N.sends (timed_aborts C.control now self.old) self.new network.old network.new result }
+        ensures does { Does N.sends (steps_beside self.old.inbox (timed_aborts C.control now self.old.timed)) self.new network.old network.new result }
         ensures refused { OnErr result (self.new ≡ self.old) }
         ensures sends_nothing { OnErr result (network.new ≡ network.old) }
     {
         let mut out = Outbox::new();
         let answer = self.timed.abort(now, &mut out);
-        hand_over(&out, network);
+        self.hand(&mut out, network);
         answer
     }
 
     /// Takes a datagram from the peer, the bytes of a DCCP packet. One that is longer than 2,044 bytes is no frame of
-    /// such an end: it changes nothing and nothing is sent. Data that come with it stand within it.
+    /// such an end: it changes nothing and nothing is sent. Data that come with it are within it; of a session with an
+    /// inbox they wait there, or were dropped.
     pub fn arrived<N: Network>(&mut self, datagram: &[u8], now: u64, network: &mut N) -> News
-        ensures does { Does N.sends (session_hears C.control now self.old datagram.now) self.new network.old network.new result }
+        ensures does { Does N.sends (holding_hears C.control now self.old datagram.now) self.new network.old network.new result }
         ensures too_long { (result ≡ News.TooLong) ↔ (2044 < length datagram.now) }
         ensures unchanged { 2044 < length datagram.now → (self.new ≡ self.old) × (network.new ≡ network.old) }
         ensures inside { (first past : ℕ) → result ≡ News.Data first past
@@ -186,16 +250,17 @@ impl<C: Congestion> Session<C> {
         let was = self.timed.end().phase();
         let mut out = Outbox::new();
         let outcome = self.timed.receive(datagram, now, &mut out);
-        hand_over(&out, network);
-        news_if(outcome, was, self.timed.end().phase())
+        let arrival = settle_heard(&mut self.intake, &self.timed, datagram, &outcome);
+        self.hand(&mut out, network);
+        news_kept(arrival, news_if(outcome, was, self.timed.end().phase()))
     }
 
-    /// The time has come to this: each timer that has run out is told to the end, once, and then one rule of its path.
-    /// Afterwards none is due at this time.
+    /// It is this time now: fires each timer that has run out, once, and then follows one rule of the path. After that
+    /// nothing is due at this time.
     pub fn tick<N: Network>(&mut self, now: u64, network: &mut N)
-        ensures session { self.new ≡ (rings_each_due C.control now self.old every_due).timed }
+        ensures session { self.new ≡ (rings_each_due C.control now self.old every_due).holding }
         ensures handed { HandsAll N.sends network.old (rings_each_due C.control now self.old every_due).frames network.new }
-        ensures once { NoneIsDue now self.new }
+        ensures once { NoneIsDue now self.new.timed }
     {
         self.ring(Due::Timer(Timer::Request), now, network);
         self.ring(Due::Timer(Timer::Ack), now, network);
@@ -208,14 +273,14 @@ impl<C: Congestion> Session<C> {
 
     // Tells the end what is due, if it is. Whether the end had something to do.
     fn ring<N: Network>(&mut self, due: Due, now: u64, network: &mut N) -> bool
-        ensures does { Does N.sends (rings_due C.control now self.old due) self.new network.old network.new result }
+        ensures does { Does N.sends (holding_rings C.control now self.old due) self.new network.old network.new result }
     {
         if !self.timed.is_due(due, now) {
             return false;
         }
         let mut out = Outbox::new();
         let applies = self.timed.tell(due, now, &mut out);
-        hand_over(&out, network);
+        self.hand(&mut out, network);
         applies
     }
 }

@@ -1,9 +1,11 @@
 //! Which datagrams an end does not hear, since it has sent too many Syncs.
 ghost use Rattle.std.specs.Prelude.{◌≡◌};
 ghost use Rattle.validity_windows.specs.Windows.{InRange};
-ghost use Rattle.dccp_uses.specs.Syncs.{admitted, admitted_by, has_windows, sync_bucketed, unanswered, wanted_number, wants_sync, whole_number};
+ghost use Rattle.dccp_uses.specs.Numbers.{whole_number};
+ghost use Rattle.dccp_uses.specs.Syncs.{admitted, admitted_by, admitted_within, has_windows, noticed, sync_bucketed, unanswered, wanted_number, wants_sync};
 
-use crate::Path;
+use crate::notice::notice_in;
+use crate::{Notice, Path};
 use dccp_endpoint::{Congestion, Endpoint, Marks, Phase, Seq48};
 use dccp_packets::{Header, Kind, Number, decode};
 use path_rules::{far_syncs, is_near_greatest, near_syncs};
@@ -51,8 +53,8 @@ fn unanswered(marks: &Marks, kind: &Kind, number: Option<Seq48>) -> Option<Seq48
     }
 }
 
-// A number in full, where the end takes numbers of this form.
-fn whole_number<C: Congestion>(end: &Endpoint<C>, number: Number) -> Option<Seq48>
+/// A number in full, where the end takes numbers of this form.
+pub(crate) fn whole_number<C: Congestion>(end: &Endpoint<C>, number: Number) -> Option<Seq48>
     ensures { result ≡ whole_number end.now.state number }
 {
     match number {
@@ -115,11 +117,14 @@ fn admitted_by(path: &Path, number: Option<Seq48>, gsr: Seq48, now: u64) -> Admi
     }
 }
 
-/// Whether a datagram is heard: one that its numbers would have answered by a Sync is heard where there is a token for
-/// that (own; RFC 4340, section 7.5.4, limits the Syncs). Whether its checksum and ports are right is not looked at: such
-/// a one is dropped in any case.
-pub fn admit<C: Congestion>(end: &Endpoint<C>, path: &Path, datagram: &[u8], now: u64) -> Admission
-    ensures { result ≡ admitted end.now.state path.now datagram.now now }
+// Whether a datagram is heard, by the limits of Syncs.
+fn admitted_within<C: Congestion>(
+    end: &Endpoint<C>,
+    path: &Path,
+    datagram: &[u8],
+    now: u64,
+) -> Admission
+    ensures { result ≡ admitted_within end.now.state path.now datagram.now now }
 {
     if !path.pace.limits_syncs || !has_windows(end.phase()) {
         return Admission {
@@ -129,4 +134,34 @@ pub fn admit<C: Congestion>(end: &Endpoint<C>, path: &Path, datagram: &[u8], now
     }
     let number = wanted_number(end, datagram);
     admitted_by(path, number, end.marks().gsr, now)
+}
+
+// What it tells of the peer's application is in the path until its end has heard it.
+fn noticed<C: Congestion>(end: &Endpoint<C>, datagram: &[u8], admission: &Admission) -> Admission
+    ensures { result ≡ noticed end.now.state datagram.now admission.now }
+{
+    let mut path = admission.path;
+    path.notice = if admission.heard && has_windows(end.phase()) {
+        notice_in(end, &path.reader, datagram)
+    } else {
+        Notice::none()
+    };
+    Admission {
+        heard: admission.heard,
+        path,
+    }
+}
+
+/// Whether a datagram is heard: one that its numbers would have answered by a Sync is heard where there is a token for
+/// that (own; RFC 4340, section 7.5.4, limits the Syncs). What it tells of the application that reads the end's data is
+/// noted, for `path_heard`. Whether its checksum and ports are right is not looked at: such a one is dropped in any case.
+pub fn admit<C: Congestion>(end: &Endpoint<C>, path: &Path, datagram: &[u8], now: u64) -> Admission
+    ensures { result ≡ admitted end.now.state path.now datagram.now now }
+{
+    let admission = admitted_within(end, path, datagram, now);
+    if path.pace.heeds {
+        noticed(end, datagram, &admission)
+    } else {
+        admission
+    }
 }

@@ -1,4 +1,4 @@
-//! An end with its timers and the rules of its path, for whoever carries its frames.
+//! An end with its timers and the rules of its path, for an owner that carries its frames.
 ghost use Rattle.std.specs.Prelude.{◌≡◌, not, is_some};
 ghost use Rattle.dccp_uses.specs.Timed.{acks_now, is_hole, ruled_condition};
 
@@ -10,9 +10,10 @@ use crate::news::{is_delivery, is_taken};
 use crate::path::{
     arranged_path, data_timed, handshake_timed, is_probing, path_heard, told_timer, with_flight,
 };
+use crate::reader::restraint_of;
 use crate::rule::{alarms_by_rule, due_rule, obey, path_by_rule};
 use crate::syncs::admit;
-use crate::{Pace, Path, Rule, Sight};
+use crate::{Pace, Path, Restraint, Rule, SendRefusal, Sight};
 use dccp_endpoint::{
     AbortFault, CloseFault, Config, Congestion, Endpoint, Feature, NoMemory, OpenFault, Outbox,
     Outcome, Place, PreferFault, SendFault, Timer,
@@ -30,8 +31,8 @@ pub enum Due {
 }
 
 /// An end with its timers and the rules of its path. Its calls are those of `Endpoint`, with the time, in milliseconds
-/// from any beginning: each leaves a frame in the Outbox, or none. `tell` goes through what is `due`; it has to be asked
-/// after every other call, and again once `until_first` has gone by.
+/// from any beginning: each leaves a frame in the Outbox, or none. `tell` does what is `due`; ask for that after every
+/// other call, and again once `until_first` has passed.
 #[derive(Drop)]
 pub struct TimedEnd<C> {
     end: Endpoint<C>,
@@ -109,12 +110,14 @@ impl<C: Congestion + Drop> TimedEnd<C> {
 }
 
 impl<C: Congestion> TimedEnd<C> {
-    ghost use Rattle.std.specs.Prelude.{◌≡◌, ◌≤◌, IfSome, OnErr, None, length};
+    ghost use Rattle.std.specs.Prelude.{◌≡◌, ◌≤◌, ◌↔◌, Err, IfSome, OnErr, None, Some, length};
+    ghost use Rattle.dccp_endpoint.specs.Controlled.{in_flight_of};
     ghost use Rattle.dccp_endpoint.specs.Outcomes.{HasCause};
     ghost use Rattle.dccp_states.specs.declared.calls.Timer.TheVariants as timers;
     ghost use Rattle.dccp_uses.specs.Alarms.{has_run_out, starting_wait_by};
     ghost use Rattle.dccp_uses.specs.Path.{path_waits};
-    ghost use Rattle.dccp_uses.specs.Timed.{due_alarm, due_told, every_due, first_due_of, first_wait_left, timers_go_on, obeys, timed_aborts, timed_closes, timed_fires, timed_hears, timed_opens, timed_prefers, timed_sends, timed_takes, tells_rules};
+    ghost use Rattle.dccp_uses.specs.Reader.{restraint_of};
+    ghost use Rattle.dccp_uses.specs.Timed.{due_alarm, due_told, every_due, first_due_of, first_wait_left, timers_go_on, obeys, timed_aborts, timed_closes, timed_fires, timed_hands, timed_hears, timed_opens, timed_prefers, timed_sends, timed_takes, tells_rules};
 
     /// The end, to be read.
     pub fn end(&self) -> &Endpoint<C>
@@ -170,10 +173,35 @@ impl<C: Congestion> TimedEnd<C> {
         Ok(())
     }
 
-    /// Sends data, at most 1,024 bytes. Refused as `Endpoint::send_soon` is; then nothing has changed and there is no
-    /// frame.
-    pub fn send(&mut self, payload: &[u8], now: u64, out: &mut Outbox) -> Result<(), SendFault>
+    /// Why data have to wait for the sake of the application that reads them, if they have to (RFC 4340, sections 11.6
+    /// and 11.7).
+    pub fn restraint(&self) -> Option<Restraint>
+        ensures { result ≡ restraint_of self.now.path.reader (in_flight_of C.control self.now.end.congestion) }
+    {
+        restraint_of(&self.path.reader, self.end.in_flight())
+    }
+
+    /// Sends data, at most 1,024 bytes. `Held` exactly where there is a `restraint`; else refused as
+    /// `Endpoint::send_soon` is. Then nothing has changed and there is no frame.
+    pub fn send(&mut self, payload: &[u8], now: u64, out: &mut Outbox) -> Result<(), SendRefusal>
         ensures step { record { timed = self.new; frame = out.new; answer = result } ≡ timed_sends C.control now self.old payload.now }
+        ensures held { (why : Restraint) → (result ≡ Err (SendRefusal.Held why)) ↔ (restraint_of self.old.path.reader (in_flight_of C.control self.old.end.congestion) ≡ Some why) }
+        ensures refused { OnErr result (self.new ≡ self.old) }
+        ensures sends_nothing { OnErr result (out.new ≡ None) }
+    {
+        if let Some(why) = self.restraint() {
+            out.clear();
+            return Err(SendRefusal::Held(why));
+        }
+        match self.hand(payload, now, out) {
+            Ok(()) => Ok(()),
+            Err(fault) => Err(SendRefusal::Refused(fault)),
+        }
+    }
+
+    // Data go to the end.
+    fn hand(&mut self, payload: &[u8], now: u64, out: &mut Outbox) -> Result<(), SendFault>
+        ensures step { record { timed = self.new; frame = out.new; answer = result } ≡ timed_hands C.control now self.old payload.now }
         ensures refused { OnErr result (self.new ≡ self.old) }
         ensures sends_nothing { OnErr result (out.new ≡ None) }
     {

@@ -1,10 +1,15 @@
 use Rattle.std.proofs.Common.{sym, ◌∙◌, arith}
-use Rattle.dccp_uses.proofs.Delivering.{never_said_long, news_inside}
+use Rattle.dccp_uses.proofs.Delivering.{heard_within, never_said_long, news_inside, told_as_data, told_as_long}
 use Rattle.dccp_uses.proofs.session.Session.arrived.Goals as goal
+
+pub settle_heard-arrival-requires : goal.settle_heard-arrival-requires
+settle_heard-arrival-requires g c =
+    heard_within c.self.inside.timed.end.state c.args.datagram.now c.receive-outcome.result c.receive-outcome.ensures.cause
 
 pub returns-clause-too_long : goal.returns-clause-too_long
 returns-clause-too_long g c = (
-  λ is. absurd (never_said_long c.receive-outcome.result c.phase-was.result c.phase.result (sym c.news_if.ensures ∙ is)),
+  λ is. absurd (never_said_long c.receive-outcome.result c.phase-was.result c.phase.result
+      (sym c.news_if.ensures ∙ told_as_long c.settle_heard-arrival.result c.news_if.result (sym c.news_kept.ensures ∙ is))),
   λ long. absurd (omega (arith, long, c.if-datagram-gt-MOST_FRAME_BYTES.false)),
 )
 
@@ -12,4 +17,4 @@ pub returns-clause-inside : goal.returns-clause-inside
 returns-clause-inside g c = λ first past is.
     news_inside c.self.inside.timed.end.state c.args.datagram.now c.receive-outcome.result c.phase-was.result c.phase.result first past
     c.receive-outcome.ensures.cause
-    (sym c.news_if.ensures ∙ is)
+    (sym c.news_if.ensures ∙ told_as_data c.settle_heard-arrival.result c.news_if.result first past (sym c.news_kept.ensures ∙ is))

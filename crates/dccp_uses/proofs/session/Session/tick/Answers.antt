@@ -1,7 +1,8 @@
 use Rattle.std.proofs.Common.{sym, subst}
 use Rattle.dccp_uses.specs.Sessions.{NoneIsDue}
-use Rattle.dccp_uses.specs.Timed.{TimedState, every_due}
-use Rattle.dccp_uses.proofs.Dues.{RingsEachDue, nothing_left, rung_all}
+use Rattle.dccp_uses.specs.Holding.{HoldingState}
+use Rattle.dccp_uses.specs.Timed.{every_due}
+use Rattle.dccp_uses.proofs.Dues.{RingsEachDue, nothing_due, rung_all}
 use Rattle.dccp_uses.proofs.session.Session.tick.Given as given
 use Rattle.dccp_uses.proofs.session.Session.tick.Goals as goal
 
@@ -23,5 +24,5 @@ returns-clause-handed g c = (all g c).handed
 
 pub returns-clause-once : goal.returns-clause-once
 returns-clause-once g c =
-    subst (λ (s : TimedState _). NoneIsDue c.args.now s) (sym (all g c).session_is)
-    (nothing_left g.C.Congestion.control c.args.now c.args.self.now)
+    subst (λ (s : HoldingState _). NoneIsDue c.args.now s.timed) (sym (all g c).session_is)
+    (nothing_due g.C.Congestion.control c.args.now c.args.self.now)

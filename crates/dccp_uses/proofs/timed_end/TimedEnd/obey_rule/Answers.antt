@@ -1,6 +1,6 @@
 use Rattle.std.proofs.Common.{◌≡◌, subst, ap, ◌∙◌}
 use Rattle.dccp_uses.specs.Rules.{alarms_by_rule}
-use Rattle.dccp_uses.specs.Timed.{TimedState, TimedStep, obeys}
+use Rattle.dccp_uses.specs.Timed.{TimedState, obeys}
 use Rattle.dccp_uses.specs.declared.waits.Waits.{Waits}
 use Rattle.dccp_uses.proofs.Obeying.{obeyed}
 use Rattle.dccp_uses.proofs.timed_end.TimedEnd.obey_rule.Goals as goal

@@ -1,0 +1,41 @@
+//! An inbox beside an end with its timers.
+ghost use Rattle.std.specs.Prelude.{◌≡◌, None};
+ghost use Rattle.data_dropped.specs.Intakes.{HasDataIfHeard, came_in};
+ghost use Rattle.dccp_endpoint.specs.End.{last_taken};
+ghost use Rattle.dccp_uses.specs.Holding.{spoken_by};
+
+use crate::TimedEnd;
+use data_dropped::{Arrival, Intake};
+use dccp_endpoint::{Congestion, Outbox, Outcome};
+
+/// What became of a datagram: the outcome, or None where it was left out; and what became of its data, or None where none
+/// came into an inbox.
+#[derive(Clone, Copy, Debug, PartialEq, Eq)]
+pub struct Reading {
+    /// The outcome.
+    pub heard: Option<Outcome>,
+    /// What became of data that it brought.
+    pub arrival: Option<Arrival>,
+}
+
+/// The end has heard this datagram or left it out: data that it delivers come into the inbox, where there is one (own).
+/// What became of them, or None where none came there.
+pub fn settle_heard<C: Congestion>(
+    intake: &mut Intake,
+    end: &TimedEnd<C>,
+    datagram: &[u8],
+    heard: &Option<Outcome>,
+) -> Option<Arrival>
+    requires { HasDataIfHeard datagram.now heard.now }
+    ensures { record { inbox = intake.new; arrival = result } ≡ came_in intake.old (last_taken end.now.end.state) datagram.now heard.now }
+{
+    intake.settle(end.end().last_taken(), datagram, heard)
+}
+
+/// The frame that the end has left in the box says what its inbox has to say, where it has one (own).
+pub fn speak<C: Congestion>(intake: &Intake, end: &TimedEnd<C>, out: &mut Outbox)
+    ensures says { out.new ≡ spoken_by intake.now end.now out.old }
+    ensures silent { out.old ≡ None → out.new ≡ None }
+{
+    intake.speak(&end.end().pseudo_out(), out);
+}

@@ -1,0 +1,255 @@
+//! What a packet tells of the application that reads an end's data.
+ghost use Rattle.std.specs.Prelude.{◌≡◌, ◌<◌, ◌≤◌};
+ghost use Rattle.std.specs.List.{list_any};
+ghost use Rattle.congestion_trait.specs.Flight.{is_past};
+ghost use Rattle.dccp_endpoint.specs.Congesting.{reported_from};
+ghost use Rattle.dccp_packets.specs.Forms.{ack_near};
+ghost use Rattle.dccp_packets.specs.Grammar.{packet_type};
+ghost use Rattle.validity_windows.specs.Verdict.{verdict};
+ghost use Rattle.validity_windows.specs.Windows.{InRange};
+ghost use Rattle.dccp_uses.specs.Notice.{drops_told, is_as_marked, is_code, is_slow_option, is_valid_verdict, new_reach, no_drops, no_notice, notice_in, notice_of, report_base, drops_with_code};
+
+use crate::Reader;
+use crate::syncs::whole_number;
+use data_dropped::DropReport;
+use dccp_endpoint::{Congestion, Endpoint, Marks, Seq48};
+use dccp_options::kinds::SLOW_RECEIVER;
+use dccp_options::{OptList, options};
+use dccp_packets::{Kind, PacketType, decode};
+use validity_windows::Verdict;
+
+/// How many numbers a first report of drops is read for, from its acknowledgement number down (own).
+const MOST_NUMBERS: u64 = 2048;
+
+// The Drop Codes (RFC 4340, section 11.7): the protocol allowed no data there; no application listens; no room in the
+// receive buffer; and the first of those that count as ECN marks.
+const PROTOCOL: u8 = 0;
+
+const NOT_LISTENING: u8 = 1;
+
+const BUFFER_FULL: u8 = 2;
+
+const CORRUPT: u8 = 3;
+
+/// What a report of drops is the first to tell (RFC 4340, sections 11.7 and 11.7.2).
+#[derive(Clone, Copy, Debug, PartialEq, Eq)]
+pub struct Drops {
+    /// How many packets the receive buffer had no room for: Drop Code 2.
+    pub full: u32,
+    /// Data were dropped because of the protocol: Drop Code 0.
+    pub refused: bool,
+    /// No application listens any more: Drop Code 1.
+    pub stopped: bool,
+    /// A packet past the recovery mark was dropped for a reason that counts as an ECN mark: Drop Codes 3 to 7.
+    pub marked: bool,
+}
+
+/// What a packet tells of the application that reads an end's data.
+#[derive(Clone, Copy, Debug, PartialEq, Eq)]
+pub struct Notice {
+    /// It is slow (RFC 4340, section 11.6).
+    pub slow: bool,
+    /// What its report of drops is the first to tell.
+    pub drops: Drops,
+    /// The number from which that report goes down, if the packet has one.
+    pub ack: Option<Seq48>,
+}
+
+impl Notice {
+    /// Nothing is told.
+    pub fn none() -> Notice
+        ensures { result ≡ no_notice }
+    {
+        Notice {
+            slow: false,
+            drops: Drops::none(),
+            ack: None,
+        }
+    }
+}
+
+impl Drops {
+    fn none() -> Drops
+        ensures { result ≡ no_drops }
+    {
+        Drops {
+            full: 0,
+            refused: false,
+            stopped: false,
+            marked: false,
+        }
+    }
+}
+
+fn is_code(code: u8, found: Option<u8>) -> bool
+    ensures { result ≡ is_code code found }
+{
+    match found {
+        Some(found) => found == code,
+        None => false,
+    }
+}
+
+fn is_as_marked(found: Option<u8>) -> bool
+    ensures { result ≡ is_as_marked found }
+{
+    match found {
+        Some(found) => CORRUPT <= found,
+        None => false,
+    }
+}
+
+fn is_past(mark: Option<Seq48>, number: Seq48) -> bool
+    ensures { result ≡ is_past mark number }
+{
+    match mark {
+        Some(mark) => mark.before(number),
+        None => true,
+    }
+}
+
+/// How many numbers from an acknowledgement number down no report of drops has reached before, where the last that one did
+/// is `counted`: 2,048 at most (own).
+pub fn new_reach(counted: Option<Seq48>, ack: Seq48) -> u64
+    ensures value { result ≡ new_reach counted ack }
+    ensures few { result ≤ 2048 }
+{
+    match counted {
+        None => MOST_NUMBERS,
+        Some(counted) if counted.before(ack) => counted.distance(ack).min(MOST_NUMBERS),
+        Some(_) => 0,
+    }
+}
+
+impl Drops {
+    // With the code of one number more, which is past the recovery mark or not.
+    fn with_code(&self, past: bool, code: Option<u8>) -> Drops
+        requires { self.now.full < 2048 }
+        ensures { result ≡ drops_with_code self.now past code }
+    {
+        Drops {
+            full: self.full + u32::from(is_code(BUFFER_FULL, code)),
+            refused: self.refused || is_code(PROTOCOL, code),
+            stopped: self.stopped || is_code(NOT_LISTENING, code),
+            marked: self.marked || past && is_as_marked(code),
+        }
+    }
+}
+
+// What the codes of the numbers that no report has reached before come to.
+fn drops_told(reader: &Reader, ack: Seq48, report: &DropReport<'_>) -> Drops
+    requires { report.now.ack ≡ ack }
+    ensures { result ≡ drops_told reader.now report.now }
+{
+    let mut drops = Drops::none();
+    let mut number = ack;
+    let mut left = new_reach(reader.counted, ack);
+    while 0 < left {
+        drops = drops.with_code(is_past(reader.mark, number), report.code(number));
+        number = number.sub(1);
+        left -= 1;
+    }
+    drops
+}
+
+// Whether a Slow Receiver is among these options.
+fn is_slow(options: &mut OptList<'_>) -> bool
+    ensures { result ≡ list_any is_slow_option options.old }
+{
+    while let Some(item) = options.next() {
+        match item {
+            Ok(option) if option.kind == SLOW_RECEIVER => return true,
+            _ => {}
+        }
+    }
+    false
+}
+
+fn is_valid(verdict: &Verdict) -> bool
+    ensures { result ≡ is_valid_verdict verdict.now }
+{
+    match verdict {
+        Verdict::Valid => true,
+        Verdict::SyncFor(_) | Verdict::Drop => false,
+    }
+}
+
+// Whether a packet of this type has numbers that the peer may use now.
+fn is_within(marks: &Marks, kind: &Kind, number: Seq48) -> bool
+    requires { InRange marks.now }
+    ensures { result ≡ is_valid_verdict (verdict marks.now (packet_type kind.now) number (ack_near marks.now.gss kind.now)) }
+{
+    is_valid(&marks.check(kind.packet_type(), number, kind.ack_near(marks.gss)))
+}
+
+// The number that a packet of this type reports from, if its type reports.
+fn reported_from(marks: &Marks, kind: &Kind) -> Option<Seq48>
+    ensures { result ≡ reported_from (packet_type kind.now) (ack_near marks.now.gss kind.now) }
+{
+    match kind.packet_type() {
+        PacketType::Sync => None,
+        PacketType::Request
+        | PacketType::Response
+        | PacketType::Data
+        | PacketType::Ack
+        | PacketType::DataAck
+        | PacketType::CloseReq
+        | PacketType::Close
+        | PacketType::Reset
+        | PacketType::SyncAck => kind.ack_near(marks.gss),
+    }
+}
+
+// The number from which a packet reports, by its own in full.
+fn report_base(marks: &Marks, kind: &Kind, number: Option<Seq48>) -> Option<Seq48>
+    requires { InRange marks.now }
+    ensures { result ≡ report_base marks.now kind.now number }
+{
+    match number {
+        Some(number) if is_within(marks, kind, number) => reported_from(marks, kind),
+        Some(_) | None => None,
+    }
+}
+
+// What these options tell, where they report from this number downwards.
+fn notice_of(reader: &Reader, base: Option<Seq48>, options: OptList<'_>) -> Notice
+    ensures { result ≡ notice_of reader.now base options.entry }
+{
+    let slow = is_slow(&mut options.again());
+    let Some(ack) = base else {
+        return Notice {
+            slow,
+            drops: Drops::none(),
+            ack: None,
+        };
+    };
+    match DropReport::of(ack, options) {
+        Some(report) => Notice {
+            slow,
+            drops: drops_told(reader, ack, &report),
+            ack: Some(ack),
+        },
+        None => Notice {
+            slow,
+            drops: Drops::none(),
+            ack: None,
+        },
+    }
+}
+
+/// What a datagram tells of the application that reads this end's data (RFC 4340, sections 11.6 and 11.7). It counts once
+/// its packet was taken.
+pub fn notice_in<C: Congestion>(end: &Endpoint<C>, reader: &Reader, datagram: &[u8]) -> Notice
+    ensures { result ≡ notice_in end.now.state reader.now datagram.now }
+{
+    match decode(datagram) {
+        Ok(packet) => {
+            let kind = packet.header.kind;
+            let marks = end.marks();
+            let base = report_base(&marks, &kind, whole_number(end, packet.header.number));
+            let list = options(packet.options, kind.packet_type().is_data());
+            notice_of(reader, base, list)
+        }
+        Err(_) => Notice::none(),
+    }
+}
