@@ -36,7 +36,7 @@ impl ServerOfMany {
         }
     }
 
-    // A datagram of a peer, whose address and port a socket tells. A real server draws the number.
+    // A datagram of a peer, whose address and port a socket gives. A real server draws the number.
     fn arrived(&mut self, peer: Peer, datagram: &[u8], now: u64, network: &mut Wire) -> Option<()> {
         if MOST_FRAME_BYTES < datagram.len() {
             return Some(());
@@ -47,13 +47,13 @@ impl ServerOfMany {
             .arrive(peer, first, datagram, now, &mut self.out);
         self.send(network);
         let Ok(Some(Heard::Flow(outcome))) = arrival.heard else {
-            // One flow too many, of which the peer was told; or it was left out, or no memory was to be had: it counts as lost.
+            // Busy, which a Reset has said; or it was left out, or there was no memory: it counts as lost.
             return Some(());
         };
         self.take(&outcome, datagram)
     }
 
-    // Data stand in the datagram that brought them.
+    // Data are in the datagram that brought them.
     fn take(&mut self, outcome: &Outcome, datagram: &[u8]) -> Option<()> {
         match *outcome {
             Outcome::Took {

@@ -63,7 +63,8 @@ impl ServerOfOne {
         };
         match connection.arrived(datagram, now, network) {
             News::Data { first, past } => self.got.extend_from_slice(&datagram[first..past]).ok(),
-            News::Ended { .. } | News::Quiet | News::TooLong => Some(()),
+            News::Waits | News::Dropped { .. } | News::Ended { .. } | News::Quiet | News::TooLong =>
+                Some(()),
         }
     }
 

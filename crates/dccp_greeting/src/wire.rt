@@ -3,7 +3,7 @@
 use dccp_uses::Network;
 use std::alloc::Global;
 
-/// In place of a socket: frames stand here until the other side takes them.
+/// In place of a socket: frames are here until the other side takes them.
 #[derive(Drop)]
 pub(crate) struct Wire {
     alloc: Global,
@@ -18,7 +18,7 @@ impl Wire {
         }
     }
 
-    /// The first frame that stands here, if any.
+    /// The first frame that is here, if any.
     pub(crate) fn take(&mut self) -> Option<Vec<u8>> {
         if self.frames.is_empty() {
             return None;

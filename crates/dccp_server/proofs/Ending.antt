@@ -1,5 +1,5 @@
 -- Ticks of a listener come to an end: each leaves less that is due.
-use Rattle.std.proofs.Common.{◌≡◌, refl, sym, ap, ◌∙◌, subst, ℕ, zero, suc, ◌+◌, ◌*◌, ◌≤◌, Bool, true, false, cond, if◌then◌else◌, List, [], ◌∷◌, length, Option, Some, None, is_some, IsSome, IfSome, arith}
+use Rattle.std.proofs.Common.{◌≡◌, refl, sym, ap, ◌∙◌, subst, ℕ, zero, suc, ◌+◌, ◌*◌, ◌≤◌, Bool, true, false, if◌then◌else◌, List, [], ◌∷◌, length, Option, Some, None, is_some, IsSome, IfSome, arith}
 use Rattle.std.proofs.lemmas.Bool.{false≢true}
 use Rattle.std.proofs.lemmas.List.Sums.{sum_by-cons}
 use Rattle.std.proofs.lemmas.Map.Entries.{length-keys_of, sum_by-insert_entry, sum_by-remove_entry}
@@ -11,7 +11,7 @@ use Rattle.std.specs.Prelude.{unwrap_or}
 use Rattle.ccid_two.specs.Kinds.{Both, kinds_control}
 use Rattle.dccp_packets.specs.Outgoing.{Outgoing}
 use Rattle.dccp_listener.proofs.Computing.{computed_runs}
-use Rattle.dccp_listener.proofs.OnePeer.{one_peer, peers_alike, peers_total}
+use Rattle.dccp_listener.proofs.OnePeer.{peers_total}
 use Rattle.dccp_listener.specs.Chain.{Calls, ChainStep, Fires, FlowCall, chain_step, flow_step, is_given_up}
 use Rattle.dccp_listener.specs.Listens.{listening_after, listens, listens_by}
 use Rattle.dccp_listener.specs.Peers.{FlowEnd, Listening, end_of_peer, is_peer, peer_cmp}
@@ -28,15 +28,16 @@ use Rattle.dccp_uses.specs.declared.pace.Pace.{Pace}
 use Rattle.dccp_uses.specs.declared.timed_end.Due.{Due}
 use Rattle.dccp_uses.specs.declared.timed_end.Due.TheVariants as due
 use Rattle.dccp_server.specs.Ending.{ListenerTicksEnd, doing_due, due_served, listener_ticked}
-use Rattle.dccp_server.specs.Serving.{Served, Upkeeps, due_or, first_due_flow, is_refusal, listening_if, served_by, served_through, serves_on, serving_begins, upkeep_at, upkeeps_then}
+use Rattle.dccp_server.specs.Serving.{Served, Upkeeps, due_of_flow, due_of_ticket, first_due_flow, is_refusal, listening_if, served_by, served_through, serves_on, serving_begins, soonest, upkeep_at, upkeeps_then}
 use Rattle.dccp_server.specs.Timing.{flow_after}
 use Rattle.dccp_server.specs.Upkeeps.{call_for_rule, called_so, first_due, kept_alarm, next_upkeep, timed_flow, upkeep_begins, upkeep_of}
 use Rattle.dccp_server.specs.declared.happening.Happening.{Happening}
 use Rattle.dccp_server.specs.declared.happening.Happening.TheVariants as happening
+use Rattle.dccp_server.specs.declared.queue.Ticket.{Ticket}
 use Rattle.dccp_server.specs.declared.upkeep.Upkeep.{Upkeep}
 use Rattle.dccp_server.proofs.Refusing.{IsResting, kept_at, rests_after, resting}
 use Rattle.dccp_server.proofs.Timing.{same_kept}
-use Rattle.dccp_server.proofs.Tying.{found_among, not_among}
+use Rattle.dccp_server.proofs.Tying.{found_among}
 
 one-if : Bool → ℕ
 one-if true = 1
@@ -222,29 +223,21 @@ module _ (now : ℕ) where
   abbrev IsItsFirst : Upkeeps → Peer × Due → Type 0
   IsItsFirst list it = (v : Upkeep) × (lookup (is_peer it.0) list ≡ Some v) × (first_due v now every_due ≡ Some it.1)
 
-  skipped : (one : Peer × Upkeep) (rest : Upkeeps) (it : Peer × Due) → IsStrictlySortedBy peer_cmp (keys_of (one ∷ rest)) → (here : Bool)
-      → is_peer it.0 one.0 ≡ here → IsItsFirst rest it → IsItsFirst (one ∷ rest) it
-  unfolding IsStrictlySortedBy
-  skipped one rest it ordered true is found =
-      let among : list_any (is_peer one.0) (keys_of rest) ≡ true =
-      sym (found_among (is_peer one.0) rest) ∙ ap (λ (p : Peer). is_some (lookup (is_peer p) rest)) (sym (one_peer it.0 one.0 is)) ∙ ap is_some found.1
-      in
-      absurd (false≢true (sym (not_among one.0 (keys_of rest) ordered.0) ∙ among))
-  skipped one rest it ordered false is found = (found.0, ap (λ (b : Bool). cond b (Some one.1) (lookup (is_peer it.0) rest)) is ∙ found.1, found.2)
+  its-due : (list : Upkeeps) (it : Peer × Due) (peer : Peer) (v : Upkeep) (first : Option Due) → lookup (is_peer peer) list ≡ Some v
+      → first_due v now every_due ≡ first → option_map (λ d. (peer, d)) first ≡ Some it → IsItsFirst list it
+  its-due list it peer v None is at found = cc found
+  its-due list it peer v (Some d) is at found =
+      let same : (peer, d) ≡ it = ap (λ (x : Option (Peer × Due)). unwrap_or x (peer, d)) found in
+      subst (λ (x : Peer × Due). IsItsFirst list x) same (v, is, at)
 
-  its-by : (one : Peer × Upkeep) (rest : Upkeeps) (it : Peer × Due) → IsStrictlySortedBy peer_cmp (keys_of (one ∷ rest)) → (first : Option Due)
-      → first_due one.1 now every_due ≡ first → due_or one.0 first (first_due_flow now rest) ≡ Some it
-      → (first_due_flow now rest ≡ Some it → IsItsFirst rest it) → IsItsFirst (one ∷ rest) it
-  its-by one rest it ordered (Some first) is found later =
-      let same : (one.0, first) ≡ it = ap (λ (x : Option (Peer × Due)). unwrap_or x (one.0, first)) found in
-      subst (λ (x : Peer × Due). IsItsFirst (one ∷ rest) x) same
-      (one.1, ap (λ (b : Bool). cond b (Some one.1) (lookup (is_peer one.0) rest)) (peers_alike.refl one.0), is)
-  its-by one rest it ordered None is found later = skipped one rest it ordered (is_peer it.0 one.0) refl (later found)
+  its-by : (list : Upkeeps) (it : Peer × Due) (peer : Peer) (kept : Option Upkeep) → lookup (is_peer peer) list ≡ kept
+      → due_of_flow now peer kept ≡ Some it → IsItsFirst list it
+  its-by list it peer None is found = cc found
+  its-by list it peer (Some v) is found = its-due list it peer v (first_due v now every_due) is refl found
 
-  its-first : (list : Upkeeps) (it : Peer × Due) → IsStrictlySortedBy peer_cmp (keys_of list) → first_due_flow now list ≡ Some it → IsItsFirst list it
-  unfolding IsStrictlySortedBy
-  its-first [] it ordered found = cc found
-  its-first (one ∷ rest) it ordered found = its-by one rest it ordered (first_due one.1 now every_due) refl found (its-first rest it ordered.1)
+  its-first : (list : Upkeeps) (it : Peer × Due) (ticket : Option Ticket) → due_of_ticket now list ticket ≡ Some it → IsItsFirst list it
+  its-first list it None found = cc found
+  its-first list it (Some ticket) found = its-by list it ticket.peer (lookup (is_peer ticket.peer) list) refl found
 
   abbrev total : Upkeeps → ℕ
   total list = sum_by weight (values_of list)
@@ -343,7 +336,7 @@ module _ (now : ℕ) where
 
     fewer : (it : Peer × Due) → first_due_flow now s.upkeeps ≡ Some it → total (served_by now s it.0 (doing_due it.1)).upkeeps + 1 ≤ total s.upkeeps
     fewer it found =
-        let first : IsItsFirst s.upkeeps it = its-first s.upkeeps it sorted found in
+        let first : IsItsFirst s.upkeeps it = its-first s.upkeeps it (soonest s.upkeeps) found in
         let there : IsSome (end_of_peer s.listening.flows it.0) =
         found_among (is_peer it.0) s.listening.flows ∙ ap (list_any (is_peer it.0)) (sym is.tied.same_peers) ∙ sym (found_among (is_peer it.0) s.upkeeps)
         ∙ ap is_some first.1

@@ -7,9 +7,9 @@ use Rattle.dccp_listener.specs.Peers.{FlowEnd, Listening, end_of_peer}
 use Rattle.dccp_listener.specs.declared.config.ListenConfig.{ListenConfig}
 use Rattle.dccp_listener.specs.declared.peer.Peer.{Peer}
 use Rattle.dccp_uses.specs.declared.pace.Pace.{Pace}
-use Rattle.dccp_server.specs.Lives.{Lives, life_of, life_then, lives_on, no_signs}
+use Rattle.dccp_server.specs.Lives.{Lives, life_of, life_then, lives_on, no_signs, user_written}
 use Rattle.dccp_server.specs.Places.{HasPlaceIf, IsPlaced}
-use Rattle.dccp_server.specs.Rooms.{IsLiving, Room, as_room, room_does, room_then, signs_by}
+use Rattle.dccp_server.specs.Rooms.{IsLiving, Room, as_room, room_does, room_then, signs_by, with_user}
 use Rattle.dccp_server.specs.Serving.{Does, Doing, Follows, Served, Spends, call_due, deed_served, rule_followed, listening_if, serving_begins, upkeep_at}
 use Rattle.dccp_server.specs.declared.life.Life.{Life}
 use Rattle.dccp_server.specs.declared.life.Signs.{Signs}
@@ -107,3 +107,18 @@ living_begins config pace s lives begun none =
 
 pub living_same : (r t : Room) → t ≡ r → IsLiving r → IsLiving t
 living_same r t same is = subst IsLiving (sym same) is
+
+-- a number that is written beside a flow takes no place and leaves none
+
+user-keys : (r : Room) (peer : Peer) (user : ℕ) (found : Option FlowEnd) → end_of_peer r.served.listening.flows peer ≡ found → IsLiving r
+    → keys_of (user_written user r.lives peer found) ≡ keys_of r.served.listening.flows
+user-keys r peer user None found is = is.same_peers
+user-keys r peer user (Some e) found is =
+    kept_same peer r.lives (λ e. record (life_of r.lives peer) { user = user }) r.served.listening.flows (Some e) found is.same_peers is.tied.ordered
+
+pub living_user : (r : Room) (peer : Peer) (user : ℕ) → IsLiving r → IsLiving (with_user user r peer)
+living_user r peer user is =
+    record { tied = is.tied; same_peers = user-keys r peer user (end_of_peer r.served.listening.flows peer) refl is }
+
+pub user_place : (r : Room) (peer : Peer) → IsLiving r → HasPlaceIf (end_of_peer r.served.listening.flows peer) r.lives peer
+user_place r peer is = place_if r.served.listening.flows r.lives peer is.same_peers

@@ -1,10 +1,9 @@
 -- A place that was made for what is kept of a peer changes nothing of what that is then.
-use Rattle.std.proofs.Common.{◌≡◌, refl, sym, ap, ◌∙◌, subst, Bool, true, false, cond, List, [], ◌∷◌, Option, Some, None, Result, Ok, Err, Ordering, Less, Equal, Greater, is_eq}
-use Rattle.std.proofs.lemmas.Bool.{false≢true}
+use Rattle.std.proofs.Common.{◌≡◌, refl, sym, ap, ◌∙◌, Bool, true, false, cond, List, [], ◌∷◌, Option, Some, None, Ordering, Less, Equal, Greater, is_eq}
 use Rattle.std.specs.BTreeMap.{insert_entry}
 use Rattle.std.specs.Map.{lookup, remove_entry}
 use Rattle.std.specs.Ordering.{match_ordering}
-use Rattle.std.specs.Prelude.{IsSome, OnOk, OnErr, if◌then◌else◌}
+use Rattle.std.specs.Prelude.{if◌then◌else◌}
 use Rattle.dccp_listener.proofs.OnePeer.{peers_alike}
 use Rattle.dccp_listener.specs.Peers.{FlowEnd, is_peer, peer_cmp}
 use Rattle.dccp_listener.specs.declared.peer.Peer.{Peer}
@@ -94,19 +93,3 @@ pub taken_back : {X : Type 0} (fresh : X) (had : Bool) (before after : List (Pee
     → (if had then after else remove_entry (is_peer peer) after) ≡ before
 taken_back fresh true before after peer is = is.1
 taken_back fresh false before after peer is = undone fresh peer before after is
-
--- who has a place keeps it
-pub inserted : {V X : Type 0} (before after : List (Peer × V)) (peer : Peer) (value : FlowEnd → V) (found : Option FlowEnd) (e : FlowEnd) (written : V)
-    (result : Result (Option V) X) → IsSome (lookup (is_peer peer) before) → OnOk result (after ≡ insert_entry peer_cmp before peer written)
-    → OnErr result (lookup (is_peer peer) before ≡ None) → found ≡ Some e → written ≡ value e
-    → after ≡ kept_then before peer value found
-inserted {V} before after peer value found e written (Ok old) there put none is-end is-written =
-    put ∙ ap (λ (a : V). insert_entry peer_cmp before peer a) is-written ∙ sym (ap (λ (f : Option FlowEnd). kept_then before peer value f) is-end)
-inserted {V} before after peer value found e written (Err fault) there put none is-end is-written =
-    absurd (false≢true (subst (λ (x : Option V). IsSome x) none there))
-
-pub put_there : {V X : Type 0} (before after : List (Peer × V)) (peer : Peer) (written : V) (result : Result (Option V) X)
-    → IsSome (lookup (is_peer peer) before) → OnOk result (after ≡ insert_entry peer_cmp before peer written)
-    → OnErr result (lookup (is_peer peer) before ≡ None) → after ≡ insert_entry peer_cmp before peer written
-put_there {V} before after peer written (Ok old) there put none = put
-put_there {V} before after peer written (Err fault) there put none = absurd (false≢true (subst (λ (x : Option V). IsSome x) none there))

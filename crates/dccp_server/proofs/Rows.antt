@@ -1,5 +1,5 @@
 -- Rows of a server's rules, computed from the definitions; the values were worked out by hand.
-use Rattle.std.proofs.Common.{◌≡◌, refl, ℕ, ◌*◌, true, false, [], ◌∷◌, Some, None}
+use Rattle.std.proofs.Common.{◌≡◌, refl, ℕ, ◌*◌, true, false, List, [], ◌∷◌, Some, None}
 use Rattle.dccp_listener.specs.Chain.{Aborts, Fires, Prefers}
 use Rattle.dccp_listener.specs.Runs.{HadNoMemory, Stepped, WasBusy}
 use Rattle.dccp_listener.specs.declared.peer.Peer.{Peer}
@@ -12,10 +12,12 @@ use Rattle.dccp_states.specs.declared.seen.Seen.TheVariants.{Received}
 use Rattle.feature_lists.specs.declared.features.Feature.TheVariants.{AckRatio}
 use Rattle.feature_lists.specs.declared.features.Place.TheVariants.{Here}
 use Rattle.dccp_uses.specs.declared.rule.Rule.TheVariants as rule
+use Rattle.dccp_server.specs.FlowDrops.{flow_drop_code, flow_recorded}
 use Rattle.dccp_server.specs.Lives.{Lives, signs_of, stands_in}
 use Rattle.dccp_server.specs.Rules.{first_given_up, has_more_half_open, is_same_number, least_left, life_left, makes_way, no_rules, refused_number, usual_rules}
 use Rattle.dccp_server.specs.Strangers.{is_no_connection, spared, spared_if, strangers_begin}
 use Rattle.dccp_server.specs.Upkeeps.{arrived_so, call_if_held, called_so, rule_call}
+use Rattle.dccp_server.specs.declared.flow_drops.FlowDrop.{FlowDrop}
 use Rattle.dccp_server.specs.declared.happening.Happening.TheVariants as happening
 use Rattle.dccp_server.specs.declared.life.Life.{Life}
 use Rattle.dccp_server.specs.declared.strangers.Strangers.{Strangers}
@@ -24,9 +26,9 @@ use Rattle.dccp_server.specs.declared.strangers.Strangers.{Strangers}
 abbrev peer : ℕ → Peer
 peer last = record { address = 10 ∷ 0 ∷ 0 ∷ last ∷ []; port = 40000 }
 
--- a flow that stands in a phase since then, and took its last packet at that time
+-- a flow that is in a phase since then, and took its last packet at that time
 abbrev life : Phase → ℕ → ℕ → Life
-life in-phase since taken = record { phase = in-phase; since = since; taken = taken; sync = None }
+life in-phase since taken = record { phase = in-phase; since = since; taken = taken; sync = None; user = 0 }
 
 -- Of two flows in TIMEWAIT the longer one makes room, before any in RESPOND.
 abbrev lingering : Lives
@@ -60,10 +62,10 @@ how_long_is_left :
     × (life_left no_rules false 900000 (life phase.Open 0 0) ≡ None)
 how_long_is_left = (refl, refl, refl, refl, refl, refl, refl, refl)
 
--- the first that is over, and how long it is until one is
+-- The longest half open is given up first, and how long it is until one is.
 who_is_given_up :
     (first_given_up usual_rules false 240650 half_open ≡ Some (peer 2))
-    × (first_given_up usual_rules false 240700 half_open ≡ Some (peer 1))
+    × (first_given_up usual_rules false 240700 half_open ≡ Some (peer 2))
     × (first_given_up usual_rules false 100000 half_open ≡ None)
     × (least_left usual_rules false 100000 (2 * 100000) half_open ≡ 20000)
     × (least_left usual_rules false 100000 7 half_open ≡ 7)
@@ -75,6 +77,20 @@ when_it_is_crowded :
     × (has_more_half_open 1 half_open ≡ true)
     × (has_more_half_open 0 [] ≡ false)
 when_it_is_crowded = (refl, refl, refl)
+
+-- Half-open flows come before the silent, and these before those that close; each longest first, whatever the peers.
+abbrev all_over : Lives
+all_over =
+    (peer 1, life phase.Closing 10 0) ∷ (peer 2, life phase.Open 0 30) ∷ (peer 3, life phase.PartOpen 0 20) ∷ (peer 4, life phase.Respond 40 0) ∷ (peer 5, life phase.CloseReq 5 0) ∷ []
+
+in_which_order :
+    (first_given_up usual_rules false 300000 all_over ≡ Some (peer 4))
+    × (first_given_up usual_rules false 150000 all_over ≡ Some (peer 3))
+    × (first_given_up usual_rules false 70000 all_over ≡ Some (peer 5))
+    × (first_given_up usual_rules false 64004 all_over ≡ None)
+    × (least_left usual_rules false 64000 9999999 all_over ≡ 5)
+    × (makes_way usual_rules false 300000 all_over ≡ Some (peer 4))
+in_which_order = (refl, refl, refl, refl, refl, refl)
 
 -- a phase begins when it is entered
 since_when :
@@ -142,3 +158,12 @@ what_happens :
     × (called_so (Fires timers.Ack) false ≡ happening.Rang timers.Ack)
     × (arrived_so None HadNoMemory true ≡ happening.Opened)
 what_happens = (refl, refl, refl)
+
+-- packet 15 was dropped of peer 1 for want of room, and then of peer 2 for another reason; packet 16 of neither
+abbrev both_dropped : List FlowDrop
+both_dropped = flow_recorded (peer 2) 15 3 (flow_recorded (peer 1) 15 2 [])
+
+a_flow_has_its_own_drops :
+    (flow_drop_code both_dropped (peer 1) 15 ≡ Some 2) × (flow_drop_code both_dropped (peer 2) 15 ≡ Some 3) × (flow_drop_code both_dropped (peer 1) 16 ≡ None)
+    × (flow_drop_code (flow_recorded (peer 1) 15 1 both_dropped) (peer 1) 15 ≡ Some 1)
+a_flow_has_its_own_drops = (refl, refl, refl, refl)

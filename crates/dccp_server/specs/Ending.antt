@@ -1,12 +1,23 @@
 -- Ticks of a listener come to an end (own).
-use Rattle.std.specs.Prelude.{◌≡◌, ℕ, zero, suc, ◌*◌, List, length, Option, Some, None}
+use Rattle.std.specs.Prelude.{◌≡◌, ℕ, zero, suc, ◌+◌, ◌*◌, ◌≤◌, ◌<◌, nat_le, Bool, false, List, length, Option, Some, None, is_some}
+use Rattle.std.specs.List.Sorted.{IsStrictlySortedBy}
+use Rattle.std.specs.Map.{keys_of, lookup}
 use Rattle.dccp_listener.specs.Chain.{Calls, Fires}
+use Rattle.dccp_listener.specs.Peers.{is_peer, peer_cmp}
 use Rattle.dccp_listener.specs.declared.config.ListenConfig.{ListenConfig}
 use Rattle.dccp_listener.specs.declared.peer.Peer.{Peer}
+use Rattle.dccp_uses.specs.Timed.{every_due}
 use Rattle.dccp_uses.specs.declared.pace.Pace.{Pace}
 use Rattle.dccp_uses.specs.declared.timed_end.Due.{Due}
 use Rattle.dccp_uses.specs.declared.timed_end.Due.TheVariants as due
-use Rattle.dccp_server.specs.Serving.{Doing, Does, Follows, Served, TimedDoing, first_due_flow, served_by, served_through, serving_begins}
+use Rattle.dccp_server.specs.Due.{never}
+use Rattle.dccp_server.specs.Lives.{Lives}
+use Rattle.dccp_server.specs.Rules.{first_given_up, is_none_left, life_left}
+use Rattle.dccp_server.specs.Serving.{Doing, Does, Follows, Served, TimedDoing, Upkeeps, first_due_flow, least_wait, served_by, served_through, serving_begins}
+use Rattle.dccp_server.specs.Upkeeps.{first_due}
+use Rattle.dccp_server.specs.declared.life.Life.{Life}
+use Rattle.dccp_server.specs.declared.rules.Rules.{Rules}
+use Rattle.dccp_server.specs.declared.upkeep.Upkeep.{Upkeep}
 
 -- what is done with what is due: a timer is told to the peer's end, or a rule is followed
 abbrev pub doing_due : Due → Doing
@@ -31,3 +42,20 @@ ListenerTicksEnd =
     → first_due_flow now
     (listener_ticked now (13 * length (served_through (serving_begins config pace) all).listening.flows) (served_through (serving_begins config pace) all)).upkeeps
     ≡ None
+
+-- Nothing is due of a flow before its moment, and from then on something is. So no flow is passed over: where there is
+-- nothing to do, nothing is due of any flow; and the wait that is told is exact. Clocks have 64 bits.
+pub record IsNonePassedOver (upkeeps : Upkeeps) (now later : ℕ) : Type 0 where
+  pub none_is_due : first_due_flow later upkeeps ≡ None → (peer : Peer) (u : Upkeep) → lookup (is_peer peer) upkeeps ≡ Some u → first_due u later every_due ≡ None
+  pub wait_is_exact : is_some (first_due_flow later upkeeps) ≡ nat_le (now + least_wait now upkeeps) later
+
+-- whatever is kept of peers in their order, and whatever the times
+abbrev pub NoneIsPassedOver : Type 0
+NoneIsPassedOver =
+    (upkeeps : Upkeeps) (now later : ℕ) → IsStrictlySortedBy peer_cmp (keys_of upkeeps) → now ≤ later → later < never → IsNonePassedOver upkeeps now later
+
+-- No flow that has stood for too long is passed over either, whatever the rules: where none is given up, each may stay.
+abbrev pub EachMayStay : Type 0
+EachMayStay =
+    (rules : Rules) (crowded : Bool) (now : ℕ) (lives : Lives) → IsStrictlySortedBy peer_cmp (keys_of lives) → first_given_up rules crowded now lives ≡ None
+    → (peer : Peer) (life : Life) → lookup (is_peer peer) lives ≡ Some life → is_none_left (life_left rules crowded now life) ≡ false

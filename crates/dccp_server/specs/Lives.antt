@@ -20,7 +20,7 @@ Lives = List (Peer × Life)
 
 -- a life that has not begun
 abbrev pub no_life : Life
-no_life = record { phase = phases.Closed; since = 0; taken = 0; sync = None }
+no_life = record { phase = phases.Closed; since = 0; taken = 0; sync = None; user = 0 }
 
 -- the life of a peer, which has not begun where it has no flow
 abbrev pub life_of : Lives → Peer → Life
@@ -38,7 +38,7 @@ rank_of phases.CloseReq = 6
 rank_of phases.Closing = 7
 rank_of phases.TimeWait = 8
 
--- the connection stands in this phase, and where it stood there before, since the same time
+-- the connection is in this phase, and where it stood there before, since the same time
 abbrev pub stands_in : ℕ → Phase → Life → Life
 stands_in now phase life = if rank_of life.phase == rank_of phase then life else record life { phase = phase; since = now }
 
@@ -69,3 +69,8 @@ lives_on now e signs life =
 -- the life of a peer goes on from this one with its end, and goes with it
 abbrev pub life_then : ℕ → Lives → Peer → Option FlowEnd → Signs → Life → Lives
 life_then now lives peer end signs life = kept_then lives peer (λ e. lives_on now e signs life) end
+
+-- the owner writes a number beside a peer's flow, where it has one
+abbrev pub user_written : ℕ → Lives → Peer → Option FlowEnd → Lives
+user_written user lives peer None = lives
+user_written user lives peer (Some e) = kept_then lives peer (λ e. record (life_of lives peer) { user = user }) (Some e)

@@ -13,12 +13,15 @@ use Rattle.seq_circle.specs.declared.memory.NoMemory.{NoMemory}
 use Rattle.dccp_listener.specs.declared.config.ListenConfig.{ListenConfig}
 use Rattle.dccp_listener.specs.declared.peer.Peer.{Peer}
 use Rattle.dccp_states.specs.declared.calls.Timer.TheVariants as timers
+use Rattle.feature_machine.specs.Lists.{IsLists}
 use Rattle.dccp_uses.specs.Rules.{due_rule}
 use Rattle.dccp_uses.specs.declared.pace.Pace.{Pace}
 use Rattle.dccp_uses.specs.declared.timed_end.Due.{Due}
 use Rattle.dccp_uses.specs.declared.timed_end.Due.TheVariants as due
-use Rattle.dccp_server.specs.Due.{never}
-use Rattle.dccp_server.specs.Lives.{Lives, life_of, life_then, no_signs, signs_in, signs_of}
+use Rattle.dccp_server.specs.declared.meeting.CookieUse.{CookieUse}
+use Rattle.dccp_server.specs.declared.meeting.CookieUse.TheVariants.{InACrowd}
+use Rattle.init_cookies.specs.declared.cookie.CookieKeys.{CookieKeys}
+use Rattle.dccp_server.specs.Lives.{Lives, life_of, life_then, no_signs, signs_in, signs_of, user_written}
 use Rattle.dccp_server.specs.Rules.{begins_anew, first_given_up, has_more_half_open, makes_way, least_left, refuses_last_sync, signs_noted}
 use Rattle.dccp_server.specs.Serving.{Doing, Does, Follows, IsTied, Served, Spends, TimedDoing, first_due_flow, doing_frame, is_admitted, least_wait, served_by, served_through, serving_begins, upkeep_at}
 use Rattle.dccp_server.specs.Strangers.{frame_if_goes, spared_if, strangers_begin}
@@ -68,6 +71,10 @@ room_does now r peer Follows = room_then now r peer (served_by now r.served peer
 -- A peer's flow is forgotten: its end aborts, and where it is in TIMEWAIT that is over. Neither frame is sent.
 abbrev pub forgets : ℕ → Room → Peer → Room
 forgets now r peer = room_does now (room_does now r peer (Does (Calls Aborts))) peer (Does (Calls (Fires timers.TimeWait)))
+
+-- the owner writes a number beside a peer's flow
+abbrev pub with_user : ℕ → Room → Peer → Room
+with_user user r peer = record r { lives = user_written user r.lives peer (end_of_peer r.served.listening.flows peer) }
 
 -- more flows than this are half open in the room
 abbrev pub is_crowded : ℕ → Room → Bool
@@ -152,7 +159,7 @@ left_without_memory now r peer iss bytes (Some leaving) = forgets now (room_does
 
 -- how long it is until something is due of a flow or one is given up; 2^64 - 1 where there is no such time
 abbrev pub room_waits : ℕ → Rules → ℕ → Room → ℕ
-room_waits now rules half r = least_left rules (is_crowded half r) now (least_wait now never r.served.upkeeps) r.lives
+room_waits now rules half r = least_left rules (is_crowded half r) now (least_wait now r.served.upkeeps) r.lives
 
 -- what is due of a flow: a timer is told, or the first rule that is due is followed
 abbrev pub duty_due : ℕ → Served → Peer → Due → Duty
@@ -196,16 +203,19 @@ abbrev pub does_all : Room → List TimedDoing → Room
 does_all r [] = r
 does_all r (it ∷ later) = does_all (room_does it.now r it.peer it.doing) later
 
--- a room with its rules, half of how many flows may stand in it, and what is left of the limits for strangers
+-- a room with its rules, half of how many flows may be in it, what is left of the limits for strangers, and when
+-- cookies are used, with their keys, if there are any
 pub record Ruled : Type 0 where
   pub room : Room
   pub rules : Rules
   pub half : ℕ
   pub strangers : Strangers
+  pub cookies : CookieUse
+  pub keys : Option CookieKeys
 
 -- a room without flows that goes by these rules
 abbrev pub ruled_begins : ListenConfig → Pace → Rules → Ruled
-ruled_begins config pace rules = record { room = room_begins config pace; rules = rules; half = config.most / 2; strangers = strangers_begin }
+ruled_begins config pace rules = record { room = room_begins config pace; rules = rules; half = config.most / 2; strangers = strangers_begin; cookies = InACrowd; keys = None }
 
 -- The listener was busy with a datagram, and is this then, and a frame was left. Who leaves is forgotten, and the
 -- datagram heard once more, if memory is found.
@@ -280,7 +290,7 @@ pub record Reception : Type 0 where
 abbrev pub moved_on : Ruled → Room → Strangers → Ruled
 moved_on s room strangers = record s { room = room; strangers = strangers }
 
--- what came of the datagram, but that its frame may be one too many for a stranger
+-- what came of the datagram, except that its frame may be one too many for a stranger
 abbrev pub reception_of : ℕ → Ruled → Peer → Coming → Reception
 reception_of now s peer coming =
     record {
@@ -316,3 +326,9 @@ RulesAreDeeds =
 -- What is done in a room leaves the listener and what is kept of its flows as it leaves them without lives.
 abbrev pub LivesChangeNothing : Type 0
 LivesChangeNothing = (r : Room) (all : List TimedDoing) → (does_all r all).served ≡ served_through r.served all
+
+-- Whatever was done before, a peer whose flow is forgotten has none.
+abbrev pub ForgottenHaveNone : Type 0
+ForgottenHaveNone =
+    (config : ListenConfig) (pace : Pace) (all : List TimedDoing) (now : ℕ) (peer : Peer) → IsLists config.lists
+    → end_of_peer (forgets now (does_all (room_begins config pace) all) peer).served.listening.flows peer ≡ None

@@ -1,6 +1,6 @@
 -- By which rules a server's owner gives flows up and makes room (own, but where a section of RFC 4340 is named). Times
 -- are in milliseconds.
-use Rattle.std.specs.Prelude.{◌==◌, ◌&&◌, ◌-◌, nat_lt, ℕ, Bool, true, false, not, List, [], ◌∷◌, Option, Some, None, is_some, Result, Ok, Err, min, unwrap_or, if◌then◌else◌}
+use Rattle.std.specs.Prelude.{◌==◌, ◌&&◌, ◌-◌, nat_lt, ℕ, Bool, true, false, not, List, Option, Some, None, is_some, Result, Ok, Err, min, unwrap_or, if◌then◌else◌}
 use Rattle.std.specs.Option.{option_map}
 use Rattle.dccp_listener.specs.declared.peer.Peer.{Peer}
 use Rattle.dccp_packets.specs.Grammar.{Parts, decoded}
@@ -12,11 +12,13 @@ use Rattle.dccp_packets.specs.declared.reset_code.ResetCode.TheVariants as codes
 use Rattle.path_rules.specs.Limits.{resets_to_strangers}
 use Rattle.path_rules.specs.declared.limits.Limit.{Limit}
 use Rattle.dccp_server.specs.Lives.{Lives}
+use Rattle.dccp_server.specs.Queues.{count_in, first_in, queue_of}
 use Rattle.dccp_server.specs.declared.life.Life.{Life}
 use Rattle.dccp_server.specs.declared.life.Signs.{Signs}
-use Rattle.dccp_server.specs.declared.rules.Leaving.{Leaving}
-use Rattle.dccp_server.specs.declared.rules.Leaving.TheVariants.{Lingering, HalfOpen}
+use Rattle.dccp_server.specs.declared.queue.Ticket.{Ticket}
 use Rattle.dccp_server.specs.declared.rules.Rules.{Rules}
+use Rattle.dccp_server.specs.declared.stage.Stage.{Stage}
+use Rattle.dccp_server.specs.declared.stage.Stage.TheVariants as stage
 use Rattle.dccp_states.specs.declared.phase.Phase.{Phase}
 use Rattle.dccp_states.specs.declared.phase.Phase.TheVariants as phases
 
@@ -46,80 +48,96 @@ usual_rules =
       resets = Some resets_to_strangers;
     }
 
--- a server that has sent its Response and heard nothing since
-abbrev pub is_half_open : Phase → Bool
-is_half_open phases.Respond = true
-is_half_open _ = false
+-- the stages as numbers
+abbrev pub class_of : Stage → ℕ
+class_of stage.HalfOpen = 0
+class_of stage.Live = 1
+class_of stage.Ending = 2
+class_of stage.Lingering = 3
 
--- a flow that only keeps its numbers
-abbrev pub lingers : Phase → Bool
-lingers phases.TimeWait = true
-lingers _ = false
+-- Since when a flow counts as standing where it does: an open one since it last took a packet.
+abbrev pub since_in : Life → Phase → Option (Stage × ℕ)
+since_in life phases.Respond = Some (stage.HalfOpen, life.since)
+since_in life phases.PartOpen = Some (stage.Live, life.taken)
+since_in life phases.Open = Some (stage.Live, life.taken)
+since_in life phases.CloseReq = Some (stage.Ending, life.since)
+since_in life phases.Closing = Some (stage.Ending, life.since)
+since_in life phases.TimeWait = Some (stage.Lingering, life.since)
+since_in life _ = None
+
+-- the moment by which it is in the queue of flows
+abbrev pub life_moment : Life → Option (ℕ × ℕ)
+life_moment life = option_map (λ it. (class_of it.0, it.1)) (since_in life life.phase)
+
+-- all flows by stage, and in each the longest first; of two the first in the order of peers
+abbrev pub queue_of_lives : Lives → List Ticket
+queue_of_lives lives = queue_of life_moment lives
+
+-- the flow that stands longest in a stage
+abbrev pub longest : Stage → Lives → Option Ticket
+longest it lives = first_in (class_of it) (queue_of_lives lives)
 
 -- more than so many flows are half open
 abbrev pub has_more_half_open : ℕ → Lives → Bool
-has_more_half_open count [] = false
-has_more_half_open count (one ∷ rest) =
-    if is_half_open one.1.phase then (if count == 0 then true else has_more_half_open (count - 1) rest) else has_more_half_open count rest
+has_more_half_open count lives = nat_lt count (count_in (class_of stage.HalfOpen) (queue_of_lives lives))
 
--- for how long a flow may stand as it does, and since when that counts, where there is a limit
-abbrev pub limit_in : Rules → Bool → Life → Phase → Option (ℕ × ℕ)
-limit_in rules crowded life phases.Respond = option_map (λ wait. (life.since, wait)) (if crowded then rules.crowded else rules.respond)
-limit_in rules crowded life phases.PartOpen = option_map (λ wait. (life.taken, wait)) rules.idle
-limit_in rules crowded life phases.Open = option_map (λ wait. (life.taken, wait)) rules.idle
-limit_in rules crowded life phases.CloseReq = option_map (λ wait. (life.since, wait)) rules.closing
-limit_in rules crowded life phases.Closing = option_map (λ wait. (life.since, wait)) rules.closing
-limit_in rules crowded life _ = None
+-- for how long a flow may be in a stage, where there is a limit
+abbrev pub limit_in : Rules → Bool → Stage → Option ℕ
+limit_in rules crowded stage.HalfOpen = if crowded then rules.crowded else rules.respond
+limit_in rules crowded stage.Live = rules.idle
+limit_in rules crowded stage.Ending = rules.closing
+limit_in rules crowded stage.Lingering = None
 
--- how long it may still stand so; at 0 it is given up
+-- how long it may still stand so, by since when it does; at 0 it is given up
+abbrev pub left_since : Rules → Bool → ℕ → Option (Stage × ℕ) → Option ℕ
+left_since rules crowded now None = None
+left_since rules crowded now (Some it) = option_map (λ limit. limit - (now - it.1)) (limit_in rules crowded it.0)
+
+-- the same of its life
 abbrev pub life_left : Rules → Bool → ℕ → Life → Option ℕ
-life_left rules crowded now life = option_map (λ limit. limit.1 - (now - limit.0)) (limit_in rules crowded life life.phase)
+life_left rules crowded now life = left_since rules crowded now (since_in life life.phase)
 
 -- no time is left
 abbrev pub is_none_left : Option ℕ → Bool
 is_none_left None = false
 is_none_left (Some left) = left == 0
 
--- the first flow, in the order of peers, that is given up
+-- how long the flow that stands longest in a stage may still stand so
+abbrev pub stage_left : Rules → Bool → ℕ → Stage → Option Ticket → Option ℕ
+stage_left rules crowded now it ticket = left_since rules crowded now (option_map (λ t. (it, t.time)) ticket)
+
+-- it, where it may no longer
+abbrev pub over_in : Rules → Bool → ℕ → Stage → Lives → Option Ticket
+over_in rules crowded now it lives = if is_none_left (stage_left rules crowded now it (longest it lives)) then longest it lives else None
+
+-- the first that there is
+abbrev pub or_else : Option Ticket → Option Ticket → Option Ticket
+or_else (Some it) other = Some it
+or_else None other = other
+
+-- whose ticket it is
+abbrev pub holder : Option Ticket → Option Peer
+holder ticket = option_map (λ t. t.peer) ticket
+
+-- Which flow is given up first: of those over their time the longest half open, else the one that has been silent for
+-- longest, else the longest in CLOSEREQ or CLOSING.
 abbrev pub first_given_up : Rules → Bool → ℕ → Lives → Option Peer
-first_given_up rules crowded now [] = None
-first_given_up rules crowded now (one ∷ rest) =
-    if is_none_left (life_left rules crowded now one.1) then Some one.0 else first_given_up rules crowded now rest
+first_given_up rules crowded now lives =
+    holder (or_else (over_in rules crowded now stage.HalfOpen lives) (or_else (over_in rules crowded now stage.Live lives) (over_in rules crowded now stage.Ending lives)))
+
+-- what is left in a stage, at most so long
+abbrev pub least_in : Rules → Bool → ℕ → Lives → Stage → ℕ → ℕ
+least_in rules crowded now lives it least = min least (unwrap_or (stage_left rules crowded now it (longest it lives)) least)
 
 -- how long it is until the first flow is given up, at most so long
 abbrev pub least_left : Rules → Bool → ℕ → ℕ → Lives → ℕ
-least_left rules crowded now least [] = least
-least_left rules crowded now least (one ∷ rest) =
-    least_left rules crowded now (min least (unwrap_or (life_left rules crowded now one.1) least)) rest
-
--- A flow may leave to make room: one in TIMEWAIT, or one in RESPOND over its time.
-abbrev pub may_leave : Rules → Bool → ℕ → Leaving → Life → Bool
-may_leave rules crowded now Lingering life = lingers life.phase
-may_leave rules crowded now HalfOpen life = is_half_open life.phase && is_none_left (life_left rules crowded now life)
-
--- of the best so far and a further flow the one that stands longer, with the time since when
-abbrev pub longer_of : Bool → Option (Peer × ℕ) → Peer → ℕ → Option (Peer × ℕ)
-longer_of false best peer since = best
-longer_of true None peer since = Some (peer, since)
-longer_of true (Some best) peer since = if nat_lt since best.1 then Some (peer, since) else Some best
-
--- of those that may leave the one that stands longest
-abbrev pub longest : Rules → Bool → ℕ → Leaving → Option (Peer × ℕ) → Lives → Option (Peer × ℕ)
-longest rules crowded now leaving best [] = best
-longest rules crowded now leaving best (one ∷ rest) =
-    longest rules crowded now leaving (longer_of (may_leave rules crowded now leaving one.1) best one.0 one.1.since) rest
-
--- the first that there is
-abbrev pub or_else : Option (Peer × ℕ) → Option (Peer × ℕ) → Option (Peer × ℕ)
-or_else (Some it) other = Some it
-or_else None other = other
+least_left rules crowded now least lives =
+    least_in rules crowded now lives stage.Ending (least_in rules crowded now lives stage.Live (least_in rules crowded now lives stage.HalfOpen least))
 
 -- Who makes room: the flow longest in TIMEWAIT, else the one longest in RESPOND over its time.
 abbrev pub makes_way : Rules → Bool → ℕ → Lives → Option Peer
 makes_way rules crowded now lives =
-    if rules.makes_room
-    then option_map (λ it. it.0) (or_else (longest rules crowded now Lingering None lives) (longest rules crowded now HalfOpen None lives))
-    else None
+    if rules.makes_room then holder (or_else (longest stage.Lingering lives) (over_in rules crowded now stage.HalfOpen lives)) else None
 
 -- A Reset that a client in REQUEST sends for a Sync (RFC 4340, section 8.5, step 4): the number that it acknowledges.
 abbrev pub refused_number : Kind → Option ℕ

@@ -1,8 +1,11 @@
 -- What a listener with the timers of its flows, and the rules of their paths, does with a peer (own; the flows are the
 -- listener's).
-use Rattle.std.specs.Prelude.{◌≡◌, ◌⊎◌, ◌++◌, ℕ, Bool, true, false, not, List, [], ◌∷◌, Option, Some, None, is_some, IsSome, Err, min, unwrap_or}
+use Rattle.std.specs.Prelude.{◌≡◌, ◌⊎◌, ◌++◌, ◌-◌, ℕ, Bool, true, false, not, List, [], ◌∷◌, Option, Some, None, is_some, IsSome, Err, unwrap_or}
 use Rattle.std.specs.BTreeMap.{insert_entry}
 use Rattle.std.specs.Map.{keys_of, lookup}
+use Rattle.std.specs.Option.{option_map}
+use Rattle.ccid_two.specs.Kinds.{kinds_control}
+use Rattle.dccp_endpoint.specs.Controlled.{in_flight_of}
 use Rattle.dccp_packets.specs.Outgoing.{Outgoing}
 use Rattle.dccp_listener.specs.Chain.{Deed, Arrives, Calls, FlowCall}
 use Rattle.dccp_listener.specs.Listens.{AreInOrder, listening_after, listens, turns_of}
@@ -10,17 +13,21 @@ use Rattle.dccp_listener.specs.Peers.{FlowEnd, Listening, end_of_peer, is_peer, 
 use Rattle.dccp_listener.specs.Runs.{CallTold, IsRunOfTurns, Stepped}
 use Rattle.dccp_listener.specs.declared.config.ListenConfig.{ListenConfig}
 use Rattle.dccp_listener.specs.declared.peer.Peer.{Peer}
+use Rattle.dccp_uses.specs.Reader.{restraint_of}
 use Rattle.dccp_uses.specs.Rules.{due_rule}
 use Rattle.dccp_uses.specs.Syncs.{admitted}
 use Rattle.dccp_uses.specs.Timed.{every_due}
 use Rattle.dccp_uses.specs.declared.pace.Pace.{Pace}
+use Rattle.dccp_uses.specs.declared.reader.Restraint.{Restraint}
 use Rattle.dccp_uses.specs.declared.timed_end.Due.{Due}
 use Rattle.dccp_states.specs.declared.seen.Seen.TheVariants.{Called}
 use Rattle.dccp_server.specs.Due.{never}
 use Rattle.dccp_server.specs.Places.{kept_then}
-use Rattle.dccp_server.specs.Upkeeps.{arrived_so, call_for_rule, called_so, first_due, next_upkeep, sight_if, upkeep_begins, upkeep_wait}
+use Rattle.dccp_server.specs.Queues.{first_in, queue_of}
+use Rattle.dccp_server.specs.Upkeeps.{arrived_so, call_for_rule, called_so, first_due, next_upkeep, sight_if, upkeep_begins, upkeep_moment}
 use Rattle.dccp_server.specs.declared.happening.Happening.{Happening}
 use Rattle.dccp_server.specs.declared.happening.Happening.TheVariants as happening
+use Rattle.dccp_server.specs.declared.queue.Ticket.{Ticket}
 use Rattle.dccp_server.specs.declared.upkeep.Upkeep.{Upkeep}
 
 -- what is kept of each peer that has a flow, in the order of the peers
@@ -94,6 +101,15 @@ is_admitted_by now bytes u (Some e) = (admitted e.state u.path bytes now).heard
 abbrev pub is_admitted : ℕ → Served → Peer → List ℕ → Bool
 is_admitted now s peer bytes = is_admitted_by now bytes (upkeep_at s.pace s.upkeeps peer) (end_of_peer s.listening.flows peer)
 
+-- why data to a flow have to wait, as those to the peer of an end of its own, if there is one
+abbrev pub flow_restraint_by : Upkeep → Option FlowEnd → Option Restraint
+flow_restraint_by u None = None
+flow_restraint_by u (Some e) = restraint_of u.path.reader (in_flight_of kinds_control e.congestion)
+
+-- by what is known of the application that reads them
+abbrev pub flow_restraint : Served → Peer → Option Restraint
+flow_restraint s peer = flow_restraint_by (upkeep_at s.pace s.upkeeps peer) (end_of_peer s.listening.flows peer)
+
 -- what the rule that is due has an end do, if there is one
 abbrev pub call_by_rule : ℕ → Upkeep → Option FlowEnd → Option FlowCall
 call_by_rule now u found = call_for_rule (due_rule u.path now) u.path.aim found
@@ -141,25 +157,37 @@ abbrev pub WantsMemory : Served → Peer → Deed → Type 0
 WantsMemory s peer (Arrives iss bytes) = (end_of_peer s.listening.flows peer ≡ None) ⊎ (lookup (is_peer peer) s.upkeeps ≡ None)
 WantsMemory s peer (Calls call) = IsSome (end_of_peer s.listening.flows peer) × (lookup (is_peer peer) s.upkeeps ≡ None)
 
--- what is due of this peer, else of another
-abbrev pub due_or : Peer → Option Due → Option (Peer × Due) → Option (Peer × Due)
-due_or peer None later = later
-due_or peer (Some it) later = Some (peer, it)
+-- the first that is due of a peer's flow, by what is kept of it
+abbrev pub due_of_flow : ℕ → Peer → Option Upkeep → Option (Peer × Due)
+due_of_flow now peer None = None
+due_of_flow now peer (Some u) = option_map (λ it. (peer, it)) (first_due u now every_due)
 
--- the first peer of which something is due, and the first that is
+-- the same of the peer that has a ticket
+abbrev pub due_of_ticket : ℕ → Upkeeps → Option Ticket → Option (Peer × Due)
+due_of_ticket now upkeeps None = None
+due_of_ticket now upkeeps (Some ticket) = due_of_flow now ticket.peer (lookup (is_peer ticket.peer) upkeeps)
+
+-- the ticket of the flow of which something is due before it is of any other; of two the first in the order of peers
+abbrev pub soonest : Upkeeps → Option Ticket
+soonest upkeeps = first_in 0 (queue_of upkeep_moment upkeeps)
+
+-- the flow of which something has been due for longest, and the first that is
 abbrev pub first_due_flow : ℕ → Upkeeps → Option (Peer × Due)
-first_due_flow now [] = None
-first_due_flow now (one ∷ rest) = due_or one.0 (first_due one.1 now every_due) (first_due_flow now rest)
+first_due_flow now upkeeps = due_of_ticket now upkeeps (soonest upkeeps)
 
--- The peers of which something is kept are those that have a flow, and stand in order.
+-- The peers of which something is kept are those that have a flow, and are in order.
 pub record IsTied (s : Served) : Type 0 where
   pub same_peers : keys_of s.upkeeps ≡ keys_of s.listening.flows
   pub ordered : AreInOrder s.listening.flows
 
--- how long it is until something is due of any flow, at most so long
-abbrev pub least_wait : ℕ → ℕ → Upkeeps → ℕ
-least_wait now least [] = least
-least_wait now least (one ∷ rest) = least_wait now (min least (unwrap_or (upkeep_wait one.1 now) never)) rest
+-- how long it is until the time of a ticket; never where there is none
+abbrev pub wait_until : ℕ → Option Ticket → ℕ
+wait_until now None = never
+wait_until now (Some ticket) = ticket.time - now
+
+-- how long it is until something is due of any flow
+abbrev pub least_wait : ℕ → Upkeeps → ℕ
+least_wait now upkeeps = wait_until now (soonest upkeeps)
 
 -- The listener has done what is computed of a deed.
 abbrev pub IsDone : Listening → Listening → Peer → Deed → Option Outgoing → CallTold → Type 0

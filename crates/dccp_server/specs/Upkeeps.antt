@@ -1,6 +1,7 @@
 -- What an owner keeps of a flow's end for its sake: its timers, and what is known of its path (own; the end is RFC
 -- 4340's). Both go on as those of an end with its timers do.
-use Rattle.std.specs.Prelude.{ℕ, Bool, true, false, List, [], ◌∷◌, Option, Some, None, if◌then◌else◌}
+use Rattle.std.specs.Prelude.{◌^◌, ◌+◌, ◌==◌, nat_lt, min, ℕ, Bool, true, false, List, [], ◌∷◌, Option, Some, None, if◌then◌else◌}
+use Rattle.std.specs.Option.{option_map}
 use Rattle.ccid_two.specs.Kinds.{Both, kinds_control}
 use Rattle.dccp_endpoint.specs.End.{held_of}
 use Rattle.dccp_listener.specs.Chain.{FlowCall, Opens, Sends, SendsEarly, Fires, Closes, Aborts, Prefers}
@@ -11,11 +12,11 @@ use Rattle.dccp_states.specs.declared.calls.Timer.TheVariants as timers
 use Rattle.feature_lists.specs.declared.features.Feature.TheVariants.{AckRatio}
 use Rattle.feature_lists.specs.declared.features.Place.TheVariants.{Here}
 use Rattle.dccp_states.specs.declared.seen.Seen.TheVariants.{Received}
-use Rattle.dccp_uses.specs.Alarms.{alarm_of, has_run_out, no_alarms, rung_by, sooner, until_first}
+use Rattle.dccp_uses.specs.Alarms.{alarm_of, has_run_out, no_alarms, rung_by}
 use Rattle.dccp_uses.specs.Path.{handshake_timed, path_begins, path_heard, path_waits, sight_of, told_timer}
 use Rattle.dccp_uses.specs.Rules.{alarms_by_rule, path_by_rule}
 use Rattle.dccp_uses.specs.Session.{is_delivery}
-use Rattle.dccp_uses.specs.Timed.{TimedState, alarms_heard, is_taken, path_sent, timers_go_on}
+use Rattle.dccp_uses.specs.Timed.{TimedState, alarms_heard, every_due, is_taken, path_sent, timers_go_on}
 use Rattle.dccp_uses.specs.declared.alarms.Alarm.{Alarm}
 use Rattle.dccp_uses.specs.declared.alarms.Alarms.{Alarms}
 use Rattle.dccp_uses.specs.declared.pace.Pace.{Pace}
@@ -163,6 +164,26 @@ abbrev pub first_due : Upkeep → ℕ → List Due → Option Due
 first_due u now [] = None
 first_due u now (it ∷ rest) = if has_run_out (kept_alarm u it) now then Some it else first_due u now rest
 
--- how long it is until something is due of a flow
-abbrev pub upkeep_wait : Upkeep → ℕ → Option ℕ
-upkeep_wait u now = sooner (until_first u.alarms now) u.path.rules now
+-- a time as far as a clock of 64 bits comes
+abbrev pub on_clock : ℕ → Option ℕ
+on_clock time = if nat_lt time (2 ^ 64) then Some time else None
+
+-- when an alarm runs out: one that waits for nothing has always run out
+abbrev pub alarm_end : Option Alarm → Option ℕ
+alarm_end None = None
+alarm_end (Some alarm) = if alarm.wait == 0 then Some 0 else on_clock (alarm.since + alarm.wait)
+
+-- the earlier of two times
+abbrev pub earlier : Option ℕ → Option ℕ → Option ℕ
+earlier None other = other
+earlier (Some time) None = Some time
+earlier (Some time) (Some other) = Some (min time other)
+
+-- of several the time at which the first is due
+abbrev pub first_end : Upkeep → List Due → Option ℕ
+first_end u [] = None
+first_end u (it ∷ rest) = earlier (alarm_end (kept_alarm u it)) (first_end u rest)
+
+-- the moment at which something is first due of a flow; there is one class
+abbrev pub upkeep_moment : Upkeep → Option (ℕ × ℕ)
+upkeep_moment u = option_map (λ time. (0, time)) (first_end u every_due)

@@ -1,4 +1,4 @@
-//! What an owner knows of a flow beside its end.
+//! What is known about a flow besides its end.
 ghost use Rattle.std.specs.Prelude.{◌≡◌, Ok};
 ghost use Rattle.dccp_listener.specs.Calls.{seen_if};
 ghost use Rattle.dccp_listener.specs.Runs.{Stepped, told_of};
@@ -11,17 +11,19 @@ use dccp_listener::{Heard, NoFlow};
 /// What an owner knows of a flow beside its end. Times are in milliseconds from any beginning (own).
 #[derive(Clone, Copy, Debug, PartialEq, Eq)]
 pub struct Life {
-    /// Where its connection stands.
+    /// The phase of its connection.
     pub phase: Phase,
-    /// Since when it stands there.
+    /// Since when it has been in that phase.
     pub since: u64,
     /// When its end last took a packet.
     pub taken: u64,
     /// The number of the last Sync that its end has sent as an answer.
     pub sync: Option<Seq48>,
+    /// A number that the owner has written beside it; 0 at first.
+    pub user: u64,
 }
 
-/// What became of a packet, as far as it tells of the peer (own).
+/// What a packet shows about the peer (own).
 #[derive(Clone, Copy, Debug, PartialEq, Eq)]
 pub struct Signs {
     /// It was taken.
@@ -52,6 +54,7 @@ impl Life {
             since: 0,
             taken: 0,
             sync: None,
+            user: 0,
         }
     }
 }

@@ -1,43 +1,62 @@
-//! The map from peers to the lives of their flows.
-ghost use Rattle.std.specs.Prelude.{◌≡◌};
+//! The lives of the peers that have a flow.
+ghost use Rattle.std.specs.Prelude.{◌≡◌, ◌↔◌, None, IsErr};
 ghost use Rattle.dccp_listener.specs.Peers.{end_of_peer};
-ghost use Rattle.dccp_server.specs.Lives.{life_of, life_then};
+ghost use Rattle.dccp_server.specs.Lives.{life_of, life_then, user_written};
 ghost use Rattle.dccp_server.specs.Places.{HasPlaceIf};
 
 use crate::life::{Life, Signs, lives_on};
+use crate::register::Register;
 use crate::timed_listener::TimedListener;
-use dccp_listener::Peer;
-use std::collections::BTreeMap;
+use dccp_listener::{NoFlow, Peer};
 
 /// The life of a peer's flow, which has not begun where it has none.
-pub(crate) fn life_of(lives: &BTreeMap<Peer, Life>, peer: Peer) -> Life
-    ensures { result ≡ life_of lives.now.entries peer }
+pub(crate) fn life_of(lives: &Register<Life>, peer: Peer) -> Life
+    ensures { result ≡ life_of lives.now peer }
 {
-    match lives.get(&peer) {
-        Some(life) => *life,
-        None => Life::none(),
-    }
+    lives.of_or(peer, Life::none())
 }
 
 /// The peer's life goes on from this one with its end, and goes with it.
 pub(crate) fn go_on(
     timed: &TimedListener,
-    lives: &mut BTreeMap<Peer, Life>,
+    lives: &mut Register<Life>,
     peer: Peer,
     life: &Life,
     signs: Signs,
     now: u64,
 )
-    requires { HasPlaceIf (end_of_peer timed.now.listening.flows peer) lives.old.entries peer }
-    ensures { lives.new.entries ≡ life_then now lives.old.entries peer (end_of_peer timed.now.listening.flows peer) signs life.now }
+    requires { HasPlaceIf (end_of_peer timed.now.listening.flows peer) lives.old peer }
+    ensures { lives.new ≡ life_then now lives.old peer (end_of_peer timed.now.listening.flows peer) signs life.now }
 {
     match timed.flow(peer) {
         Some(end) => {
-            let life = lives_on(life, end, signs, now);
-            let _ = lives.insert(peer, life);
+            let next = lives_on(life, end, signs, now);
+            lives.put(peer, next);
         }
         None => {
-            let _ = lives.remove(&peer);
+            lives.remove(peer);
         }
+    }
+}
+
+/// The owner writes a number beside a peer's flow. NoFlow comes exactly where the peer has none.
+pub(crate) fn write_user(
+    timed: &TimedListener,
+    lives: &mut Register<Life>,
+    peer: Peer,
+    user: u64,
+) -> Result<(), NoFlow>
+    requires { HasPlaceIf (end_of_peer timed.now.listening.flows peer) lives.old peer }
+    ensures written { lives.new ≡ user_written user lives.old peer (end_of_peer timed.now.listening.flows peer) }
+    ensures no_flow { IsErr result ↔ (end_of_peer timed.now.listening.flows peer ≡ None) }
+{
+    match timed.flow(peer) {
+        Some(_) => {
+            let mut life = life_of(lives, peer);
+            life.user = user;
+            lives.put(peer, life);
+            Ok(())
+        }
+        None => Err(NoFlow),
     }
 }

@@ -10,14 +10,13 @@ ghost use Rattle.dccp_server.specs.Serving.{Does, Follows, doing_frame};
 
 use crate::life::{Life, Signs, signs_answered, signs_heard, signs_in};
 use crate::lives::{go_on, life_of};
-use crate::places::{place_for, take_back};
+use crate::register::Register;
 use crate::rules::{
     Rules, begins_anew, has_more_half_open, makes_way, refuses_last_sync, signs_noted,
 };
 use crate::timed_listener::TimedListener;
 use dccp_endpoint::{NoMemory, Outbox, Seen, Seq48, Timer, UserCall};
 use dccp_listener::{Heard, NoFlow, Peer};
-use std::collections::BTreeMap;
 
 /// What came of a datagram (own).
 #[derive(Clone, Copy, Debug, PartialEq, Eq)]
@@ -42,7 +41,7 @@ pub(crate) struct Judged {
 /// A datagram of a peer is heard, without any rule.
 pub(crate) fn hear(
     timed: &mut TimedListener,
-    lives: &mut BTreeMap<Peer, Life>,
+    lives: &mut Register<Life>,
     peer: Peer,
     iss: Seq48,
     bytes: &[u8],
@@ -50,15 +49,15 @@ pub(crate) fn hear(
     out: &mut Outbox,
 ) -> Result<Heard, NoMemory>
     requires short { length bytes.now ≤ 2044 }
-    requires living { IsLiving (as_room timed.old lives.old.entries) }
-    ensures after { OnOk result (as_room timed.new lives.new.entries ≡ room_does now (as_room timed.old lives.old.entries) peer (Does (Arrives iss bytes.now))) }
+    requires living { IsLiving (as_room timed.old lives.old) }
+    ensures after { OnOk result (as_room timed.new lives.new ≡ room_does now (as_room timed.old lives.old) peer (Does (Arrives iss bytes.now))) }
     ensures sent { OnOk result (out.new ≡ (listens timed.old.listening peer (Arrives iss bytes.now)).frame) }
     ensures told { IfOk result (λ heard. told_of (Ok heard) ≡ (listens timed.old.listening peer (Arrives iss bytes.now)).told) }
-    ensures living { IsLiving (as_room timed.new lives.new.entries) }
-    ensures unchanged { OnErr result (as_room timed.new lives.new.entries ≡ as_room timed.old lives.old.entries) }
+    ensures living { IsLiving (as_room timed.new lives.new) }
+    ensures unchanged { OnErr result (as_room timed.new lives.new ≡ as_room timed.old lives.old) }
 {
     let life = life_of(lives, peer);
-    let had = place_for(lives, peer, Life::none())?;
+    let had = lives.place_for(peer, Life::none())?;
     match timed.arrive(peer, iss, bytes, now, out) {
         Ok(heard) => {
             let signs = signs_noted(bytes, signs_heard(&heard));
@@ -66,7 +65,7 @@ pub(crate) fn hear(
             Ok(heard)
         }
         Err(fault) => {
-            take_back(lives, peer, had);
+            lives.take_back(peer, had);
             Err(fault)
         }
     }
@@ -75,15 +74,15 @@ pub(crate) fn hear(
 /// The owner calls a peer's end, of which each that stands has a life.
 pub(crate) fn ask(
     timed: &mut TimedListener,
-    lives: &mut BTreeMap<Peer, Life>,
+    lives: &mut Register<Life>,
     peer: Peer,
     call: UserCall<'_>,
     now: u64,
     out: &mut Outbox,
 ) -> Result<Seen, NoFlow>
-    requires { IsLiving (as_room timed.old lives.old.entries) }
-    ensures living { IsLiving (as_room timed.new lives.new.entries) }
-    ensures after { as_room timed.new lives.new.entries ≡ room_does now (as_room timed.old lives.old.entries) peer (Does (Calls (asked call.entry))) }
+    requires { IsLiving (as_room timed.old lives.old) }
+    ensures living { IsLiving (as_room timed.new lives.new) }
+    ensures after { as_room timed.new lives.new ≡ room_does now (as_room timed.old lives.old) peer (Does (Calls (asked call.entry))) }
     ensures sent { out.new ≡ (listens timed.old.listening peer (Calls (asked call.entry))).frame }
     ensures told { Stepped (seen_if result) ≡ (listens timed.old.listening peer (Calls (asked call.entry))).told }
 {
@@ -97,14 +96,14 @@ pub(crate) fn ask(
 /// The first rule of a peer's path that is due has its end do something.
 pub(crate) fn follow(
     timed: &mut TimedListener,
-    lives: &mut BTreeMap<Peer, Life>,
+    lives: &mut Register<Life>,
     peer: Peer,
     now: u64,
     out: &mut Outbox,
 )
-    requires { IsLiving (as_room timed.old lives.old.entries) }
-    ensures living { IsLiving (as_room timed.new lives.new.entries) }
-    ensures after { as_room timed.new lives.new.entries ≡ room_does now (as_room timed.old lives.old.entries) peer Follows }
+    requires { IsLiving (as_room timed.old lives.old) }
+    ensures living { IsLiving (as_room timed.new lives.new) }
+    ensures after { as_room timed.new lives.new ≡ room_does now (as_room timed.old lives.old) peer Follows }
     ensures sent { out.new ≡ doing_frame now timed.old peer Follows }
 {
     let life = life_of(lives, peer);
@@ -115,14 +114,14 @@ pub(crate) fn follow(
 /// A peer's flow is forgotten, and nothing is sent.
 pub(crate) fn forget(
     timed: &mut TimedListener,
-    lives: &mut BTreeMap<Peer, Life>,
+    lives: &mut Register<Life>,
     peer: Peer,
     now: u64,
     out: &mut Outbox,
 )
-    requires { IsLiving (as_room timed.old lives.old.entries) }
-    ensures living { IsLiving (as_room timed.new lives.new.entries) }
-    ensures after { as_room timed.new lives.new.entries ≡ forgets now (as_room timed.old lives.old.entries) peer }
+    requires { IsLiving (as_room timed.old lives.old) }
+    ensures living { IsLiving (as_room timed.new lives.new) }
+    ensures after { as_room timed.new lives.new ≡ forgets now (as_room timed.old lives.old) peer }
     ensures sent { out.new ≡ None }
 {
     let _ = ask(timed, lives, peer, UserCall::Abort, now, out);
@@ -140,7 +139,7 @@ pub(crate) fn forget(
 // A datagram that found the listener busy: this flow leaves, and it is heard once more.
 fn make_room(
     timed: &mut TimedListener,
-    lives: &mut BTreeMap<Peer, Life>,
+    lives: &mut Register<Life>,
     leaving: Peer,
     peer: Peer,
     iss: Seq48,
@@ -149,9 +148,9 @@ fn make_room(
     out: &mut Outbox,
 ) -> Result<Heard, NoMemory>
     requires short { length bytes.now ≤ 2044 }
-    requires living { IsLiving (as_room timed.old lives.old.entries) }
-    ensures living { IsLiving (as_room timed.new lives.new.entries) }
-    ensures made { IsRoomMade now (as_room timed.old lives.old.entries) (as_room timed.new lives.new.entries) peer iss bytes.now (Some leaving) out.old out.new result }
+    requires living { IsLiving (as_room timed.old lives.old) }
+    ensures living { IsLiving (as_room timed.new lives.new) }
+    ensures made { IsRoomMade now (as_room timed.old lives.old) (as_room timed.new lives.new) peer iss bytes.now (Some leaving) out.old out.new result }
 {
     forget(timed, lives, leaving, now, out);
     hear(timed, lives, peer, iss, bytes, now, out)
@@ -160,15 +159,15 @@ fn make_room(
 // A peer that has begun anew loses its old flow, and the Sync is not sent.
 fn begin_anew(
     timed: &mut TimedListener,
-    lives: &mut BTreeMap<Peer, Life>,
+    lives: &mut Register<Life>,
     anew: bool,
     peer: Peer,
     now: u64,
     out: &mut Outbox,
 )
-    requires { IsLiving (as_room timed.old lives.old.entries) }
-    ensures living { IsLiving (as_room timed.new lives.new.entries) }
-    ensures room { as_room timed.new lives.new.entries ≡ (if anew then forgets now (as_room timed.old lives.old.entries) peer else as_room timed.old lives.old.entries) }
+    requires { IsLiving (as_room timed.old lives.old) }
+    ensures living { IsLiving (as_room timed.new lives.new) }
+    ensures room { as_room timed.new lives.new ≡ (if anew then forgets now (as_room timed.old lives.old) peer else as_room timed.old lives.old) }
     ensures frame { out.new ≡ (if anew then None else out.old) }
 {
     if anew {
@@ -177,8 +176,8 @@ fn begin_anew(
 }
 
 // Who makes room.
-fn who_leaves(rules: &Rules, half: u16, lives: &BTreeMap<Peer, Life>, now: u64) -> Option<Peer>
-    ensures { result ≡ makes_way rules.now (has_more_half_open half lives.now.entries) now lives.now.entries }
+fn who_leaves(rules: &Rules, half: u16, lives: &Register<Life>, now: u64) -> Option<Peer>
+    ensures { result ≡ makes_way rules.now (has_more_half_open half lives.now) now lives.now }
 {
     let crowded = has_more_half_open(lives, half);
     makes_way(rules, crowded, lives, now)
@@ -187,7 +186,7 @@ fn who_leaves(rules: &Rules, half: u16, lives: &BTreeMap<Peer, Life>, now: u64) 
 // A datagram that was heard is judged by the rules.
 fn judge(
     timed: &mut TimedListener,
-    lives: &mut BTreeMap<Peer, Life>,
+    lives: &mut Register<Life>,
     rules: &Rules,
     half: u16,
     life: &Life,
@@ -199,9 +198,9 @@ fn judge(
     out: &mut Outbox,
 ) -> Judged
     requires short { length bytes.now ≤ 2044 }
-    requires living { IsLiving (as_room timed.old lives.old.entries) }
-    ensures living { IsLiving (as_room timed.new lives.new.entries) }
-    ensures judged { IsJudged now rules.now half life.now (as_room timed.old lives.old.entries) (as_room timed.new lives.new.entries) peer iss bytes.now heard out.old out.new result.heard result.evicted result.anew }
+    requires living { IsLiving (as_room timed.old lives.old) }
+    ensures living { IsLiving (as_room timed.new lives.new) }
+    ensures judged { IsJudged now rules.now half life.now (as_room timed.old lives.old) (as_room timed.new lives.new) peer iss bytes.now heard out.old out.new result.heard result.evicted result.anew }
 {
     match heard {
         Heard::Busy => match who_leaves(rules, half, lives, now) {
@@ -231,7 +230,7 @@ fn judge(
 // A datagram that is heard, by these rules.
 fn hear_by(
     timed: &mut TimedListener,
-    lives: &mut BTreeMap<Peer, Life>,
+    lives: &mut Register<Life>,
     rules: &Rules,
     half: u16,
     peer: Peer,
@@ -241,9 +240,9 @@ fn hear_by(
     out: &mut Outbox,
 ) -> Judged
     requires short { length bytes.now ≤ 2044 }
-    requires living { IsLiving (as_room timed.old lives.old.entries) }
-    ensures living { IsLiving (as_room timed.new lives.new.entries) }
-    ensures heard { HasHeard now rules.now half (as_room timed.old lives.old.entries) (as_room timed.new lives.new.entries) peer iss bytes.now out.new result.heard result.evicted result.anew }
+    requires living { IsLiving (as_room timed.old lives.old) }
+    ensures living { IsLiving (as_room timed.new lives.new) }
+    ensures heard { HasHeard now rules.now half (as_room timed.old lives.old) (as_room timed.new lives.new) peer iss bytes.now out.new result.heard result.evicted result.anew }
 {
     let life = life_of(lives, peer);
     match hear(timed, lives, peer, iss, bytes, now, out) {
@@ -261,16 +260,16 @@ fn hear_by(
 // A datagram is counted. Whether it is to be heard.
 fn count(
     timed: &mut TimedListener,
-    lives: &BTreeMap<Peer, Life>,
+    lives: &Register<Life>,
     rules: &Rules,
     peer: Peer,
     bytes: &[u8],
     now: u64,
 ) -> bool
-    requires { IsLiving (as_room timed.old lives.now.entries) }
-    ensures living { IsLiving (as_room timed.new lives.now.entries) }
-    ensures room { as_room timed.new lives.now.entries ≡ counted_room now rules.now (as_room timed.old lives.now.entries) peer bytes.now }
-    ensures heard { result ≡ is_to_be_heard now rules.now (as_room timed.old lives.now.entries) peer bytes.now }
+    requires { IsLiving (as_room timed.old lives.now) }
+    ensures living { IsLiving (as_room timed.new lives.now) }
+    ensures room { as_room timed.new lives.now ≡ counted_room now rules.now (as_room timed.old lives.now) peer bytes.now }
+    ensures heard { result ≡ is_to_be_heard now rules.now (as_room timed.old lives.now) peer bytes.now }
 {
     if refuses_last_sync(rules, &life_of(lives, peer), bytes) {
         return true;
@@ -302,7 +301,7 @@ fn as_arrival(judged: &Judged, out: &mut Outbox) -> Arrival
 /// A datagram of a peer, by these rules.
 pub(crate) fn arrive(
     timed: &mut TimedListener,
-    lives: &mut BTreeMap<Peer, Life>,
+    lives: &mut Register<Life>,
     rules: &Rules,
     half: u16,
     peer: Peer,
@@ -312,9 +311,9 @@ pub(crate) fn arrive(
     out: &mut Outbox,
 ) -> Arrival
     requires short { length bytes.now ≤ 2044 }
-    requires living { IsLiving (as_room timed.old lives.old.entries) }
-    ensures living { IsLiving (as_room timed.new lives.new.entries) }
-    ensures arrived { HasArrived now rules.now half (as_room timed.old lives.old.entries) (as_room timed.new lives.new.entries) peer iss bytes.now out.new result.heard result.evicted result.anew }
+    requires living { IsLiving (as_room timed.old lives.old) }
+    ensures living { IsLiving (as_room timed.new lives.new) }
+    ensures arrived { HasArrived now rules.now half (as_room timed.old lives.old) (as_room timed.new lives.new) peer iss bytes.now out.new result.heard result.evicted result.anew }
 {
     if !count(timed, lives, rules, peer, bytes, now) {
         out.clear();

@@ -1,15 +1,16 @@
-//! By which rules a server's owner gives flows up and makes room.
-ghost use Rattle.std.specs.Prelude.{◌≡◌, None, if◌then◌else◌};
-ghost use Rattle.std.specs.Option.{option_map};
+//! The rules by which a server gives flows up and makes room.
+ghost use Rattle.std.specs.Prelude.{◌≡◌};
 ghost use Rattle.dccp_packets.specs.Grammar.{decoded};
-ghost use Rattle.dccp_server.specs.Rules.{answers_to_strangers, begins_anew, first_given_up, has_more_half_open, is_half_open, is_none_left, is_same_number, makes_way, least_left, life_left, limit_in, lingers, longer_of, longest, may_leave, refused_number, refuses_last_sync, signs_noted, sync_refused};
+ghost use Rattle.dccp_server.specs.Rules.{answers_to_strangers, begins_anew, first_given_up, has_more_half_open, holder, is_none_left, is_same_number, least_in, least_left, limit_in, longest, makes_way, over_in, refused_number, refuses_last_sync, signs_noted, stage_left, sync_refused};
 
 use crate::life::{Life, Signs};
-use dccp_endpoint::{Phase, Seq48};
+use crate::queue::Ticket;
+use crate::register::Register;
+use crate::stage::{Stage, class_of};
+use dccp_endpoint::Seq48;
 use dccp_listener::Peer;
 use dccp_packets::{Kind, decode};
 use path_rules::{Limit, resets_to_strangers};
-use std::collections::BTreeMap;
 
 /// A hundred answers a second to all strangers together (own).
 pub fn answers_to_strangers() -> Limit
@@ -29,11 +30,11 @@ pub struct Rules {
     pub makes_room: bool,
     /// Whether a peer that begins anew from its port ends its old flow.
     pub ends_old_flows: bool,
-    /// How long a flow may stand in RESPOND (RFC 4340, section 8.1.3).
+    /// How long a flow may be in RESPOND (RFC 4340, section 8.1.3).
     pub respond: Option<u64>,
     /// The same where more than half of the table is in RESPOND.
     pub crowded: Option<u64>,
-    /// How long a flow may stand in CLOSEREQ and in CLOSING.
+    /// How long a flow may be in CLOSEREQ and in CLOSING.
     pub closing: Option<u64>,
     /// How long a flow in OPEN may take no packet.
     pub idle: Option<u64>,
@@ -81,188 +82,157 @@ impl Rules {
     }
 }
 
-/// Which flows may leave to make room (own).
-#[derive(Clone, Copy, Debug, PartialEq, Eq)]
-pub enum Leaving {
-    /// Those in TIMEWAIT.
-    Lingering,
-    /// Those in RESPOND over their time.
-    HalfOpen,
-}
-
-fn is_half_open(phase: Phase) -> bool
-    ensures { result ≡ is_half_open phase }
-{
-    matches!(phase, Phase::Respond)
-}
-
-fn lingers(phase: Phase) -> bool
-    ensures { result ≡ lingers phase }
-{
-    matches!(phase, Phase::TimeWait)
-}
-
 /// Whether more than so many flows are half open.
-pub(crate) fn has_more_half_open(lives: &BTreeMap<Peer, Life>, count: u16) -> bool
-    ensures { result ≡ has_more_half_open count lives.now.entries }
+pub(crate) fn has_more_half_open(lives: &Register<Life>, count: u16) -> bool
+    ensures { result ≡ has_more_half_open count lives.now }
 {
-    let mut left = count;
-    for (_, life) in lives.iter() {
-        if is_half_open(life.phase) {
-            if left == 0 {
-                return true;
+    usize::from(count) < lives.count_in(class_of(Stage::HalfOpen))
+}
+
+// The flow that stands longest in a stage.
+fn longest(lives: &Register<Life>, stage: Stage) -> Option<Ticket>
+    ensures { result ≡ longest stage lives.now }
+{
+    lives.first_in(class_of(stage))
+}
+
+// For how long a flow may be in a stage.
+fn limit_in(rules: &Rules, crowded: bool, stage: Stage) -> Option<u64>
+    ensures { result ≡ limit_in rules.now crowded stage }
+{
+    match stage {
+        Stage::HalfOpen => {
+            if crowded {
+                rules.crowded
+            } else {
+                rules.respond
             }
-            left -= 1;
         }
+        Stage::Live => rules.idle,
+        Stage::Ending => rules.closing,
+        Stage::Lingering => None,
     }
-    false
 }
 
-fn after(since: u64, wait: Option<u64>) -> Option<(u64, u64)>
-    ensures { result ≡ option_map (λ w. (since, w)) wait }
+// How long the flow with this ticket may still be in a stage.
+fn stage_left(
+    rules: &Rules,
+    crowded: bool,
+    stage: Stage,
+    ticket: &Option<Ticket>,
+    now: u64,
+) -> Option<u64>
+    ensures { result ≡ stage_left rules.now crowded now stage ticket.now }
 {
-    match wait {
-        Some(wait) => Some((since, wait)),
+    let Some(ticket) = ticket else {
+        return None;
+    };
+    match limit_in(rules, crowded, stage) {
+        Some(limit) => Some(limit.saturating_sub(now.saturating_sub(ticket.time))),
         None => None,
     }
 }
 
-fn respond_wait(rules: &Rules, crowded: bool) -> Option<u64>
-    ensures { result ≡ (if crowded then rules.now.crowded else rules.now.respond) }
+fn is_none_left(left: Option<u64>) -> bool
+    ensures { result ≡ is_none_left left }
 {
-    if crowded {
-        rules.crowded
-    } else {
-        rules.respond
-    }
-}
-
-fn limit_in(rules: &Rules, crowded: bool, life: &Life) -> Option<(u64, u64)>
-    ensures { result ≡ limit_in rules.now crowded life.now life.now.phase }
-{
-    match life.phase {
-        Phase::Respond => after(life.since, respond_wait(rules, crowded)),
-        Phase::PartOpen | Phase::Open => after(life.taken, rules.idle),
-        Phase::CloseReq | Phase::Closing => after(life.since, rules.closing),
-        Phase::Closed | Phase::Listen | Phase::Request | Phase::TimeWait => None,
-    }
-}
-
-fn life_left(rules: &Rules, crowded: bool, life: &Life, now: u64) -> Option<u64>
-    ensures { result ≡ life_left rules.now crowded now life.now }
-{
-    match limit_in(rules, crowded, life) {
-        Some((since, wait)) => Some(wait.saturating_sub(now.saturating_sub(since))),
-        None => None,
-    }
-}
-
-fn is_over(rules: &Rules, crowded: bool, life: &Life, now: u64) -> bool
-    ensures { result ≡ is_none_left (life_left rules.now crowded now life.now) }
-{
-    match life_left(rules, crowded, life, now) {
+    match left {
         Some(left) => left == 0,
         None => false,
     }
 }
 
-/// The first flow, in the order of peers, that is given up.
+// The flow that stands longest in a stage, where it may no longer.
+fn over_in(
+    rules: &Rules,
+    crowded: bool,
+    stage: Stage,
+    lives: &Register<Life>,
+    now: u64,
+) -> Option<Ticket>
+    ensures { result ≡ over_in rules.now crowded now stage lives.now }
+{
+    let ticket = longest(lives, stage);
+    if is_none_left(stage_left(rules, crowded, stage, &ticket, now)) {
+        return ticket;
+    }
+    None
+}
+
+fn holder(ticket: Option<Ticket>) -> Option<Peer>
+    ensures { result ≡ holder ticket }
+{
+    match ticket {
+        Some(ticket) => Some(ticket.peer),
+        None => None,
+    }
+}
+
+/// Which flow is given up first, if one is.
 pub(crate) fn first_given_up(
     rules: &Rules,
     crowded: bool,
-    lives: &BTreeMap<Peer, Life>,
+    lives: &Register<Life>,
     now: u64,
 ) -> Option<Peer>
-    ensures { result ≡ first_given_up rules.now crowded now lives.now.entries }
+    ensures { result ≡ first_given_up rules.now crowded now lives.now }
 {
-    for (peer, life) in lives.iter() {
-        if is_over(rules, crowded, life, now) {
-            return Some(*peer);
-        }
+    if let Some(ticket) = over_in(rules, crowded, Stage::HalfOpen, lives, now) {
+        return Some(ticket.peer);
     }
-    None
+    if let Some(ticket) = over_in(rules, crowded, Stage::Live, lives, now) {
+        return Some(ticket.peer);
+    }
+    holder(over_in(rules, crowded, Stage::Ending, lives, now))
+}
+
+// What is left in a stage, at most so long.
+fn least_in(
+    rules: &Rules,
+    crowded: bool,
+    lives: &Register<Life>,
+    now: u64,
+    stage: Stage,
+    least: u64,
+) -> u64
+    ensures { result ≡ least_in rules.now crowded now lives.now stage least }
+{
+    let ticket = longest(lives, stage);
+    let left = stage_left(rules, crowded, stage, &ticket, now);
+    least.min(left.unwrap_or(least))
 }
 
 /// How many milliseconds it is until the first flow is given up, at most `most`.
 pub(crate) fn least_left(
     rules: &Rules,
     crowded: bool,
-    lives: &BTreeMap<Peer, Life>,
+    lives: &Register<Life>,
     now: u64,
     most: u64,
 ) -> u64
-    ensures { result ≡ least_left rules.now crowded now most lives.now.entries }
+    ensures { result ≡ least_left rules.now crowded now most lives.now }
 {
-    let mut least = most;
-    for (_, life) in lives.iter() {
-        least = least.min(life_left(rules, crowded, life, now).unwrap_or(least));
-    }
-    least
+    let least = least_in(rules, crowded, lives, now, Stage::HalfOpen, most);
+    let least = least_in(rules, crowded, lives, now, Stage::Live, least);
+    least_in(rules, crowded, lives, now, Stage::Ending, least)
 }
 
-fn may_leave(rules: &Rules, crowded: bool, leaving: Leaving, life: &Life, now: u64) -> bool
-    ensures { result ≡ may_leave rules.now crowded now leaving life.now }
-{
-    match leaving {
-        Leaving::Lingering => lingers(life.phase),
-        Leaving::HalfOpen => is_half_open(life.phase) && is_over(rules, crowded, life, now),
-    }
-}
-
-fn longer_of(may: bool, best: Option<(Peer, u64)>, peer: Peer, since: u64) -> Option<(Peer, u64)>
-    ensures { result ≡ longer_of may best peer since }
-{
-    if !may {
-        return best;
-    }
-    match best {
-        None => Some((peer, since)),
-        Some((_, longest)) => {
-            if since < longest {
-                Some((peer, since))
-            } else {
-                best
-            }
-        }
-    }
-}
-
-fn longest(
-    rules: &Rules,
-    crowded: bool,
-    leaving: Leaving,
-    lives: &BTreeMap<Peer, Life>,
-    now: u64,
-) -> Option<(Peer, u64)>
-    ensures { result ≡ longest rules.now crowded now leaving None lives.now.entries }
-{
-    let mut best = None;
-    for (peer, life) in lives.iter() {
-        let may = may_leave(rules, crowded, leaving, life, now);
-        best = longer_of(may, best, *peer, life.since);
-    }
-    best
-}
-
-/// Who makes room, if anybody does.
+/// The flow that makes room, if there is one.
 pub(crate) fn makes_way(
     rules: &Rules,
     crowded: bool,
-    lives: &BTreeMap<Peer, Life>,
+    lives: &Register<Life>,
     now: u64,
 ) -> Option<Peer>
-    ensures { result ≡ makes_way rules.now crowded now lives.now.entries }
+    ensures { result ≡ makes_way rules.now crowded now lives.now }
 {
     if !rules.makes_room {
         return None;
     }
-    if let Some((peer, _)) = longest(rules, crowded, Leaving::Lingering, lives, now) {
-        return Some(peer);
+    if let Some(ticket) = longest(lives, Stage::Lingering) {
+        return Some(ticket.peer);
     }
-    match longest(rules, crowded, Leaving::HalfOpen, lives, now) {
-        Some((peer, _)) => Some(peer),
-        None => None,
-    }
+    holder(over_in(rules, crowded, Stage::HalfOpen, lives, now))
 }
 
 // The number that a Reset for a Sync acknowledges.
@@ -309,7 +279,7 @@ fn is_same_number(a: Option<Seq48>, b: Option<Seq48>) -> bool
 pub(crate) fn refuses_last_sync(rules: &Rules, life: &Life, bytes: &[u8]) -> bool
     ensures { result ≡ refuses_last_sync rules.now life.now bytes.now }
 {
-    rules.ends_old_flows && is_same_number(life.sync, sync_refused(bytes))
+    rules.ends_old_flows && life.sync.is_some() && is_same_number(life.sync, sync_refused(bytes))
 }
 
 /// Whether the peer has begun anew, by its life before the datagram and what the datagram told.

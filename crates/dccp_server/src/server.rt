@@ -1,36 +1,48 @@
 //! A server in the room of its owner.
 ghost use Rattle.std.specs.Prelude.{◌≡◌};
 
+use crate::asking::{asking_of, opening_of, route_of};
 use crate::duty::Duty;
 use crate::life::Life;
-use crate::lives::life_of;
+use crate::lives::{life_of, write_user};
+use crate::meeting::{
+    CookieUse, Entry, Meeting, Way, entry_by, greet_with_cookie, hurried, is_ever_in_use,
+    is_half_open, is_in_use, leave_out, rekeyed,
+};
+use crate::refusal::refuse_stranger;
+use crate::register::Register;
 use crate::room::{Arrival, arrive, ask, follow, forget};
-use crate::rules::{Rules, first_given_up, has_more_half_open, least_left};
-use crate::strangers::{Strangers, spare};
+use crate::rules::{
+    Rules, first_given_up, has_more_half_open, least_left, makes_way, refuses_last_sync,
+};
+use crate::strangers::{Strangers, answer_spared, spare};
 use crate::timed_listener::TimedListener;
 use crate::upkeep::Upkeep;
 use ccid_two::Kinds;
 use dccp_endpoint::{Endpoint, Outbox, Seen, Seq48, UserCall};
 use dccp_listener::{ListenConfig, NoFlow, Peer};
-use dccp_uses::{Due, Pace, due_rule};
+use dccp_packets::Frame;
+use dccp_uses::{Due, Pace, Restraint, due_rule, is_taken, restraint_of};
+use init_cookies::{CookieKeys, Opening, put_request};
 use std::alloc::Global;
-use std::collections::BTreeMap;
 use std::marker::Model;
 
-/// A server in the room of its owner: a listener with the timers of its flows and the rules of their paths, which makes
-/// room and gives flows up by its own rules. Each call takes the time, in milliseconds from any beginning, and leaves at
-/// most one frame in the Outbox, which goes to the peer of the call.
+/// A server: a listener with the timers of its flows and the rules of their paths, which makes room and gives flows up
+/// by its own rules. Each call takes the time, in milliseconds from any beginning, and leaves at most one frame in the
+/// Outbox, which goes to the peer of the call.
 ///
-/// Datagrams go into `arrive`, and the owner's calls into `ask`. As soon as `until_first` has gone by, which has to be
-/// asked after every other call, `tick` is called until there is nothing to do. `forget` takes a flow away at once,
-/// whatever its phase.
+/// Datagrams go into `arrive`, and the owner's calls into `ask`. Call `tick` once `until_first` has passed, until there
+/// is nothing to do; ask `until_first` again after every other call. `forget` removes a flow at once, whatever its
+/// phase.
 #[derive(Drop)]
 pub struct Server {
     timed: TimedListener,
-    lives: BTreeMap<Peer, Life>,
+    lives: Register<Life>,
     rules: Rules,
     half: u16,
     strangers: Strangers,
+    cookies: CookieUse,
+    keys: Option<CookieKeys>,
 }
 
 impl Model for Server {
@@ -38,13 +50,14 @@ impl Model for Server {
 
     ghost Value = { Ruled };
 
-    ghost view = { λ s. record { room = as_room s.timed s.lives.entries; rules = s.rules; half = s.half; strangers = s.strangers } };
+    ghost view = { λ s. record { room = as_room s.timed s.lives; rules = s.rules; half = s.half; strangers = s.strangers; cookies = s.cookies; keys = s.keys } };
 
-    ghost invariant = { λ s. IsLiving (as_room s.timed s.lives.entries) };
+    ghost invariant = { λ s. IsLiving (as_room s.timed s.lives) };
 }
 
 impl Server {
-    ghost use Rattle.std.specs.Prelude.{◌≡◌, ◌≤◌, MatchOption, None, Some, is_some, length, slice_get};
+    ghost use Rattle.std.specs.Option.{option_map};
+    ghost use Rattle.std.specs.Prelude.{◌≡◌, ◌≤◌, ◌↔◌, IfOk, IsErr, MatchOption, OnErr, None, Some, if◌then◌else◌, is_some, length, slice_get, true};
     ghost use Rattle.std.specs.Map.{keys_of};
     ghost use Rattle.dccp_listener.specs.Calls.{seen_if};
     ghost use Rattle.dccp_listener.specs.Chain.{Calls, asked};
@@ -52,9 +65,14 @@ impl Server {
     ghost use Rattle.dccp_listener.specs.Peers.{end_of_peer};
     ghost use Rattle.dccp_listener.specs.Runs.{Stepped};
     ghost use Rattle.dccp_listener.specs.Standing.{IsListening};
+    ghost use Rattle.dccp_listener.specs.Chain.{config_for};
+    ghost use Rattle.dccp_listener.specs.Listens.{is_table_full};
+    ghost use Rattle.dccp_packets.specs.Grammar.{decoded};
     ghost use Rattle.dccp_server.specs.Lives.{life_of};
-    ghost use Rattle.dccp_server.specs.Rooms.{HasArrived, IsServed, forgets, duty_done, duty_due, duty_frame, duty_in, room_does, room_waits, ruled_begins, who_is_over};
-    ghost use Rattle.dccp_server.specs.Serving.{Does, Follows, doing_frame, upkeep_at};
+    ghost use Rattle.dccp_server.specs.Meeting.{IsMet, cleared, entry_met, entry_without, flow_at, heard_again, hurrying, is_unproved, maker_of, may_meet, needs_no_flow, received_hurrying, rekeyed, reopened, request_at, returned, unreceived_hurrying, unreopened, user_kept};
+    ghost use Rattle.dccp_server.specs.Refusals.{flow_asked, refused_frame, refused_server, reset_for};
+    ghost use Rattle.dccp_server.specs.Rooms.{HasArrived, IsServed, forgets, is_to_be_heard, received_at, duty_done, duty_due, duty_frame, duty_in, room_does, room_waits, ruled_begins, who_is_over, who_leaves, with_user};
+    ghost use Rattle.dccp_server.specs.Serving.{Does, Follows, doing_frame, flow_restraint, upkeep_at};
 
     /// A server without flows, whose ends make the offers of the lists, follow the rules of `pace` on their paths, and are
     /// kept by the rules of `rules`. It takes no memory.
@@ -65,10 +83,12 @@ impl Server {
         let half = config.most / 2;
         Server {
             timed: TimedListener::new(alloc, config, pace),
-            lives: BTreeMap::new(alloc),
+            lives: Register::new(alloc),
             rules,
             half,
             strangers: Strangers::none_answered(),
+            cookies: CookieUse::InACrowd,
+            keys: None,
         }
     }
 
@@ -107,13 +127,15 @@ impl Server {
         arrival
     }
 
-    // The same, but that the frame for a stranger may be one too many.
+    // The same, except that the frame for a stranger may be one too many.
     fn come(&mut self, peer: Peer, iss: Seq48, bytes: &[u8], now: u64, out: &mut Outbox) -> Arrival
         requires { length bytes.now ≤ 2044 }
         ensures arrived { HasArrived now self.old.rules self.old.half self.old.room self.new.room peer iss bytes.now out.new result.heard result.evicted result.anew }
         ensures rules { self.new.rules ≡ self.old.rules }
         ensures half { self.new.half ≡ self.old.half }
         ensures strangers { self.new.strangers ≡ self.old.strangers }
+        ensures cookies { self.new.cookies ≡ self.old.cookies }
+        ensures keys { self.new.keys ≡ self.old.keys }
     {
         arrive(
             &mut self.timed,
@@ -128,7 +150,245 @@ impl Server {
         )
     }
 
-    /// The owner calls a peer's end: `Listener::ask`. NoFlow comes exactly where the peer has none. It takes no memory.
+    // What flow the peer had goes, since its cookie was good.
+    fn clear(&mut self, peer: Peer, now: u64, out: &mut Outbox)
+        ensures { self.new ≡ cleared now self.old peer }
+    {
+        if self.has_flow(peer) {
+            self.forget(peer, now, out);
+        }
+    }
+
+    // Whether nothing shows yet that the peer is where its datagrams say.
+    fn is_unproved(&self, peer: Peer) -> bool
+        ensures { result ≡ is_unproved (flow_at self.now peer) }
+    {
+        match self.timed.flow(peer) {
+            Some(end) => is_half_open(end.phase()),
+            None => true,
+        }
+    }
+
+    /// What a datagram brings back.
+    pub(crate) fn returned(&self, peer: Peer, bytes: &[u8], now: u64) -> Option<Opening>
+        requires { length bytes.now ≤ 2044 }
+        ensures { result ≡ returned now self.now peer bytes.now }
+    {
+        let Some(keys) = &self.keys else {
+            return None;
+        };
+        if !self.is_unproved(peer) {
+            return None;
+        }
+        opening_of(now, keys, &route_of(self.timed.config(), peer), bytes)
+    }
+
+    // Whether a Request of the peer needs no flow.
+    fn needs_no_flow(&self, peer: Peer, bytes: &[u8], now: u64) -> bool
+        ensures { result ≡ needs_no_flow now self.now peer bytes.now (flow_at self.now peer) }
+    {
+        match self.timed.flow(peer) {
+            Some(end) => {
+                is_ever_in_use(self.cookies)
+                    && (is_half_open(end.phase()) && !self.would_hear(peer, bytes, now))
+            }
+            None => is_in_use(self.cookies, has_more_half_open(&self.lives, self.half)),
+        }
+    }
+
+    // Whether a datagram of a flow's peer would be heard.
+    fn would_hear(&self, peer: Peer, bytes: &[u8], now: u64) -> bool
+        ensures { result ≡ is_to_be_heard now self.now.rules self.now.room peer bytes.now }
+    {
+        if refuses_last_sync(&self.rules, &life_of(&self.lives, peer), bytes) {
+            return true;
+        }
+        self.timed.would_admit(peer, bytes, now)
+    }
+
+    // What a datagram is that brings nothing back.
+    fn entry_without(&self, peer: Peer, iss: Seq48, bytes: &[u8], now: u64) -> Entry
+        requires { length bytes.now ≤ 2044 }
+        ensures { result ≡ entry_without now self.now peer iss bytes.now }
+    {
+        if self.keys.is_some() && self.needs_no_flow(peer, bytes, now) {
+            let route = route_of(self.timed.config(), peer);
+            return entry_by(asking_of(now, iss, &route, bytes));
+        }
+        Entry::Plain
+    }
+
+    // What a datagram is.
+    fn entry_met(&self, peer: Peer, iss: Seq48, bytes: &[u8], now: u64) -> Entry
+        requires { length bytes.now ≤ 2044 }
+        ensures { result ≡ entry_met now self.now peer iss bytes.now }
+    {
+        match self.returned(peer, bytes, now) {
+            Some(opening) => Entry::Returns(opening),
+            None => self.entry_without(peer, iss, bytes, now),
+        }
+    }
+
+    // The Request of an opening arrives again.
+    fn hear_again(&mut self, peer: Peer, opening: &Opening, now: u64, out: &mut Outbox) -> Arrival
+        ensures opened { IfOk result.heard (λ _. self.new ≡ heard_again now self.old peer opening.now) }
+        ensures evicted { IfOk result.heard (λ _. result.evicted ≡ maker_of now self.old peer opening.now) }
+        ensures unopened { OnErr result.heard (self.new ≡ unreopened now self.old peer opening.now result.evicted) }
+    {
+        let mut request = Frame::new();
+        put_request(&route_of(self.timed.config(), peer), opening, &mut request);
+        self.clear(peer, now, out);
+        self.arrive_hurrying(peer, opening.iss(), request.bytes(), opening.time(), out)
+    }
+
+    // A Request arrives while half-open flows are over their time at once.
+    fn arrive_hurrying(
+        &mut self,
+        peer: Peer,
+        iss: Seq48,
+        bytes: &[u8],
+        now: u64,
+        out: &mut Outbox,
+    ) -> Arrival
+        requires { length bytes.now ≤ 2044 }
+        ensures opened { IfOk result.heard (λ _. self.new ≡ received_hurrying now self.old peer iss bytes.now) }
+        ensures evicted { IfOk result.heard (λ _. result.evicted ≡ (received_at now (hurrying self.old) peer iss bytes.now).evicted) }
+        ensures unopened { OnErr result.heard (self.new ≡ unreceived_hurrying now self.old peer iss bytes.now result.evicted) }
+    {
+        let rules = self.rules;
+        self.set_rules(hurried(&rules));
+        let arrival = self.arrive(peer, iss, bytes, now, out);
+        self.set_rules(rules);
+        arrival
+    }
+
+    // The same, and the number beside a flow that was half open stays.
+    fn reopen(&mut self, peer: Peer, opening: &Opening, now: u64, out: &mut Outbox) -> Arrival
+        ensures opened { IfOk result.heard (λ _. self.new ≡ reopened now self.old peer opening.now) }
+        ensures evicted { IfOk result.heard (λ _. result.evicted ≡ maker_of now self.old peer opening.now) }
+        ensures unopened { OnErr result.heard (self.new ≡ unreopened now self.old peer opening.now result.evicted) }
+    {
+        let user = self.life(peer).user;
+        let arrival = self.hear_again(peer, opening, now, out);
+        if arrival.heard.is_ok() {
+            self.write_user(peer, user);
+        }
+        arrival
+    }
+
+    // Writes a number beside a peer's flow, if it has one.
+    fn write_user(&mut self, peer: Peer, user: u64)
+        ensures { self.new ≡ user_kept user peer self.old }
+    {
+        let _ = self.set_user(peer, user);
+    }
+
+    /// A datagram of a peer has arrived, at most 2,044 bytes: `arrive`, with Init Cookies where the rules say so and there
+    /// is a key (RFC 4340, section 8.1.4). A Request that needs no flow is answered with a cookie, or left out where its
+    /// options are too long for one. A packet that brings a good cookie back opens its flow and is served.
+    pub fn meet(
+        &mut self,
+        peer: Peer,
+        iss: Seq48,
+        bytes: &[u8],
+        now: u64,
+        out: &mut Outbox,
+    ) -> Meeting
+        requires { length bytes.now ≤ 2044 }
+        ensures met { IsMet now self.old self.new peer iss bytes.now out.new result.arrival.heard result.arrival.evicted result.arrival.anew result.made_room result.way }
+        ensures way { may_meet (entry_met now self.old peer iss bytes.now) result.way ≡ true }
+    {
+        match self.entry_met(peer, iss, bytes, now) {
+            Entry::Plain => self.serve(peer, iss, bytes, now, out),
+            Entry::TooLong => leave_out(Ok(None), out),
+            Entry::Asks(opening) => self.greet(peer, &opening, iss, bytes, now, out),
+            Entry::Returns(opening) => self.serve_returned(peer, &opening, iss, bytes, now, out),
+        }
+    }
+
+    /// It is served as without cookies.
+    pub(crate) fn serve(
+        &mut self,
+        peer: Peer,
+        iss: Seq48,
+        bytes: &[u8],
+        now: u64,
+        out: &mut Outbox,
+    ) -> Meeting
+        requires { length bytes.now ≤ 2044 }
+        ensures served { IsServed now self.old self.new peer iss bytes.now out.new result.arrival.heard result.arrival.evicted result.arrival.anew }
+        ensures nobody { result.made_room ≡ None }
+        ensures plain { result.way ≡ Way.Plain }
+    {
+        let arrival = self.arrive(peer, iss, bytes, now, out);
+        Meeting {
+            arrival,
+            way: Way::Plain,
+            made_room: None,
+        }
+    }
+
+    // A Request that needs no flow: it is greeted, where a fresh end takes it, and else served.
+    fn greet(
+        &mut self,
+        peer: Peer,
+        opening: &Opening,
+        iss: Seq48,
+        bytes: &[u8],
+        now: u64,
+        out: &mut Outbox,
+    ) -> Meeting
+        requires short { length bytes.now ≤ 2044 }
+        requires asks { entry_met now self.old peer iss bytes.now ≡ Entry.Asks opening.now }
+        ensures met { IsMet now self.old self.new peer iss bytes.now out.new result.arrival.heard result.arrival.evicted result.arrival.anew result.made_room result.way }
+        ensures way { may_meet (Entry.Asks opening.now) result.way ≡ true }
+    {
+        let Some(keys) = self.keys else {
+            return self.serve(peer, iss, bytes, now, out);
+        };
+        match greet_with_cookie(&self.timed, &keys, peer, opening, out) {
+            Ok(outcome) => {
+                if is_taken(&outcome) {
+                    Meeting::greeted(outcome)
+                } else {
+                    self.serve(peer, iss, bytes, now, out)
+                }
+            }
+            Err(fault) => leave_out(Err(fault), out),
+        }
+    }
+
+    // A packet that brings an opening back: its flow is opened, and hears it.
+    fn serve_returned(
+        &mut self,
+        peer: Peer,
+        opening: &Opening,
+        iss: Seq48,
+        bytes: &[u8],
+        now: u64,
+        out: &mut Outbox,
+    ) -> Meeting
+        requires short { length bytes.now ≤ 2044 }
+        requires returns { entry_met now self.old peer iss bytes.now ≡ Entry.Returns opening.now }
+        ensures met { IsMet now self.old self.new peer iss bytes.now out.new result.arrival.heard result.arrival.evicted result.arrival.anew result.made_room result.way }
+        ensures way { may_meet (Entry.Returns opening.now) result.way ≡ true }
+    {
+        let first = self.reopen(peer, opening, now, out);
+        if let Err(fault) = first.heard {
+            out.clear();
+            return Meeting::unopened(Err(fault), first.evicted);
+        }
+        if !self.has_flow(peer) {
+            out.clear();
+            return Meeting::unopened(Ok(None), first.evicted);
+        }
+        let mut meeting = self.serve(peer, iss, bytes, now, out);
+        meeting.way = Way::Reopened;
+        meeting.made_room = first.evicted;
+        meeting
+    }
+
+    /// Calls a peer's end: `Listener::ask`. NoFlow exactly if the peer has no flow. It takes no memory.
     pub fn ask(
         &mut self,
         peer: Peer,
@@ -143,7 +403,7 @@ impl Server {
         ask(&mut self.timed, &mut self.lives, peer, call, now, out)
     }
 
-    /// A peer's flow goes at once, whatever its phase, and nothing is sent.
+    /// Ends a peer's flow at once, whatever its phase, and sends nothing.
     pub fn forget(&mut self, peer: Peer, now: u64, out: &mut Outbox)
         ensures after { self.new ≡ record self.old { room = forgets now self.old.room peer } }
         ensures sent { out.new ≡ None }
@@ -151,7 +411,7 @@ impl Server {
         forget(&mut self.timed, &mut self.lives, peer, now, out);
     }
 
-    // The first peer, in the order of peers, whose flow is given up.
+    // Whose flow is given up first.
     fn over(&self, now: u64) -> Option<Peer>
         ensures { result ≡ who_is_over now self.now.rules self.now.half self.now.room }
     {
@@ -169,9 +429,9 @@ impl Server {
         }
     }
 
-    /// What there is to do first: of the first peer, in the order of peers, of which something is due, the first that is: a
-    /// timer is told, or a rule of its path has its end do something; or else the first flow that has stood or been silent
-    /// for too long is given up.
+    /// What is to be done first. It is the first thing due of the flow that has waited longest: a timer, or a rule of
+    /// its path. If nothing is due, a flow that has been in its phase or silent for too long is given up: the longest
+    /// half open, else the longest silent, else the longest in CLOSEREQ or CLOSING.
     pub fn duty(&self, now: u64) -> Option<Duty>
         ensures { result ≡ duty_in now self.now.rules self.now.half self.now.room }
     {
@@ -238,7 +498,7 @@ impl Server {
         self.timed.flow(peer)
     }
 
-    /// How many flows stand.
+    /// How many flows there are.
     pub fn flows(&self) -> u16
         ensures { result ≡ length self.now.room.served.listening.flows }
     {
@@ -259,6 +519,17 @@ impl Server {
         self.timed.upkeep(peer)
     }
 
+    /// Why data to a peer have to wait for the application that reads them, if they have to (RFC 4340, sections 11.6
+    /// and 11.7); None also if it has no flow. Ask this before each send: `ask` does not.
+    pub fn restraint(&self, peer: Peer) -> Option<Restraint>
+        ensures { result ≡ flow_restraint self.now.room.served peer }
+    {
+        match self.timed.flow(peer) {
+            Some(end) => restraint_of(&self.timed.upkeep(peer).path.reader, end.in_flight()),
+            None => None,
+        }
+    }
+
     /// What is known of a peer's flow beside its end; a life that has not begun where it has none.
     pub fn life(&self, peer: Peer) -> Life
         ensures { result ≡ life_of self.now.room.lives peer }
@@ -266,17 +537,118 @@ impl Server {
         life_of(&self.lives, peer)
     }
 
-    /// The rules by which it goes.
+    /// The rules.
     pub fn rules(&self) -> Rules
         ensures { result ≡ self.now.rules }
     {
         self.rules
     }
 
-    /// It goes by these rules from now on.
+    /// Sets the rules.
     pub fn set_rules(&mut self, rules: Rules)
         ensures { self.new ≡ record self.old { rules = rules } }
     {
         self.rules = rules;
+    }
+    /// Whether the table is full.
+    pub fn is_full(&self) -> bool
+        ensures { result ≡ is_table_full self.now.room.served.listening }
+    {
+        self.timed.config().most <= self.timed.flows()
+    }
+
+    /// The Service Code of the flow that a datagram of at most 2,044 bytes would open, so that the owner may ask himself
+    /// whether he wants it; None where it opens none, or the peer has one. Nothing changes.
+    pub fn asks(&self, peer: Peer, bytes: &[u8]) -> Option<u32>
+        requires { length bytes.now ≤ 2044 }
+        ensures { result ≡ flow_asked self.now.room.served.listening peer bytes.now }
+    {
+        if self.has_flow(peer) {
+            return None;
+        }
+        let mut out = Outbox::new();
+        refuse_stranger(self.timed.config(), peer, bytes, 0, &mut out)
+    }
+
+    // Refuses a datagram of a peer that has no flow. Whether it would have opened one.
+    fn turn_away(&self, peer: Peer, bytes: &[u8], code: u8, out: &mut Outbox) -> bool
+        requires { length bytes.now ≤ 2044 }
+        ensures opens { result ≡ is_some (flow_asked self.now.room.served.listening peer bytes.now) }
+        ensures sent { out.new ≡ (if result then reset_for code (config_for self.now.room.served.listening.config peer 0 bytes.now) (decoded bytes.now) else None) }
+    {
+        out.clear();
+        if self.has_flow(peer) {
+            return false;
+        }
+        refuse_stranger(self.timed.config(), peer, bytes, code, out).is_some()
+    }
+
+    /// Refuses a datagram of at most 2,044 bytes that would open a flow, by a Reset with this code (RFC 4340, section 5.6),
+    /// which is one of the answers to strangers that the rules limit. False where it opens none, or the peer has one; then
+    /// nothing changes and nothing goes out.
+    pub fn refuse(&mut self, peer: Peer, bytes: &[u8], code: u8, now: u64, out: &mut Outbox) -> bool
+        requires { length bytes.now ≤ 2044 }
+        ensures opens { result ≡ is_some (flow_asked self.old.room.served.listening peer bytes.now) }
+        ensures sent { out.new ≡ refused_frame now self.old peer bytes.now code }
+        ensures after { self.new ≡ refused_server now self.old peer bytes.now }
+    {
+        if !self.turn_away(peer, bytes, code, out) {
+            return false;
+        }
+        let spared = answer_spared(&self.rules, &self.strangers, now);
+        self.strangers = spared.strangers;
+        if !spared.goes {
+            out.clear();
+        }
+        true
+    }
+
+    /// The flow that makes room for a Request at a full table, if one may.
+    pub fn leaver(&self, now: u64) -> Option<Peer>
+        ensures { result ≡ who_leaves now self.now.rules self.now.half self.now.room }
+    {
+        self.leaver_by(&self.rules, now)
+    }
+
+    /// The same by these rules.
+    pub(crate) fn leaver_by(&self, rules: &Rules, now: u64) -> Option<Peer>
+        ensures { result ≡ who_leaves now rules.now self.now.half self.now.room }
+    {
+        let crowded = has_more_half_open(&self.lives, self.half);
+        makes_way(rules, crowded, &self.lives, now)
+    }
+
+    /// Writes a number beside a peer's flow, which goes with it. NoFlow comes exactly where the peer has none, and then
+    /// nothing changes.
+    pub fn set_user(&mut self, peer: Peer, user: u64) -> Result<(), NoFlow>
+        ensures after { self.new ≡ record self.old { room = with_user user self.old.room peer } }
+        ensures no_flow { IsErr result ↔ (end_of_peer self.old.room.served.listening.flows peer ≡ None) }
+    {
+        write_user(&self.timed, &mut self.lives, peer, user)
+    }
+
+    /// Cookies are used so from now on, once there is a key.
+    pub fn set_cookies(&mut self, cookies: CookieUse)
+        ensures { self.new ≡ record self.old { cookies = cookies } }
+    {
+        self.cookies = cookies;
+    }
+
+    /// The key of its cookies, if it has one.
+    pub fn key(&self) -> Option<[u8; 32]>
+        ensures { result ≡ option_map (λ keys. keys.key) self.now.keys }
+    {
+        match &self.keys {
+            Some(keys) => Some(keys.key()),
+            None => None,
+        }
+    }
+
+    /// Its cookies are written by this key from now on, 32 bytes that were drawn at random; those of the key before it stay
+    /// good for their two minutes.
+    pub fn rekey(&mut self, key: [u8; 32], now: u64)
+        ensures { self.new ≡ record self.old { keys = Some (rekeyed key now self.old.keys) } }
+    {
+        self.keys = Some(rekeyed(&self.keys, key, now));
     }
 }

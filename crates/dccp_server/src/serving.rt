@@ -8,19 +8,18 @@ ghost use Rattle.dccp_listener.specs.Listens.{listening_after, listens};
 ghost use Rattle.dccp_listener.specs.Peers.{end_of_peer, is_peer, peer_cmp};
 ghost use Rattle.dccp_listener.specs.Runs.{Stepped, told_of};
 ghost use Rattle.dccp_uses.specs.Syncs.{admitted};
-ghost use Rattle.dccp_server.specs.Due.{never};
 ghost use Rattle.dccp_server.specs.Places.{HasPlaceIf};
-ghost use Rattle.dccp_server.specs.Serving.{IsDone, WantsMemory, deed_served, call_due, upkeep_counted, first_due_flow, rule_followed, frame_if, is_admitted, least_wait, listening_if, served, served_counted, upkeep_at, upkeeps_then};
+ghost use Rattle.dccp_server.specs.Serving.{IsDone, WantsMemory, deed_served, call_due, due_of_flow, upkeep_counted, first_due_flow, rule_followed, frame_if, is_admitted, least_wait, listening_if, served, served_counted, soonest, upkeep_at, upkeeps_then};
 ghost use Rattle.dccp_server.specs.Upkeeps.{call_for_rule, ratio_held, rule_call, sight_if};
 
 use crate::happening::{Happening, arrived_so, called_so};
-use crate::places::{place_for, put, take_back};
+use crate::queue::Ticket;
+use crate::register::Register;
 use crate::upkeep::{Upkeep, next_upkeep};
 use ccid_two::Kinds;
 use dccp_endpoint::{Endpoint, Feature, NoMemory, Outbox, Place, Seen, Seq48, Timer, UserCall};
 use dccp_listener::{Heard, Listener, NoFlow, Peer};
 use dccp_uses::{Due, Pace, Rule, Sight, admit, due_rule};
-use std::collections::BTreeMap;
 
 // What there is to see of a peer's end, if it has one.
 fn sight_at(listener: &Listener, peer: Peer) -> Option<Sight>
@@ -45,35 +44,32 @@ fn is_silent(out: &Outbox) -> bool
 }
 
 /// What is kept of a peer.
-pub(crate) fn upkeep_at(upkeeps: &BTreeMap<Peer, Upkeep>, pace: Pace, peer: Peer) -> Upkeep
-    ensures { result ≡ upkeep_at pace upkeeps.now.entries peer }
+pub(crate) fn upkeep_at(upkeeps: &Register<Upkeep>, pace: Pace, peer: Peer) -> Upkeep
+    ensures { result ≡ upkeep_at pace upkeeps.now peer }
 {
-    match upkeeps.get(&peer) {
-        Some(upkeep) => *upkeep,
-        None => Upkeep::begins(pace),
-    }
+    upkeeps.of_or(peer, Upkeep::begins(pace))
 }
 
 // What is kept of the peer goes on from this with its end, and goes with it.
 fn arrange(
     listener: &Listener,
-    upkeeps: &mut BTreeMap<Peer, Upkeep>,
+    upkeeps: &mut Register<Upkeep>,
     peer: Peer,
     upkeep: &Upkeep,
     happening: &Happening,
     pace: Pace,
     now: u64,
 )
-    requires { HasPlaceIf (end_of_peer listener.now.flows peer) upkeeps.old.entries peer }
-    ensures { upkeeps.new.entries ≡ upkeeps_then now pace upkeeps.old.entries peer (end_of_peer listener.now.flows peer) upkeep.now happening.now }
+    requires { HasPlaceIf (end_of_peer listener.now.flows peer) upkeeps.old peer }
+    ensures { upkeeps.new ≡ upkeeps_then now pace upkeeps.old peer (end_of_peer listener.now.flows peer) upkeep.now happening.now }
 {
     match listener.flow(peer) {
         Some(end) => {
             let next = next_upkeep(upkeep, happening, end, pace, now);
-            put(upkeeps, peer, next);
+            upkeeps.put(peer, next);
         }
         None => {
-            let _ = upkeeps.remove(&peer);
+            upkeeps.remove(peer);
         }
     }
 }
@@ -106,46 +102,63 @@ fn ask(
     listener.ask(peer, call, out)
 }
 
-/// The first peer of which something is due, and the first that is.
-pub(crate) fn first_due_flow(upkeeps: &BTreeMap<Peer, Upkeep>, now: u64) -> Option<(Peer, Due)>
-    ensures { result ≡ first_due_flow now upkeeps.now.entries }
+// The ticket of the flow of which something is due before it is of any other.
+fn soonest(upkeeps: &Register<Upkeep>) -> Option<Ticket>
+    ensures { result ≡ soonest upkeeps.now }
 {
-    for (peer, upkeep) in upkeeps.iter() {
-        if let Some(due) = upkeep.first_due(now) {
-            return Some((*peer, due));
-        }
+    upkeeps.first_in(0)
+}
+
+// The first that is due of a peer's flow, by what is kept of it.
+fn due_of_flow(peer: Peer, upkeep: Option<Upkeep>, now: u64) -> Option<(Peer, Due)>
+    ensures { result ≡ due_of_flow now peer upkeep }
+{
+    match upkeep {
+        Some(upkeep) => match upkeep.first_due(now) {
+            Some(due) => Some((peer, due)),
+            None => None,
+        },
+        None => None,
     }
-    None
+}
+
+/// The flow of which something has been due for longest, and the first that is.
+pub(crate) fn first_due_flow(upkeeps: &Register<Upkeep>, now: u64) -> Option<(Peer, Due)>
+    ensures { result ≡ first_due_flow now upkeeps.now }
+{
+    match soonest(upkeeps) {
+        Some(ticket) => due_of_flow(ticket.peer, upkeeps.of(ticket.peer), now),
+        None => None,
+    }
 }
 
 /// How many milliseconds it is until something is due of any flow; 2^64 - 1 where nothing will be.
-pub(crate) fn least_wait(upkeeps: &BTreeMap<Peer, Upkeep>, now: u64) -> u64
-    ensures { result ≡ least_wait now never upkeeps.now.entries }
+pub(crate) fn least_wait(upkeeps: &Register<Upkeep>, now: u64) -> u64
+    ensures { result ≡ least_wait now upkeeps.now }
 {
-    let mut least = u64::MAX;
-    for (_, upkeep) in upkeeps.iter() {
-        least = least.min(upkeep.wait(now).unwrap_or(u64::MAX));
+    match soonest(upkeeps) {
+        Some(ticket) => ticket.time.saturating_sub(now),
+        None => u64::MAX,
     }
-    least
 }
 
 // A datagram of a flow is counted. Whether it is to be heard.
 fn count(
     end: &Endpoint<Kinds>,
-    upkeeps: &mut BTreeMap<Peer, Upkeep>,
+    upkeeps: &mut Register<Upkeep>,
     peer: Peer,
     bytes: &[u8],
     pace: Pace,
     now: u64,
 ) -> bool
-    requires { IsSome (lookup (is_peer peer) upkeeps.old.entries) }
-    ensures counted { upkeeps.new.entries ≡ insert_entry peer_cmp upkeeps.old.entries peer (upkeep_counted now bytes.now (upkeep_at pace upkeeps.old.entries peer) end.now) }
-    ensures heard { result ≡ (admitted end.now.state (upkeep_at pace upkeeps.old.entries peer).path bytes.now now).heard }
+    requires { IsSome (lookup (is_peer peer) upkeeps.old) }
+    ensures counted { upkeeps.new ≡ insert_entry peer_cmp upkeeps.old peer (upkeep_counted now bytes.now (upkeep_at pace upkeeps.old peer) end.now) }
+    ensures heard { result ≡ (admitted end.now.state (upkeep_at pace upkeeps.old peer).path bytes.now now).heard }
 {
     let upkeep = upkeep_at(upkeeps, pace, peer);
     let admission = admit(end, &upkeep.path, bytes, now);
     let next = upkeep.on(&admission.path);
-    put(upkeeps, peer, next);
+    upkeeps.put(peer, next);
     admission.heard
 }
 
@@ -153,15 +166,15 @@ fn count(
 /// answered by a Sync. Whether it is to be heard.
 pub(crate) fn spend(
     listener: &Listener,
-    upkeeps: &mut BTreeMap<Peer, Upkeep>,
+    upkeeps: &mut Register<Upkeep>,
     pace: Pace,
     peer: Peer,
     bytes: &[u8],
     now: u64,
 ) -> bool
-    requires { HasPlaceIf (end_of_peer listener.now.flows peer) upkeeps.old.entries peer }
-    ensures counted { served listener.now pace upkeeps.new.entries ≡ served_counted now (served listener.now pace upkeeps.old.entries) peer bytes.now }
-    ensures heard { result ≡ is_admitted now (served listener.now pace upkeeps.old.entries) peer bytes.now }
+    requires { HasPlaceIf (end_of_peer listener.now.flows peer) upkeeps.old peer }
+    ensures counted { served listener.now pace upkeeps.new ≡ served_counted now (served listener.now pace upkeeps.old) peer bytes.now }
+    ensures heard { result ≡ is_admitted now (served listener.now pace upkeeps.old) peer bytes.now }
 {
     match listener.flow(peer) {
         Some(end) => count(end, upkeeps, peer, bytes, pace, now),
@@ -172,7 +185,7 @@ pub(crate) fn spend(
 /// A datagram of a peer. NoMemory where it has no flow, or no place for what is kept of it, and none is to be had.
 pub(crate) fn arrive(
     listener: &mut Listener,
-    upkeeps: &mut BTreeMap<Peer, Upkeep>,
+    upkeeps: &mut Register<Upkeep>,
     pace: Pace,
     peer: Peer,
     iss: Seq48,
@@ -181,15 +194,15 @@ pub(crate) fn arrive(
     out: &mut Outbox,
 ) -> Result<Heard, NoMemory>
     requires { length bytes.now ≤ 2044 }
-    ensures after { OnOk result (served listener.new pace upkeeps.new.entries ≡ deed_served now (served listener.old pace upkeeps.old.entries) peer (Arrives iss bytes.now)) }
+    ensures after { OnOk result (served listener.new pace upkeeps.new ≡ deed_served now (served listener.old pace upkeeps.old) peer (Arrives iss bytes.now)) }
     ensures sent { OnOk result (out.new ≡ (listens listener.old peer (Arrives iss bytes.now)).frame) }
     ensures told { IfOk result (λ heard. told_of (Ok heard) ≡ (listens listener.old peer (Arrives iss bytes.now)).told) }
-    ensures unchanged { OnErr result (served listener.new pace upkeeps.new.entries ≡ served listener.old pace upkeeps.old.entries) }
-    ensures wanting { OnErr result (WantsMemory (served listener.old pace upkeeps.old.entries) peer (Arrives iss bytes.now)) }
+    ensures unchanged { OnErr result (served listener.new pace upkeeps.new ≡ served listener.old pace upkeeps.old) }
+    ensures wanting { OnErr result (WantsMemory (served listener.old pace upkeeps.old) peer (Arrives iss bytes.now)) }
 {
     let was = sight_at(listener, peer);
     let upkeep = upkeep_at(upkeeps, pace, peer);
-    let had = place_for(upkeeps, peer, Upkeep::begins(pace))?;
+    let had = upkeeps.place_for(peer, Upkeep::begins(pace))?;
     match hear(listener, peer, iss, bytes, out) {
         Ok(heard) => {
             let happening = arrived_so(was, &heard, is_silent(out));
@@ -197,7 +210,7 @@ pub(crate) fn arrive(
             Ok(heard)
         }
         Err(fault) => {
-            take_back(upkeeps, peer, had);
+            upkeeps.take_back(peer, had);
             Err(fault)
         }
     }
@@ -206,26 +219,26 @@ pub(crate) fn arrive(
 /// A call of a peer's end. NoMemory where it has a flow without a place for what is kept of it, and none is to be had.
 pub(crate) fn act(
     listener: &mut Listener,
-    upkeeps: &mut BTreeMap<Peer, Upkeep>,
+    upkeeps: &mut Register<Upkeep>,
     pace: Pace,
     peer: Peer,
     call: UserCall<'_>,
     now: u64,
     out: &mut Outbox,
 ) -> Result<Result<Seen, NoFlow>, NoMemory>
-    ensures after { OnOk result (served listener.new pace upkeeps.new.entries ≡ deed_served now (served listener.old pace upkeeps.old.entries) peer (Calls (asked call.entry))) }
+    ensures after { OnOk result (served listener.new pace upkeeps.new ≡ deed_served now (served listener.old pace upkeeps.old) peer (Calls (asked call.entry))) }
     ensures sent { OnOk result (out.new ≡ (listens listener.old peer (Calls (asked call.entry))).frame) }
     ensures told { IfOk result (λ answer. Stepped (seen_if answer) ≡ (listens listener.old peer (Calls (asked call.entry))).told) }
-    ensures unchanged { OnErr result (served listener.new pace upkeeps.new.entries ≡ served listener.old pace upkeeps.old.entries) }
-    ensures wanting { OnErr result (WantsMemory (served listener.old pace upkeeps.old.entries) peer (Calls (asked call.entry))) }
+    ensures unchanged { OnErr result (served listener.new pace upkeeps.new ≡ served listener.old pace upkeeps.old) }
+    ensures wanting { OnErr result (WantsMemory (served listener.old pace upkeeps.old) peer (Calls (asked call.entry))) }
 {
     if !has_flow(listener, peer) {
         let refused = ask(listener, peer, call, out);
-        let _ = upkeeps.remove(&peer);
+        upkeeps.remove(peer);
         return Ok(refused);
     }
     let upkeep = upkeep_at(upkeeps, pace, peer);
-    place_for(upkeeps, peer, Upkeep::begins(pace))?;
+    upkeeps.place_for(peer, Upkeep::begins(pace))?;
     let answer = ask(listener, peer, call, out);
     let happening = called_so(call, &answer);
     arrange(listener, upkeeps, peer, &upkeep, &happening, pace, now);
@@ -288,24 +301,24 @@ fn obey_at(listener: &mut Listener, peer: Peer, rule: Rule, aim: u64, out: &mut 
 /// what is kept of it, and none is to be had.
 pub(crate) fn follow(
     listener: &mut Listener,
-    upkeeps: &mut BTreeMap<Peer, Upkeep>,
+    upkeeps: &mut Register<Upkeep>,
     pace: Pace,
     peer: Peer,
     now: u64,
     out: &mut Outbox,
 ) -> Result<(), NoMemory>
-    ensures after { OnOk result (served listener.new pace upkeeps.new.entries ≡ rule_followed now (served listener.old pace upkeeps.old.entries) peer) }
-    ensures sent { OnOk result (out.new ≡ frame_if listener.old peer (call_due now (served listener.old pace upkeeps.old.entries) peer)) }
-    ensures wanting { OnErr result (IsSome (end_of_peer listener.old.flows peer) × (lookup (is_peer peer) upkeeps.old.entries ≡ None)) }
+    ensures after { OnOk result (served listener.new pace upkeeps.new ≡ rule_followed now (served listener.old pace upkeeps.old) peer) }
+    ensures sent { OnOk result (out.new ≡ frame_if listener.old peer (call_due now (served listener.old pace upkeeps.old) peer)) }
+    ensures wanting { OnErr result (IsSome (end_of_peer listener.old.flows peer) × (lookup (is_peer peer) upkeeps.old ≡ None)) }
 {
     if !has_flow(listener, peer) {
         out.clear();
-        let _ = upkeeps.remove(&peer);
+        upkeeps.remove(peer);
         return Ok(());
     }
     let upkeep = upkeep_at(upkeeps, pace, peer);
     let rule = due_rule(&upkeep.path, now);
-    place_for(upkeeps, peer, Upkeep::begins(pace))?;
+    upkeeps.place_for(peer, Upkeep::begins(pace))?;
     obey_at(listener, peer, rule, upkeep.path.aim, out);
     let happening = Happening::Ruled(rule);
     arrange(listener, upkeeps, peer, &upkeep, &happening, pace, now);

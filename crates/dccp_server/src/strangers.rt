@@ -75,7 +75,8 @@ fn is_no_connection(heard: &Result<Option<Heard>, NoMemory>) -> bool
     }
 }
 
-fn answer_spared(rules: &Rules, strangers: &Strangers, now: u64) -> Spared
+/// Whether an answer to a stranger goes out, and what is left of the limit then.
+pub(crate) fn answer_spared(rules: &Rules, strangers: &Strangers, now: u64) -> Spared
     ensures { result ≡ answer_spared now rules.now strangers.now }
 {
     let taking = taken_if(rules.answers, &strangers.answers, now);

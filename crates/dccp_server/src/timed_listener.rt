@@ -1,27 +1,27 @@
 //! A listener with the timers of its flows and the rules of their paths.
 ghost use Rattle.std.specs.Prelude.{◌≡◌};
 
+use crate::register::Register;
 use crate::serving::{act, arrive, first_due_flow, follow, least_wait, spend, upkeep_at};
 use crate::upkeep::Upkeep;
 use ccid_two::Kinds;
-use dccp_endpoint::{Endpoint, NoMemory, Outbox, Seen, Seq48, UserCall};
+use dccp_endpoint::{Endpoint, NoMemory, Outbox, Outcome, Seen, Seq48, UserCall};
 use dccp_listener::{Heard, ListenConfig, Listener, NoFlow, Peer};
-use dccp_uses::{Due, Pace};
+use dccp_uses::{Due, Pace, admit};
 use std::alloc::Global;
-use std::collections::BTreeMap;
 use std::marker::Model;
 
 /// A listener with what its owner keeps of its flows: their timers, and the rules of their paths. Each call takes the
 /// time, in milliseconds from any beginning, and leaves at most one frame in the Outbox, which goes to the peer of the
 /// call. Each flow does what an end of its own with its timers would do (`TimedEnd` of dccp_uses).
 ///
-/// A datagram is counted by `admits`, and where that says so heard by `arrive`; the owner's calls go into `ask`. What is
-/// `due` is told as soon as `until_first` has gone by: a timer by `ask`, the rules by `follow`.
+/// `admits` counts a datagram, and if it says so, `arrive` hears it; the owner's calls go into `ask`. Once
+/// `until_first` has passed, do what is `due`: a timer by `ask`, the rules by `follow`.
 #[derive(Drop)]
 pub struct TimedListener {
     listener: Listener,
     pace: Pace,
-    upkeeps: BTreeMap<Peer, Upkeep>,
+    upkeeps: Register<Upkeep>,
 }
 
 impl Model for TimedListener {
@@ -29,9 +29,9 @@ impl Model for TimedListener {
 
     ghost Value = { Served };
 
-    ghost view = { λ s. served s.listener s.pace s.upkeeps.entries };
+    ghost view = { λ s. served s.listener s.pace s.upkeeps };
 
-    ghost invariant = { λ s. IsTied (served s.listener s.pace s.upkeeps.entries) };
+    ghost invariant = { λ s. IsTied (served s.listener s.pace s.upkeeps) };
 }
 
 impl TimedListener {
@@ -39,11 +39,11 @@ impl TimedListener {
     ghost use Rattle.std.specs.Map.{keys_of};
     ghost use Rattle.dccp_listener.specs.Calls.{seen_if};
     ghost use Rattle.dccp_listener.specs.Chain.{Arrives, Calls, asked};
+    ghost use Rattle.dccp_listener.specs.Greeting.{greets};
     ghost use Rattle.dccp_listener.specs.Listens.{listens};
     ghost use Rattle.dccp_listener.specs.Peers.{end_of_peer};
     ghost use Rattle.dccp_listener.specs.Runs.{Stepped, told_of};
     ghost use Rattle.dccp_listener.specs.Standing.{IsListening};
-    ghost use Rattle.dccp_server.specs.Due.{never};
     ghost use Rattle.dccp_server.specs.Serving.{WantsMemory, call_due, deed_served, first_due_flow, rule_followed, frame_if, is_admitted, least_wait, serving_begins, served_counted, upkeep_at};
 
     /// A listener without flows, whose ends make the offers of its lists, and follow these rules. It takes no memory.
@@ -54,7 +54,7 @@ impl TimedListener {
         TimedListener {
             listener: Listener::offering(alloc, config),
             pace,
-            upkeeps: BTreeMap::new(alloc),
+            upkeeps: Register::new(alloc),
         }
     }
 
@@ -73,6 +73,16 @@ impl TimedListener {
             bytes,
             now,
         )
+    }
+
+    /// Whether `admits` would say so; nothing is counted.
+    pub fn would_admit(&self, peer: Peer, bytes: &[u8], now: u64) -> bool
+        ensures { result ≡ is_admitted now self.now peer bytes.now }
+    {
+        match self.listener.flow(peer) {
+            Some(end) => admit(end, &self.upkeep(peer).path, bytes, now).heard,
+            None => true,
+        }
     }
 
     /// A datagram of a peer has arrived, at most 2,044 bytes: `Listener::arrive`, and what is kept of its flow goes on.
@@ -150,7 +160,7 @@ impl TimedListener {
         }
     }
 
-    /// The first peer, in the order of peers, of which something is due, and the first that is.
+    /// The peer of which something has been due for longest, and the first that is; of two the first in their order.
     pub fn due(&self, now: u64) -> Option<(Peer, Due)>
         ensures { result ≡ first_due_flow now self.now.upkeeps }
     {
@@ -159,9 +169,25 @@ impl TimedListener {
 
     /// How many milliseconds it is until something is due of any flow; 2^64 - 1 where nothing will be.
     pub fn until_first(&self, now: u64) -> u64
-        ensures { result ≡ least_wait now never self.now.upkeeps }
+        ensures { result ≡ least_wait now self.now.upkeeps }
     {
         least_wait(&self.upkeeps, now)
+    }
+
+    /// What a fresh end makes of a datagram of a peer: `Listener::greet`. Nothing is kept.
+    pub fn greet(
+        &self,
+        peer: Peer,
+        iss: Seq48,
+        bytes: &[u8],
+        out: &mut Outbox,
+    ) -> Result<Outcome, NoMemory>
+        requires { length bytes.now ≤ 2044 }
+        ensures sent { OnOk result (out.new ≡ (greets self.now.listening peer iss bytes.now).frame) }
+        ensures told { IfOk result (λ outcome. outcome ≡ (greets self.now.listening peer iss bytes.now).answer) }
+        ensures unmet { OnErr result (out.new ≡ None) }
+    {
+        self.listener.greet(peer, iss, bytes, out)
     }
 
     /// A peer's end, or None exactly where it has none.
@@ -176,6 +202,13 @@ impl TimedListener {
         ensures { result ≡ upkeep_at self.now.pace self.now.upkeeps peer }
     {
         upkeep_at(&self.upkeeps, self.pace, peer)
+    }
+
+    /// What it was made from.
+    pub fn config(&self) -> &ListenConfig
+        ensures { result.now ≡ self.now.listening.config }
+    {
+        self.listener.config()
     }
 
     /// How many flows stand.

@@ -2,16 +2,16 @@
 ghost use Rattle.std.specs.Prelude.{◌≡◌};
 ghost use Rattle.dccp_uses.specs.Alarms.{has_run_out};
 ghost use Rattle.dccp_uses.specs.Timed.{every_due};
-ghost use Rattle.dccp_server.specs.Upkeeps.{first_due, kept_with_path, kept_alarm, kept_closed, kept_heard, kept_on, kept_opened, kept_preferred, kept_ruled, kept_rung, kept_sent, next_upkeep, upkeep_begins, upkeep_wait};
+ghost use Rattle.dccp_server.specs.Upkeeps.{first_due, kept_with_path, kept_alarm, kept_closed, kept_heard, kept_on, kept_opened, kept_preferred, kept_ruled, kept_rung, kept_sent, next_upkeep, upkeep_begins, upkeep_moment, earlier, alarm_end, first_end};
 
 use crate::happening::{Happening, Hearing};
+use crate::register::Moment;
 use ccid_two::Kinds;
 use dccp_endpoint::{Endpoint, Timer};
 use dccp_uses::{
     Alarm, Alarms, Due, Pace, Path, Rule, Sight, ack_hurried_by, acks_now, alarms_by_rule,
     arranged_by, arranged_path, data_timed, handshake_timed, has_run_out, is_hole, path_by_rule,
-    path_heard, progressed_by, ruled_condition, rung_by, sooner, starting_wait, told_timer,
-    with_flight,
+    path_heard, progressed_by, ruled_condition, rung_by, starting_wait, told_timer, with_flight,
 };
 
 /// What an owner keeps of a flow's end for its sake (own): its timers, and what is known of its path.
@@ -89,11 +89,51 @@ impl Upkeep {
         None
     }
 
-    /// How many milliseconds it is until something is due, or None where nothing will be.
-    pub(crate) fn wait(&self, now: u64) -> Option<u64>
-        ensures { result ≡ upkeep_wait self.now now }
+    // When something is first due.
+    fn first_end(&self) -> Option<u64>
+        ensures { result ≡ first_end self.now every_due }
     {
-        sooner(self.alarms.until_first(now), self.path.rules, now)
+        let rules = alarm_end(self.path.rules);
+        let end = earlier(alarm_end(self.alarms.time_wait), rules);
+        let end = earlier(alarm_end(self.alarms.close), end);
+        let end = earlier(alarm_end(self.alarms.rto), end);
+        let end = earlier(alarm_end(self.alarms.negotiate), end);
+        let end = earlier(alarm_end(self.alarms.ack), end);
+        earlier(alarm_end(self.alarms.request), end)
+    }
+}
+
+impl Moment for Upkeep {
+    ghost moment_of = { upkeep_moment };
+
+    fn moment(&self) -> Option<(u8, u64)> {
+        match self.first_end() {
+            Some(time) => Some((0, time)),
+            None => None,
+        }
+    }
+}
+
+// When an alarm runs out, as far as a clock of 64 bits comes.
+fn alarm_end(alarm: Option<Alarm>) -> Option<u64>
+    ensures { result ≡ alarm_end alarm }
+{
+    let Some(alarm) = alarm else {
+        return None;
+    };
+    if alarm.wait == 0 {
+        return Some(0);
+    }
+    alarm.since.checked_add(alarm.wait)
+}
+
+fn earlier(time: Option<u64>, other: Option<u64>) -> Option<u64>
+    ensures { result ≡ earlier time other }
+{
+    match (time, other) {
+        (None, _) => other,
+        (Some(_), None) => time,
+        (Some(time), Some(other)) => Some(time.min(other)),
     }
 }
 

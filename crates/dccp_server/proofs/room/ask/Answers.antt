@@ -8,12 +8,12 @@ use Rattle.dccp_server.proofs.room.ask.Goals as goal
 
 pub go_on-requires : goal.go_on-requires
 go_on-requires c =
-    called_has_life c.args.now (as_room c.args.timed.now c.args.lives.now.entries) c.ask-answer.new.self c.args.peer (asked c.args.call) c.requires
+    called_has_life c.args.now (as_room c.args.timed.now c.args.lives.now) c.ask-answer.new.self c.args.peer (asked c.args.call) c.requires
     c.ask-answer.ensures.after
 
 pub returns-clause-after : goal.returns-clause-after
 returns-clause-after c =
-    room_as c.args.now c.args.timed.now c.ask-answer.new.self _ c.args.lives.now.entries c.go_on.new.lives.entries c.args.peer
+    room_as c.args.now c.args.timed.now c.ask-answer.new.self _ c.args.lives.now c.go_on.new.lives c.args.peer
     c.signs_answered-signs.result (signs_by c.args.timed.now.listening c.args.peer (Calls (asked c.args.call))) c.life_of-life.result
     c.ask-answer.ensures.after c.go_on.ensures
     (c.signs_answered-signs.ensures ∙ ap signs_of c.ask-answer.ensures.told) c.life_of-life.ensures
@@ -21,7 +21,7 @@ returns-clause-after c =
 pub returns-clause-living : goal.returns-clause-living
 returns-clause-living c =
     living_then c.args.now _ _ c.args.peer (Does (Calls (asked c.args.call)))
-    (room_as c.args.now c.args.timed.now c.ask-answer.new.self _ c.args.lives.now.entries c.go_on.new.lives.entries c.args.peer
+    (room_as c.args.now c.args.timed.now c.ask-answer.new.self _ c.args.lives.now c.go_on.new.lives c.args.peer
     c.signs_answered-signs.result (signs_by c.args.timed.now.listening c.args.peer (Calls (asked c.args.call))) c.life_of-life.result
     c.ask-answer.ensures.after c.go_on.ensures
     (c.signs_answered-signs.ensures ∙ ap signs_of c.ask-answer.ensures.told) c.life_of-life.ensures)

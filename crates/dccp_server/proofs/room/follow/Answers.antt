@@ -6,16 +6,16 @@ use Rattle.dccp_server.proofs.room.follow.Goals as goal
 
 pub go_on-requires : goal.go_on-requires
 go_on-requires c =
-    ruled_has_life c.args.now (as_room c.args.timed.now c.args.lives.now.entries) c.follow.new.self c.args.peer c.requires c.follow.ensures.after
+    ruled_has_life c.args.now (as_room c.args.timed.now c.args.lives.now) c.follow.new.self c.args.peer c.requires c.follow.ensures.after
 
 pub returns-clause-after : goal.returns-clause-after
 returns-clause-after c =
-    room_as c.args.now c.args.timed.now c.follow.new.self _ c.args.lives.now.entries c.go_on.new.lives.entries c.args.peer
+    room_as c.args.now c.args.timed.now c.follow.new.self _ c.args.lives.now c.go_on.new.lives c.args.peer
     c.none.result no_signs c.life_of-life.result c.follow.ensures.after c.go_on.ensures c.none.ensures c.life_of-life.ensures
 
 pub returns-clause-living : goal.returns-clause-living
 returns-clause-living c =
     living_then c.args.now _ _ c.args.peer Follows
-    (room_as c.args.now c.args.timed.now c.follow.new.self _ c.args.lives.now.entries c.go_on.new.lives.entries c.args.peer
+    (room_as c.args.now c.args.timed.now c.follow.new.self _ c.args.lives.now c.go_on.new.lives c.args.peer
     c.none.result no_signs c.life_of-life.result c.follow.ensures.after c.go_on.ensures c.none.ensures c.life_of-life.ensures)
     c.requires

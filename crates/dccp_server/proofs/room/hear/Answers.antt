@@ -10,12 +10,12 @@ use Rattle.dccp_server.proofs.Tying.{has_place}
 use Rattle.dccp_server.proofs.room.hear.Goals as goal
 
 pub go_on-requires : goal.go_on-requires
-go_on-requires c = has_place _ c.place_for.new.kept.entries c.args.peer c.in_ok-had.ensures.there
+go_on-requires c = has_place _ c.place_for.new.self c.args.peer c.in_ok-had.ensures.there
 
 pub returns-in-Ok-clause-after : goal.returns-in-Ok-clause-after
 returns-in-Ok-clause-after c =
-    room_placed _ c.args.now c.in_ok-had.had c.args.timed.now c.arrive.new.self _ c.args.lives.now.entries c.place_for.new.kept.entries
-    c.go_on.new.lives.entries c.args.peer c.signs_noted-signs.result
+    room_placed _ c.args.now c.in_ok-had.had c.args.timed.now c.arrive.new.self _ c.args.lives.now c.place_for.new.self
+    c.go_on.new.lives c.args.peer c.signs_noted-signs.result
     (signs_by c.args.timed.now.listening c.args.peer (Arrives c.args.iss c.args.bytes.now)) c.life_of-life.result c.in_ok-had.ensures.placed
     c.in-Ok.ensures.after c.go_on.ensures
     (c.signs_noted-signs.ensures ∙ ap (signs_noted c.args.bytes.now) (c.signs_heard.ensures ∙ ap signs_of c.in-Ok.ensures.told)) c.life_of-life.ensures
@@ -23,8 +23,8 @@ returns-in-Ok-clause-after c =
 pub returns-in-Ok-clause-living : goal.returns-in-Ok-clause-living
 returns-in-Ok-clause-living c =
     living_then c.args.now _ _ c.args.peer (Does (Arrives c.args.iss c.args.bytes.now))
-    (room_placed _ c.args.now c.in_ok-had.had c.args.timed.now c.arrive.new.self _ c.args.lives.now.entries c.place_for.new.kept.entries
-    c.go_on.new.lives.entries c.args.peer c.signs_noted-signs.result
+    (room_placed _ c.args.now c.in_ok-had.had c.args.timed.now c.arrive.new.self _ c.args.lives.now c.place_for.new.self
+    c.go_on.new.lives c.args.peer c.signs_noted-signs.result
     (signs_by c.args.timed.now.listening c.args.peer (Arrives c.args.iss c.args.bytes.now)) c.life_of-life.result c.in_ok-had.ensures.placed
     c.in-Ok.ensures.after c.go_on.ensures
     (c.signs_noted-signs.ensures ∙ ap (signs_noted c.args.bytes.now) (c.signs_heard.ensures ∙ ap signs_of c.in-Ok.ensures.told)) c.life_of-life.ensures)
@@ -32,14 +32,14 @@ returns-in-Ok-clause-living c =
 
 pub returns-in-Err-clause-unchanged : goal.returns-in-Err-clause-unchanged
 returns-in-Err-clause-unchanged c =
-    ap (λ (s : Served). as_room s c.take_back.new.kept.entries) c.in-Err.ensures.unchanged
+    ap (λ (s : Served). as_room s c.take_back.new.self) c.in-Err.ensures.unchanged
     ∙ ap (λ (l : Lives). as_room c.args.timed.now l)
-    (c.take_back.ensures ∙ taken_back _ c.in_ok-had.had c.args.lives.now.entries c.place_for.new.kept.entries c.args.peer c.in_ok-had.ensures.placed)
+    (c.take_back.ensures ∙ taken_back _ c.in_ok-had.had c.args.lives.now c.place_for.new.self c.args.peer c.in_ok-had.ensures.placed)
 
 pub returns-in-Err-clause-living : goal.returns-in-Err-clause-living
 returns-in-Err-clause-living c =
     living_same _ _
-    (ap (λ (s : Served). as_room s c.take_back.new.kept.entries) c.in-Err.ensures.unchanged
+    (ap (λ (s : Served). as_room s c.take_back.new.self) c.in-Err.ensures.unchanged
     ∙ ap (λ (l : Lives). as_room c.args.timed.now l)
-    (c.take_back.ensures ∙ taken_back _ c.in_ok-had.had c.args.lives.now.entries c.place_for.new.kept.entries c.args.peer c.in_ok-had.ensures.placed))
+    (c.take_back.ensures ∙ taken_back _ c.in_ok-had.had c.args.lives.now c.place_for.new.self c.args.peer c.in_ok-had.ensures.placed))
     c.requires.living

@@ -1,0 +1,131 @@
+-- A peer whose flow is forgotten has none.
+use Rattle.std.proofs.Common.{◌≡◌, ◌⊎◌, inl, inr, refl, sym, ap, ◌∙◌, subst, ℕ, Bool, true, false, cond, if◌then◌else◌, List, [], ◌∷◌, Option, Some, None, is_some, IsSome, IfSome}
+use Rattle.std.proofs.lemmas.Bool.{false≢true}
+use Rattle.std.proofs.lemmas.Map.{lookup-remove_entry, lookup-set_value}
+use Rattle.std.proofs.lemmas.Map.Keys.{IsDistinct-from_sorted}
+use Rattle.std.specs.Map.{keys_of, remove_entry, set_value}
+use Rattle.dccp_endpoint.specs.Calling.{aborts, fires}
+use Rattle.dccp_endpoint.specs.End.{EndState}
+use Rattle.dccp_endpoint.specs.Strangers.{stays_in}
+use Rattle.dccp_listener.proofs.Chains.{each_has_its_chain}
+use Rattle.dccp_listener.proofs.Computing.{computed_runs}
+use Rattle.dccp_listener.proofs.EndsStand.{ends_stand}
+use Rattle.dccp_listener.proofs.OnePeer.{peers_alike}
+use Rattle.dccp_listener.specs.Chain.{Aborts, Calls, Fires, FlowCall, chain_step, flow_step, is_given_up}
+use Rattle.dccp_listener.specs.Listens.{AreInOrder, listening_after, listens_by, turns_of}
+use Rattle.dccp_listener.specs.Peers.{FlowEnd, Flows, Listening, end_of_peer, is_peer, peer_cmp}
+use Rattle.dccp_listener.specs.Runs.{IsChain, PeerTurn, peer_turns}
+use Rattle.dccp_listener.specs.Standing.{Stands}
+use Rattle.dccp_listener.specs.declared.config.ListenConfig.{ListenConfig}
+use Rattle.dccp_listener.specs.declared.peer.Peer.{Peer}
+use Rattle.dccp_states.specs.declared.calls.Timer.TheVariants as timers
+use Rattle.dccp_states.specs.declared.phase.Phase.{Phase}
+use Rattle.dccp_states.specs.declared.phase.Phase.TheVariants as phases
+use Rattle.dccp_uses.specs.declared.pace.Pace.{Pace}
+use Rattle.feature_machine.specs.Lists.{IsLists}
+use Rattle.dccp_server.specs.Rooms.{ForgottenHaveNone, room_begins}
+use Rattle.dccp_server.specs.Serving.{Served, TimedDoing, deeds_through, served_through, serving_begins}
+use Rattle.dccp_server.proofs.Judging.{lives_change_nothing}
+use Rattle.dccp_server.proofs.Through.{run_through}
+use Rattle.dccp_server.proofs.Tying.{through_tied}
+
+-- an end that stands is CLOSED once it aborts, or is in TIMEWAIT still, and then its timer closes it
+
+abbrev IsOverOrWaits : Phase → Type 0
+IsOverOrWaits phase = (phase ≡ phases.Closed) ⊎ (phase ≡ phases.TimeWait)
+
+aborted-by : (e : EndState) (phase : Phase) → e.phase ≡ phase → stays_in phase ≡ true → IsOverOrWaits (aborts e).after.phase
+unfolding aborts
+aborted-by e phases.Closed is stays = absurd (false≢true stays)
+aborted-by e phases.Listen is stays = absurd (false≢true stays)
+aborted-by e phases.Request is stays = rw is (inl refl)
+aborted-by e phases.Respond is stays = rw is (inl refl)
+aborted-by e phases.PartOpen is stays = rw is (inl refl)
+aborted-by e phases.Open is stays = rw is (inl refl)
+aborted-by e phases.CloseReq is stays = rw is (inl refl)
+aborted-by e phases.Closing is stays = rw is (inl refl)
+aborted-by e phases.TimeWait is stays = rw is (inr refl)
+
+fired : (e : EndState) (in_flight : Bool) → e.phase ≡ phases.TimeWait → (fires e timers.TimeWait in_flight).after.phase ≡ phases.Closed
+unfolding fires
+fired e in_flight is = rw is refl
+
+module _ (peer : Peer) where
+  abbrev called : Listening → FlowCall → Listening
+  called l call = listening_after l peer (Calls call)
+
+  abbrev end_at : Listening → Option FlowEnd
+  end_at l = end_of_peer l.flows peer
+
+  removed : (flows : Flows) → AreInOrder flows → end_of_peer (remove_entry (is_peer peer) flows) peer ≡ None
+  removed flows ordered =
+      lookup-remove_entry peers_alike (is_peer peer) (peers_alike.congr peer) peer flows (IsDistinct-from_sorted peer_cmp (keys_of flows) ordered)
+      ∙ ap (λ (b : Bool). cond b None (end_of_peer flows peer)) (peers_alike.refl peer)
+
+  replaced : (flows : Flows) (e : FlowEnd) → IsSome (end_of_peer flows peer) → end_of_peer (set_value (is_peer peer) flows e) peer ≡ Some e
+  replaced flows e there =
+      lookup-set_value peers_alike (is_peer peer) (peers_alike.congr peer) peer e flows there
+      ∙ ap (λ (b : Bool). cond b (Some e) (end_of_peer flows peer)) (peers_alike.refl peer)
+
+  -- a peer that has none has none after a call
+  none-stays : (l : Listening) (call : FlowCall) → end_at l ≡ None → end_at (called l call) ≡ None
+  none-stays l call none = ap (λ (found : Option FlowEnd). end_of_peer (listens_by l peer found (Calls call)).flows peer) none ∙ none
+
+  -- one that is over goes, and any other stays
+  step-by : (l : Listening) (e : FlowEnd) (call : FlowCall) (over : Bool) → end_at l ≡ Some e → is_given_up (flow_step e (Calls call)).after.state.phase ≡ over
+      → end_at (called l call)
+      ≡ end_of_peer (if over then remove_entry (is_peer peer) l.flows else set_value (is_peer peer) l.flows (flow_step e (Calls call)).after) peer
+  step-by l e call over is is-over =
+      ap (λ (found : Option FlowEnd). end_of_peer (listens_by l peer found (Calls call)).flows peer) is
+      ∙ ap
+      (λ (b : Bool). end_of_peer (if b then remove_entry (is_peer peer) l.flows else set_value (is_peer peer) l.flows (flow_step e (Calls call)).after) peer)
+      is-over
+
+  over-goes : (l : Listening) (e : FlowEnd) (call : FlowCall) → AreInOrder l.flows → end_at l ≡ Some e
+      → (flow_step e (Calls call)).after.state.phase ≡ phases.Closed → end_at (called l call) ≡ None
+  over-goes l e call ordered is closed = step-by l e call true is (ap is_given_up closed) ∙ removed l.flows ordered
+
+  in-order : (l : Listening) (call : FlowCall) → AreInOrder l.flows → AreInOrder (called l call).flows
+  in-order l call ordered = (computed_runs l ((peer, Calls call) ∷ []) ordered).1
+
+  waits-goes : (l : Listening) (e : FlowEnd) → AreInOrder l.flows → end_at l ≡ Some e
+      → (flow_step e (Calls Aborts)).after.state.phase ≡ phases.TimeWait → end_at (called (called l Aborts) (Fires timers.TimeWait)) ≡ None
+  waits-goes l e ordered is waits =
+      let next : FlowEnd = (flow_step e (Calls Aborts)).after in
+      let stays : end_at (called l Aborts) ≡ Some next =
+      step-by l e Aborts false is (ap is_given_up waits) ∙ replaced l.flows next (ap is_some is) in
+      over-goes (called l Aborts) next (Fires timers.TimeWait) (in-order l Aborts ordered) stays (fired next.state _ waits)
+
+  gone-so : (l : Listening) (e : FlowEnd) → AreInOrder l.flows → end_at l ≡ Some e → IsOverOrWaits (aborts e.state).after.phase
+      → end_at (called (called l Aborts) (Fires timers.TimeWait)) ≡ None
+  gone-so l e ordered is (inl closed) = none-stays (called l Aborts) (Fires timers.TimeWait) (over-goes l e Aborts ordered is closed)
+  gone-so l e ordered is (inr waits) = waits-goes l e ordered is waits
+
+  gone-by : (l : Listening) (config : ListenConfig) (found : Option FlowEnd) → AreInOrder l.flows → end_at l ≡ found → IfSome found (Stands config peer)
+      → end_at (called (called l Aborts) (Fires timers.TimeWait)) ≡ None
+  gone-by l config None ordered is stands = none-stays (called l Aborts) (Fires timers.TimeWait) (none-stays l Aborts is)
+  gone-by l config (Some e) ordered is stands = gone-so l e ordered is (aborted-by e.state e.state.phase refl stands.phase_is)
+
+  -- the end that a chain leaves stands
+  chain-stands : (config : ListenConfig) (before after : Option FlowEnd) (turns : List PeerTurn) → IsLists config.lists
+      → IfSome before (Stands config peer) → IsChain config peer before after turns → IfSome after (Stands config peer)
+  chain-stands config before after [] lists stands is = subst (λ (x : Option FlowEnd). IfSome x (Stands config peer)) (sym is) stands
+  chain-stands config before after (turn ∷ later) lists stands is =
+      chain-stands config (chain_step config peer before turn.deed).after after later lists (ends_stand config peer before turn.deed lists stands) is.2
+
+  stands-then : (config : ListenConfig) (pace : Pace) (all : List TimedDoing) → IsLists config.lists
+      → IfSome (end_at (served_through (serving_begins config pace) all).listening) (Stands config peer)
+  stands-then config pace all lists =
+      let begun : Served = serving_begins config pace in
+      let turns = turns_of begun.listening (deeds_through begun all) in
+      chain-stands config None (end_at (served_through begun all).listening) (peer_turns peer turns) lists tt
+      (each_has_its_chain begun.listening (served_through begun all).listening turns (run_through config pace all) peer)
+
+abbrev HasNone : ℕ → Peer → Served → Type 0
+HasNone now peer s = end_of_peer (listening_after (listening_after s.listening peer (Calls Aborts)) peer (Calls (Fires timers.TimeWait))).flows peer ≡ None
+
+pub forgotten_have_none : ForgottenHaveNone
+forgotten_have_none config pace all now peer lists =
+    let s : Served = served_through (serving_begins config pace) all in
+    subst (HasNone now peer) (sym (lives_change_nothing (room_begins config pace) all))
+    (gone-by peer s.listening config (end_of_peer s.listening.flows peer) (through_tied config pace all).ordered refl (stands-then peer config pace all lists))

@@ -1,0 +1,24 @@
+-- Which packets of a listener's flows were reported as dropped, and why (own; RFC 4340, section 11.7).
+use Rattle.std.specs.Prelude.{ℕ, ◌==◌, ◌&&◌, List, [], ◌∷◌, ◌++◌, Option, Some, None, if◌then◌else◌}
+use Rattle.circular_buffer.specs.Buffer.{keep_last}
+use Rattle.dccp_listener.specs.Peers.{is_peer}
+use Rattle.dccp_listener.specs.declared.peer.Peer.{Peer}
+use Rattle.dccp_uses.specs.DropRecord.{record_after}
+use Rattle.dccp_server.specs.declared.flow_drops.FlowDrop.{FlowDrop}
+
+-- a drop of a peer's flow is recorded: of the last 2,048 of all flows each is kept (own)
+abbrev pub flow_recorded : Peer → ℕ → ℕ → List FlowDrop → List FlowDrop
+flow_recorded peer number code drops = keep_last 2048 (drops ++ record { peer = peer; number = number; code = code } ∷ [])
+
+-- of these entries, the oldest first, the code of the last one of a peer's number, or else the one found before
+abbrev pub flow_drop_code_from : Peer → ℕ → Option ℕ → List FlowDrop → Option ℕ
+flow_drop_code_from peer n found [] = found
+flow_drop_code_from peer n found (d ∷ ds) = flow_drop_code_from peer n (if is_peer peer d.peer && d.number == n then Some d.code else found) ds
+
+-- the code of a packet to a peer, if it was dropped
+abbrev pub flow_drop_code : List FlowDrop → Peer → ℕ → Option ℕ
+flow_drop_code drops peer n = flow_drop_code_from peer n None drops
+
+-- Once a peer's flow has heard a datagram, before which reports were counted up to the one number, and after it up to the other.
+abbrev pub flow_record_after : Peer → Option ℕ → Option ℕ → List ℕ → List FlowDrop → List FlowDrop
+flow_record_after peer counted after bytes drops = record_after (flow_recorded peer) counted after bytes drops

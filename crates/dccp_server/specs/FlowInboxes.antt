@@ -1,0 +1,152 @@
+-- The data of a listener's flows that wait until their owner reads them (own).
+use Rattle.std.specs.Prelude.{◌==◌, ◌||◌, ◌&&◌, nat_le, ℕ, Bool, true, false, not, List, [], length, Option, Some, None, is_some, unwrap_or, if◌then◌else◌}
+use Rattle.std.specs.BTreeMap.{insert_entry}
+use Rattle.std.specs.Map.{lookup, remove_entry, set_value}
+use Rattle.dccp_packets.specs.Outgoing.{Outgoing}
+use Rattle.data_dropped.specs.Inbox.{InboxState}
+use Rattle.data_dropped.specs.Intakes.{Settled, came_in, count_held, first_read, intake_of, most_said, read_over, spoken, without_first, without_listener}
+use Rattle.data_dropped.specs.declared.answers.Arrival.{Arrival}
+use Rattle.data_dropped.specs.declared.answers.Arrival.TheVariants.{Kept}
+use Rattle.data_dropped.specs.declared.answers.Arrival.TheVariants as arrival
+use Rattle.dccp_endpoint.specs.End.{last_taken}
+use Rattle.dccp_listener.specs.Peers.{FlowEnd, end_of_peer, is_peer, peer_cmp}
+use Rattle.dccp_listener.specs.Runs.{CallTold}
+use Rattle.dccp_listener.specs.declared.peer.Peer.{Peer}
+use Rattle.dccp_server.specs.Events.{data_told}
+use Rattle.dccp_server.specs.Rooms.{Ruled}
+use Rattle.dccp_server.specs.declared.flow_event.EventKind.{EventKind}
+use Rattle.dccp_server.specs.declared.flow_event.EventKind.TheVariants as kinds
+use Rattle.dccp_server.specs.declared.flow_event.FlowEvent.{FlowEvent}
+use Rattle.dccp_states.specs.declared.outcome.Outcome.{Outcome}
+use Rattle.dccp_states.specs.declared.outcome.Outcome.TheVariants.{Took}
+
+-- For how many packets each flow has room, where 0 is that none has an inbox; how many inboxes there may be; and that of
+-- each peer that has one, in the order of peers.
+pub record Inboxes : Type 0 where
+  pub capacity : ℕ
+  pub most : ℕ
+  pub entries : List (Peer × Option InboxState)
+
+-- no peer has one yet
+abbrev pub no_inboxes : ℕ → ℕ → Inboxes
+no_inboxes capacity most = record { capacity = capacity; most = most; entries = [] }
+
+-- the inbox of a peer, if it has one
+abbrev pub flow_inbox : Inboxes → Peer → Option InboxState
+flow_inbox s peer = unwrap_or (lookup (is_peer peer) s.entries) None
+
+-- a peer's inbox is this from now on, where it had one
+abbrev pub with_flow_inbox_by : Inboxes → Peer → Option InboxState → Option (Option InboxState) → Inboxes
+with_flow_inbox_by s peer inbox None = s
+with_flow_inbox_by s peer inbox (Some was) = record s { entries = set_value (is_peer peer) s.entries inbox }
+
+-- by whether it had one
+abbrev pub with_flow_inbox : Inboxes → Peer → Option InboxState → Inboxes
+with_flow_inbox s peer inbox = with_flow_inbox_by s peer inbox (lookup (is_peer peer) s.entries)
+
+-- a peer has none any more, and what waited there is lost
+abbrev pub without_inbox_of : Inboxes → Peer → Inboxes
+without_inbox_of s peer = record s { entries = remove_entry (is_peer peer) s.entries }
+
+-- no inbox is to be made for a peer: flows have none here, or it has one
+abbrev pub needs_no_inbox : Inboxes → Peer → Bool
+needs_no_inbox s peer = s.capacity == 0 || is_some (lookup (is_peer peer) s.entries)
+
+-- A peer has an inbox from now on, where flows have any.
+abbrev pub with_place : Inboxes → Peer → Inboxes
+with_place s peer = if needs_no_inbox s peer then s else record s { entries = insert_entry peer_cmp s.entries peer (intake_of s.capacity) }
+
+-- the inboxes once a datagram has brought data or none, and what became of them, if they came into one
+pub record FlowDelivery : Type 0 where
+  pub inboxes : Inboxes
+  pub arrival : Option Arrival
+
+-- a peer's data came to its inbox, which is this then
+abbrev pub settled_there : Inboxes → Peer → Settled → FlowDelivery
+settled_there s peer settled = record { inboxes = with_flow_inbox s peer settled.inbox; arrival = settled.arrival }
+
+-- data of a peer came under this number, which are there in the datagram
+abbrev pub flow_takes_in : Inboxes → Peer → ℕ → List ℕ → ℕ × ℕ → FlowDelivery
+flow_takes_in s peer number bytes place = settled_there s peer (came_in (flow_inbox s peer) number bytes (Some (Took (Some place))))
+
+-- nothing came
+abbrev pub no_flow_delivery : Inboxes → FlowDelivery
+no_flow_delivery s = record { inboxes = s; arrival = None }
+
+-- the place lies within the datagram, as that of data does
+abbrev pub lies_within : List ℕ → ℕ × ℕ → Bool
+lies_within bytes place = nat_le place.0 place.1 && nat_le place.1 (length bytes)
+
+-- Data of a peer came that are there, if any did, and it has this end now, if it has one.
+abbrev pub flow_delivers_by : Inboxes → Peer → List ℕ → Option (ℕ × ℕ) → Option FlowEnd → FlowDelivery
+flow_delivers_by s peer bytes (Some place) (Some e) =
+    if lies_within bytes place then flow_takes_in (with_place s peer) peer (last_taken e.state) bytes place else no_flow_delivery s
+flow_delivers_by s peer bytes _ _ = no_flow_delivery s
+
+-- A datagram of a peer has led the server to this one, and that was told of it: data that it brought come into the peer's
+-- inbox, which is made for the first that come.
+abbrev pub flow_delivers : Inboxes → Ruled → Peer → List ℕ → Option CallTold → FlowDelivery
+flow_delivers s after peer bytes told = flow_delivers_by s peer bytes (data_told told) (end_of_peer after.room.served.listening.flows peer)
+
+-- A peer that had a flow before a datagram, or had none, has this one after it: with a new flow, what waited of the one
+-- before it is lost.
+abbrev pub begun_fresh : Inboxes → Peer → Bool → Option FlowEnd → Inboxes
+begun_fresh s peer false (Some e) = without_inbox_of s peer
+begun_fresh s peer _ _ = s
+
+-- the frame of a flow with this end, if there is one, says what this inbox has to say
+abbrev pub flow_speaks_by : Option InboxState → Option FlowEnd → Option Outgoing → Option Outgoing
+flow_speaks_by inbox None frame = frame
+flow_speaks_by inbox (Some e) frame = spoken e.state.config.pseudo_out inbox frame
+
+-- A frame that goes to a peer, as it goes out.
+abbrev pub flow_speaks : Inboxes → Ruled → Peer → Option Outgoing → Option Outgoing
+flow_speaks s server peer frame = flow_speaks_by (flow_inbox s peer) (end_of_peer server.room.served.listening.flows peer) frame
+
+-- an inbox of a flow that is over goes once it is empty
+abbrev pub tidied_by : Inboxes → Peer → Option FlowEnd → Inboxes
+tidied_by s peer (Some e) = s
+tidied_by s peer None = if count_held (flow_inbox s peer) == 0 then without_inbox_of s peer else s
+
+-- A peer's inbox stands as long as its flow does, or data wait in it.
+abbrev pub tidied : Inboxes → Ruled → Peer → Inboxes
+tidied s server peer = tidied_by s peer (end_of_peer server.room.served.listening.flows peer)
+
+-- and that of a peer whose flow may have made room
+abbrev pub tidied_if : Inboxes → Ruled → Option Peer → Inboxes
+tidied_if s server None = s
+tidied_if s server (Some peer) = tidied s server peer
+
+-- the first data of a peer were read, if any waited
+abbrev pub flow_without_first : Inboxes → Peer → Inboxes
+flow_without_first s peer = with_flow_inbox s peer (without_first (flow_inbox s peer))
+
+-- the number and the length of a peer's first data
+abbrev pub flow_first_read : Inboxes → Peer → Option (ℕ × ℕ)
+flow_first_read s peer = first_read (flow_inbox s peer)
+
+-- these data over the front of bytes
+abbrev pub flow_read_over : Inboxes → Peer → List ℕ → List ℕ
+flow_read_over s peer old = read_over (flow_inbox s peer) old
+
+-- a peer's data are wanted no more
+abbrev pub flow_stopped : Inboxes → Peer → Inboxes
+flow_stopped s peer = with_flow_inbox s peer (without_listener (flow_inbox s peer))
+
+-- how many packets' data of a peer wait
+abbrev pub flow_held : Inboxes → Peer → ℕ
+flow_held s peer = count_held (flow_inbox s peer)
+
+-- how many bytes a peer's inbox adds to an acknowledgement, at most
+abbrev pub flow_most_said : Inboxes → Peer → ℕ
+flow_most_said s peer = most_said (flow_inbox s peer)
+
+-- what is told of data that came into an inbox, and of all else as without one
+abbrev pub kind_kept : Option Arrival → EventKind → EventKind
+kind_kept (Some Kept) (kinds.Data first past) = kinds.Waits
+kind_kept (Some (arrival.Dropped code)) (kinds.Data first past) = kinds.Dropped code
+kind_kept _ kind = kind
+
+-- of a flow
+abbrev pub event_kept : Option Arrival → FlowEvent → FlowEvent
+event_kept kept event = record event { kind = kind_kept kept event.kind }

@@ -1,0 +1,106 @@
+//! The Init Cookie that a client returns.
+ghost use Rattle.std.specs.Prelude.{◌≡◌, ◌≤◌, length};
+ghost use Rattle.dccp_endpoint.specs.Calling.{is_requesting};
+ghost use Rattle.dccp_endpoint.specs.Early.{is_part_open};
+ghost use Rattle.dccp_packets.specs.Grammar.{decoded};
+ghost use Rattle.dccp_server.specs.ClientCookies.{cookie_had, with_cookie};
+
+use dccp_endpoint::{Outbox, Phase, Pseudo};
+use dccp_options::options;
+use dccp_packets::decode;
+use init_cookies::{CookieOption, append_options, one_cookie};
+use std::marker::Model;
+
+fn is_requesting(phase: Phase) -> bool
+    ensures { result ≡ is_requesting phase }
+{
+    matches!(phase, Phase::Request)
+}
+
+fn is_part_open(phase: Phase) -> bool
+    ensures { result ≡ is_part_open phase }
+{
+    matches!(phase, Phase::PartOpen)
+}
+
+// Writes the Init Cookie of a Response as an option, or nothing.
+fn put_cookie(datagram: &[u8], cookie: &mut CookieOption)
+    requires { length datagram.now ≤ 2044 }
+    ensures value { cookie.new.items ≡ cookie_had (decoded datagram.now) }
+    ensures short { length cookie.new.items ≤ 255 }
+{
+    match decode(datagram) {
+        Ok(packet) => one_cookie(&options(packet.options, false), cookie),
+        Err(_) => cookie.clear(),
+    }
+}
+
+fn add_cookie(pseudo: &Pseudo, cookie: &CookieOption, out: &mut Outbox)
+    requires { length cookie.now.items ≤ 255 }
+    ensures { out.new ≡ with_cookie pseudo.now cookie.now.items out.old }
+{
+    if cookie.is_empty() {
+        return;
+    }
+    append_options(out, cookie.as_slice(), pseudo);
+}
+
+/// The Init Cookie that a client returns (RFC 4340, section 8.1.4), if it has one. Its owner has it hear each datagram after
+/// the end, and put it into each frame that the end leaves.
+#[derive(Clone, Debug, Drop)]
+pub struct ClientCookie {
+    option: CookieOption,
+}
+
+impl Model for ClientCookie {
+    ghost use Rattle.std.specs.Prelude.{◌≤◌, List, length, ℕ};
+
+    ghost Value = { List ℕ };
+
+    ghost view = { λ c. c.option.items };
+
+    ghost invariant = { λ c. length c.option.items ≤ 255 };
+}
+
+impl ClientCookie {
+    ghost use Rattle.std.specs.Prelude.{◌≡◌, ◌≤◌, [], length};
+    ghost use Rattle.dccp_server.specs.ClientCookies.{cookie_kept, returning};
+
+    /// None yet.
+    pub fn none() -> ClientCookie
+        ensures { result ≡ [] }
+    {
+        ClientCookie {
+            option: CookieOption::new(),
+        }
+    }
+
+    /// A datagram of at most 2,044 bytes has led the end from one phase to another: where it has answered the question of a
+    /// client, its Init Cookie is kept, if it has one alone (own).
+    pub fn keep(&mut self, was: Phase, is: Phase, datagram: &[u8])
+        requires { length datagram.now ≤ 2044 }
+        ensures { self.new ≡ cookie_kept was is datagram.now self.old }
+    {
+        if is_requesting(was) && is_part_open(is) {
+            put_cookie(datagram, &mut self.option);
+        }
+    }
+
+    /// The frame that an end in this phase has left in the box returns the cookie in PARTOPEN, where it has room for it. The
+    /// addresses are those by which the end sends.
+    pub fn put(&self, phase: Phase, pseudo: &Pseudo, out: &mut Outbox)
+        ensures { out.new ≡ returning phase pseudo.now self.now out.old }
+    {
+        if is_part_open(phase) {
+            add_cookie(pseudo, &self.option, out);
+        }
+    }
+
+    /// How many bytes it has as an option; 0 where there is none.
+    pub fn bytes(&self) -> usize
+        ensures value { result ≡ length self.now }
+        ensures few { result ≤ 255 }
+    {
+        self.option.len()
+    }
+}

@@ -1,0 +1,345 @@
+//! A server that lists the events of its flows.
+ghost use Rattle.std.specs.Prelude.{◌≡◌, ◌≤◌, length};
+ghost use Rattle.dccp_server.specs.Events.{ends_old, evicted_event, flow_state, leaver_life, room_maker, rules_of_opening, time_of_opening};
+
+use crate::duty::Duty;
+use crate::flow_event::{
+    EndCause, EndReason, EventKind, FlowEvent, FlowEvents, FlowState, aborted_end, data_told,
+    ending_heard, event_if, events_between, is_ended, seen_flow, silent_end,
+};
+use crate::life::Life;
+use crate::meeting::{CookieUse, Meeting, Way, hurried};
+use crate::rules::Rules;
+use crate::server::Server;
+use dccp_endpoint::{Outbox, ResetCode, Seen, Seq48, UserCall};
+use dccp_listener::{ListenConfig, NoFlow, Peer};
+use dccp_uses::Pace;
+use init_cookies::Opening;
+use std::alloc::Global;
+use std::marker::Model;
+
+// What the owner sees of a peer's flow, if it has one.
+fn flow_state(server: &Server, peer: Peer) -> Option<FlowState>
+    ensures { result ≡ flow_state server.now.room peer }
+{
+    match server.flow(peer) {
+        Some(end) => Some(seen_flow(end, server.life(peer).user, server.restraint(peer))),
+        None => None,
+    }
+}
+
+// As of when a datagram opens a flow, if it opens one.
+fn time_of_opening(now: u64, opening: &Option<Opening>) -> u64
+    ensures { result ≡ time_of_opening now opening.now }
+{
+    match opening {
+        Some(opening) => opening.time(),
+        None => now,
+    }
+}
+
+// By which rules room is made for it.
+fn rules_of_opening(rules: Rules, opening: &Option<Opening>) -> Rules
+    ensures { result ≡ rules_of_opening rules opening.now }
+{
+    match opening {
+        Some(_) => hurried(&rules),
+        None => rules,
+    }
+}
+
+// The life of the flow that would make room for one more of this peer, where all places are taken.
+fn leaver_life(server: &Server, peer: Peer, bytes: &[u8], now: u64) -> Option<Life>
+    requires { length bytes.now ≤ 2044 }
+    ensures { result ≡ leaver_life now server.now peer bytes.now }
+{
+    if server.flow(peer).is_some() || !server.is_full() {
+        return None;
+    }
+    let returned = server.returned(peer, bytes, now);
+    let rules = rules_of_opening(server.rules(), &returned);
+    match server.leaver_by(&rules, time_of_opening(now, &returned)) {
+        Some(leaver) => Some(server.life(leaver)),
+        None => None,
+    }
+}
+
+// Whose flow has made room.
+fn room_maker(made_room: Option<Peer>, evicted: Option<Peer>) -> Option<Peer>
+    ensures { result ≡ room_maker made_room evicted }
+{
+    match made_room {
+        Some(peer) => Some(peer),
+        None => evicted,
+    }
+}
+
+// Whether the flow that the peer had was ended, since the peer has begun anew.
+fn ends_old(anew: bool, way: Way) -> bool
+    ensures { result ≡ ends_old anew way }
+{
+    match way {
+        Way::Unopened => true,
+        Way::Plain | Way::Greeted | Way::Unanswered | Way::Reopened => anew,
+    }
+}
+
+// What is told of a flow that has made room, by its life before.
+fn evicted_event(life: Option<Life>, evicted: Option<Peer>) -> Option<FlowEvent>
+    ensures { result ≡ evicted_event life evicted }
+{
+    match (life, evicted) {
+        (Some(life), Some(peer)) => {
+            let kind = EventKind::Ended(silent_end(EndCause::Evicted));
+            event_if(!is_ended(life.phase), peer, life.user, kind)
+        }
+        (None, _) | (_, None) => None,
+    }
+}
+
+/// The server takes no new flows, and the datagram would have opened one (own).
+#[derive(Clone, Copy, Debug, PartialEq, Eq)]
+pub struct Shut;
+
+/// A [`Server`] that lists what its calls have done to its flows (own). The calls are those of the server. After each,
+/// ask `next_event` until it has nothing more: events that were not taken before the next call are lost.
+#[derive(Drop)]
+pub struct EventServer {
+    server: Server,
+    events: FlowEvents,
+    is_shut: bool,
+}
+
+impl Model for EventServer {
+    ghost use Rattle.dccp_server.specs.Events.{Watched};
+
+    ghost Value = { Watched };
+
+    ghost view = { λ s. record { server = s.server; events = s.events; is_shut = s.is_shut } };
+}
+
+impl EventServer {
+    ghost use Rattle.std.specs.Prelude.{◌≡◌, ◌≤◌, ◌↔◌, IfOk, IsErr, None, Some, OnErr, OnOk, false, is_some, length, true};
+    ghost use Rattle.dccp_listener.specs.Calls.{seen_if};
+    ghost use Rattle.dccp_listener.specs.Chain.{Calls, asked};
+    ghost use Rattle.dccp_listener.specs.Listens.{listens};
+    ghost use Rattle.dccp_listener.specs.Peers.{end_of_peer};
+    ghost use Rattle.dccp_listener.specs.Runs.{Stepped};
+    ghost use Rattle.dccp_listener.specs.Standing.{IsListening};
+    ghost use Rattle.dccp_server.specs.Events.{aborted_end, called_on, due_state, ends_old, entry_at, events_between, events_left, first_event, flow_state, heard_on, is_shut_out, no_events, room_maker, shut_out, silent_end, ticked_on, told_of_duty};
+    ghost use Rattle.dccp_server.specs.Meeting.{IsMet, may_meet, rekeyed};
+    ghost use Rattle.dccp_packets.specs.ResetCodes.{number_of_code};
+    ghost use Rattle.dccp_packets.specs.declared.reset_code.ResetCode.TheVariants as codes;
+    ghost use Rattle.dccp_server.specs.Refusals.{flow_asked, refused_frame};
+    ghost use Rattle.dccp_server.specs.Rooms.{duty_done, duty_frame, duty_in, forgets, room_does, ruled_begins, told_of_arrival, with_user};
+    ghost use Rattle.dccp_server.specs.Serving.{Does};
+    ghost use Rattle.dccp_server.specs.declared.flow_event.EndCause.TheVariants as causes;
+
+    /// A server without flows, as `Server::new` makes it. It takes no memory.
+    pub fn new(alloc: Global, config: ListenConfig, pace: Pace, rules: Rules) -> EventServer
+        requires { IsListening config }
+        ensures { result ≡ record { server = ruled_begins config pace rules; events = no_events; is_shut = false } }
+    {
+        EventServer {
+            server: Server::new(alloc, config, pace, rules),
+            events: FlowEvents::none(),
+            is_shut: false,
+        }
+    }
+
+    /// The server, to be read.
+    pub fn server(&self) -> &Server
+        ensures { result.now ≡ self.now.server }
+    {
+        &self.server
+    }
+
+    /// The next event of the last call, or None if there are no more.
+    pub fn next_event(&mut self) -> Option<FlowEvent>
+        ensures next { result ≡ first_event self.old.events }
+        ensures after { self.new ≡ record self.old { events = events_left self.old.events } }
+    {
+        let next = self.events.first();
+        self.events = self.events.left();
+        next
+    }
+
+    /// `Server::meet`, of which the owner is told. Shut comes exactly where no new flow is taken and the datagram would open
+    /// one: it is refused by a Reset with the code Connection Refused (RFC 4340, section 5.6). Where no new flow is taken no
+    /// cookie is given, and none opens a flow.
+    pub fn arrive(
+        &mut self,
+        peer: Peer,
+        iss: Seq48,
+        bytes: &[u8],
+        now: u64,
+        out: &mut Outbox,
+    ) -> Result<Meeting, Shut>
+        requires { length bytes.now ≤ 2044 }
+        ensures open { OnOk result (is_shut_out self.old peer bytes.now ≡ false) }
+        ensures shut { OnErr result ((is_shut_out self.old peer bytes.now ≡ true) × (self.new ≡ shut_out now self.old peer bytes.now)
+            × (out.new ≡ refused_frame now self.old.server peer bytes.now (number_of_code codes.ConnectionRefused))) }
+        ensures met { IfOk result (λ it. IsMet now self.old.server self.new.server peer iss bytes.now out.new it.arrival.heard it.arrival.evicted it.arrival.anew it.made_room it.way) }
+        ensures way { IfOk result (λ it. may_meet (entry_at now self.old peer iss bytes.now) it.way ≡ true) }
+        ensures told { IfOk result (λ it. self.new ≡ heard_on now self.old self.new.server peer bytes.now (told_of_arrival it.arrival.heard) (room_maker it.made_room it.arrival.evicted) (ends_old it.arrival.anew it.way)) }
+    {
+        let code = ResetCode::ConnectionRefused.number();
+        if self.is_shut && self.server.refuse(peer, bytes, code, now, out) {
+            self.events = FlowEvents::none();
+            return Err(Shut);
+        }
+        Ok(self.hear(peer, iss, bytes, now, out))
+    }
+
+    // The same where it is not refused.
+    fn hear(&mut self, peer: Peer, iss: Seq48, bytes: &[u8], now: u64, out: &mut Outbox) -> Meeting
+        requires { length bytes.now ≤ 2044 }
+        ensures met { IsMet now self.old.server self.new.server peer iss bytes.now out.new result.arrival.heard result.arrival.evicted result.arrival.anew result.made_room result.way }
+        ensures way { may_meet (entry_at now self.old peer iss bytes.now) result.way ≡ true }
+        ensures told { self.new ≡ heard_on now self.old self.new.server peer bytes.now (told_of_arrival result.arrival.heard) (room_maker result.made_room result.arrival.evicted) (ends_old result.arrival.anew result.way) }
+    {
+        let was = flow_state(&self.server, peer);
+        let life = leaver_life(&self.server, peer, bytes, now);
+        let meeting = self.meet(peer, iss, bytes, now, out);
+        let maker = room_maker(meeting.made_room, meeting.arrival.evicted);
+        let anew = ends_old(meeting.arrival.anew, meeting.way);
+        self.events = events_between(
+            peer,
+            was,
+            flow_state(&self.server, peer),
+            data_told(&meeting.arrival.heard),
+            ending_heard(was, &meeting.arrival.heard, anew),
+            evicted_event(life, maker),
+        );
+        meeting
+    }
+
+    // It is met, or where no new flow is taken served without cookies.
+    fn meet(&mut self, peer: Peer, iss: Seq48, bytes: &[u8], now: u64, out: &mut Outbox) -> Meeting
+        requires { length bytes.now ≤ 2044 }
+        ensures met { IsMet now self.old.server self.new.server peer iss bytes.now out.new result.arrival.heard result.arrival.evicted result.arrival.anew result.made_room result.way }
+        ensures way { may_meet (entry_at now self.old peer iss bytes.now) result.way ≡ true }
+        ensures rest { self.new ≡ record self.old { server = self.new.server } }
+    {
+        if self.is_shut {
+            self.server.serve(peer, iss, bytes, now, out)
+        } else {
+            self.server.meet(peer, iss, bytes, now, out)
+        }
+    }
+
+    /// Refuses a datagram that would open a flow, in place of `arrive`: `Server::refuse`.
+    pub fn refuse(&mut self, peer: Peer, bytes: &[u8], code: u8, now: u64, out: &mut Outbox) -> bool
+        requires { length bytes.now ≤ 2044 }
+        ensures opens { result ≡ is_some (flow_asked self.old.server.room.served.listening peer bytes.now) }
+        ensures sent { out.new ≡ refused_frame now self.old.server peer bytes.now code }
+        ensures after { self.new ≡ shut_out now self.old peer bytes.now }
+    {
+        self.events = FlowEvents::none();
+        self.server.refuse(peer, bytes, code, now, out)
+    }
+
+    /// Takes no new flows from now on, or takes them again. Those that stand go on.
+    pub fn set_shut(&mut self, is_shut: bool)
+        ensures { self.new ≡ record self.old { is_shut = is_shut } }
+    {
+        self.is_shut = is_shut;
+    }
+
+    /// `Server::ask`, of which the owner is told: a call that ends a connection is an abort of his.
+    pub fn ask(
+        &mut self,
+        peer: Peer,
+        call: UserCall<'_>,
+        now: u64,
+        out: &mut Outbox,
+    ) -> Result<Seen, NoFlow>
+        ensures after { self.new ≡ called_on self.old (record self.old.server { room = room_does now self.old.server.room peer (Does (Calls (asked call.entry))) }) peer (aborted_end causes.Own) }
+        ensures sent { out.new ≡ (listens self.old.server.room.served.listening peer (Calls (asked call.entry))).frame }
+        ensures told { Stepped (seen_if result) ≡ (listens self.old.server.room.served.listening peer (Calls (asked call.entry))).told }
+    {
+        let was = flow_state(&self.server, peer);
+        let answer = self.server.ask(peer, call, now, out);
+        self.tell(peer, was, aborted_end(EndCause::Own));
+        answer
+    }
+
+    // The owner is told of a peer's flow, of which he saw this before.
+    fn tell(&mut self, peer: Peer, was: Option<FlowState>, ending: EndReason)
+        ensures { self.new ≡ record self.old { events = events_between peer was (flow_state self.old.server.room peer) None ending None } }
+    {
+        let is = flow_state(&self.server, peer);
+        self.events = events_between(peer, was, is, None, ending, None);
+    }
+
+    /// `Server::forget`, of which the owner is told.
+    pub fn forget(&mut self, peer: Peer, now: u64, out: &mut Outbox)
+        ensures after { self.new ≡ called_on self.old (record self.old.server { room = forgets now self.old.server.room peer }) peer (silent_end causes.Own) }
+        ensures sent { out.new ≡ None }
+    {
+        let was = flow_state(&self.server, peer);
+        self.server.forget(peer, now, out);
+        self.tell(peer, was, silent_end(EndCause::Own));
+    }
+
+    // What the owner sees of the flow of which there is something to do.
+    fn due_state(&self, duty: Option<Duty>) -> Option<FlowState>
+        ensures { result ≡ due_state self.now.server.room duty }
+    {
+        match duty {
+            Some(duty) => flow_state(&self.server, duty.peer()),
+            None => None,
+        }
+    }
+
+    // The owner is told of what was done.
+    fn tell_duty(&mut self, duty: Option<Duty>, was: Option<FlowState>)
+        ensures { self.new ≡ record self.old { events = told_of_duty was self.old.server.room duty } }
+    {
+        match duty {
+            Some(duty) => self.tell(duty.peer(), was, aborted_end(EndCause::Silent)),
+            None => self.events = FlowEvents::none(),
+        }
+    }
+
+    /// `Server::tick`, of which the owner is told: a connection that it ends is given up.
+    pub fn tick(&mut self, now: u64, out: &mut Outbox) -> Option<Duty>
+        ensures duty { result ≡ duty_in now self.old.server.rules self.old.server.half self.old.server.room }
+        ensures after { self.new ≡ ticked_on self.old (record self.old.server { room = duty_done now self.old.server.room result }) result }
+        ensures sent { out.new ≡ duty_frame now self.old.server.room result }
+    {
+        let was = self.due_state(self.server.duty(now));
+        let duty = self.server.tick(now, out);
+        self.tell_duty(duty, was);
+        duty
+    }
+
+    /// `Server::set_rules`.
+    pub fn set_rules(&mut self, rules: Rules)
+        ensures { self.new ≡ record self.old { server = record self.old.server { rules = rules } } }
+    {
+        self.server.set_rules(rules);
+    }
+
+    /// `Server::set_user`.
+    pub fn set_user(&mut self, peer: Peer, user: u64) -> Result<(), NoFlow>
+        ensures after { self.new ≡ record self.old { server = record self.old.server { room = with_user user self.old.server.room peer } } }
+        ensures no_flow { IsErr result ↔ (end_of_peer self.old.server.room.served.listening.flows peer ≡ None) }
+    {
+        self.server.set_user(peer, user)
+    }
+
+    /// `Server::set_cookies`.
+    pub fn set_cookies(&mut self, cookies: CookieUse)
+        ensures { self.new ≡ record self.old { server = record self.old.server { cookies = cookies } } }
+    {
+        self.server.set_cookies(cookies);
+    }
+
+    /// `Server::rekey`.
+    pub fn rekey(&mut self, key: [u8; 32], now: u64)
+        ensures { self.new ≡ record self.old { server = record self.old.server { keys = Some (rekeyed key now self.old.server.keys) } } }
+    {
+        self.server.rekey(key, now);
+    }
+}

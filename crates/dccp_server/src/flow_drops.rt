@@ -1,0 +1,158 @@
+//! Which packets of a listener's flows were reported as dropped, and why.
+ghost use Rattle.std.specs.Prelude.{◌≡◌, ◌==◌, ◌&&◌, Some, if◌then◌else◌};
+ghost use Rattle.dccp_listener.specs.Peers.{is_peer};
+ghost use Rattle.dccp_packets.specs.Grammar.{decoded};
+ghost use Rattle.dccp_uses.specs.DropRecord.{packet_recorded, report_recorded};
+ghost use Rattle.dccp_server.specs.FlowDrops.{flow_drop_code, flow_record_after, flow_recorded};
+
+use circular_buffer::HeapCircularBuffer;
+use data_dropped::DropReport;
+use dccp_endpoint::{NoMemory, Seq48};
+use dccp_listener::Peer;
+use dccp_options::options;
+use dccp_packets::decode;
+use dccp_uses::{Reader, new_reach};
+use std::alloc::Global;
+use std::cmp::Ordering;
+use std::marker::Model;
+
+const MOST_DROPS: usize = 2048;
+
+fn is_peer(one: &Peer, other: &Peer) -> bool
+    ensures { result ≡ is_peer one.now other.now }
+{
+    matches!(one.cmp(other), Ordering::Equal)
+}
+
+/// Data to a peer that were dropped. No call gives one out; contracts speak of them.
+#[derive(Clone, Copy, Debug, PartialEq, Eq)]
+pub struct FlowDrop {
+    /// The peer.
+    pub peer: Peer,
+    /// The number of the packet whose data they were.
+    pub number: Seq48,
+    /// The Drop Code (RFC 4340, section 11.7).
+    pub code: u8,
+}
+
+/// The last 2,048 packets that the peers of a listener have reported as dropped, and why: what `DropRecord` of dccp_uses is
+/// to an end of its own (RFC 4340, section 11.7; own). It takes its memory when it is made. Contracts see the list of its
+/// drops, the oldest first.
+#[derive(Drop)]
+pub struct FlowDropRecord {
+    drops: HeapCircularBuffer<FlowDrop>,
+}
+
+impl Model for FlowDropRecord {
+    ghost use Rattle.std.specs.Prelude.{◌≡◌, List};
+    ghost use Rattle.dccp_server.specs.declared.flow_drops.FlowDrop.{FlowDrop};
+
+    ghost Value = { List FlowDrop };
+
+    ghost view = { λ it. it.drops.items };
+
+    ghost invariant = { λ it. it.drops.capacity ≡ 2048 };
+}
+
+impl FlowDropRecord {
+    ghost use Rattle.std.specs.Prelude.{◌≡◌, [], IfOk};
+
+    /// A record of nothing. NoMemory where no block for 2,048 drops is to be had.
+    pub fn new(alloc: Global) -> Result<FlowDropRecord, NoMemory>
+        ensures { IfOk result (λ it. it ≡ []) }
+    {
+        let Ok(drops) = HeapCircularBuffer::with_capacity(alloc, MOST_DROPS) else {
+            return Err(NoMemory);
+        };
+        Ok(FlowDropRecord { drops })
+    }
+
+    // One drop more, which may drive the oldest out.
+    fn note(&mut self, peer: Peer, number: Seq48, code: u8)
+        ensures { self.new ≡ flow_recorded peer number code self.old }
+    {
+        self.drops.push_back(FlowDrop { peer, number, code });
+    }
+
+    // The drops that a report is the first to tell.
+    fn note_report(
+        &mut self,
+        peer: Peer,
+        counted: Option<Seq48>,
+        ack: Seq48,
+        report: &DropReport<'_>,
+    )
+        requires { report.now.ack ≡ ack }
+        ensures { self.new ≡ report_recorded (flow_recorded peer) counted (Some report.now) self.old }
+    {
+        let mut number = ack;
+        let mut left = new_reach(counted, ack);
+        while 0 < left {
+            if let Some(code) = report.code(number) {
+                self.note(peer, number, code);
+            }
+            number = number.sub(1);
+            left -= 1;
+        }
+    }
+
+    // The drops that a datagram is the first to tell, which reports from this number downwards.
+    fn note_datagram(&mut self, peer: Peer, counted: Option<Seq48>, ack: Seq48, datagram: &[u8])
+        ensures { self.new ≡ packet_recorded (flow_recorded peer) counted ack (decoded datagram.now) self.old }
+    {
+        let Ok(packet) = decode(datagram) else {
+            return;
+        };
+        let list = options(packet.options, packet.header.kind.packet_type().is_data());
+        if let Some(report) = DropReport::of(ack, list) {
+            self.note_report(peer, counted, ack, &report);
+        }
+    }
+
+    /// A peer's flow has heard this datagram: `before` and `after` are what was known of its reader before that and is now
+    /// (`Path::reader` of its `Upkeep`).
+    #[tactic(auto, using(dccp_uses::proofs::Numbering::nothing_new))]
+    pub fn heard(&mut self, peer: Peer, before: &Reader, after: &Reader, datagram: &[u8])
+        ensures { self.new ≡ flow_record_after peer before.now.counted after.now.counted datagram.now self.old }
+    {
+        let Some(ack) = after.counted else {
+            return;
+        };
+        if new_reach(before.counted, ack) == 0 {
+            return;
+        }
+        self.note_datagram(peer, before.counted, ack, datagram);
+    }
+
+    /// The Drop Code of the packet to a peer with this number, 0 to 7 (RFC 4340, section 11.7), or None where none is
+    /// recorded. The cost is that of the record.
+    pub fn code(&self, peer: Peer, number: Seq48) -> Option<u8>
+        ensures { result ≡ flow_drop_code self.now peer number }
+    {
+        code_of(&self.drops, peer, number)
+    }
+}
+
+// The code of the peer's number, where it is that of this drop, or else the one found before.
+fn found_in(found: Option<u8>, drop: &FlowDrop, peer: Peer, number: Seq48) -> Option<u8>
+    ensures { result ≡ (if is_peer peer drop.now.peer && drop.now.number == number then Some drop.now.code else found) }
+{
+    if is_peer(&peer, &drop.peer) && drop.number == number {
+        Some(drop.code)
+    } else {
+        found
+    }
+}
+
+// The code of the last drop of a peer's number among these.
+fn code_of(drops: &HeapCircularBuffer<FlowDrop>, peer: Peer, number: Seq48) -> Option<u8>
+    ensures { result ≡ flow_drop_code drops.now.items peer number }
+{
+    let mut found = None;
+    for index in 0..drops.len() {
+        if let Some(drop) = drops.get(index) {
+            found = found_in(found, drop, peer, number);
+        }
+    }
+    found
+}

@@ -1,0 +1,286 @@
+//! How a server meets a datagram that may need no flow, or bring its own opening back.
+ghost use Rattle.std.specs.Prelude.{◌≡◌, ◌≤◌, IfOk, OnErr, OnOk, None, false, length};
+ghost use Rattle.dccp_listener.specs.Greeting.{greets};
+ghost use Rattle.dccp_server.specs.Meeting.{MovesNobody, entry_by, hurried, is_ever_in_use, is_half_open, is_in_use, rekeyed, route_of};
+ghost use Rattle.init_cookies.specs.Appending.{appended};
+ghost use Rattle.init_cookies.specs.Cookies.{cookie_bytes};
+ghost use Rattle.init_cookies.specs.Openings.{request_bytes};
+ghost use Rattle.init_cookies.specs.Routes.{back};
+ghost use Rattle.dccp_options.specs.Written.{spelled};
+
+use crate::asking::{Asking, route_of};
+use crate::room::Arrival;
+use crate::rules::Rules;
+use crate::timed_listener::TimedListener;
+use dccp_endpoint::{NoMemory, Outbox, Outcome, Phase};
+use dccp_listener::{Heard, Peer};
+use dccp_packets::Frame;
+use init_cookies::{
+    CookieBytes, CookieKeys, CookieOption, Opening, Route, append_options, init_cookie, put_request,
+};
+
+/// When a Request of a peer without a flow is answered by an Init Cookie, and no flow is made (RFC 4340, section 8.1.4;
+/// own): never without a key.
+#[derive(Clone, Copy, Debug, PartialEq, Eq)]
+pub enum CookieUse {
+    /// Never.
+    Never,
+    /// Where more than half of the table is in RESPOND, and where its answer would be one Sync too many.
+    InACrowd,
+    /// Always.
+    Always,
+}
+
+/// What a datagram is to a server.
+#[derive(Clone, Debug, Drop)]
+pub enum Entry {
+    /// One that is served.
+    Plain,
+    /// A Request that needs no flow.
+    Asks(Opening),
+    /// One whose options are too long for a cookie.
+    TooLong,
+    /// A packet that brings an opening back.
+    Returns(Opening),
+}
+
+/// The way in which a datagram was met (RFC 4340, section 8.1.4; own).
+#[derive(Clone, Copy, Debug, PartialEq, Eq)]
+pub enum Way {
+    /// It was served as without cookies.
+    Plain,
+    /// It was a Request, and its Response went out with an Init Cookie: no flow was made.
+    Greeted,
+    /// It was a Request, and was left out: its options are too long for a cookie, or there was no memory for an end.
+    Unanswered,
+    /// Its Init Cookie opened a flow, which has heard it.
+    Reopened,
+    /// Its Init Cookie was good, but there was no room or no memory for a flow: nothing went out, and the peer's next
+    /// packet brings it again.
+    Unopened,
+}
+
+/// What came of a datagram that was met (own).
+#[derive(Clone, Copy, Debug, PartialEq, Eq)]
+pub struct Meeting {
+    /// What came of it as it arrived; where it was not served, what a fresh end made of it, or nothing.
+    pub arrival: Arrival,
+    /// How it was met.
+    pub way: Way,
+    /// Whose flow made room for the flow that its cookie opened.
+    pub made_room: Option<Peer>,
+}
+
+impl Meeting {
+    ghost use Rattle.std.specs.Prelude.{◌≡◌, false, None, Ok, Some};
+    ghost use Rattle.dccp_listener.specs.declared.calls.Heard.TheVariants as heard;
+    ghost use Rattle.dccp_server.specs.Meeting.{MovesNobody};
+
+    // A Request was greeted, and this came of it.
+    pub(crate) fn greeted(outcome: Outcome) -> Meeting
+        ensures heard { result.arrival.heard ≡ Ok (Some (heard.Flow outcome)) }
+        ensures nobody { MovesNobody result.arrival.evicted result.arrival.anew result.made_room }
+        ensures way { result.way ≡ Way.Greeted }
+    {
+        Meeting {
+            arrival: Arrival {
+                heard: Ok(Some(Heard::Flow(outcome))),
+                evicted: None,
+                anew: false,
+            },
+            way: Way::Greeted,
+            made_room: None,
+        }
+    }
+
+    // An opening came back in vain.
+    pub(crate) fn unopened(
+        heard: Result<Option<Heard>, NoMemory>,
+        made_room: Option<Peer>,
+    ) -> Meeting
+        ensures heard { result.arrival.heard ≡ heard }
+        ensures evicted { result.arrival.evicted ≡ None }
+        ensures anew { result.arrival.anew ≡ false }
+        ensures room { result.made_room ≡ made_room }
+        ensures way { result.way ≡ Way.Unopened }
+    {
+        Meeting {
+            arrival: Arrival {
+                heard,
+                evicted: None,
+                anew: false,
+            },
+            way: Way::Unopened,
+            made_room,
+        }
+    }
+}
+
+/// A Request is left out, for this reason: nothing goes out.
+pub(crate) fn leave_out(heard: Result<Option<Heard>, NoMemory>, out: &mut Outbox) -> Meeting
+    ensures frame { out.new ≡ None }
+    ensures nobody { MovesNobody result.arrival.evicted result.arrival.anew result.made_room }
+    ensures way { result.way ≡ Way.Unanswered }
+{
+    out.clear();
+    Meeting {
+        arrival: Arrival {
+            heard,
+            evicted: None,
+            anew: false,
+        },
+        way: Way::Unanswered,
+        made_room: None,
+    }
+}
+
+/// The keys with this one to write by.
+pub(crate) fn rekeyed(keys: &Option<CookieKeys>, key: [u8; 32], now: u64) -> CookieKeys
+    ensures { result ≡ rekeyed key now keys.now }
+{
+    match keys {
+        Some(keys) => {
+            let mut keys = *keys;
+            keys.change(key, now);
+            keys
+        }
+        None => CookieKeys::new(key, now),
+    }
+}
+
+/// What a Request is, by what it asks for.
+pub(crate) fn entry_by(asking: Asking) -> Entry
+    ensures { result ≡ entry_by asking }
+{
+    match asking {
+        Asking::Nothing => Entry::Plain,
+        Asking::TooLong => Entry::TooLong,
+        Asking::This(opening) => Entry::Asks(opening),
+    }
+}
+
+/// Half-open flows are over their time at once.
+pub(crate) fn hurried(rules: &Rules) -> Rules
+    ensures { result ≡ hurried rules.now }
+{
+    let mut rules = *rules;
+    rules.respond = Some(0);
+    rules.crowded = Some(0);
+    rules
+}
+
+/// Whether a flow in this phase is half open.
+pub(crate) fn is_half_open(phase: Phase) -> bool
+    ensures { result ≡ is_half_open phase }
+{
+    matches!(phase, Phase::Respond)
+}
+
+/// Whether cookies are used for peers without a flow.
+pub(crate) fn is_in_use(cookies: CookieUse, crowded: bool) -> bool
+    ensures { result ≡ is_in_use cookies crowded }
+{
+    match cookies {
+        CookieUse::Never => false,
+        CookieUse::InACrowd => crowded,
+        CookieUse::Always => true,
+    }
+}
+
+/// Whether cookies are used at all.
+pub(crate) fn is_ever_in_use(cookies: CookieUse) -> bool
+    ensures { result ≡ is_ever_in_use cookies }
+{
+    match cookies {
+        CookieUse::Never => false,
+        CookieUse::InACrowd | CookieUse::Always => true,
+    }
+}
+
+// A fresh end hears the Request of an opening.
+fn greet(
+    timed: &TimedListener,
+    peer: Peer,
+    opening: &Opening,
+    out: &mut Outbox,
+) -> Result<Outcome, NoMemory>
+    ensures sent { OnOk result (out.new ≡ (greets timed.now.listening peer opening.now.iss (request_bytes (route_of timed.now.listening.config peer) opening.now)).frame) }
+    ensures told { IfOk result (λ outcome. outcome ≡ (greets timed.now.listening peer opening.now.iss (request_bytes (route_of timed.now.listening.config peer) opening.now)).answer) }
+    ensures unmet { OnErr result (out.new ≡ None) }
+{
+    let request = request_of(timed, peer, opening);
+    match timed.greet(peer, opening.iss(), request.bytes(), out) {
+        Ok(outcome) => Ok(outcome),
+        Err(fault) => Err(fault),
+    }
+}
+
+// The Request of an opening, spelled again.
+fn request_of(timed: &TimedListener, peer: Peer, opening: &Opening) -> Frame
+    ensures { result ≡ request_bytes (route_of timed.now.listening.config peer) opening.now }
+{
+    let route = route_of(timed.config(), peer);
+    let mut request = Frame::new();
+    put_request(&route, opening, &mut request);
+    request
+}
+
+// The cookie of an opening, as the option that it is.
+fn put_option(keys: &CookieKeys, route: &Route, opening: &Opening, out: &mut CookieOption)
+    ensures value { out.new.items ≡ spelled false 36 (cookie_bytes keys.now route.now opening.now) }
+    ensures short { length out.new.items ≤ 255 }
+{
+    let mut bytes = CookieBytes::new();
+    keys.write(route, opening, &mut bytes);
+    init_cookie(bytes.as_slice(), out);
+}
+
+// The frame in the box goes back by a route with an option.
+fn append_option(route: &Route, option: &CookieOption, out: &mut Outbox)
+    requires { length option.now.items ≤ 255 }
+    ensures { out.new ≡ appended (back route.now.pseudo) option.now.items out.old }
+{
+    let pseudo = route.back();
+    append_options(out, option.as_slice(), &pseudo);
+}
+
+/// The frame in the box goes back by a route with the cookie of an opening, where it has room for it.
+pub fn append_cookie(keys: &CookieKeys, route: &Route, opening: &Opening, out: &mut Outbox)
+    ensures { out.new ≡ appended (back route.now.pseudo) (spelled false 36 (cookie_bytes keys.now route.now opening.now)) out.old }
+{
+    let mut option = CookieOption::new();
+    put_option(keys, route, opening, &mut option);
+    append_option(route, &option, out);
+}
+
+// The frame in the box goes out with the cookie of an opening.
+fn put_cookie(
+    timed: &TimedListener,
+    keys: &CookieKeys,
+    peer: Peer,
+    opening: &Opening,
+    out: &mut Outbox,
+)
+    ensures { out.new ≡ appended (back (route_of timed.now.listening.config peer).pseudo) (spelled false 36 (cookie_bytes keys.now (route_of timed.now.listening.config peer) opening.now)) out.old }
+{
+    let route = route_of(timed.config(), peer);
+    append_cookie(keys, &route, opening, out);
+}
+
+/// A Request is answered with a cookie, and no flow is made: what a fresh end made of it. That has not taken it where it
+/// asks for no service of the listener, or its options have a fault.
+pub(crate) fn greet_with_cookie(
+    timed: &TimedListener,
+    keys: &CookieKeys,
+    peer: Peer,
+    opening: &Opening,
+    out: &mut Outbox,
+) -> Result<Outcome, NoMemory>
+    ensures sent { OnOk result (out.new ≡ appended (back (route_of timed.now.listening.config peer).pseudo) (spelled false 36 (cookie_bytes keys.now (route_of timed.now.listening.config peer) opening.now)) (greets timed.now.listening peer opening.now.iss (request_bytes (route_of timed.now.listening.config peer) opening.now)).frame) }
+    ensures told { IfOk result (λ outcome. outcome ≡ (greets timed.now.listening peer opening.now.iss (request_bytes (route_of timed.now.listening.config peer) opening.now)).answer) }
+    ensures unmet { OnErr result (out.new ≡ None) }
+{
+    let outcome = greet(timed, peer, opening, out)?;
+    put_cookie(timed, keys, peer, opening, out);
+    Ok(outcome)
+}

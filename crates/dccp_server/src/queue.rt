@@ -1,0 +1,120 @@
+//! The tickets of peers: in which order what is kept of them wants something.
+ghost use Rattle.std.specs.Prelude.{◌≡◌, ◌<◌, ◌≤◌, length, true, vec_capacity};
+ghost use Rattle.std.specs.BTreeSet.{insert_key};
+ghost use Rattle.dccp_server.specs.Queues.{AreTicketsInOrder, count_in, first_in, of_class, queued, ticket_cmp, unqueued, without};
+
+use dccp_listener::Peer;
+
+/// The ticket of a peer: at which time of its class something is wanted (own). Tickets are in the order of classes, then
+/// of times, then of peers.
+#[derive(Clone, Copy, Debug, PartialEq, Eq, PartialOrd, Ord)]
+pub struct Ticket {
+    /// What it is for.
+    pub class: u8,
+    /// In milliseconds.
+    pub time: u64,
+    /// Whose it is.
+    pub peer: Peer,
+}
+
+// A ticket gets its place, unless it is there.
+fn put(tickets: &mut Vec<Ticket>, ticket: Ticket)
+    requires order { AreTicketsInOrder tickets.old.items }
+    requires room { length tickets.old.items < vec_capacity tickets.old }
+    ensures put { tickets.new.items ≡ insert_key ticket_cmp tickets.old.items ticket }
+    ensures room { vec_capacity tickets.old ≤ vec_capacity tickets.new }
+{
+    if let Err(at) = tickets.binary_search(&ticket) {
+        let _ = tickets.insert(at, ticket);
+    }
+}
+
+// A ticket goes, if it is there.
+fn take(tickets: &mut Vec<Ticket>, ticket: Ticket)
+    requires { AreTicketsInOrder tickets.old.items }
+    ensures taken { tickets.new.items ≡ without ticket tickets.old.items }
+    ensures room { vec_capacity tickets.old ≤ vec_capacity tickets.new }
+{
+    if let Ok(at) = tickets.binary_search(&ticket) {
+        let _ = tickets.remove(at);
+    }
+}
+
+fn unqueue(tickets: &mut Vec<Ticket>, peer: Peer, was: Option<(u8, u64)>)
+    requires { AreTicketsInOrder tickets.old.items }
+    ensures taken { tickets.new.items ≡ unqueued was peer tickets.old.items }
+    ensures room { vec_capacity tickets.old ≤ vec_capacity tickets.new }
+{
+    if let Some((class, time)) = was {
+        take(tickets, Ticket { class, time, peer });
+    }
+}
+
+fn enqueue(tickets: &mut Vec<Ticket>, peer: Peer, next: Option<(u8, u64)>)
+    requires order { AreTicketsInOrder tickets.old.items }
+    requires room { length tickets.old.items < vec_capacity tickets.old }
+    ensures put { tickets.new.items ≡ queued next peer tickets.old.items }
+    ensures room { vec_capacity tickets.old ≤ vec_capacity tickets.new }
+{
+    if let Some((class, time)) = next {
+        put(tickets, Ticket { class, time, peer });
+    }
+}
+
+/// Whether two moments are one, so that a ticket need not move.
+pub(crate) fn is_one_moment(from: Option<(u8, u64)>, to: Option<(u8, u64)>) -> bool
+    ensures { result ≡ true → from ≡ to }
+{
+    match (from, to) {
+        (None, None) => true,
+        (Some(from), Some(to)) => from.0 == to.0 && from.1 == to.1,
+        (None, Some(_)) | (Some(_), None) => false,
+    }
+}
+
+/// The ticket of a peer goes from one moment to another, if it had and has one.
+pub(crate) fn requeue(
+    tickets: &mut Vec<Ticket>,
+    peer: Peer,
+    was: Option<(u8, u64)>,
+    next: Option<(u8, u64)>,
+)
+    requires order { AreTicketsInOrder tickets.old.items }
+    requires room { length tickets.old.items < vec_capacity tickets.old }
+    ensures moved { tickets.new.items ≡ queued next peer (unqueued was peer tickets.old.items) }
+    ensures room { vec_capacity tickets.old ≤ vec_capacity tickets.new }
+{
+    unqueue(tickets, peer, was);
+    enqueue(tickets, peer, next);
+}
+
+fn of_class(ticket: &Ticket, class: u8) -> Option<Ticket>
+    ensures { result ≡ of_class class ticket.now }
+{
+    if ticket.class == class {
+        return Some(*ticket);
+    }
+    None
+}
+
+/// The first ticket of a class.
+pub(crate) fn first_in(tickets: &[Ticket], class: u8) -> Option<Ticket>
+    requires { AreTicketsInOrder tickets.now }
+    ensures { result ≡ first_in class tickets.now }
+{
+    let at = tickets.partition_point(|ticket| ticket.class < class);
+    match tickets.get(at) {
+        Some(ticket) => of_class(ticket, class),
+        None => None,
+    }
+}
+
+/// How many tickets there are of a class.
+pub(crate) fn count_in(tickets: &[Ticket], class: u8) -> usize
+    requires { AreTicketsInOrder tickets.now }
+    ensures { result ≡ count_in class tickets.now }
+{
+    let first = tickets.partition_point(|ticket| ticket.class < class);
+    let past = tickets.partition_point(|ticket| ticket.class <= class);
+    past.saturating_sub(first)
+}

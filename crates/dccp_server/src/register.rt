@@ -1,0 +1,152 @@
+//! What is kept of each peer that has a flow, and in which order it wants something.
+ghost use Rattle.std.specs.Prelude.{◌≡◌};
+
+use crate::queue::{Ticket, count_in, first_in, is_one_moment, requeue};
+use dccp_endpoint::NoMemory;
+use dccp_listener::Peer;
+use std::alloc::Global;
+use std::collections::BTreeMap;
+use std::marker::Model;
+
+/// What is kept of a peer wants something at a moment, a time of a class, or at none.
+pub trait Moment: Copy {
+    ghost use Rattle.std.specs.Prelude.{◌≡◌, ℕ, Option};
+
+    ghost moment_of: { Self → Option (ℕ × ℕ) };
+
+    /// The class, and the time in milliseconds.
+    fn moment(&self) -> Option<(u8, u64)>
+        ensures { result ≡ moment_of self.now };
+}
+
+/// What is kept of each peer that has a flow. Contracts see the list of it, in the order of peers.
+#[derive(Drop)]
+pub struct Register<V: Moment> {
+    entries: BTreeMap<Peer, V>,
+    tickets: Vec<Ticket>,
+}
+
+impl<V: Moment> Model for Register<V> {
+    ghost use Rattle.std.specs.Prelude.{List, vec_capacity};
+    ghost use Rattle.dccp_listener.specs.declared.peer.Peer.{Peer};
+    ghost use Rattle.dccp_server.specs.Queues.{IsQueued};
+
+    ghost Value = { List (Peer × V) };
+
+    ghost view = { λ r. r.entries.entries };
+
+    ghost invariant = { λ r. IsQueued V.moment_of r.entries.entries r.tickets.items (vec_capacity r.tickets) };
+}
+
+impl<V: Moment> Register<V> {
+    ghost use Rattle.std.specs.Prelude.{◌≡◌, [], None, IfOk, OnOk, OnErr, IsSome, unwrap_or, if◌then◌else◌};
+    ghost use Rattle.std.specs.BTreeMap.{insert_entry};
+    ghost use Rattle.std.specs.Map.{lookup, remove_entry};
+    ghost use Rattle.dccp_listener.specs.Peers.{is_peer, peer_cmp};
+    ghost use Rattle.dccp_server.specs.Places.{IsPlaced};
+    ghost use Rattle.dccp_server.specs.Queues.{count_in, first_in, queue_of};
+
+    /// Nothing is kept. It takes no memory.
+    pub(crate) fn new(alloc: Global) -> Register<V>
+        ensures { result ≡ [] }
+    {
+        Register {
+            entries: BTreeMap::new(alloc),
+            tickets: Vec::new(alloc),
+        }
+    }
+
+    /// What is kept of a peer, if something is.
+    pub(crate) fn of(&self, peer: Peer) -> Option<V>
+        ensures { result ≡ lookup (is_peer peer) self.now }
+    {
+        match self.entries.get(&peer) {
+            Some(value) => Some(*value),
+            None => None,
+        }
+    }
+
+    /// What is kept of a peer, or else this.
+    pub(crate) fn of_or(&self, peer: Peer, other: V) -> V
+        ensures { result ≡ unwrap_or (lookup (is_peer peer) self.now) other }
+    {
+        match self.entries.get(&peer) {
+            Some(value) => *value,
+            None => other,
+        }
+    }
+
+    /// The peer has a place from now on: whether it had one before.
+    pub(crate) fn place_for(&mut self, peer: Peer, fresh: V) -> Result<bool, NoMemory>
+        ensures placed { IfOk result (λ had. IsPlaced fresh had self.old self.new peer) }
+        ensures there { OnOk result (IsSome (lookup (is_peer peer) self.new)) }
+        ensures unchanged { OnErr result (self.new ≡ self.old) }
+        ensures absent { OnErr result (lookup (is_peer peer) self.old ≡ None) }
+    {
+        if self.entries.contains_key(&peer) {
+            return Ok(true);
+        }
+        let more = (self.entries.len() + 2).saturating_sub(self.tickets.len());
+        let Ok(()) = self.tickets.try_reserve(more) else {
+            return Err(NoMemory);
+        };
+        match self.entries.insert(peer, fresh) {
+            Ok(_) => {
+                requeue(&mut self.tickets, peer, None, fresh.moment());
+                Ok(false)
+            }
+            Err(_) => Err(NoMemory),
+        }
+    }
+
+    /// The peer's place goes again, unless it had one before.
+    pub(crate) fn take_back(&mut self, peer: Peer, had: bool)
+        ensures { self.new ≡ (if had then self.old else remove_entry (is_peer peer) self.old) }
+    {
+        if !had {
+            self.remove(peer);
+        }
+    }
+
+    /// The peer, which has a place, has this there from now on.
+    pub(crate) fn put(&mut self, peer: Peer, value: V)
+        requires { IsSome (lookup (is_peer peer) self.old) }
+        ensures { self.new ≡ insert_entry peer_cmp self.old peer value }
+    {
+        match self.entries.insert(peer, value) {
+            Ok(Some(was)) => {
+                let from = was.moment();
+                let to = value.moment();
+                if !is_one_moment(from, to) {
+                    requeue(&mut self.tickets, peer, from, to);
+                }
+            }
+            // The peer has a place.
+            Ok(None) => unreachable!(),
+            Err(_) => unreachable!(),
+        }
+    }
+
+    /// The peer's place goes, if it has one.
+    pub(crate) fn remove(&mut self, peer: Peer)
+        ensures { self.new ≡ remove_entry (is_peer peer) self.old }
+    {
+        if let Some(was) = self.entries.remove(&peer) {
+            requeue(&mut self.tickets, peer, was.moment(), None);
+        }
+    }
+
+    /// The first ticket of a class.
+    pub(crate) fn first_in(&self, class: u8) -> Option<Ticket>
+        ensures { result ≡ first_in class (queue_of V.moment_of self.now) }
+    {
+        first_in(self.tickets.as_slice(), class)
+    }
+
+    /// How many tickets there are of a class.
+    pub(crate) fn count_in(&self, class: u8) -> usize
+        ensures { result ≡ count_in class (queue_of V.moment_of self.now) }
+    {
+        count_in(self.tickets.as_slice(), class)
+    }
+}
