@@ -1,8 +1,8 @@
 // DCCP for C++17: values that own what dccp.h and dccp_socket.h make, spans in place of pointers with lengths, and exceptions.
 //
-// A dccp::socket is a client or a server over the system's UDP, without a thread (dccp_socket.c has to be linked); a dccp::end is one end, and
-// a dccp::listener a server of many, without socket and clock, for a program with a loop of its own. What may fail for what a peer does, as
-// sending over a full window, is answered; what fails for a mistake or for want of memory is thrown.
+// A dccp::socket is a client or a server over the system's UDP, without a thread (dccp_socket.c has to be linked). A dccp::end is one end, and
+// a dccp::listener a server of many peers, without socket and clock, for a program with its own loop. A failure that a peer may cause, such as
+// sending over a full window, is returned; a mistake, or want of memory, is thrown.
 //
 //     auto socket = dccp::socket::connect("192.0.2.1", "5001", 42);
 //     while (auto event = socket.poll()) {
@@ -31,7 +31,7 @@
 
 namespace dccp {
 
-// Bytes that somebody else keeps: those of anything with data() and size() of bytes or characters.
+// A view of bytes that somebody else keeps, from anything with data() and size() of bytes or characters.
 class bytes {
   public:
     constexpr bytes() = default;
@@ -44,7 +44,7 @@ class bytes {
         static_assert(sizeof(*all.data()) == 1, "a container of bytes");
     }
 
-    // Never a null pointer, also of no bytes, as dccp.h asks for.
+    // Never a null pointer, even for no bytes, as dccp.h requires.
     const uint8_t *data() const { return data_ == nullptr ? &nothing_ : data_; }
     std::size_t size() const { return size_; }
     bool empty() const { return size_ == 0; }
@@ -74,7 +74,7 @@ inline void check(dccp_status status) {
     if (status != DCCP_OK) throw error(status);
 }
 
-// A wish for a feature: these values, best first, which are asked for.
+// A wish for a feature: this end asks for these values, best first.
 inline dccp_wish offer(dccp_feature_kind feature, std::initializer_list<uint64_t> values, bool at_peer = false) {
     if (DCCP_MOST_VALUES < values.size()) throw error(DCCP_BAD_LIST);
     dccp_wish wish{};
@@ -85,7 +85,7 @@ inline dccp_wish offer(dccp_feature_kind feature, std::initializer_list<uint64_t
     return wish;
 }
 
-// A connection of a dccp::socket, which keeps it: until the poll that follows its last event.
+// A connection of a dccp::socket, which keeps it until the poll after its last event.
 class connection {
   public:
     explicit connection(dccp_connection *it = nullptr) : it_(it) {}
@@ -96,7 +96,7 @@ class connection {
         if (status == DCCP_TOO_LONG) throw error(status);
         return status;
     }
-    // Closes in order, or ends at once. One that has ended stays so.
+    // Closes in order, or ends at once. Neither does anything to a connection that has ended.
     void close() const { (void)dccp_connection_close(it_); }
     void abort() const { (void)dccp_connection_abort(it_); }
 
@@ -125,7 +125,7 @@ class connection {
         dccp_connection_statistics(it_, &counted);
         return counted;
     }
-    // The number of the packet that was sent last, and what became of one.
+    // The number of the packet that was sent last, and the fate of a packet.
     uint64_t last_sent() const { return dccp_connection_last_sent(it_); }
     dccp_fate fate(uint64_t number) const { return dccp_connection_fate(it_, number); }
     // The longest data that fit a frame of so many bytes now.
@@ -146,7 +146,7 @@ class connection {
     dccp_connection *it_;
 };
 
-// What a socket tells. The data stay until the next poll.
+// An event of a socket. The data stay until the next poll.
 struct event {
     dccp_event_kind kind;
     dccp::connection connection;
@@ -154,11 +154,11 @@ struct event {
     dccp_end_cause cause;
     uint8_t code;
 
-    // Of DCCP_EVENT_ENDED: whether both ends closed, by all that can be known.
+    // For DCCP_EVENT_ENDED: whether both ends closed, as far as this end can know.
     bool is_orderly() const { return cause == DCCP_END_RESET && (code == 1 || code == 3); }
 };
 
-// What a socket is made from, where the usual is not what is wanted.
+// Settings of a socket. An empty one is the usual one.
 struct options {
     std::vector<dccp_wish> wishes = {};
     std::string client_name = {}, server_name = {};
@@ -169,7 +169,7 @@ struct options {
 // A client, or a server of many, over the system's UDP.
 class socket {
   public:
-    // Throws std::system_error where the system refuses, or the options are none.
+    // Throws std::system_error if the system refuses, or the options are not valid.
     static socket connect(const std::string &host, const std::string &port, uint32_t service, const options &with = {}) {
         const dccp_socket_options given = of(with);
         return socket(dccp_socket_connect(host.c_str(), port.c_str(), service, &given));
@@ -179,20 +179,20 @@ class socket {
         return socket(dccp_socket_listen(host.empty() ? nullptr : host.c_str(), port.c_str(), services.data(), services.size(), &given));
     }
 
-    // The next event: waiting for it, or for so long at most; none too where a client's last one was told before. Throws std::system_error
-    // where the system's socket fails.
+    // Waits for the next event, or for this long at most; there is none after a client's last one. Throws std::system_error if the system's
+    // socket fails.
     std::optional<event> poll() { return poll_for(-1); }
     std::optional<event> poll(std::chrono::milliseconds wait) { return poll_for(static_cast<int>(wait.count())); }
 
     int descriptor() const { return dccp_socket_descriptor(it_.get()); }
-    // In how long a poll has something to do even if nothing comes; none: never.
+    // In how long a poll has something to do even if no datagram arrives; none: never.
     std::optional<std::chrono::milliseconds> wait() const {
         const int left = dccp_socket_wait(it_.get());
         if (left < 0) return std::nullopt;
         return std::chrono::milliseconds(left);
     }
     uint16_t port() const { return dccp_socket_port(it_.get()); }
-    // That of a client, until its last event was told.
+    // The connection of a client, until its last event.
     std::optional<dccp::connection> connection() const {
         dccp_connection *it = dccp_socket_connection(it_.get());
         if (it == nullptr) return std::nullopt;
@@ -228,7 +228,7 @@ class socket {
     std::unique_ptr<dccp_socket, freeing> it_;
 };
 
-// One end without socket and clock, as dccp.h has it. Each call leaves a frame for the peer, which may have no bytes.
+// One end without socket and clock, as in dccp.h. Each call leaves a frame for the peer, which may have no bytes.
 class end {
   public:
     end() = default;
@@ -283,10 +283,19 @@ class end {
         return state;
     }
 
+    // The data that have waited longest, where the settings have `most_held`; none: none wait.
+    std::optional<dccp_data> read() {
+        dccp_data data;
+        if (dccp_read(&it_, &data) != DCCP_OK) return std::nullopt;
+        return data;
+    }
+    dccp_status stop_reading() { return dccp_stop_reading(&it_); }
+    std::size_t held() { return dccp_held(&it_); }
+
     dccp_fate fate(uint64_t number) { return dccp_fate_of(&it_, number); }
     std::size_t longest_data(std::size_t most) { return dccp_longest_data(&it_, most); }
 
-    // What the last call has left for the peer, until the next call, and its number.
+    // The frame that the last call left for the peer, until the next call, and its number.
     bytes frame() const { return {frame_.bytes, frame_.length}; }
     uint64_t number() const { return frame_.number; }
     explicit operator bool() const { return it_.made; }
@@ -301,14 +310,14 @@ class end {
     dccp_frame frame_{};
 };
 
-// A server of many peers over IPv4, without socket and clock, as dccp.h has it. Each call leaves a frame for the peer that it names, which may
-// have no bytes.
+// A server of many peers, without socket and clock, as in dccp.h. Each call leaves a frame for the peer that it names, which may have no
+// bytes, and events.
 class listener {
   public:
     listener() = default;
-    listener(const dccp_settings &settings, const std::vector<dccp_wish> &wishes, uint16_t most) {
-        static constexpr dccp_wish none{};
-        check(dccp_listener_make(&it_, &settings, wishes.empty() ? &none : wishes.data(), wishes.size(), most));
+    // Without Service Codes it serves the one of the settings.
+    listener(const dccp_settings &settings, const std::vector<dccp_wish> &wishes, uint16_t most, const std::vector<uint32_t> &services = {}) {
+        check(dccp_listener_make(&it_, &settings, services.data(), services.size(), wishes.data(), wishes.size(), most));
     }
     listener(listener &&other) noexcept : it_(std::exchange(other.it_, DCCP_NO_LISTENER)) {}
     listener &operator=(listener &&other) noexcept {
@@ -329,9 +338,33 @@ class listener {
     dccp_status close(const dccp_peer &peer, uint64_t now) { return dccp_listener_close(&it_, &peer, now, &frame_); }
     dccp_status abort(const dccp_peer &peer, uint64_t now) { return dccp_listener_abort(&it_, &peer, now, &frame_); }
     dccp_status forget(const dccp_peer &peer, uint64_t now) { return dccp_listener_forget(&it_, &peer, now); }
+    dccp_status timer(const dccp_peer &peer, uint32_t timer, uint64_t now) { return dccp_listener_timer(&it_, &peer, timer, now, &frame_); }
+    // The next event of the last call, until there is none.
+    std::optional<dccp_event> event() {
+        dccp_event event DCCP_EVENT_INIT;
+        if (dccp_listener_event(&it_, &event) != DCCP_OK) return std::nullopt;
+        return event;
+    }
+    dccp_status set_user(const dccp_peer &peer, uint64_t user) { return dccp_listener_set_user(&it_, &peer, user); }
+    // The Service Code of the flow that a datagram would open, or none if it would open no flow.
+    std::optional<uint32_t> asks(const dccp_peer &peer, bytes datagram) {
+        uint32_t service = 0;
+        if (dccp_listener_asks(&it_, &peer, datagram.data(), datagram.size(), &service) != DCCP_OK) return std::nullopt;
+        return service;
+    }
+    dccp_status refuse(const dccp_peer &peer, bytes datagram, uint8_t code, uint64_t now) {
+        return dccp_listener_refuse(&it_, &peer, datagram.data(), datagram.size(), code, now, &frame_);
+    }
+    void shut(bool is_shut) { check(dccp_listener_shut(&it_, is_shut)); }
     dccp_status tick(uint64_t now, dccp_peer &peer) { return dccp_listener_tick(&it_, now, &peer, &frame_); }
     void set_rules(const dccp_flow_rules &rules) { check(dccp_listener_rules(&it_, &rules)); }
-    // None: there is never anything to do.
+    // Its Init Cookies are written by this key from now on: 32 random bytes, drawn anew each hour or so.
+    void rekey(const dccp_key &key, uint64_t now) { check(dccp_listener_rekey(&it_, &key, now)); }
+    // In which way the last datagram was met.
+    dccp_way way() { return dccp_listener_way(&it_); }
+    // How many flows stand.
+    uint16_t flows() { return dccp_listener_flows(&it_); }
+    // None: there will be nothing to do.
     std::optional<std::chrono::milliseconds> until_first(uint64_t now) {
         const uint64_t left = dccp_listener_until_first(&it_, now);
         if (left == DCCP_NEVER) return std::nullopt;
@@ -343,7 +376,15 @@ class listener {
         if (dccp_listener_look(&it_, &peer, &view) != DCCP_OK) return std::nullopt;
         return view;
     }
-    // What became of the data to a peer under this number, and the longest that fit a frame of so many bytes now.
+    // The data of a peer that have waited longest, where the settings have `most_held`; none: none wait.
+    std::optional<dccp_data> read(const dccp_peer &peer) {
+        dccp_data data;
+        if (dccp_listener_read(&it_, &peer, &data) != DCCP_OK) return std::nullopt;
+        return data;
+    }
+    dccp_status stop_reading(const dccp_peer &peer) { return dccp_listener_stop_reading(&it_, &peer); }
+    std::size_t held(const dccp_peer &peer) { return dccp_listener_held(&it_, &peer); }
+    // The fate of the data to a peer under this number, and the longest data that fit a frame of this many bytes now.
     dccp_fate fate(const dccp_peer &peer, uint64_t number) { return dccp_listener_fate_of(&it_, &peer, number); }
     std::size_t longest_data(const dccp_peer &peer, std::size_t most) { return dccp_listener_longest_data(&it_, &peer, most); }
     // The peers that have a flow, in the order of their addresses and ports.
@@ -354,7 +395,7 @@ class listener {
         return found;
     }
 
-    // What the last call has left for the peer, until the next call.
+    // The frame that the last call left for the peer, until the next call.
     bytes frame() const { return {frame_.bytes, frame_.length}; }
     explicit operator bool() const { return it_.made; }
 

@@ -1,50 +1,86 @@
 -- What a server makes of a datagram, as C's own definitions have it.
-use Rattle.std.proofs.Common.{◌≡◌, refl, sym, ap, ◌∙◌, subst, ℕ, List, Bool, Option, Some, None, is_some, if◌then◌else◌, Result, Ok, Err, inl, inr}
+use Rattle.std.proofs.Common.{◌≡◌, sym, ap, ◌∙◌, subst, ℕ, List, Bool, true, false, Option, Some, None, is_some, if◌then◌else◌, Result}
 use Rattle.dccp_packets.specs.Outgoing.{Outgoing}
 use Rattle.dccp_listener.specs.declared.calls.Heard.{Heard}
 use Rattle.dccp_listener.specs.Peers.{end_of_peer}
 use Rattle.dccp_listener.specs.declared.peer.Peer.{Peer}
 use Rattle.seq_circle.specs.declared.memory.NoMemory.{NoMemory}
-use Rattle.dccp_server.specs.Rooms.{IsServed, Reception, Ruled, forgets, told_of_arrival, unreceived_at}
-use Rattle.dccp_c.specs.Listening.{Forgets, HandsHeard, HearsAtServer, HearsDatagram, arrival_code, arrival_told, with_room}
-use Rattle.dccp_c.specs.Framing.{Handed, handed_of, nothing_handed}
+use Rattle.dccp_server.specs.Events.{Watched, ends_old, entry_at, heard_on, is_shut_out, room_maker}
+use Rattle.dccp_server.specs.FlowInboxes.{Inboxes, begun_fresh, flow_speaks}
+use Rattle.dccp_server.specs.Meeting.{IsMet, may_meet}
+use Rattle.dccp_server.specs.Rooms.{told_of_arrival}
+use Rattle.dccp_server.specs.declared.meeting.Way.{Way}
+use Rattle.dccp_c.specs.Listening.{Forgets, HandsHeard, HasTakenIn, HearsAtServer, HearsDatagram, HearsIfOpen, Holding, IsShutOut, MayDeliver, holds_forgotten, holds_met, inboxes_begun}
+use Rattle.dccp_c.specs.Framing.{Handed}
 use Rattle.dccp_c.specs.declared.told.Told.{Told}
 
-pub served_for_c : (now : ℕ) (s after : Ruled) (peer : Peer) (first : ℕ) (bytes : List ℕ) (frame : Option Outgoing) (result : Result (Option Heard) NoMemory)
-    (evicted gone : Option Peer) (anew : Bool) (left : Handed) (code : ℕ) (old new : Told)
-    → IsServed now s after peer first bytes frame result gone anew → HandsHeard result frame left code old new → evicted ≡ gone
-    → HearsAtServer now s after peer first bytes left evicted code old new
-served_for_c now s after peer first bytes frame (Ok it) evicted gone anew left code old new served handed same-gone =
-    inr (
-      ap (λ (x : Reception). x.server) served,
-      handed.0 ∙ ap (λ (x : Reception). handed_of x.frame) served,
-      same-gone ∙ ap (λ (x : Reception). x.evicted) served,
-      handed.1 ∙ ap (λ (x : Reception). arrival_code x.told) served,
-      handed.2 ∙ ap (λ (x : Reception). arrival_told x.told old) served,
-    )
-served_for_c now s after peer first bytes frame (Err fault) evicted gone anew left code old new served handed same-gone =
-    inl (served.0 ∙ sym (ap (unreceived_at now s peer first bytes) same-gone), handed.0, handed.1, handed.2)
+-- where it is heard, and then its data come in
+pub met_for_c : (now : ℕ) (s h f : Holding) (peer : Peer) (first : ℕ) (bytes : List ℕ) (had : Bool) (left out : Option Outgoing)
+    (heard : Result (Option Heard) NoMemory) (evicted gone made_room : Option Peer) (anew : Bool) (way met_so : Way) (handed : Handed) (code : ℕ) (old new : Told)
+    → is_shut_out s.watched peer bytes ≡ false
+    → IsMet now s.watched.server h.watched.server peer first bytes left heard gone anew made_room met_so
+    → may_meet (entry_at now s.watched peer first bytes) met_so ≡ true
+    → h.watched ≡ heard_on now s.watched h.watched.server peer bytes (told_of_arrival heard) (room_maker made_room gone) (ends_old anew met_so)
+    → h.inboxes ≡ s.inboxes → had ≡ is_some (end_of_peer s.watched.server.room.served.listening.flows peer)
+    → HasTakenIn h f peer had bytes (told_of_arrival heard) made_room gone → f.watched ≡ h.watched
+    → out ≡ flow_speaks f.inboxes f.watched.server peer left
+    → HandsHeard heard f.arrival out handed code old new → evicted ≡ room_maker made_room gone → way ≡ met_so
+    → HearsIfOpen now s f peer first bytes (is_shut_out s.watched peer bytes) handed evicted way code old new
+met_for_c now s h f peer first bytes had left out heard evicted gone made_room anew way met_so handed code old new
+    is-open met may told same-inboxes had-is taken same sent hands maker same-way =
+    subst (λ (x : Bool). HearsIfOpen now s f peer first bytes x handed evicted way code old new) (sym is-open)
+    (subst (λ (x : Way). HearsAtServer now s f peer first bytes handed evicted x code old new) (sym same-way)
+    (record {
+      heard = heard;
+      frame = left;
+      gone = gone;
+      made_room = made_room;
+      anew = anew;
+      delivery = taken.0;
+      met = subst (λ (w : Watched). IsMet now s.watched.server w.server peer first bytes left heard gone anew made_room met_so) (sym same) met;
+      may = may;
+      watched = same ∙ told
+          ∙ ap (λ (w : Watched). heard_on now s.watched w.server peer bytes (told_of_arrival heard) (room_maker made_room gone) (ends_old anew met_so)) (sym same);
+      delivers = subst (λ (w : Watched). MayDeliver (inboxes_begun s w.server peer) w.server peer bytes (told_of_arrival heard) taken.0) (sym same)
+          (subst (λ (b : Bool). MayDeliver (begun_fresh s.inboxes peer b (end_of_peer h.watched.server.room.served.listening.flows peer)) h.watched.server peer
+          bytes (told_of_arrival heard) taken.0) had-is
+          (subst (λ (i : Inboxes). MayDeliver (begun_fresh i peer had (end_of_peer h.watched.server.room.served.listening.flows peer)) h.watched.server peer
+          bytes (told_of_arrival heard) taken.0) same-inboxes taken.1));
+      held = taken.2 ∙ ap (λ (w : Watched). holds_met w peer made_room gone taken.0) (sym same);
+      maker = maker;
+      handed = subst (λ (o : Option Outgoing). HandsHeard heard f.arrival o handed code old new) sent hands;
+    }))
+
+-- and where it is not
+pub shut_for_c : (now : ℕ) (s t : Holding) (peer : Peer) (first : ℕ) (bytes : List ℕ) (evicted : Option Peer) (way : Way) (left : Handed) (code : ℕ)
+    (old new : Told) → is_shut_out s.watched peer bytes ≡ true → IsShutOut now s t peer bytes left code old new
+    → HearsIfOpen now s t peer first bytes (is_shut_out s.watched peer bytes) left evicted way code old new
+shut_for_c now s t peer first bytes evicted way left code old new shut is =
+    subst (λ (x : Bool). HearsIfOpen now s t peer first bytes x left evicted way code old new) (sym shut) is
 
 -- and as it is once the server has been taken out of its handle and put back
-pub hears_so : (now : ℕ) (before after : Option Ruled) (s t : Ruled) (peer whose : Peer) (first number : ℕ) (bytes : List ℕ) (refusal : Option ℕ)
-    (left : Handed) (evicted gone : Option Peer) (code : ℕ) (old new : Told) → before ≡ Some s → after ≡ Some t → whose ≡ peer → number ≡ first
-    → evicted ≡ gone → refusal ≡ None → HearsAtServer now s t whose number bytes left gone code old new
-    → HearsDatagram now before after peer first bytes refusal left evicted code old new
-hears_so now before after s t peer whose first number bytes refusal left evicted gone code old new before-is after-is same-peer same-number same-gone heard is =
-    subst (λ (x : Option Ruled). HearsDatagram now x after peer first bytes refusal left evicted code old new) (sym before-is)
-    (subst (λ (x : Option Ruled). HearsDatagram now (Some s) x peer first bytes refusal left evicted code old new) (sym after-is)
-    (subst (λ (x : Option ℕ). HearsDatagram now (Some s) (Some t) peer first bytes x left evicted code old new) (sym heard)
-    (subst (λ (x : Option Peer). HearsAtServer now s t peer first bytes left x code old new) (sym same-gone)
-    (subst (λ (x : ℕ). HearsAtServer now s t peer x bytes left gone code old new) same-number
-    (subst (λ (x : Peer). HearsAtServer now s t x number bytes left gone code old new) same-peer is)))))
+pub hears_so : (now : ℕ) (before after : Option Holding) (s t : Holding) (peer whose : Peer) (first number : ℕ) (bytes : List ℕ) (refusal : Option ℕ)
+    (left : Handed) (evicted gone : Option Peer) (way met_so : Way) (code : ℕ) (old new : Told) → before ≡ Some s → after ≡ Some t → whose ≡ peer → number ≡ first
+    → evicted ≡ gone → way ≡ met_so → refusal ≡ None → HearsIfOpen now s t whose number bytes (is_shut_out s.watched whose bytes) left gone met_so code old new
+    → HearsDatagram now before after peer first bytes refusal left evicted way code old new
+hears_so now before after s t peer whose first number bytes refusal left evicted gone way met_so code old new before-is after-is same-peer same-number same-gone same-way heard
+    is =
+    subst (λ (x : Option Holding). HearsDatagram now x after peer first bytes refusal left evicted way code old new) (sym before-is)
+    (subst (λ (x : Option Holding). HearsDatagram now (Some s) x peer first bytes refusal left evicted way code old new) (sym after-is)
+    (subst (λ (x : Option ℕ). HearsDatagram now (Some s) (Some t) peer first bytes x left evicted way code old new) (sym heard)
+    (subst (λ (x : Way). HearsIfOpen now s t peer first bytes (is_shut_out s.watched peer bytes) left evicted x code old new) (sym same-way)
+    (subst (λ (x : Option Peer). HearsIfOpen now s t peer first bytes (is_shut_out s.watched peer bytes) left x met_so code old new) (sym same-gone)
+    (subst (λ (x : ℕ). HearsIfOpen now s t peer x bytes (is_shut_out s.watched peer bytes) left gone met_so code old new) same-number
+    (subst (λ (x : Peer). HearsIfOpen now s t x number bytes (is_shut_out s.watched x bytes) left gone met_so code old new) same-peer is))))))
 
 -- the same of a flow that is forgotten
-pub forgets_so : (now : ℕ) (before after : Option Ruled) (s t : Ruled) (peer whose : Peer) (had : Bool) (code : ℕ) → before ≡ Some s → after ≡ Some t
-    → whose ≡ peer → t ≡ with_room s (forgets now s.room whose) → had ≡ is_some (end_of_peer s.room.served.listening.flows whose)
+pub forgets_so : (now : ℕ) (before after : Option Holding) (s t : Holding) (peer whose : Peer) (had : Bool) (code : ℕ) → before ≡ Some s → after ≡ Some t
+    → whose ≡ peer → t ≡ holds_forgotten now s whose → had ≡ is_some (end_of_peer s.watched.server.room.served.listening.flows whose)
     → code ≡ (if had then 0 else 15) → Forgets now before after peer code
 forgets_so now before after s t peer whose had code before-is after-is same-peer gone had-is code-is =
-    subst (λ (x : Option Ruled). Forgets now x after peer code) (sym before-is) (
-      after-is ∙ ap (λ (x : Ruled). Some x) (gone ∙ ap (λ (p : Peer). with_room s (forgets now s.room p)) same-peer),
+    subst (λ (x : Option Holding). Forgets now x after peer code) (sym before-is) (
+      after-is ∙ ap (λ (x : Holding). Some x) (gone ∙ ap (λ (p : Peer). holds_forgotten now s p) same-peer),
       code-is
-          ∙ ap (λ (b : Bool). if b then 0 else 15) (had-is ∙ ap (λ (p : Peer). is_some (end_of_peer s.room.served.listening.flows p)) same-peer),
+          ∙ ap (λ (b : Bool). if b then 0 else 15)
+          (had-is ∙ ap (λ (p : Peer). is_some (end_of_peer s.watched.server.room.served.listening.flows p)) same-peer),
     )

@@ -1,5 +1,7 @@
 pub mod AsBox
 pub mod Fating
+pub mod Fitting
 pub mod Hearing
 pub mod ListenerAsBox
+pub mod Served
 pub mod Ticking

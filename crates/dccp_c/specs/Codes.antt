@@ -8,10 +8,13 @@ use Rattle.dccp_states.specs.declared.calls.CloseFault.{CloseFault}
 use Rattle.dccp_states.specs.declared.calls.CloseFault.TheVariants as close
 use Rattle.dccp_states.specs.declared.calls.OpenFault.{OpenFault}
 use Rattle.dccp_states.specs.declared.calls.OpenFault.TheVariants.{NotFresh}
-use Rattle.dccp_states.specs.declared.calls.SendFault.{SendFault}
 use Rattle.dccp_states.specs.declared.calls.SendFault.TheVariants as send
 use Rattle.dccp_states.specs.declared.calls.Timer.{Timer}
 use Rattle.dccp_states.specs.declared.calls.Timer.TheVariants as timers
+use Rattle.dccp_uses.specs.declared.reader.Restraint.{Restraint}
+use Rattle.dccp_uses.specs.declared.reader.Restraint.TheVariants as restraint
+use Rattle.dccp_uses.specs.declared.reader.SendRefusal.{SendRefusal}
+use Rattle.dccp_uses.specs.declared.reader.SendRefusal.TheVariants as refusals
 use Rattle.feature_lists.specs.declared.features.Place.{Place}
 use Rattle.feature_lists.specs.declared.features.Place.TheVariants.{Here, There}
 use Rattle.feature_lists.specs.declared.wishes.PreferFault.{PreferFault}
@@ -24,13 +27,19 @@ abbrev pub open_code : Result (Unit {0}) OpenFault → ℕ
 open_code (Ok _) = 0
 open_code (Err NotFresh) = 3
 
+-- the code of data that have to wait: 23 where no application listens any more, else that of a full window
+abbrev pub restraint_code : Restraint → ℕ
+restraint_code restraint.NotListening = 23
+restraint_code restraint.Full = 7
+
 -- the code of sending, each refusal its own
-abbrev pub send_code : Result (Unit {0}) SendFault → ℕ
+abbrev pub send_code : Result (Unit {0}) SendRefusal → ℕ
 send_code (Ok _) = 0
-send_code (Err send.NotOpen) = 4
-send_code (Err send.TooLong) = 5
-send_code (Err send.NotNegotiated) = 6
-send_code (Err send.WindowFull) = 7
+send_code (Err (refusals.Held why)) = restraint_code why
+send_code (Err (refusals.Refused send.NotOpen)) = 4
+send_code (Err (refusals.Refused send.TooLong)) = 5
+send_code (Err (refusals.Refused send.NotNegotiated)) = 6
+send_code (Err (refusals.Refused send.WindowFull)) = 7
 
 -- the code of a wish for a feature, each refusal its own
 abbrev pub wish_code : Result (Unit {0}) PreferFault → ℕ

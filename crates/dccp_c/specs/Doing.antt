@@ -1,20 +1,20 @@
 -- What C finds once it has called an end (own; the steps are the end's).
 use Rattle.std.specs.Prelude.{ℕ, ◌^◌, ◌-◌, Bool, true, false, List, [], ◌∷◌, Option, Some, None, unwrap_or, if◌then◌else◌}
-use Rattle.ccid_two.specs.Kinds.{Both}
-use Rattle.dccp_uses.specs.Timed.{TimedStep, every_due, first_due_of, first_wait_left}
+use Rattle.data_dropped.specs.declared.drops.DropEntry.{DropEntry}
+use Rattle.dccp_uses.specs.Timed.{every_due, first_due_of, first_wait_left}
 use Rattle.dccp_uses.specs.declared.timed_end.Due.{Due}
 use Rattle.dccp_c.specs.Framing.{Handed, handed_of, nothing_handed}
 use Rattle.dccp_c.specs.Keeping.{Inner}
-use Rattle.dccp_c.specs.Stepping.{CDoing, CEnd, c_told}
+use Rattle.dccp_c.specs.Stepping.{CDoing, CEnd, CStep, c_told}
 
 -- what is due is told, and the answer is true; where nothing is, nothing happens
-abbrev pub c_tells : ℕ → CEnd → Option Due → TimedStep Both Bool
-c_tells now s None = record { timed = s; frame = None; answer = false }
-c_tells now s (Some it) = record { timed = (c_told it now s).timed; frame = (c_told it now s).frame; answer = true }
+abbrev pub c_tells : ℕ → CEnd → Option Due → CStep Bool
+c_tells now s None = record { after = s; frame = None; answer = false }
+c_tells now s (Some it) = record { after = (c_told it now s).after; frame = (c_told it now s).frame; answer = true }
 
 -- the first of the six timers and the rules that is due is told
 abbrev pub c_ticks : ℕ → CDoing Bool
-c_ticks now s = c_tells now s (first_due_of s now every_due)
+c_ticks now s = c_tells now s (first_due_of s.timed now every_due)
 
 -- no time at all: 2^64 - 1
 abbrev pub never : ℕ
@@ -23,17 +23,26 @@ never = 2 ^ 64 - 1
 -- how long it is until something of an end is due, if anything will be
 abbrev pub c_waits : ℕ → Option CEnd → ℕ
 c_waits now None = never
-c_waits now (Some s) = unwrap_or (first_wait_left s now) never
+c_waits now (Some s) = unwrap_or (first_wait_left s.timed now) never
 
--- the end that a handle holds, if any, without the place for its frame
+-- an end without the place for its frame
+abbrev pub c_end : Inner → CEnd
+c_end held = record { timed = held.timed; inbox = held.intake; cookie = held.cookie }
+
+-- the one that a handle holds, if any
 abbrev pub end_in : Option Inner → Option CEnd
 end_in None = None
-end_in (Some held) = Some held.timed
+end_in (Some held) = Some (c_end held)
+
+-- which of its packets were dropped, as far as that is recorded
+abbrev pub drops_in : Option Inner → List DropEntry
+drops_in None = []
+drops_in (Some held) = held.drops
 
 -- The end after a call; where there is none, there is none after it.
 abbrev pub kept_after : {Answer : Type 0} → CDoing Answer → Option CEnd → Option CEnd
 kept_after doing None = None
-kept_after doing (Some s) = Some (doing s).timed
+kept_after doing (Some s) = Some (doing s).after
 
 -- The frame that a call hands out: the step's, or none where there is no end.
 abbrev pub frame_after : {Answer : Type 0} → CDoing Answer → Option CEnd → Handed

@@ -1,13 +1,16 @@
 -- What became of the data that an end has sent, and how long the next may be (own).
-use Rattle.std.specs.Prelude.{◌≡◌, ℕ, ◌+◌, ◌-◌, ◌*◌, ◌/◌, ◌^◌, ◌<◌, ◌↔◌, min, Bool, true, false, Option, Some, None}
+use Rattle.std.specs.Prelude.{◌≡◌, ℕ, ◌+◌, ◌-◌, ◌*◌, ◌/◌, ◌^◌, ◌<◌, ◌↔◌, min, Bool, true, false, List, length, Option, Some, None, if◌then◌else◌}
 use Rattle.ack_vectors.specs.Vector.{numbers_between, option_room}
 use Rattle.ccid_two.specs.Kinds.{Both, kinds_control}
 use Rattle.congestion_trait.specs.Flight.{Has}
 use Rattle.congestion_trait.specs.declared.flight.Standing.{Standing}
 use Rattle.congestion_trait.specs.declared.flight.Standing.TheVariants.{Lost, Out, Reported}
 use Rattle.dccp_endpoint.specs.Controlled.{End}
+use Rattle.dccp_endpoint.specs.Early.{is_part_open}
 use Rattle.dccp_endpoint.specs.End.{EndState, floor_of}
 use Rattle.dccp_endpoint.specs.Reporting.{sends_vectors}
+use Rattle.data_dropped.specs.Intakes.{most_said}
+use Rattle.dccp_states.specs.declared.phase.Phase.{Phase}
 use Rattle.dccp_c.specs.Stepping.{CEnd}
 
 -- There is an end, which has sent data under this number, and knows that they stand so (RFC 4341, section 5).
@@ -18,17 +21,18 @@ StandSo (Some e) number standing = (number < 2 ^ 48) × Has (kinds_control.fligh
 -- the end by itself
 abbrev pub end_alone : Option CEnd → Option (End Both)
 end_alone None = None
-end_alone (Some s) = Some s.end
+end_alone (Some s) = Some s.timed.end
 
--- The number of what became of data, by how they stand: 2 where the peer has reported them, else 3 where they are taken for
--- lost, else 1 where they are in flight; 0 where nothing is known of them.
-pub record IsFate (stands : Standing → Type 0) (fate : ℕ) : Type 0 where
-  pub delivered : (fate ≡ 2) ↔ stands Reported
+-- The number of what became of data, by how they stand and the code with which they were dropped, if they were: where the peer
+-- has reported them 2, or 4 and more with the Drop Code (RFC 4340, section 11.7); else 3 where they are taken for lost, else 1
+-- where they are in flight; 0 where nothing is known of them.
+pub record IsFate (stands : Standing → Type 0) (code : Option ℕ) (fate : ℕ) : Type 0 where
+  pub delivered : (fate ≡ 2) ↔ (stands Reported × (code ≡ None))
+  pub dropped : (c : ℕ) → (fate ≡ 4 + c) ↔ (stands Reported × (code ≡ Some c))
   pub lost : (fate ≡ 3) ↔ (stands Lost × ¬ stands Reported)
   pub in_flight : (fate ≡ 1) ↔ (stands Out × ¬ stands Lost × ¬ stands Reported)
-  pub few : fate < 4
 
--- The bytes of an Ack Vector option that tells of so many numbers, with the zeros behind it up to a whole word: two of the
+-- The bytes of an Ack Vector option that tells of so many numbers, with the zeros after it up to a whole word: two of the
 -- option, and a byte for each number at most (RFC 4340, sections 5.8 and 11.4).
 abbrev pub most_vector_bytes : ℕ → ℕ
 most_vector_bytes numbers = 4 * ((min numbers option_room + 2 + 3) / 4)
@@ -42,6 +46,15 @@ most_options_beside false numbers = 0
 -- (RFC 4340, sections 5.1 and 5.3).
 abbrev pub most_beside_data : EndState → ℕ
 most_beside_data e = 24 + most_options_beside (sends_vectors e.rows) (numbers_between (floor_of e) e.marks.gsr)
+
+-- how many bytes the cookie of an end adds to a frame, at most: whole words of one option, in PARTOPEN
+abbrev pub most_returned : Phase → List ℕ → ℕ
+most_returned phase cookie = if is_part_open phase then 4 * ((min (length cookie) 256 + 3) / 4) else 0
+
+-- what is left of a number of bytes beside what its inbox may say and the cookie that it may return, where there is an end
+abbrev pub left_beside : ℕ → Option CEnd → ℕ
+left_beside most None = most
+left_beside most (Some s) = most - most_said s.inbox - most_returned s.timed.end.state.phase s.cookie
 
 -- the longest data whose packet surely has no more than so many bytes; 1,024 at most, and none where there is no end
 abbrev pub longest_in : ℕ → Option (End Both) → ℕ

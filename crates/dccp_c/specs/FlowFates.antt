@@ -1,10 +1,11 @@
 -- What C may read of the data and the path of a listener's flow (own).
-use Rattle.std.specs.Prelude.{ℕ, Option, Some, None}
+use Rattle.std.specs.Prelude.{ℕ, ◌-◌, Option, Some, None}
 use Rattle.std.specs.Option.{option_map}
 use Rattle.ccid_two.specs.Kinds.{Both}
 use Rattle.dccp_endpoint.specs.Controlled.{End}
 use Rattle.dccp_listener.specs.Peers.{end_of_peer}
 use Rattle.dccp_listener.specs.declared.peer.Peer.{Peer}
+use Rattle.dccp_server.specs.FlowInboxes.{Inboxes, flow_most_said}
 use Rattle.dccp_server.specs.Rooms.{Ruled}
 use Rattle.dccp_server.specs.Serving.{upkeep_at}
 use Rattle.dccp_server.specs.declared.upkeep.Upkeep.{Upkeep}
@@ -28,3 +29,8 @@ abbrev pub flow_path : Option Ruled → Peer → Option RoundTripView
 flow_path None peer = None
 flow_path (Some s) peer =
     option_map (λ e. upkeep_seen (upkeep_at s.room.served.pace s.room.served.upkeeps peer)) (end_of_peer s.room.served.listening.flows peer)
+
+-- what is left of a number of bytes beside what the inbox of a peer may say, where there is a listener
+abbrev pub left_beside_flow : ℕ → Option Inboxes → Peer → ℕ
+left_beside_flow most None peer = most
+left_beside_flow most (Some s) peer = most - flow_most_said s peer

@@ -1,9 +1,16 @@
 pub mod Accepting
 pub mod Codes
+pub mod CookieCalls
 pub mod Doing
 pub mod Fates
+pub mod Fitting
+pub mod FlowEvents
 pub mod FlowFates
 pub mod FlowFeatures
+pub mod FlowNames
+pub mod FlowNumbers
+pub mod FlowReading
+pub mod FlowRequests
 pub mod Founding
 pub mod Framing
 pub mod Keeping
@@ -16,3 +23,4 @@ pub mod Seeing
 pub mod Stepping
 pub mod Telling
 pub mod Ticking
+pub mod Reading

@@ -1,46 +1,96 @@
 -- What C finds once it has called a listener (own).
-use Rattle.std.specs.Prelude.{◌≡◌, ◌⊎◌, ℕ, ◌==◌, ◌^◌, nat_lt, List, [], Option, Some, None, is_some, Result, Ok, Err, if◌then◌else◌, slice_get}
+use Rattle.std.specs.Prelude.{◌≡◌, ◌⊎◌, ℕ, ◌==◌, ◌^◌, nat_lt, Bool, true, false, List, [], length, Option, Some, None, is_some, Result, Ok, Err, if◌then◌else◌, slice_get}
 use Rattle.std.specs.Map.{keys_of}
 use Rattle.std.specs.Option.{option_map}
-use Rattle.dccp_listener.specs.Chain.{Calls, FlowCall}
+use Rattle.data_dropped.specs.declared.answers.Arrival.{Arrival}
+use Rattle.dccp_listener.specs.Chain.{Calls, Fires, FlowCall, Sends}
 use Rattle.dccp_listener.specs.Listens.{listens}
 use Rattle.dccp_listener.specs.Peers.{FlowEnd, end_of_peer}
 use Rattle.dccp_listener.specs.Runs.{CallTold, Stepped, WasBusy, HadNoMemory}
 use Rattle.dccp_listener.specs.declared.calls.Heard.{Heard}
 use Rattle.seq_circle.specs.declared.memory.NoMemory.{NoMemory}
+use Rattle.dccp_packets.specs.ResetCodes.{number_of_code}
+use Rattle.dccp_packets.specs.declared.reset_code.ResetCode.TheVariants as codes
+use Rattle.dccp_server.specs.Events.{Watched, aborted_end, called_on, ends_old, entry_at, heard_on, is_shut_out, room_maker, shut_out, silent_end, ticked_on}
+use Rattle.dccp_server.specs.FlowInboxes.{FlowDelivery, Inboxes, begun_fresh, flow_delivers, flow_speaks, no_flow_delivery, tidied, tidied_if, without_inbox_of}
 use Rattle.dccp_server.specs.Lives.{life_of}
-use Rattle.dccp_server.specs.Rooms.{Room, Ruled, duty_done, duty_frame, duty_in, duty_peer, forgets, received_at, room_does, room_waits, told_of_arrival, unreceived_at}
-use Rattle.dccp_server.specs.Serving.{Does}
+use Rattle.dccp_server.specs.Meeting.{IsMet, may_meet, rekeyed}
+use Rattle.dccp_server.specs.Refusals.{refused_frame}
+use Rattle.dccp_server.specs.Rooms.{Room, Ruled, duty_done, duty_frame, duty_in, duty_peer, forgets, room_does, room_waits, told_of_arrival}
+use Rattle.dccp_server.specs.Serving.{Does, flow_restraint, upkeep_at}
+use Rattle.dccp_uses.specs.declared.reader.Restraint.{Restraint}
 use Rattle.dccp_uses.specs.declared.rule.Rule.{Rule}
 use Rattle.dccp_uses.specs.declared.rule.Rule.TheVariants as rules
 use Rattle.path_rules.specs.declared.limits.Limit.{Limit}
 use Rattle.dccp_server.specs.declared.duty.Duty.{Duty}
+use Rattle.dccp_server.specs.declared.flow_drops.FlowDrop.{FlowDrop}
 use Rattle.dccp_server.specs.declared.duty.Duty.TheVariants.{Ring, Follow, GiveUp}
+use Rattle.dccp_server.specs.declared.flow_event.EndCause.TheVariants as causes
 use Rattle.dccp_server.specs.declared.life.Life.{Life}
+use Rattle.dccp_server.specs.declared.meeting.CookieUse.{CookieUse}
+use Rattle.dccp_server.specs.declared.meeting.CookieUse.TheVariants.{Always, InACrowd, Never}
+use Rattle.dccp_server.specs.declared.meeting.Way.{Way}
+use Rattle.dccp_server.specs.declared.meeting.Way.TheVariants as way
 use Rattle.dccp_server.specs.declared.rules.Rules.{Rules}
 use Rattle.dccp_c.specs.declared.flow_rules.FlowRules.{FlowRules}
 use Rattle.dccp_c.specs.declared.flow_rules.FlowLife.{FlowLife}
 use Rattle.dccp_listener.specs.declared.peer.Peer.{Peer}
+use Rattle.dccp_states.specs.declared.calls.Timer.{Timer}
 use Rattle.dccp_states.specs.declared.seen.Refusal.{Refusal}
 use Rattle.dccp_states.specs.declared.seen.Refusal.TheVariants as refusal
 use Rattle.dccp_states.specs.declared.seen.Seen.{Seen}
 use Rattle.dccp_states.specs.declared.seen.Seen.TheVariants as seen
 use Rattle.dccp_packets.specs.Outgoing.{Outgoing}
 use Rattle.dccp_c.specs.Framing.{Handed, handed_of, nothing_handed}
-use Rattle.dccp_c.specs.Outcomes.{told_heard, told_outcome}
+use Rattle.dccp_c.specs.Outcomes.{told_arrival, told_heard, told_outcome}
 use Rattle.dccp_c.specs.declared.told.Told.{Told}
-use Rattle.dccp_c.specs.Codes.{timer_code}
+use Rattle.dccp_c.specs.Codes.{restraint_code, timer_code}
 use Rattle.dccp_c.specs.Doing.{never}
 use Rattle.dccp_c.specs.KeepingListener.{InnerListener}
-use Rattle.dccp_c.specs.Seeing.{seen as seen_end}
+use Rattle.dccp_c.specs.Seeing.{seen_within}
 use Rattle.dccp_c.specs.Telling.{is_short}
 use Rattle.dccp_c.specs.declared.peer.PeerAddress.{PeerAddress}
 use Rattle.dccp_c.specs.declared.readers.View.{View}
 
--- the server that a handle holds, if any, without the place for its frame
+-- the server that a handle holds, if any, with what is to be told of it, and without the place for its frame
+abbrev pub watched_in : Option InnerListener → Option Watched
+watched_in None = None
+watched_in (Some held) = Some held.server
+
+-- the same without what is to be told
 abbrev pub served_in : Option InnerListener → Option Ruled
 served_in None = None
-served_in (Some held) = Some held.server
+served_in (Some held) = Some held.server.server
+
+-- a server with what is to be told of it, the data of its flows that wait, and what became of those of the last datagram,
+-- if they came into an inbox
+pub record Holding : Type 0 where
+  pub watched : Watched
+  pub inboxes : Inboxes
+  pub arrival : Option Arrival
+
+-- what a listener holds, without the place for its frame
+abbrev pub holding_of : InnerListener → Holding
+holding_of held = record { watched = held.server; inboxes = held.inboxes; arrival = held.arrival }
+
+-- the same of a handle, if it holds one
+abbrev pub holding_in : Option InnerListener → Option Holding
+holding_in None = None
+holding_in (Some held) = Some (holding_of held)
+
+-- the data of its flows that wait
+abbrev pub inboxes_in : Option InnerListener → Option Inboxes
+inboxes_in None = None
+inboxes_in (Some held) = Some held.inboxes
+
+-- which packets its peers have reported as dropped, as far as that is recorded
+abbrev pub flow_drops_in : Option InnerListener → List FlowDrop
+flow_drops_in None = []
+flow_drops_in (Some held) = held.drops
+
+-- what was counted of the reports of a peer, with what is kept of its flow
+abbrev pub counted_of : Ruled → Peer → Option ℕ
+counted_of s peer = (upkeep_at s.room.served.pace s.room.served.upkeeps peer).path.reader.counted
 
 -- whom C names by an address and a port
 abbrev pub peer_named : PeerAddress → Peer
@@ -81,20 +131,48 @@ listen_told (Stepped (Some (seen.Received outcome))) old = told_outcome outcome
 listen_told _ old = old
 
 -- Nothing has happened: the server is as it was, and no frame is left.
-abbrev pub IsUnserved : Option Ruled → Option Ruled → Handed → Type 0
+abbrev pub IsUnserved : Option Holding → Option Holding → Handed → Type 0
 IsUnserved before after frame = (after ≡ before) × (frame ≡ nothing_handed)
 
 -- the server with this in its room
 abbrev pub with_room : Ruled → Room → Ruled
 with_room s room = record s { room = room }
 
+-- A peer's flow has led the server to this one: its inbox goes with it, unless data wait there.
+abbrev pub holds_on : Holding → Peer → Watched → Holding
+holds_on s peer after = record s { watched = after; inboxes = tidied s.inboxes after.server peer }
+
+-- a frame that goes to a peer, as C finds it: it says what the peer's inbox has to say
+abbrev pub left_to : Holding → Peer → Option Outgoing → Handed
+left_to s peer frame = handed_of (flow_speaks s.inboxes s.watched.server peer frame)
+
+-- a call of a peer's end is done
+abbrev pub holds_called : ℕ → Holding → Peer → FlowCall → Holding
+holds_called now s peer call =
+    holds_on s peer (called_on s.watched (with_room s.watched.server (room_does now s.watched.server.room peer (Does (Calls call)))) peer (aborted_end causes.Own))
+
 -- What a call of a peer's end comes to: it is done, or there is no listener, and the code is 1.
-abbrev pub Serves : ℕ → Option Ruled → Option Ruled → Peer → FlowCall → Handed → ℕ → Type 0
+abbrev pub Serves : ℕ → Option Holding → Option Holding → Peer → FlowCall → Handed → ℕ → Type 0
 Serves now None after peer call frame code = IsUnserved None after frame × (code ≡ 1)
 Serves now (Some s) after peer call frame code =
-    (after ≡ Some (with_room s (room_does now s.room peer (Does (Calls call)))))
-    × (frame ≡ handed_of (listens s.room.served.listening peer (Calls call)).frame)
-    × (code ≡ listen_code (listens s.room.served.listening peer (Calls call)).told)
+    (after ≡ Some (holds_called now s peer call))
+    × (frame ≡ left_to (holds_called now s peer call) peer (listens s.watched.server.room.served.listening peer (Calls call)).frame)
+    × (code ≡ listen_code (listens s.watched.server.room.served.listening peer (Calls call)).told)
+
+-- A timer of a peer's end is told where one has this number; else nothing happens, by 16.
+abbrev pub FiresAt : ℕ → Option Holding → Option Holding → Peer → Option Timer → Handed → ℕ → Type 0
+FiresAt now before after peer None frame code = IsUnserved before after frame × (code ≡ 16)
+FiresAt now before after peer (Some timer) frame code = Serves now before after peer (Fires timer) frame code
+
+-- why data to a peer have to wait, where there is a listener and it has a flow
+abbrev pub restraint_in : Option Ruled → Peer → Option Restraint
+restraint_in None peer = None
+restraint_in (Some s) peer = flow_restraint s.room.served peer
+
+-- What sending data to a peer comes to: where they have to wait nothing happens, by the code of that.
+abbrev pub SendsUnheld : ℕ → Option Holding → Option Holding → Peer → List ℕ → Handed → ℕ → Option Restraint → Type 0
+SendsUnheld now before after peer payload frame code None = Serves now before after peer (Sends payload) frame code
+SendsUnheld now before after peer payload frame code (Some why) = IsUnserved before after frame × (code ≡ restraint_code why)
 
 -- the code of what was told of a datagram: one that was left out was dropped
 abbrev pub arrival_code : Option CallTold → ℕ
@@ -106,35 +184,84 @@ abbrev pub arrival_told : Option CallTold → Told → Told
 arrival_told None old = told_heard None
 arrival_told (Some told) old = listen_told told old
 
--- What C finds of a datagram that left this frame: by 2, where no memory was found, no frame, and what it had to be told
--- stays.
-abbrev pub HandsHeard : Result (Option Heard) NoMemory → Option Outgoing → Handed → ℕ → Told → Told → Type 0
-HandsHeard (Ok it) frame left code old new =
-    (left ≡ handed_of frame) × (code ≡ arrival_code (told_of_arrival (Ok it))) × (new ≡ arrival_told (told_of_arrival (Ok it)) old)
-HandsHeard (Err _) frame left code old new = (left ≡ nothing_handed) × (code ≡ 2) × (new ≡ old)
+-- What C finds of a datagram that left this frame, and whose data came so: by 2, where no memory was found, no frame, and
+-- what it had to be told stays.
+abbrev pub HandsHeard : Result (Option Heard) NoMemory → Option Arrival → Option Outgoing → Handed → ℕ → Told → Told → Type 0
+HandsHeard (Ok it) kept frame left code old new =
+    (left ≡ handed_of frame) × (code ≡ arrival_code (told_of_arrival (Ok it))) × (new ≡ told_arrival kept (arrival_told (told_of_arrival (Ok it)) old))
+HandsHeard (Err _) kept frame left code old new = (left ≡ nothing_handed) × (code ≡ 2) × (new ≡ old)
 
--- What a datagram comes to for C where there is a server: where no memory was found, by 2, no frame is left, and what C had
--- to be told stays; else it has what the server makes of it.
-abbrev pub HearsAtServer : ℕ → Ruled → Ruled → Peer → ℕ → List ℕ → Handed → Option Peer → ℕ → Told → Told → Type 0
-HearsAtServer now s after peer first bytes left evicted code old new =
-    ((after ≡ unreceived_at now s peer first bytes evicted) × (left ≡ nothing_handed) × (code ≡ 2) × (new ≡ old))
-    ⊎ ((after ≡ (received_at now s peer first bytes).server) × (left ≡ handed_of (received_at now s peer first bytes).frame)
-    × (evicted ≡ (received_at now s peer first bytes).evicted) × (code ≡ arrival_code (received_at now s peer first bytes).told)
-    × (new ≡ arrival_told (received_at now s peer first bytes).told old))
+-- the inboxes once a datagram of a peer has led the server to this one: a flow that it has opened begins without any
+abbrev pub inboxes_begun : Holding → Ruled → Peer → Inboxes
+inboxes_begun s after peer =
+    begun_fresh s.inboxes peer (is_some (end_of_peer s.watched.server.room.served.listening.flows peer))
+    (end_of_peer after.room.served.listening.flows peer)
+
+-- Data of a datagram that has led the server to this one came into the peer's inbox, if any did; or no memory for one was
+-- found, or no place: then they are in the datagram alone.
+abbrev pub MayDeliver : Inboxes → Ruled → Peer → List ℕ → Option CallTold → FlowDelivery → Type 0
+MayDeliver inboxes after peer bytes told it = (it ≡ flow_delivers inboxes after peer bytes told) ⊎ (it ≡ no_flow_delivery inboxes)
+
+-- a datagram has led the server to this one, its data came so, and these flows made room for it, if any did
+abbrev pub holds_met : Watched → Peer → Option Peer → Option Peer → FlowDelivery → Holding
+holds_met after peer made_room gone it =
+    record {
+      watched = after;
+      inboxes = tidied_if (tidied_if (tidied it.inboxes after.server peer) after.server made_room) after.server gone;
+      arrival = it.arrival;
+    }
+
+-- the data of a datagram that has led the server to where it is, of a peer that had a flow before it or none, came in
+abbrev pub HasTakenIn : Holding → Holding → Peer → Bool → List ℕ → Option CallTold → Option Peer → Option Peer → Type 0
+HasTakenIn s after peer had bytes told made_room gone =
+    (it : FlowDelivery)
+    × MayDeliver (begun_fresh s.inboxes peer had (end_of_peer s.watched.server.room.served.listening.flows peer)) s.watched.server peer bytes told it
+    × (after ≡ holds_met s.watched peer made_room gone it)
+
+-- What a datagram comes to for C where there is a server: it was met in this way, its data came in or not, and its owner
+-- and C are told of that.
+pub record HearsAtServer (now : ℕ) (s after : Holding) (peer : Peer) (first : ℕ) (bytes : List ℕ) (left : Handed) (evicted : Option Peer) (way : Way)
+    (code : ℕ) (old new : Told) : Type 0 where
+  pub heard : Result (Option Heard) NoMemory
+  pub frame : Option Outgoing
+  pub gone : Option Peer
+  pub made_room : Option Peer
+  pub anew : Bool
+  pub delivery : FlowDelivery
+  pub met : IsMet now s.watched.server after.watched.server peer first bytes frame heard gone anew made_room way
+  pub may : may_meet (entry_at now s.watched peer first bytes) way ≡ true
+  pub watched :
+      after.watched ≡ heard_on now s.watched after.watched.server peer bytes (told_of_arrival heard) (room_maker made_room gone) (ends_old anew way)
+  pub delivers : MayDeliver (inboxes_begun s after.watched.server peer) after.watched.server peer bytes (told_of_arrival heard) delivery
+  pub held : after ≡ holds_met after.watched peer made_room gone delivery
+  pub maker : evicted ≡ room_maker made_room gone
+  pub handed : HandsHeard heard after.arrival (flow_speaks after.inboxes after.watched.server peer frame) left code old new
 
 -- Why a datagram is not heard at all: a first number that is none, by 17, or its length, by 5.
 abbrev pub datagram_refusal : ℕ → List ℕ → Option ℕ
 datagram_refusal first bytes = if nat_lt first (2 ^ 48) then (if is_short bytes then None else Some 5) else Some 17
 
+-- a datagram that would open a flow is refused by 21, where none is taken
+abbrev pub IsShutOut : ℕ → Holding → Holding → Peer → List ℕ → Handed → ℕ → Told → Told → Type 0
+IsShutOut now s after peer bytes left code old new =
+    (after ≡ record s { watched = shut_out now s.watched peer bytes })
+    × (left ≡ handed_of (refused_frame now s.watched.server peer bytes (number_of_code codes.ConnectionRefused))) × (code ≡ 21) × (new ≡ old)
+
+-- what a datagram comes to at a server that takes new flows, or would not be opened one by it
+abbrev pub HearsIfOpen : ℕ → Holding → Holding → Peer → ℕ → List ℕ → Bool → Handed → Option Peer → Way → ℕ → Told → Told → Type 0
+HearsIfOpen now s after peer first bytes true left evicted way code old new = IsShutOut now s after peer bytes left code old new
+HearsIfOpen now s after peer first bytes false left evicted way code old new = HearsAtServer now s after peer first bytes left evicted way code old new
+
 -- What a datagram comes to: nothing happens where it is refused by that code, or where there is no listener, by 1; else the
--- server hears it, and is there after it.
-abbrev pub HearsDatagram : ℕ → Option Ruled → Option Ruled → Peer → ℕ → List ℕ → Option ℕ → Handed → Option Peer → ℕ → Told → Told → Type 0
-HearsDatagram now before after peer first bytes (Some refused) left evicted code old new =
-    IsUnserved before after left × (code ≡ refused) × (new ≡ old)
-HearsDatagram now None after peer first bytes None left evicted code old new = IsUnserved None after left × (code ≡ 1) × (new ≡ old)
-HearsDatagram now (Some s) None peer first bytes None left evicted code old new = ⊥
-HearsDatagram now (Some s) (Some after) peer first bytes None left evicted code old new =
-    HearsAtServer now s after peer first bytes left evicted code old new
+-- server hears it, or refuses it, and is there after it.
+abbrev pub HearsDatagram : ℕ → Option Holding → Option Holding → Peer → ℕ → List ℕ → Option ℕ → Handed → Option Peer → Way → ℕ → Told → Told → Type 0
+HearsDatagram now before after peer first bytes (Some refused) left evicted way code old new =
+    (after ≡ before) × (left ≡ nothing_handed) × (code ≡ refused) × (new ≡ old)
+HearsDatagram now None after peer first bytes None left evicted way code old new =
+    (after ≡ None) × (left ≡ nothing_handed) × (code ≡ 1) × (new ≡ old)
+HearsDatagram now (Some s) None peer first bytes None left evicted way code old new = ⊥
+HearsDatagram now (Some s) (Some after) peer first bytes None left evicted way code old new =
+    HearsIfOpen now s after peer first bytes (is_shut_out s.watched peer bytes) left evicted way code old new
 
 -- the code of what a rule of a path had a flow do: 19 where it was given up
 abbrev pub rule_code : Rule → ℕ
@@ -157,22 +284,49 @@ abbrev pub duty_address : Option Duty → PeerAddress → PeerAddress
 duty_address None old = old
 duty_address (Some duty) old = address_of (duty_peer duty)
 
--- What a tick comes to: what there is to do first is done, and its peer named, or nothing happens: 1 where there is no
--- listener, 12 where there is nothing to do. It takes no memory.
-abbrev pub Ticks : ℕ → Option Ruled → Option Ruled → Handed → PeerAddress → PeerAddress → ℕ → Type 0
+-- what there was to do has led the server to this one
+abbrev pub holds_done : Holding → Watched → Option Duty → Holding
+holds_done s after None = record s { watched = after }
+holds_done s after (Some duty) = holds_on s (duty_peer duty) after
+
+-- and the frame that went to its peer, as C finds it
+abbrev pub duty_left : Holding → Option Duty → Option Outgoing → Handed
+duty_left s None frame = handed_of frame
+duty_left s (Some duty) frame = left_to s (duty_peer duty) frame
+
+-- the server and what it holds once this was done
+abbrev pub holds_ticked : ℕ → Holding → Option Duty → Holding
+holds_ticked now s duty =
+    holds_done s (ticked_on s.watched (with_room s.watched.server (duty_done now s.watched.server.room duty)) duty) duty
+
+-- What a tick comes to where this is to be done: it is done, and its peer named.
+abbrev pub DoesDuty : ℕ → Holding → Option Holding → Option Duty → Handed → PeerAddress → PeerAddress → ℕ → Type 0
+DoesDuty now s after duty left old new code =
+    (after ≡ Some (holds_ticked now s duty)) × (left ≡ duty_left (holds_ticked now s duty) duty (duty_frame now s.watched.server.room duty))
+    × (new ≡ duty_address duty old) × (code ≡ duty_code duty)
+
+-- What a tick comes to: what there is to do first is done, or nothing happens: 1 where there is no listener, 12 where there
+-- is nothing to do. It takes no memory.
+abbrev pub Ticks : ℕ → Option Holding → Option Holding → Handed → PeerAddress → PeerAddress → ℕ → Type 0
 Ticks now None after left old new code = IsUnserved None after left × (new ≡ old) × (code ≡ 1)
 Ticks now (Some s) after left old new code =
-    (after ≡ Some (with_room s (duty_done now s.room (duty_in now s.rules s.half s.room))))
-    × (left ≡ handed_of (duty_frame now s.room (duty_in now s.rules s.half s.room)))
-    × (new ≡ duty_address (duty_in now s.rules s.half s.room) old) × (code ≡ duty_code (duty_in now s.rules s.half s.room))
+    DoesDuty now s after (duty_in now s.watched.server.rules s.watched.server.half s.watched.server.room) left old new code
+
+-- a peer's flow goes, and the data that wait of it
+abbrev pub holds_forgotten : ℕ → Holding → Peer → Holding
+holds_forgotten now s peer =
+    record s {
+      watched = called_on s.watched (with_room s.watched.server (forgets now s.watched.server.room peer)) peer (silent_end causes.Own);
+      inboxes = without_inbox_of s.inboxes peer;
+    }
 
 -- What forgetting a peer's flow comes to: it goes, and nothing is sent; 15 where there is none, 1 where there is no
 -- listener.
-abbrev pub Forgets : ℕ → Option Ruled → Option Ruled → Peer → ℕ → Type 0
+abbrev pub Forgets : ℕ → Option Holding → Option Holding → Peer → ℕ → Type 0
 Forgets now None after peer code = (after ≡ None) × (code ≡ 1)
 Forgets now (Some s) after peer code =
-    (after ≡ Some (with_room s (forgets now s.room peer)))
-    × (code ≡ (if is_some (end_of_peer s.room.served.listening.flows peer) then 0 else 15))
+    (after ≡ Some (holds_forgotten now s peer))
+    × (code ≡ (if is_some (end_of_peer s.watched.server.room.served.listening.flows peer) then 0 else 15))
 
 -- how long it is until a timer of a listener runs out or a flow is given up, if any does
 abbrev pub listener_waits : ℕ → Option Ruled → ℕ
@@ -182,7 +336,8 @@ listener_waits now (Some s) = room_waits now s.rules s.half s.room
 -- what is read of the end of a peer, where there is a listener and it has one
 abbrev pub flow_in : Option Ruled → Peer → Option View
 flow_in None peer = None
-flow_in (Some s) peer = option_map seen_end (end_of_peer s.room.served.listening.flows peer)
+flow_in (Some s) peer =
+    option_map (seen_within (upkeep_at s.room.served.pace s.room.served.upkeeps peer).path.reader.allowance) (end_of_peer s.room.served.listening.flows peer)
 
 -- the peer at a place among those that have a flow, in their order
 abbrev pub peer_in : Option Ruled → ℕ → Option PeerAddress
@@ -199,6 +354,24 @@ flow_code (Some s) (Some it) = 0
 abbrev pub evicted_in : Option InnerListener → Option Peer
 evicted_in None = None
 evicted_in (Some held) = held.evicted
+
+-- in which way the last datagram was met
+abbrev pub way_in : Option InnerListener → Way
+way_in None = way.Plain
+way_in (Some held) = held.way
+
+-- the number of a way
+abbrev pub way_number : Way → ℕ
+way_number way.Plain = 0
+way_number way.Greeted = 1
+way_number way.Unanswered = 2
+way_number way.Reopened = 3
+way_number way.Unopened = 4
+
+-- how many flows stand
+abbrev pub flows_in : Option Ruled → ℕ
+flows_in None = 0
+flows_in (Some s) = length s.room.served.listening.flows
 
 -- a wait of C's: 2^64 - 1 is for ever
 abbrev pub wait_of : ℕ → Option ℕ
@@ -222,14 +395,23 @@ rules_of it =
       resets = limit_of it.resets;
     }
 
--- the server once it goes by these rules
-abbrev pub ruled_by : Rules → Option Ruled → Option Ruled
-ruled_by rules None = None
-ruled_by rules (Some s) = Some (record s { rules = rules })
+-- when cookies are used, as C says it: 0 never, 1 in a crowd, and any other number always
+abbrev pub cookies_of : ℕ → CookieUse
+cookies_of n = if n == 0 then Never else if n == 1 then InACrowd else Always
+
+-- the server once it goes by these rules, and uses cookies so
+abbrev pub ruled_by : Rules → CookieUse → Option Watched → Option Watched
+ruled_by rules cookies None = None
+ruled_by rules cookies (Some s) = Some (record s { server = record s.server { rules = rules; cookies = cookies } })
+
+-- the server once its cookies are written by this key
+abbrev pub rekeyed_in : List ℕ → ℕ → Option Watched → Option Watched
+rekeyed_in key now None = None
+rekeyed_in key now (Some s) = Some (record s { server = record s.server { keys = Some (rekeyed key now s.server.keys) } })
 
 -- what C may know of a peer's flow beside its end, where it has one
 abbrev pub known_of : Life → FlowLife
-known_of life = record { size = 24; since = life.since; taken = life.taken }
+known_of life = record { size = 32; since = life.since; taken = life.taken; user = life.user }
 
 -- its life, where there is a flow
 abbrev pub life_if : Option FlowEnd → Life → Option Life
@@ -242,6 +424,6 @@ life_in None peer = None
 life_in (Some s) peer = option_map known_of (life_if (end_of_peer s.room.served.listening.flows peer) (life_of s.room.lives peer))
 
 -- the code of a call that only wants a listener
-abbrev pub made_code : Option Ruled → ℕ
+abbrev pub made_code : Option Watched → ℕ
 made_code None = 1
 made_code (Some s) = 0

@@ -1,8 +1,9 @@
 -- What an end of C's is made from (own; the configuration is that of an end).
-use Rattle.std.specs.Prelude.{◌≡◌, ◌⊎◌, ℕ, ◌^◌, nat_lt, ◌==◌, Bool, true, false, not, ◌||◌, List, [], ◌∷◌, take, Option, Some, None, Result, Ok, Err, if◌then◌else◌}
+use Rattle.std.specs.Prelude.{◌≡◌, ◌⊎◌, ℕ, ◌^◌, nat_lt, ◌==◌, Bool, true, false, not, ◌||◌, List, [], ◌∷◌, take, Option, Some, None, Result, Ok, Err, if◌then◌else◌, min}
 use Rattle.ccid_two.specs.Kinds.{at_first, kinds_control}
 use Rattle.dccp_endpoint.specs.Configured.{configured}
 use Rattle.dccp_endpoint.specs.declared.config.Config.{Config}
+use Rattle.data_dropped.specs.Intakes.{intake_of}
 use Rattle.dccp_uses.specs.Timed.{timed_begins}
 use Rattle.dccp_uses.specs.Path.{widened}
 use Rattle.dccp_uses.specs.declared.pace.Pace.{Pace}
@@ -19,10 +20,11 @@ use Rattle.feature_lists.specs.declared.wishes.Wanted.{Wanted}
 use Rattle.feature_machine.specs.Lists.{with_offer, with_wish, without_offers}
 use Rattle.dccp_c.specs.Codes.{place_by, wish_code}
 use Rattle.dccp_c.specs.Stepping.{CEnd}
+use Rattle.dccp_c.specs.declared.making.Care.{Care}
 use Rattle.dccp_c.specs.declared.making.Settings.{Settings}
 use Rattle.dccp_c.specs.declared.making.Wish.{Wish}
 
--- an IPv4 address, which stands in the first four bytes
+-- an IPv4 address, which is in the first four bytes
 abbrev pub first_four : List ℕ → List ℕ
 first_four address = take 4 address
 
@@ -58,6 +60,7 @@ pace_by s =
       probes = not s.without_probes;
       limits_syncs = not s.without_limits;
       gives_up = not s.without_giving_up;
+      heeds = not s.without_heed;
     }
 
 -- The configuration without wishes; there is none where the first number is not below 2^48.
@@ -109,17 +112,29 @@ wished_from (Some config) wishes = wished_all config wishes
 -- The configuration of these settings and wishes, or the code by which they are refused: settings of another size than the
 -- library's by 20.
 abbrev pub configured_by : Settings → List Wish → Result Config ℕ
-configured_by s wishes = if s.size == 72 then wished_from (config_by s) wishes else Err 20
+configured_by s wishes = if s.size == 80 then wished_from (config_by s) wishes else Err 20
+
+-- how many packets' data wait, as the settings say: 1,024 at most, and with 0 they are handed over within their datagram
+abbrev pub most_held_by : Settings → ℕ
+most_held_by s = min s.most_held 1024
+
+-- what is done for an end beside its own steps, as the settings say
+abbrev pub care_by : Settings → Care
+care_by s = record { pace = pace_by s; most_held = most_held_by s }
+
+-- a new end of this configuration
+abbrev pub c_begins : Care → Config → CEnd
+c_begins care config = record { timed = timed_begins kinds_control config at_first care.pace; inbox = intake_of care.most_held; cookie = [] }
 
 -- The end that was made: a new one where the code says so, else none.
-abbrev pub made_from : Bool → Pace → Result Config ℕ → Option CEnd
-made_from true pace (Ok config) = Some (timed_begins kinds_control config at_first pace)
-made_from true pace (Err code) = None
-made_from false pace _ = None
+abbrev pub made_from : Bool → Care → Result Config ℕ → Option CEnd
+made_from true care (Ok config) = Some (c_begins care config)
+made_from true care (Err code) = None
+made_from false care _ = None
 
 -- what the handle holds once making was answered by this code
-abbrev pub made_of : ℕ → Pace → Result Config ℕ → Option CEnd
-made_of code pace config = made_from (code == 0) pace config
+abbrev pub made_of : ℕ → Care → Result Config ℕ → Option CEnd
+made_of code care config = made_from (code == 0) care config
 
 -- The code of making: that of the refusal, or else 0, or 2 where memory is wanting.
 abbrev pub MakesCode : Result Config ℕ → ℕ → Type 0

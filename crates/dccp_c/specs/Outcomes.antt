@@ -1,11 +1,15 @@
 -- How C is told of an outcome (own).
 use Rattle.std.specs.Prelude.{ℕ, [], ◌∷◌, Option, Some, None}
+use Rattle.data_dropped.specs.declared.answers.Arrival.{Arrival}
+use Rattle.data_dropped.specs.declared.answers.Arrival.TheVariants.{Kept}
+use Rattle.data_dropped.specs.declared.answers.Arrival.TheVariants as arrival
 use Rattle.dccp_packets.specs.declared.reading.Malformed.TheVariants as malformed
 use Rattle.dccp_sum.specs.declared.packet_sum.SumFault.TheVariants as sum
 use Rattle.dccp_states.specs.declared.outcome.Outcome.{Outcome}
 use Rattle.dccp_states.specs.declared.outcome.Outcome.TheVariants.{Took, Dropped, Synced, WasReset, SentReset}
 use Rattle.dccp_states.specs.declared.outcome.Why.{Why}
 use Rattle.dccp_states.specs.declared.outcome.Why.TheVariants as why
+use Rattle.dccp_uses.specs.declared.holding.Reading.{Reading}
 use Rattle.dccp_c.specs.declared.told.Told.{Told}
 
 -- the number of the cause for which a packet was dropped
@@ -35,7 +39,17 @@ told_outcome (Synced number) = record told_quiet { kind = 3; number = number }
 told_outcome (WasReset code) = record told_quiet { kind = 4; code = code }
 told_outcome (SentReset code detail) = record told_quiet { kind = 5; code = code; detail = detail }
 
+-- data that came into an inbox, or were dropped there with a Drop Code, and any other outcome
+abbrev pub told_arrival : Option Arrival → Told → Told
+told_arrival None told = told
+told_arrival (Some Kept) told = record told_quiet { kind = 6 }
+told_arrival (Some (arrival.Dropped code)) told = record told_quiet { kind = 7; code = code }
+
 -- a datagram that was left out is told as one that was dropped, for the cause 12
 abbrev pub told_heard : Option Outcome → Told
 told_heard None = record told_quiet { kind = 2; cause = 12 }
 told_heard (Some outcome) = told_outcome outcome
+
+-- what became of a datagram and of its data
+abbrev pub told_reading : Reading → Told
+told_reading reading = told_arrival reading.arrival (told_heard reading.heard)

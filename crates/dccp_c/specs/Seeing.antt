@@ -9,6 +9,9 @@ use Rattle.dccp_c.specs.Codes.{phase_code, stand_code}
 use Rattle.dccp_states.specs.declared.calls.Timer.TheVariants as timers
 use Rattle.dccp_uses.specs.Alarms.{starting_wait_by}
 use Rattle.dccp_uses.specs.Path.{path_waits}
+use Rattle.dccp_uses.specs.Timed.{TimedState}
+use Rattle.path_rules.specs.Allowance.{window_within}
+use Rattle.path_rules.specs.declared.allowance.Allowance.{Allowance}
 use Rattle.path_rules.specs.declared.round_trip.RoundTrip.{RoundTrip}
 use Rattle.dccp_c.specs.Stepping.{CEnd}
 use Rattle.dccp_c.specs.declared.readers.FeatureState.{FeatureState}
@@ -29,7 +32,12 @@ seen e =
       phase = phase_code e.state.phase;
       window = window_of kinds_control e.congestion;
       in_flight = in_flight_of kinds_control e.congestion;
+      service = e.state.config.service;
     }
+
+-- the same, where its window is no more than what its sender is allowed for the sake of the application that reads its data
+abbrev pub seen_within : Option Allowance → End Both → View
+seen_within it e = record (seen e) { window = window_within it (window_of kinds_control e.congestion) }
 
 -- what it holds for a feature, and where the negotiation of it stands
 abbrev pub seen_feature : Feature → Place → End Both → FeatureState
@@ -41,18 +49,23 @@ trip_seen None timeout = record { size = 24; timeout = timeout; smoothed = 0; va
 trip_seen (Some trip) timeout = record { size = 24; timeout = timeout; smoothed = trip.smoothed; variance = trip.variance }
 
 -- of an end with its timers
-abbrev pub seen_path : CEnd → RoundTripView
+abbrev pub seen_path : TimedState Both → RoundTripView
 seen_path s = trip_seen s.path.round_trip (starting_wait_by (path_waits s.path) s.alarms timers.Rto)
 
 -- the same where there is an end
 abbrev pub path_after : Option CEnd → RoundTripView → RoundTripView
 path_after None old = old
-path_after (Some s) old = seen_path s
+path_after (Some s) old = seen_path s.timed
 
--- What C finds behind a reading: what was read, or what stood there where there is no end.
+-- what C finds of an end, where there is one
+abbrev pub view_after : Option CEnd → View → View
+view_after None old = old
+view_after (Some s) old = seen_within s.timed.path.reader.allowance s.timed.end
+
+-- What C finds after a reading: what was read, or what stood there where there is no end.
 abbrev pub seen_after : {Seen : Type 0} → (End Both → Seen) → Option CEnd → Seen → Seen
 seen_after see None old = old
-seen_after see (Some s) old = see s.end
+seen_after see (Some s) old = see s.timed.end
 
 -- What C finds where its struct has the library's size, and else what stood there.
 abbrev pub if_sized : {Read : Type 0} → Bool → Read → Read → Read

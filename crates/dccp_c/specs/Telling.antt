@@ -1,15 +1,16 @@
 -- What C is told of a datagram that it hands to an end (own).
 use Rattle.std.specs.Prelude.{ℕ, nat_le, Bool, List, length, Option, Some, None, if◌then◌else◌}
 use Rattle.dccp_c.specs.Framing.{Handed, nothing_handed}
-use Rattle.dccp_c.specs.Outcomes.{told_heard}
+use Rattle.dccp_c.specs.Outcomes.{told_reading}
 use Rattle.dccp_c.specs.declared.told.Told.{Told}
 use Rattle.dccp_c.specs.Doing.{kept_after, code_after, frame_after}
-use Rattle.dccp_c.specs.Stepping.{CEnd, c_receives}
+use Rattle.data_dropped.specs.declared.drops.DropEntry.{DropEntry}
+use Rattle.dccp_c.specs.Stepping.{CEnd, c_receives, record_heard}
 
--- What C is told behind a datagram; where there is no end, what it had stays.
+-- What C is told after a datagram; where there is no end, what it had stays.
 abbrev pub told_after : List ℕ → ℕ → Option CEnd → Told → Told
 told_after bytes now None old = old
-told_after bytes now (Some s) old = told_heard (c_receives bytes now s).answer
+told_after bytes now (Some s) old = told_reading (c_receives bytes now s).answer
 
 -- bytes that a packet of such an end may have: at most 2,044
 abbrev pub is_short : List ℕ → Bool
@@ -30,3 +31,8 @@ hear_code bytes now held = if is_short bytes then code_after (λ _. 0) (c_receiv
 -- what C is told of it
 abbrev pub hear_told : List ℕ → ℕ → Option CEnd → Told → Told
 hear_told bytes now held old = if is_short bytes then told_after bytes now held old else old
+
+-- which packets are recorded as dropped then
+abbrev pub drops_heard : List ℕ → ℕ → Option CEnd → List DropEntry → List DropEntry
+drops_heard bytes now None drops = drops
+drops_heard bytes now (Some s) drops = if is_short bytes then record_heard bytes s.timed (c_receives bytes now s).after.timed drops else drops

@@ -1,14 +1,14 @@
 //! The functions that C calls: each does one step of the end that its handle holds, and of its timers.
-ghost use Rattle.std.specs.Prelude.{◌≡◌, ◌==◌, None, Ok};
+ghost use Rattle.std.specs.Prelude.{◌≡◌, ◌==◌, ◌≤◌, None, Ok};
 ghost use Rattle.feature_lists.specs.Features.{feature_numbered};
 ghost use Rattle.dccp_c.specs.Framing.{handed_in};
 ghost use Rattle.dccp_c.specs.Codes.{abort_code, close_code, open_code, place_by, send_code, timer_code, timer_coded, wish_code};
 ghost use Rattle.dccp_c.specs.Accepting.{AcceptsCode, accepted_end, as_server, accept_step, step_frame, step_told};
-ghost use Rattle.dccp_c.specs.Doing.{c_ticks, c_waits, code_after, code_if_known, end_if_known, end_in, frame_after, frame_if_known, kept_after};
-ghost use Rattle.dccp_c.specs.Making.{MakesCode, configured_by, made_of, pace_by};
-ghost use Rattle.dccp_c.specs.Seeing.{path_after, feature_after, feature_code, if_sized, look_code, seen_after, seen, sized_code};
+ghost use Rattle.dccp_c.specs.Doing.{c_ticks, c_waits, code_after, code_if_known, drops_in, end_if_known, end_in, frame_after, frame_if_known, kept_after};
+ghost use Rattle.dccp_c.specs.Making.{MakesCode, care_by, configured_by, made_of};
+ghost use Rattle.dccp_c.specs.Seeing.{path_after, feature_after, feature_code, if_sized, look_code, sized_code, view_after};
 ghost use Rattle.dccp_c.specs.Stepping.{c_aborts, c_closes, c_fires, c_opens, c_prefers, c_sends};
-ghost use Rattle.dccp_c.specs.Telling.{hear_code, hear_frame, hear_told, hears_if_short};
+ghost use Rattle.dccp_c.specs.Telling.{drops_heard, hear_code, hear_frame, hear_told, hears_if_short};
 
 use crate::codes::{
     DONE, NO_CONNECTION, NO_FEATURE, NO_MEMORY, NO_TIMER, NOT_MADE, NOTHING_DUE, OTHER_SIZE,
@@ -17,16 +17,15 @@ use crate::codes::{
 };
 use crate::end::End;
 use crate::frame::Frame;
-use crate::making::{as_server, configured_by, pace_by};
+use crate::making::{Care, as_server, care_by, configured_by};
 use crate::readers::{seen, seen_feature, seen_path};
 use crate::sizes::{ROUND_TRIP_VIEW_BYTES, VIEW_BYTES};
 use crate::steps::{
     abort, close, fire, is_listening, new_end, open, prefer, receive, send, tell_due,
 };
-use crate::told::{Told, tell_heard};
+use crate::told::{Told, tell_reading};
 use crate::{FeatureState, RoundTripView, Settings, View, Wish};
 use dccp_endpoint::{Config, MOST_FRAME_BYTES};
-use dccp_uses::Pace;
 use std::alloc::Global;
 
 /// Makes an end, in place of what the handle held, which is freed first. Refused with OTHER_SIZE where the settings begin
@@ -39,7 +38,7 @@ pub extern "C" fn dccp_make(
     settings: &Settings,
     wishes: &[Wish],
 ) -> u32
-    ensures end { end_in end.new.kept.value ≡ made_of result (pace_by settings.now) (configured_by settings.now wishes.now) }
+    ensures end { end_in end.new.kept.value ≡ made_of result (care_by settings.now) (configured_by settings.now wishes.now) }
     ensures code { MakesCode (configured_by settings.now wishes.now) result }
 {
     end.clear(alloc);
@@ -47,7 +46,7 @@ pub extern "C" fn dccp_make(
         Ok(config) => config,
         Err(code) => return code,
     };
-    match new_end(alloc, config, pace_by(settings)) {
+    match new_end(alloc, config, &care_by(settings)) {
         Ok(held) => {
             end.put(held);
             DONE
@@ -70,15 +69,15 @@ pub extern "C" fn dccp_accept(
     frame: &mut Frame,
     told: &mut Told,
 ) -> u32
-    ensures end { end_in end.new.kept.value ≡ accepted_end datagram.now now (pace_by settings.now) result (configured_by (as_server settings.now) wishes.now) }
-    ensures frame { handed_in frame.new ≡ step_frame (accept_step datagram.now now (pace_by settings.now) result (configured_by (as_server settings.now) wishes.now)) }
-    ensures told { told.new ≡ step_told (accept_step datagram.now now (pace_by settings.now) result (configured_by (as_server settings.now) wishes.now)) told.old }
-    ensures code { AcceptsCode datagram.now now (pace_by settings.now) (configured_by (as_server settings.now) wishes.now) result }
+    ensures end { end_in end.new.kept.value ≡ accepted_end datagram.now now (care_by settings.now) result (configured_by (as_server settings.now) wishes.now) }
+    ensures frame { handed_in frame.new ≡ step_frame (accept_step datagram.now now (care_by settings.now) result (configured_by (as_server settings.now) wishes.now)) }
+    ensures told { told.new ≡ step_told (accept_step datagram.now now (care_by settings.now) result (configured_by (as_server settings.now) wishes.now)) told.old }
+    ensures code { AcceptsCode datagram.now now (care_by settings.now) (configured_by (as_server settings.now) wishes.now) result }
 {
     match configured_by(&as_server(settings), wishes) {
         Ok(config) => {
-            let pace = pace_by(settings);
-            accept(end, alloc, config, pace, datagram, now, frame, told)
+            let care = care_by(settings);
+            accept(end, alloc, config, &care, datagram, now, frame, told)
         }
         Err(code) => {
             end.clear(alloc);
@@ -93,26 +92,27 @@ fn accept(
     end: &mut End,
     alloc: Global,
     config: Config,
-    pace: Pace,
+    care: &Care,
     datagram: &[u8],
     now: u64,
     frame: &mut Frame,
     told: &mut Told,
 ) -> u32
-    ensures end { end_in end.new.kept.value ≡ accepted_end datagram.now now pace result (Ok config) }
-    ensures frame { handed_in frame.new ≡ step_frame (accept_step datagram.now now pace result (Ok config)) }
-    ensures told { told.new ≡ step_told (accept_step datagram.now now pace result (Ok config)) told.old }
-    ensures code { AcceptsCode datagram.now now pace (Ok config) result }
+    requires few { care.now.most_held ≤ 1024 }
+    ensures end { end_in end.new.kept.value ≡ accepted_end datagram.now now care.now result (Ok config) }
+    ensures frame { handed_in frame.new ≡ step_frame (accept_step datagram.now now care.now result (Ok config)) }
+    ensures told { told.new ≡ step_told (accept_step datagram.now now care.now result (Ok config)) told.old }
+    ensures code { AcceptsCode datagram.now now care.now (Ok config) result }
 {
     end.clear(alloc);
     frame.clear();
     if MOST_FRAME_BYTES < datagram.len() {
         return TOO_LONG;
     }
-    let Ok(mut held) = new_end(alloc, config, pace) else {
+    let Ok(mut held) = new_end(alloc, config, care) else {
         return NO_MEMORY;
     };
-    tell_heard(receive(&mut held, datagram, now), told);
+    tell_reading(&receive(&mut held, datagram, now), told);
     frame.fill(&held.out);
     if is_listening(&held) {
         return NO_CONNECTION;
@@ -133,6 +133,7 @@ pub extern "C" fn dccp_free(end: &mut End, alloc: Global)
 #[unsafe(no_mangle)]
 pub extern "C" fn dccp_open(end: &mut End, alloc: Global, now: u64, frame: &mut Frame) -> u32
     ensures end { end_in end.new.kept.value ≡ kept_after (c_opens now) (end_in end.old.kept.value) }
+    ensures drops { drops_in end.new.kept.value ≡ drops_in end.old.kept.value }
     ensures frame { handed_in frame.new ≡ frame_after (c_opens now) (end_in end.old.kept.value) }
     ensures code { result ≡ code_after open_code (c_opens now) (end_in end.old.kept.value) }
 {
@@ -146,7 +147,7 @@ pub extern "C" fn dccp_open(end: &mut End, alloc: Global, now: u64, frame: &mut 
     open_code(&answer)
 }
 
-/// `Session::send`. Answers DONE, NOT_MADE, NOT_OPEN, TOO_LONG, NOT_NEGOTIATED or WINDOW_FULL.
+/// `Session::send`. Answers DONE, NOT_MADE, NOT_LISTENING, NOT_OPEN, TOO_LONG, NOT_NEGOTIATED or WINDOW_FULL.
 #[unsafe(no_mangle)]
 pub extern "C" fn dccp_send(
     end: &mut End,
@@ -156,6 +157,7 @@ pub extern "C" fn dccp_send(
     frame: &mut Frame,
 ) -> u32
     ensures end { end_in end.new.kept.value ≡ kept_after (c_sends payload.now now) (end_in end.old.kept.value) }
+    ensures drops { drops_in end.new.kept.value ≡ drops_in end.old.kept.value }
     ensures frame { handed_in frame.new ≡ frame_after (c_sends payload.now now) (end_in end.old.kept.value) }
     ensures code { result ≡ code_after send_code (c_sends payload.now now) (end_in end.old.kept.value) }
 {
@@ -173,6 +175,7 @@ pub extern "C" fn dccp_send(
 #[unsafe(no_mangle)]
 pub extern "C" fn dccp_close(end: &mut End, alloc: Global, now: u64, frame: &mut Frame) -> u32
     ensures end { end_in end.new.kept.value ≡ kept_after (c_closes now) (end_in end.old.kept.value) }
+    ensures drops { drops_in end.new.kept.value ≡ drops_in end.old.kept.value }
     ensures frame { handed_in frame.new ≡ frame_after (c_closes now) (end_in end.old.kept.value) }
     ensures code { result ≡ code_after close_code (c_closes now) (end_in end.old.kept.value) }
 {
@@ -190,6 +193,7 @@ pub extern "C" fn dccp_close(end: &mut End, alloc: Global, now: u64, frame: &mut
 #[unsafe(no_mangle)]
 pub extern "C" fn dccp_abort(end: &mut End, alloc: Global, now: u64, frame: &mut Frame) -> u32
     ensures end { end_in end.new.kept.value ≡ kept_after (c_aborts now) (end_in end.old.kept.value) }
+    ensures drops { drops_in end.new.kept.value ≡ drops_in end.old.kept.value }
     ensures frame { handed_in frame.new ≡ frame_after (c_aborts now) (end_in end.old.kept.value) }
     ensures code { result ≡ code_after abort_code (c_aborts now) (end_in end.old.kept.value) }
 {
@@ -215,6 +219,7 @@ pub extern "C" fn dccp_prefer(
     frame: &mut Frame,
 ) -> u32
     ensures end { end_in end.new.kept.value ≡ end_if_known (λ f. c_prefers f (place_by at_peer) values.now now) (feature_numbered feature) (end_in end.old.kept.value) }
+    ensures drops { drops_in end.new.kept.value ≡ drops_in end.old.kept.value }
     ensures frame { handed_in frame.new ≡ frame_if_known (λ f. c_prefers f (place_by at_peer) values.now now) (feature_numbered feature) (end_in end.old.kept.value) }
     ensures code { result ≡ code_if_known 11 wish_code (λ f. c_prefers f (place_by at_peer) values.now now) (feature_numbered feature) (end_in end.old.kept.value) }
 {
@@ -242,6 +247,7 @@ pub extern "C" fn dccp_timer(
     frame: &mut Frame,
 ) -> u32
     ensures end { end_in end.new.kept.value ≡ end_if_known (λ t. c_fires t now) (timer_coded timer) (end_in end.old.kept.value) }
+    ensures drops { drops_in end.new.kept.value ≡ drops_in end.old.kept.value }
     ensures frame { handed_in frame.new ≡ frame_if_known (λ t. c_fires t now) (timer_coded timer) (end_in end.old.kept.value) }
     ensures code { result ≡ code_if_known 16 timer_code (λ t. c_fires t now) (timer_coded timer) (end_in end.old.kept.value) }
 {
@@ -262,6 +268,7 @@ pub extern "C" fn dccp_timer(
 #[unsafe(no_mangle)]
 pub extern "C" fn dccp_tick(end: &mut End, alloc: Global, now: u64, frame: &mut Frame) -> u32
     ensures end { end_in end.new.kept.value ≡ kept_after (c_ticks now) (end_in end.old.kept.value) }
+    ensures drops { drops_in end.new.kept.value ≡ drops_in end.old.kept.value }
     ensures frame { handed_in frame.new ≡ frame_after (c_ticks now) (end_in end.old.kept.value) }
     ensures code { result ≡ code_after timer_code (c_ticks now) (end_in end.old.kept.value) }
 {
@@ -305,6 +312,7 @@ pub extern "C" fn dccp_receive(
     told: &mut Told,
 ) -> u32
     ensures end { end_in end.new.kept.value ≡ hears_if_short datagram.now now (end_in end.old.kept.value) }
+    ensures drops { drops_in end.new.kept.value ≡ drops_heard datagram.now now (end_in end.old.kept.value) (drops_in end.old.kept.value) }
     ensures frame { handed_in frame.new ≡ hear_frame datagram.now now (end_in end.old.kept.value) }
     ensures told { told.new ≡ hear_told datagram.now now (end_in end.old.kept.value) told.old }
     ensures code { result ≡ hear_code datagram.now now (end_in end.old.kept.value) }
@@ -316,8 +324,7 @@ pub extern "C" fn dccp_receive(
     let Some(mut held) = end.take(alloc) else {
         return NOT_MADE;
     };
-    let outcome = receive(&mut held, datagram, now);
-    tell_heard(outcome, told);
+    tell_reading(&receive(&mut held, datagram, now), told);
     frame.fill(&held.out);
     end.put(held);
     DONE
@@ -327,7 +334,7 @@ pub extern "C" fn dccp_receive(
 #[unsafe(no_mangle)]
 pub extern "C" fn dccp_look(end: &mut End, alloc: Global, view: &mut View) -> u32
     ensures end { end.new.kept.value ≡ end.old.kept.value }
-    ensures view { view.new ≡ if_sized (view.old.size == 72) (seen_after seen (end_in end.old.kept.value) view.old) view.old }
+    ensures view { view.new ≡ if_sized (view.old.size == 72) (view_after (end_in end.old.kept.value) view.old) view.old }
     ensures code { result ≡ sized_code (view.old.size == 72) (look_code (end_in end.old.kept.value)) }
 {
     if view.size != VIEW_BYTES {
@@ -336,7 +343,7 @@ pub extern "C" fn dccp_look(end: &mut End, alloc: Global, view: &mut View) -> u3
     let Some(held) = end.take(alloc) else {
         return NOT_MADE;
     };
-    *view = seen(held.timed.end());
+    *view = seen(held.timed.end(), held.timed.path().reader.allowance);
     end.put(held);
     DONE
 }

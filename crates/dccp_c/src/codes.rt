@@ -1,11 +1,12 @@
 //! The codes that the calls answer, and the numbers by which C names a feature, a timer and a phase.
 ghost use Rattle.std.specs.Prelude.{◌≡◌};
 ghost use Rattle.feature_lists.specs.Features.{feature_numbered};
-ghost use Rattle.dccp_c.specs.Codes.{abort_code, close_code, open_code, phase_code, place_by, send_code, stand_code, timer_coded, timer_code, wish_code};
+ghost use Rattle.dccp_c.specs.Codes.{abort_code, close_code, open_code, phase_code, place_by, restraint_code, send_code, stand_code, timer_coded, timer_code, wish_code};
 
 use dccp_endpoint::{
     AbortFault, CloseFault, Feature, OpenFault, Phase, Place, PreferFault, SendFault, Stand, Timer,
 };
+use dccp_uses::{Restraint, SendRefusal};
 
 /// It was done.
 pub const DONE: u32 = 0;
@@ -70,6 +71,15 @@ pub const GAVE_UP: u32 = 19;
 /// A struct begins with another size than the library's: that of another header.
 pub const OTHER_SIZE: u32 = 20;
 
+/// The listener takes no new flows, and the datagram would open one.
+pub const REFUSED: u32 = 21;
+
+/// The last call has done nothing more that is to be told.
+pub const NO_EVENT: u32 = 22;
+
+/// No application listens any more at the peer: no further data will reach one.
+pub const NOT_LISTENING: u32 = 23;
+
 pub(crate) fn open_code(answer: &Result<(), OpenFault>) -> u32
     ensures { result ≡ open_code answer.now }
 {
@@ -79,15 +89,25 @@ pub(crate) fn open_code(answer: &Result<(), OpenFault>) -> u32
     }
 }
 
-pub(crate) fn send_code(answer: &Result<(), SendFault>) -> u32
+pub(crate) fn restraint_code(restraint: &Restraint) -> u32
+    ensures { result ≡ restraint_code restraint.now }
+{
+    match restraint {
+        Restraint::NotListening => NOT_LISTENING,
+        Restraint::Full => WINDOW_FULL,
+    }
+}
+
+pub(crate) fn send_code(answer: &Result<(), SendRefusal>) -> u32
     ensures { result ≡ send_code answer.now }
 {
     match answer {
         Ok(()) => DONE,
-        Err(SendFault::NotOpen) => NOT_OPEN,
-        Err(SendFault::TooLong) => TOO_LONG,
-        Err(SendFault::NotNegotiated) => NOT_NEGOTIATED,
-        Err(SendFault::WindowFull) => WINDOW_FULL,
+        Err(SendRefusal::Held(restraint)) => restraint_code(restraint),
+        Err(SendRefusal::Refused(SendFault::NotOpen)) => NOT_OPEN,
+        Err(SendRefusal::Refused(SendFault::TooLong)) => TOO_LONG,
+        Err(SendRefusal::Refused(SendFault::NotNegotiated)) => NOT_NEGOTIATED,
+        Err(SendRefusal::Refused(SendFault::WindowFull)) => WINDOW_FULL,
     }
 }
 

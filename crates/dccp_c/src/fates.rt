@@ -1,15 +1,19 @@
 //! What became of the data that an end has sent, and how long the next may be.
-ghost use Rattle.std.specs.Prelude.{◌≡◌, Some};
+ghost use Rattle.std.specs.Prelude.{◌≡◌, ◌≤◌, ◌+◌, ◌↔◌, ◌⊎◌, ℕ, None, Some};
 ghost use Rattle.ack_vectors.specs.Vector.{numbers_between};
 ghost use Rattle.ccid_two.specs.Kinds.{kinds_control};
 ghost use Rattle.congestion_trait.specs.Flight.{Has};
 ghost use Rattle.dccp_endpoint.specs.End.{floor_of};
-ghost use Rattle.dccp_c.specs.Doing.{end_in};
-ghost use Rattle.dccp_c.specs.Fates.{IsFate, StandSo, end_alone, longest_in, most_beside_data, most_vector_bytes};
+ghost use Rattle.data_dropped.specs.Drops.{drop_code};
+ghost use Rattle.dccp_c.specs.Doing.{c_end, drops_in, end_in};
+ghost use Rattle.dccp_c.specs.Fates.{IsFate, StandSo, end_alone, left_beside, longest_in, most_beside_data, most_returned, most_vector_bytes};
 
 use crate::end::End;
+use crate::held::Held;
 use ccid_two::Kinds;
-use dccp_endpoint::{Endpoint, Feature, Place, Seq48, Standing};
+use dccp_endpoint::{Endpoint, Feature, Phase, Place, Seq48, Standing};
+use dccp_server::ClientCookie;
+use dccp_uses::DropRecord;
 use std::alloc::Global;
 
 /// Nothing is known of data under this number: none were sent, or no more is known of them.
@@ -24,6 +28,10 @@ pub const FATE_DELIVERED: u32 = 2;
 /// They are taken for lost.
 pub const FATE_LOST: u32 = 3;
 
+/// They came, and the peer has reported that it dropped them, with the Drop Code 0. The other codes follow: 11 is Drop Code
+/// 7 (RFC 4340, section 11.7).
+pub const FATE_DROPPED: u32 = 4;
+
 // The bytes of data that one option has room for (RFC 4340, section 5.8).
 const OPTION_ROOM: u64 = 253;
 
@@ -32,12 +40,24 @@ const LONGEST_HEADER: usize = 24;
 
 const MOST_DATA_BYTES: usize = 1024;
 
-// What became of data under this number.
-fn fate_in(end: &Endpoint<Kinds>, number: Seq48) -> u32
-    ensures { IsFate (λ standing. Has (kinds_control.flight end.now.congestion) number standing) result }
+// Of data that have come, by the code with which they were dropped, if they were.
+fn fate_by(code: Option<u8>) -> u32
+    ensures delivered { (result ≡ 2) ↔ (code ≡ None) }
+    ensures dropped { (c : ℕ) → (result ≡ 4 + c) ↔ (code ≡ Some c) }
+    ensures came { (result ≡ 2) ⊎ (4 ≤ result) }
+{
+    match code {
+        Some(code) => FATE_DROPPED + u32::from(code),
+        None => FATE_DELIVERED,
+    }
+}
+
+/// What became of data under this number, where this code is recorded for it, if one is.
+pub(crate) fn fate_in(end: &Endpoint<Kinds>, number: Seq48, code: Option<u8>) -> u32
+    ensures { IsFate (λ standing. Has (kinds_control.flight end.now.congestion) number standing) code result }
 {
     if end.stands(number, Standing::Reported) {
-        FATE_DELIVERED
+        fate_by(code)
     } else if end.stands(number, Standing::Lost) {
         FATE_LOST
     } else if end.stands(number, Standing::Out) {
@@ -47,27 +67,27 @@ fn fate_in(end: &Endpoint<Kinds>, number: Seq48) -> u32
     }
 }
 
-/// The same of a number that may be none of a packet.
-pub(crate) fn fate_of(end: &Endpoint<Kinds>, number: u64) -> u32
-    ensures { IsFate (StandSo (Some end.now) number) result }
+// The same of a number that may be none of a packet, by this record.
+fn fate_of(end: &Endpoint<Kinds>, drops: &DropRecord, number: u64) -> u32
+    ensures { IsFate (StandSo (Some end.now) number) (drop_code drops.now number) result }
 {
     match Seq48::new(number) {
-        Some(number) => fate_in(end, number),
+        Some(number) => fate_in(end, number, drops.code(number)),
         None => FATE_UNKNOWN,
     }
 }
 
-/// What became of the data that were sent under this number: FATE_DELIVERED, FATE_LOST, FATE_IN_FLIGHT or FATE_UNKNOWN,
-/// which is that of each number where there is no end.
+/// What became of the data that were sent under this number: FATE_DELIVERED, FATE_DROPPED and more, FATE_LOST,
+/// FATE_IN_FLIGHT or FATE_UNKNOWN, which is that of each number where there is no end.
 #[unsafe(no_mangle)]
 pub extern "C" fn dccp_fate_of(end: &mut End, alloc: Global, number: u64) -> u32
     ensures end { end.new.kept.value ≡ end.old.kept.value }
-    ensures fate { IsFate (StandSo (end_alone (end_in end.old.kept.value)) number) result }
+    ensures fate { IsFate (StandSo (end_alone (end_in end.old.kept.value)) number) (drop_code (drops_in end.old.kept.value) number) result }
 {
     let Some(held) = end.take(alloc) else {
         return FATE_UNKNOWN;
     };
-    let fate = fate_of(held.timed.end(), number);
+    let fate = fate_of(held.timed.end(), &held.drops, number);
     end.put(held);
     fate
 }
@@ -109,16 +129,36 @@ pub(crate) fn longest_in(end: &Endpoint<Kinds>, most: usize) -> usize
         .min(MOST_DATA_BYTES)
 }
 
+// How many bytes the cookie adds to a frame, at most.
+fn most_returned(phase: Phase, cookie: &ClientCookie) -> usize
+    ensures { result ≡ most_returned phase cookie.now }
+{
+    if matches!(phase, Phase::PartOpen) {
+        cookie.bytes().min(256).div_ceil(4) * 4
+    } else {
+        0
+    }
+}
+
+// What is left beside what its inbox may say and its cookie.
+fn left_beside(held: &Held, most: usize) -> usize
+    ensures { result ≡ left_beside most (Some (c_end held.now)) }
+{
+    let beside = held.intake.most_said();
+    most.saturating_sub(beside)
+        .saturating_sub(most_returned(held.timed.end().phase(), &held.cookie))
+}
+
 /// The longest data, up to 1,024 bytes, whose packet surely has no more than so many bytes now; 0 where there is no end.
 #[unsafe(no_mangle)]
 pub extern "C" fn dccp_longest_data(end: &mut End, alloc: Global, most: usize) -> usize
     ensures end { end.new.kept.value ≡ end.old.kept.value }
-    ensures data { result ≡ longest_in most (end_alone (end_in end.old.kept.value)) }
+    ensures data { result ≡ longest_in (left_beside most (end_in end.old.kept.value)) (end_alone (end_in end.old.kept.value)) }
 {
     let Some(held) = end.take(alloc) else {
         return 0;
     };
-    let longest = longest_in(held.timed.end(), most);
+    let longest = longest_in(held.timed.end(), left_beside(&held, most));
     end.put(held);
     longest
 }

@@ -1,30 +1,42 @@
 //! What became of the data of a listener's flow, how long the next may be, and what was measured of its path.
-ghost use Rattle.std.specs.Prelude.{◌≡◌, ◌==◌, unwrap_or};
+ghost use Rattle.std.specs.Prelude.{◌≡◌, ◌==◌, Some, unwrap_or};
 ghost use Rattle.std.specs.Option.{option_map};
 ghost use Rattle.dccp_listener.specs.Peers.{end_of_peer};
+ghost use Rattle.dccp_server.specs.FlowDrops.{flow_drop_code};
 ghost use Rattle.dccp_server.specs.Serving.{upkeep_at};
 ghost use Rattle.dccp_c.specs.Fates.{IsFate, StandSo, longest_in};
-ghost use Rattle.dccp_c.specs.FlowFates.{flow_end, flow_path, upkeep_seen};
-ghost use Rattle.dccp_c.specs.Listening.{flow_code, peer_named, served_in};
+ghost use Rattle.dccp_c.specs.FlowFates.{flow_end, flow_path, left_beside_flow, upkeep_seen};
+ghost use Rattle.dccp_c.specs.Listening.{flow_code, flow_drops_in, inboxes_in, peer_named, served_in};
 ghost use Rattle.dccp_c.specs.Seeing.{if_sized, sized_code};
 
 use crate::codes::{DONE, NO_FLOW, NOT_MADE, OTHER_SIZE};
-use crate::fates::{FATE_UNKNOWN, fate_of, longest_in};
+use crate::fates::{FATE_UNKNOWN, fate_in, longest_in};
 use crate::peer::peer_named;
 use crate::readers::trip_seen;
 use crate::sizes::ROUND_TRIP_VIEW_BYTES;
 use crate::{ListenerHandle, PeerAddress, RoundTripView};
-use dccp_endpoint::Timer;
+use ccid_two::Kinds;
+use dccp_endpoint::{Endpoint, Seq48, Timer};
 use dccp_listener::Peer;
-use dccp_server::{Server, Upkeep};
+use dccp_server::{FlowDropRecord, Server, Upkeep};
 use dccp_uses::starting_wait;
 use std::alloc::Global;
 
-fn flow_fate(server: &Server, peer: Peer, number: u64) -> u32
-    ensures { IsFate (StandSo (end_of_peer server.now.room.served.listening.flows peer) number) result }
+// What became of data to a peer with this end.
+fn fate_at(end: &Endpoint<Kinds>, drops: &FlowDropRecord, peer: Peer, number: u64) -> u32
+    ensures { IsFate (StandSo (Some end.now) number) (flow_drop_code drops.now peer number) result }
+{
+    match Seq48::new(number) {
+        Some(number) => fate_in(end, number, drops.code(peer, number)),
+        None => FATE_UNKNOWN,
+    }
+}
+
+fn flow_fate(server: &Server, drops: &FlowDropRecord, peer: Peer, number: u64) -> u32
+    ensures { IsFate (StandSo (end_of_peer server.now.room.served.listening.flows peer) number) (flow_drop_code drops.now peer number) result }
 {
     match server.flow(peer) {
-        Some(end) => fate_of(end, number),
+        Some(end) => fate_at(end, drops, peer, number),
         None => FATE_UNKNOWN,
     }
 }
@@ -39,12 +51,17 @@ pub extern "C" fn dccp_listener_fate_of(
     number: u64,
 ) -> u32
     ensures listener { listener.new.kept.value ≡ listener.old.kept.value }
-    ensures fate { IsFate (StandSo (flow_end (served_in listener.old.kept.value) (peer_named peer.now)) number) result }
+    ensures fate { IsFate (StandSo (flow_end (served_in listener.old.kept.value) (peer_named peer.now)) number) (flow_drop_code (flow_drops_in listener.old.kept.value) (peer_named peer.now) number) result }
 {
     let Some(serving) = listener.take(alloc) else {
         return FATE_UNKNOWN;
     };
-    let fate = flow_fate(&serving.server, peer_named(peer), number);
+    let fate = flow_fate(
+        serving.server.server(),
+        &serving.drops,
+        peer_named(peer),
+        number,
+    );
     listener.put(serving);
     fate
 }
@@ -68,12 +85,14 @@ pub extern "C" fn dccp_listener_longest_data(
     most: usize,
 ) -> usize
     ensures listener { listener.new.kept.value ≡ listener.old.kept.value }
-    ensures data { result ≡ longest_in most (flow_end (served_in listener.old.kept.value) (peer_named peer.now)) }
+    ensures data { result ≡ longest_in (left_beside_flow most (inboxes_in listener.old.kept.value) (peer_named peer.now)) (flow_end (served_in listener.old.kept.value) (peer_named peer.now)) }
 {
     let Some(serving) = listener.take(alloc) else {
         return 0;
     };
-    let longest = flow_longest(&serving.server, peer_named(peer), most);
+    let peer = peer_named(peer);
+    let left = most.saturating_sub(serving.inboxes.most_said(peer));
+    let longest = flow_longest(serving.server.server(), peer, left);
     listener.put(serving);
     longest
 }
@@ -112,7 +131,7 @@ pub extern "C" fn dccp_listener_look_path(
     let Some(serving) = listener.take(alloc) else {
         return NOT_MADE;
     };
-    let found = path_of(&serving.server, peer_named(peer));
+    let found = path_of(serving.server.server(), peer_named(peer));
     listener.put(serving);
     match found {
         Some(found) => {

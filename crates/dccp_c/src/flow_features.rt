@@ -6,7 +6,7 @@ ghost use Rattle.feature_lists.specs.Features.{feature_numbered};
 ghost use Rattle.dccp_c.specs.Codes.{place_by};
 ghost use Rattle.dccp_c.specs.FlowFeatures.{PrefersAt, flow_feature, flow_feature_code};
 ghost use Rattle.dccp_c.specs.Framing.{handed_in};
-ghost use Rattle.dccp_c.specs.Listening.{peer_named, served_in};
+ghost use Rattle.dccp_c.specs.Listening.{holding_in, peer_named, served_in};
 ghost use Rattle.dccp_c.specs.Seeing.{seen_feature};
 
 use crate::codes::{DONE, NO_FEATURE, NO_FLOW, NOT_MADE, feature_of, place_of};
@@ -33,7 +33,7 @@ pub extern "C" fn dccp_listener_prefer(
     now: u64,
     frame: &mut Frame,
 ) -> u32
-    ensures { PrefersAt now (served_in listener.old.kept.value) (served_in listener.new.kept.value) (peer_named peer.now) (feature_numbered feature) (place_by at_peer) values.now (handed_in frame.new) result }
+    ensures { PrefersAt now (holding_in listener.old.kept.value) (holding_in listener.new.kept.value) (peer_named peer.now) (feature_numbered feature) (place_by at_peer) values.now (handed_in frame.new) result }
 {
     frame.clear();
     let Some(feature) = feature_of(feature) else {
@@ -78,7 +78,7 @@ pub extern "C" fn dccp_listener_feature(
         return NOT_MADE;
     };
     let found = feature_at(
-        &serving.server,
+        serving.server.server(),
         peer_named(peer),
         feature,
         place_of(at_peer),

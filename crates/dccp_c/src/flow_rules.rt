@@ -1,9 +1,9 @@
 //! The rules that C gives a listener, and what it may know of a flow beside its end.
 ghost use Rattle.std.specs.Prelude.{◌≡◌};
-ghost use Rattle.dccp_c.specs.Listening.{known_of, limit_of, rules_of, wait_of};
+ghost use Rattle.dccp_c.specs.Listening.{cookies_of, known_of, limit_of, rules_of, wait_of};
 
 use crate::sizes::FLOW_LIFE_BYTES;
-use dccp_server::{Life, Rules};
+use dccp_server::{CookieUse, Life, Rules};
 use path_rules::Limit;
 
 /// By which rules a listener makes room and gives flows up. Waits are in milliseconds; 2^64 - 1 is for ever.
@@ -12,11 +12,11 @@ use path_rules::Limit;
 pub struct FlowRules {
     /// How many bytes this struct has, as its caller knows it.
     pub size: usize,
-    /// How long a flow may stand in RESPOND.
+    /// How long a flow may be in RESPOND.
     pub respond: u64,
     /// The same where more than half of the table is in RESPOND.
     pub crowded: u64,
-    /// How long a flow may stand in CLOSEREQ and in CLOSING.
+    /// How long a flow may be in CLOSEREQ and in CLOSING.
     pub closing: u64,
     /// How long a flow in OPEN may take no packet.
     pub idle: u64,
@@ -28,6 +28,8 @@ pub struct FlowRules {
     pub makes_room: bool,
     /// Whether a peer that begins anew from its port ends its old flow.
     pub ends_old_flows: bool,
+    /// When Requests are answered with Init Cookies, where there is a key: 0 never, 1 in a crowd, else always.
+    pub cookies: u8,
 }
 
 /// What C may know of a flow beside its end. Times are those of its calls.
@@ -40,6 +42,8 @@ pub struct FlowLife {
     pub since: u64,
     /// When its end last took a packet.
     pub taken: u64,
+    /// The number that the owner has written beside it.
+    pub user: u64,
 }
 
 fn wait_of(wait: u64) -> Option<u64>
@@ -75,6 +79,16 @@ pub(crate) fn rules_of(given: &FlowRules) -> Rules
     }
 }
 
+pub(crate) fn cookies_of(given: &FlowRules) -> CookieUse
+    ensures { result ≡ cookies_of given.now.cookies }
+{
+    match given.cookies {
+        0 => CookieUse::Never,
+        1 => CookieUse::InACrowd,
+        _ => CookieUse::Always,
+    }
+}
+
 pub(crate) fn known_of(life: &Life) -> FlowLife
     ensures { result ≡ known_of life.now }
 {
@@ -82,5 +96,6 @@ pub(crate) fn known_of(life: &Life) -> FlowLife
         size: FLOW_LIFE_BYTES,
         since: life.since,
         taken: life.taken,
+        user: life.user,
     }
 }

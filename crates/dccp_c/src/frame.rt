@@ -1,5 +1,5 @@
 //! The frame that a call hands to C.
-ghost use Rattle.std.specs.Prelude.{◌≡◌};
+ghost use Rattle.std.specs.Prelude.{◌≡◌, ◌≤◌, length};
 ghost use Rattle.dccp_c.specs.Framing.{handed_in, handed_of, nothing_handed};
 
 use dccp_endpoint::{MOST_FRAME_BYTES, Outbox};
@@ -13,7 +13,7 @@ pub struct Frame {
     pub length: usize,
     /// Its sequence number, in full (RFC 4340, section 7.6).
     pub number: u64,
-    /// The bytes; what is behind the length says nothing.
+    /// The bytes; what comes after the length says nothing.
     pub bytes: [u8; MOST_FRAME_BYTES],
 }
 
@@ -26,7 +26,17 @@ impl Frame {
         self.number = 0;
     }
 
-    /// Leaves the bytes of the frame that stands in the Outbox and its number, none where none does.
+    /// Leaves these bytes, and this number.
+    pub fn put(&mut self, bytes: &[u8], number: u64)
+        requires { length bytes.now ≤ 2044 }
+        ensures { handed_in self.new ≡ record { bytes = bytes.now; number = number } }
+    {
+        self.number = number;
+        self.length = bytes.len();
+        self.bytes[..bytes.len()].copy_from_slice(bytes);
+    }
+
+    /// Leaves the bytes of the frame that is in the Outbox and its number, none where none does.
     pub fn fill(&mut self, out: &Outbox)
         ensures { handed_in self.new ≡ handed_of out.now }
     {

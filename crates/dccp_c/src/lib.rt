@@ -1,5 +1,5 @@
 //! DCCP for programs in C (own; the ends are RFC 4340's): a static library, whose functions `include/dccp.h` declares,
-//! over `Endpoint<Kinds>` with the timers of a session, and over `Server`, a listener with those of its flows.
+//! over `Endpoint<Kinds>` with the timers of a session, and over `EventServer`, a listener with those of its flows.
 //!
 //! C holds an [`End`] or a [`ListenerHandle`], which points to an end or a listener with its timers and the
 //! place where it leaves its frame. Each function does one step and answers by a code of [`codes`](crate::codes); its
@@ -16,10 +16,16 @@
 
 mod calls;
 mod codes;
+mod cookie_calls;
 mod end;
 mod fates;
+mod flow_events;
 mod flow_fates;
 mod flow_features;
+mod flow_names;
+mod flow_numbers;
+mod flow_reading;
+mod flow_requests;
 mod flow_rules;
 mod founding;
 mod frame;
@@ -32,6 +38,7 @@ mod listener_calls;
 mod making;
 mod peer;
 mod readers;
+mod reading;
 mod refusing;
 mod serving;
 mod sizes;
@@ -39,12 +46,16 @@ mod steps;
 mod told;
 mod version;
 
+pub use crate::cookie_calls::KeyPair;
 pub use crate::end::End;
+pub use crate::flow_events::EventView;
+pub use crate::flow_numbers::Key;
 pub use crate::flow_rules::{FlowLife, FlowRules};
 pub use crate::frame::Frame;
-pub use crate::laws::ticks_are_a_tick;
+pub use crate::laws::{longest_data_fit, ticks_are_a_tick};
 pub use crate::listener::ListenerHandle;
 pub use crate::making::{Settings, Wish};
 pub use crate::peer::PeerAddress;
 pub use crate::readers::{FeatureState, RoundTripView, View};
+pub use crate::reading::ReadData;
 pub use crate::told::Told;

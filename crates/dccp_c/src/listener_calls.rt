@@ -1,39 +1,51 @@
 //! The functions of a listener that C calls: each does one deed of a peer with the listener that its handle holds.
-ghost use Rattle.std.specs.Prelude.{◌≡◌, ◌==◌, ◌≢◌, ◌≤◌, None, Ok, if◌then◌else◌, is_some, length, slice_get, unwrap_or};
+ghost use Rattle.std.specs.Prelude.{◌≡◌, ◌==◌, ◌≢◌, ◌≤◌, IfOk, None, Ok, Some, OnErr, OnOk, false, if◌then◌else◌, is_some, length, slice_get, true, unwrap_or};
 ghost use Rattle.dccp_listener.specs.Calls.{seen_if};
 ghost use Rattle.dccp_listener.specs.Chain.{Calls, Sends, Closes, Aborts, asked};
 ghost use Rattle.dccp_listener.specs.Listens.{listens};
 ghost use Rattle.dccp_listener.specs.Runs.{Stepped, told_of};
 ghost use Rattle.std.specs.Option.{option_map};
-ghost use Rattle.dccp_c.specs.Framing.{handed_in};
-ghost use Rattle.dccp_c.specs.Making.{pace_by};
+ghost use Rattle.dccp_c.specs.Framing.{handed_in, handed_of};
+ghost use Rattle.dccp_c.specs.Making.{care_by};
 ghost use Rattle.dccp_c.specs.Founding.{FoundsCode, founded_of, listening_by};
 ghost use Rattle.std.specs.Map.{keys_of};
 ghost use Rattle.dccp_listener.specs.Peers.{end_of_peer};
+ghost use Rattle.dccp_packets.specs.ResetCodes.{number_of_code};
+ghost use Rattle.dccp_packets.specs.declared.reset_code.ResetCode.TheVariants as codes;
+ghost use Rattle.dccp_server.specs.Events.{aborted_end, called_on, ends_old, entry_at, heard_on, is_shut_out, room_maker, shut_out, silent_end, ticked_on};
+ghost use Rattle.dccp_server.specs.FlowDrops.{flow_record_after};
+ghost use Rattle.dccp_server.specs.FlowInboxes.{flow_speaks};
 ghost use Rattle.dccp_server.specs.Lives.{life_of};
-ghost use Rattle.dccp_server.specs.Rooms.{IsServed, duty_done, duty_frame, duty_in, forgets, room_does, told_of_arrival};
+ghost use Rattle.dccp_server.specs.Refusals.{refused_frame};
+ghost use Rattle.dccp_server.specs.declared.flow_event.EndCause.TheVariants as causes;
+ghost use Rattle.dccp_server.specs.Meeting.{IsMet, may_meet};
+ghost use Rattle.dccp_server.specs.Rooms.{duty_done, duty_frame, duty_in, forgets, room_does, told_of_arrival};
 ghost use Rattle.dccp_server.specs.Serving.{Does};
-ghost use Rattle.dccp_c.specs.Seeing.{if_sized, seen as seen_end, sized_code};
-ghost use Rattle.dccp_c.specs.Listening.{Forgets, HandsHeard, HearsAtServer, HearsDatagram, Serves, Ticks, address_of, arrival_code, arrival_told, datagram_refusal, duty_address, duty_code, evicted_in, flow_code, flow_in, known_of, life_if, life_in, listen_code, listen_told, listener_waits, made_code, peer_in, peer_named, refusal_code, rule_code, ruled_by, rules_of, seen_code, served_in, with_room};
+ghost use Rattle.dccp_c.specs.Seeing.{if_sized, sized_code};
+ghost use Rattle.dccp_c.specs.Codes.{timer_coded};
+ghost use Rattle.dccp_c.specs.Listening.{FiresAt, Forgets, HandsHeard, HasTakenIn, HearsDatagram, HearsIfOpen, MayDeliver, SendsUnheld, Serves, Ticks, address_of, arrival_code, arrival_told, cookies_of, counted_of, datagram_refusal, duty_address, duty_code, duty_left, evicted_in, flow_code, flow_in, flows_in, holding_in, holding_of, holds_called, holds_done, holds_forgotten, holds_on, holds_ticked, inboxes_in, known_of, life_if, life_in, listen_code, listen_told, listener_waits, made_code, peer_in, peer_named, refusal_code, rekeyed_in, restraint_in, rule_code, ruled_by, rules_of, seen_code, served_in, watched_in, way_in, way_number};
 
 use crate::codes::{
-    BAD_LIST, BUSY, DONE, GAVE_UP, NO_FLOW, NO_MEMORY, NO_NUMBER, NOT_FRESH, NOT_LIVE, NOT_MADE,
-    NOT_NEGOTIATED, NOT_OPEN, NOT_OURS, NOTHING_DUE, OTHER_SIZE, TOO_LONG, WINDOW_FULL, timer_code,
+    BAD_LIST, BUSY, DONE, GAVE_UP, NO_FLOW, NO_MEMORY, NO_NUMBER, NO_TIMER, NOT_FRESH, NOT_LIVE,
+    NOT_MADE, NOT_NEGOTIATED, NOT_OPEN, NOT_OURS, NOTHING_DUE, OTHER_SIZE, REFUSED, TOO_LONG,
+    WINDOW_FULL, restraint_code, timer_code, timer_of,
 };
-use crate::flow_rules::{known_of, rules_of};
+use crate::flow_rules::{cookies_of, known_of, rules_of};
 use crate::founding::listening_by;
 use crate::frame::Frame;
-use crate::making::pace_by;
+use crate::making::care_by;
 use crate::peer::{address_of, peer_named};
 use crate::readers::seen;
 use crate::serving::Serving;
 use crate::sizes::{FLOW_LIFE_BYTES, FLOW_RULES_BYTES, VIEW_BYTES};
-use crate::told::{Told, tell, tell_heard as tell_left_out};
-use crate::{FlowLife, FlowRules, ListenerHandle, PeerAddress, Settings, View, Wish};
+use crate::told::{Told, tell, tell_heard as tell_left_out, tell_kept};
+use crate::{FlowLife, FlowRules, Key, ListenerHandle, PeerAddress, Settings, View, Wish};
 use dccp_endpoint::{MOST_FRAME_BYTES, NoMemory, Outbox, Refusal, Seen, Seq48, UserCall};
 use dccp_listener::{Heard, NoFlow, Peer};
-use dccp_server::{Arrival, Duty, Rules, Server};
-use dccp_uses::Rule;
+use dccp_server::{
+    Duty, EventServer, FlowDropRecord, FlowInboxes, Meeting, Rules, Server, Shut, Way,
+};
+use dccp_uses::{Restraint, Rule};
 use std::alloc::Global;
 
 fn refusal_code(refusal: Refusal) -> u32
@@ -101,10 +113,10 @@ fn tell_arrival(heard: Option<Heard>, told: &mut Told) -> u32
 
 // What is read of a peer's end, if it has one.
 fn view_of(server: &Server, peer: Peer) -> Option<View>
-    ensures { result ≡ option_map seen_end (end_of_peer server.now.room.served.listening.flows peer) }
+    ensures { result ≡ flow_in (Some server.now) peer }
 {
     match server.flow(peer) {
-        Some(end) => Some(seen(end)),
+        Some(end) => Some(seen(end, server.upkeep(peer).path.reader.allowance)),
         None => None,
     }
 }
@@ -120,29 +132,40 @@ fn address_at(server: &Server, place: u16) -> Option<PeerAddress>
 }
 
 /// Makes a listener, in place of what the handle held, which is freed first. It serves the own address and port of the
-/// settings, by IPv4, and the Service Code; at most `most` flows stand at a time, 1 to 1,024. Refused as `dccp_make`
-/// is, and with NO_SUCH_LISTENER for IPv6 and for another `most`; then it holds nothing.
+/// settings, by IPv4, and these Service Codes, or where none are given that of the settings; at most `most` flows are at
+/// a time, 1 to 1,024. Refused as `dccp_make` is, and with NO_SUCH_LISTENER for IPv6, for another `most`, and for over 16
+/// Service Codes or one twice; then it holds nothing.
 #[unsafe(no_mangle)]
 pub extern "C" fn dccp_listener_make(
     listener: &mut ListenerHandle,
     alloc: Global,
     settings: &Settings,
+    services: &[u32],
     wishes: &[Wish],
     most: u16,
 ) -> u32
-    ensures listener { served_in listener.new.kept.value ≡ founded_of result (pace_by settings.now) (listening_by settings.now wishes.now most) }
-    ensures code { FoundsCode (listening_by settings.now wishes.now most) result }
+    ensures listener { holding_in listener.new.kept.value ≡ founded_of result (care_by settings.now) (listening_by settings.now services.now wishes.now most) }
+    ensures code { FoundsCode (listening_by settings.now services.now wishes.now most) result }
 {
     listener.clear(alloc);
-    let config = match listening_by(settings, wishes, most) {
+    let config = match listening_by(settings, services, wishes, most) {
         Ok(config) => config,
         Err(code) => return code,
     };
-    let server = Server::new(alloc, config, pace_by(settings), Rules::usual());
+    let care = care_by(settings);
+    let inboxes = FlowInboxes::new(alloc, care.most_held, config.most);
+    let server = EventServer::new(alloc, config, care.pace, Rules::usual());
+    let Ok(drops) = FlowDropRecord::new(alloc) else {
+        return NO_MEMORY;
+    };
     let serving = Serving {
         server,
         out: Outbox::new(),
         evicted: None,
+        way: Way::Plain,
+        drops,
+        inboxes,
+        arrival: None,
     };
     match Box::new(alloc, serving) {
         Ok(serving) => {
@@ -161,32 +184,106 @@ pub extern "C" fn dccp_listener_free(listener: &mut ListenerHandle, alloc: Globa
     listener.clear(alloc);
 }
 
-// A datagram that is short enough, at a server.
-fn hear(serving: &mut Serving, peer: Peer, iss: Seq48, datagram: &[u8], now: u64) -> Arrival
-    requires { length datagram.now ≤ 2044 }
-    ensures served { IsServed now serving.old.server serving.new.server peer iss datagram.now serving.new.out result.heard result.evicted result.anew }
-    ensures evicted { serving.new.evicted ≡ result.evicted }
+fn room_maker(made_room: Option<Peer>, evicted: Option<Peer>) -> Option<Peer>
+    ensures { result ≡ room_maker made_room evicted }
 {
-    let arrival = serving
-        .server
-        .arrive(peer, iss, datagram, now, &mut serving.out);
-    serving.evicted = arrival.evicted;
-    arrival
+    match made_room {
+        Some(peer) => Some(peer),
+        None => evicted,
+    }
 }
 
-// What C finds of a datagram: the frame, what it is told and the code.
+// A datagram that is short enough, at a server.
+fn hear(
+    serving: &mut Serving,
+    peer: Peer,
+    iss: Seq48,
+    datagram: &[u8],
+    now: u64,
+) -> Result<Meeting, Shut>
+    requires { length datagram.now ≤ 2044 }
+    ensures taken { OnOk result (is_shut_out serving.old.server peer datagram.now ≡ false) }
+    ensures shut { OnErr result ((is_shut_out serving.old.server peer datagram.now ≡ true) × (serving.new.server ≡ shut_out now serving.old.server peer datagram.now)
+        × (serving.new.out ≡ refused_frame now serving.old.server.server peer datagram.now (number_of_code codes.ConnectionRefused))) }
+    ensures met { IfOk result (λ it. IsMet now serving.old.server.server serving.new.server.server peer iss datagram.now serving.new.out it.arrival.heard it.arrival.evicted it.arrival.anew it.made_room it.way) }
+    ensures may { IfOk result (λ it. may_meet (entry_at now serving.old.server peer iss datagram.now) it.way ≡ true) }
+    ensures told { IfOk result (λ it. serving.new.server ≡ heard_on now serving.old.server serving.new.server.server peer datagram.now (told_of_arrival it.arrival.heard) (room_maker it.made_room it.arrival.evicted) (ends_old it.arrival.anew it.way)) }
+    ensures evicted { IfOk result (λ it. serving.new.evicted ≡ room_maker it.made_room it.arrival.evicted) }
+    ensures way { IfOk result (λ it. serving.new.way ≡ it.way) }
+    ensures drops { OnOk result (serving.new.drops ≡ flow_record_after peer (counted_of serving.old.server.server peer) (counted_of serving.new.server.server peer) datagram.now serving.old.drops) }
+    ensures none_dropped { OnErr result (serving.new.drops ≡ serving.old.drops) }
+    ensures inboxes { serving.new.inboxes ≡ serving.old.inboxes }
+    ensures arrival { serving.new.arrival ≡ serving.old.arrival }
+{
+    serving.evicted = None;
+    serving.way = Way::Plain;
+    let before = serving.server.server().upkeep(peer).path.reader;
+    let meeting = serving
+        .server
+        .arrive(peer, iss, datagram, now, &mut serving.out)?;
+    serving.evicted = room_maker(meeting.made_room, meeting.arrival.evicted);
+    serving.way = meeting.way;
+    let after = serving.server.server().upkeep(peer).path.reader;
+    serving.drops.heard(peer, &before, &after, datagram);
+    Ok(meeting)
+}
+
+// The data of a datagram come into the peer's inbox, unless no memory for it is to be had.
+fn settle(
+    serving: &mut Serving,
+    peer: Peer,
+    datagram: &[u8],
+    heard: &Result<Option<Heard>, NoMemory>,
+)
+    ensures came { MayDeliver serving.old.inboxes serving.old.server.server peer datagram.now (told_of_arrival heard.now) (record { inboxes = serving.new.inboxes; arrival = serving.new.arrival }) }
+    ensures server { serving.new.server ≡ serving.old.server }
+    ensures sent { serving.new.out ≡ serving.old.out }
+    ensures evicted { serving.new.evicted ≡ serving.old.evicted }
+    ensures way { serving.new.way ≡ serving.old.way }
+    ensures drops { serving.new.drops ≡ serving.old.drops }
+{
+    let server = serving.server.server();
+    serving.arrival = match serving.inboxes.settle(server, peer, datagram, heard) {
+        Ok(kept) => kept,
+        Err(NoMemory) => None,
+    };
+}
+
+// The same of a datagram that was heard, of a peer that had a flow before it or none; and the frame for the peer says what
+// its inbox has to say.
+fn take_in(serving: &mut Serving, peer: Peer, had: bool, datagram: &[u8], meeting: &Meeting)
+    ensures taken { HasTakenIn (holding_of serving.old) (holding_of serving.new) peer had datagram.now (told_of_arrival meeting.now.arrival.heard) meeting.now.made_room meeting.now.arrival.evicted }
+    ensures sent { serving.new.out ≡ flow_speaks serving.new.inboxes serving.new.server.server peer serving.old.out }
+    ensures server { serving.new.server ≡ serving.old.server }
+    ensures evicted { serving.new.evicted ≡ serving.old.evicted }
+    ensures way { serving.new.way ≡ serving.old.way }
+    ensures drops { serving.new.drops ≡ serving.old.drops }
+{
+    serving.inboxes.begin(serving.server.server(), peer, had);
+    settle(serving, peer, datagram, &meeting.arrival.heard);
+    let server = serving.server.server();
+    serving.inboxes.tidy(server, peer);
+    serving.inboxes.tidy_if(server, meeting.made_room);
+    serving.inboxes.tidy_if(server, meeting.arrival.evicted);
+    serving.inboxes.speak(server, peer, &mut serving.out);
+}
+
+// What C finds of a datagram, and of its data: the frame, what it is told and the code.
 fn hand(
     heard: &Result<Option<Heard>, NoMemory>,
+    kept: Option<data_dropped::Arrival>,
     out: &Outbox,
     frame: &mut Frame,
     told: &mut Told,
 ) -> u32
-    ensures { HandsHeard heard.now out.now (handed_in frame.new) result told.old told.new }
+    ensures { HandsHeard heard.now kept out.now (handed_in frame.new) result told.old told.new }
 {
     match heard {
         Ok(heard) => {
             frame.fill(out);
-            tell_arrival(*heard, told)
+            let code = tell_arrival(*heard, told);
+            tell_kept(kept, told);
+            code
         }
         Err(NoMemory) => {
             frame.clear();
@@ -206,13 +303,28 @@ fn serve(
     told: &mut Told,
 ) -> u32
     requires { length datagram.now ≤ 2044 }
-    ensures { HearsAtServer now serving.old.server serving.new.server peer iss datagram.now (handed_in frame.new) serving.new.evicted result told.old told.new }
+    ensures { HearsIfOpen now (holding_of serving.old) (holding_of serving.new) peer iss datagram.now (is_shut_out serving.old.server peer datagram.now) (handed_in frame.new) serving.new.evicted serving.new.way result told.old told.new }
 {
-    let arrival = hear(serving, peer, iss, datagram, now);
-    hand(&arrival.heard, &serving.out, frame, told)
+    let had = has_flow(serving.server.server(), peer);
+    match hear(serving, peer, iss, datagram, now) {
+        Ok(meeting) => {
+            take_in(serving, peer, had, datagram, &meeting);
+            hand(
+                &meeting.arrival.heard,
+                serving.arrival,
+                &serving.out,
+                frame,
+                told,
+            )
+        }
+        Err(Shut) => {
+            frame.fill(&serving.out);
+            REFUSED
+        }
+    }
 }
 
-/// `Server::arrive`. BUSY where it answers Busy. NO_NUMBER where the first number is
+/// `EventServer::arrive`. BUSY where it answers Busy, REFUSED where it is shut and the datagram would open a flow. NO_NUMBER where the first number is
 /// none and TOO_LONG where the datagram is; then nothing changes, nor with NOT_MADE. With NO_MEMORY nothing changes but
 /// that a flow may have made room. C is told of the datagram where the answer is DONE alone.
 #[unsafe(no_mangle)]
@@ -226,7 +338,7 @@ pub extern "C" fn dccp_listener_arrive(
     frame: &mut Frame,
     told: &mut Told,
 ) -> u32
-    ensures { HearsDatagram now (served_in listener.old.kept.value) (served_in listener.new.kept.value) (peer_named peer.now) first_number datagram.now (datagram_refusal first_number datagram.now) (handed_in frame.new) (evicted_in listener.new.kept.value) result told.old told.new }
+    ensures { HearsDatagram now (holding_in listener.old.kept.value) (holding_in listener.new.kept.value) (peer_named peer.now) first_number datagram.now (datagram_refusal first_number datagram.now) (handed_in frame.new) (evicted_in listener.new.kept.value) (way_in listener.new.kept.value) result told.old told.new }
 {
     frame.clear();
     let Some(iss) = Seq48::new(first_number) else {
@@ -276,13 +388,67 @@ pub extern "C" fn dccp_listener_evicted(
     }
 }
 
+/// In which way the last datagram was met: 0 plainly, 1 it was a Request and was answered with an Init Cookie, without a
+/// flow; 2 it was one and was left out; 3 its Init Cookie opened its flow; 4 it had a good one, but no flow could be opened.
+#[unsafe(no_mangle)]
+pub extern "C" fn dccp_listener_way(listener: &mut ListenerHandle, alloc: Global) -> u32
+    ensures listener { listener.new.kept.value ≡ listener.old.kept.value }
+    ensures way { result ≡ way_number (way_in listener.old.kept.value) }
+{
+    let Some(serving) = listener.take(alloc) else {
+        return 0;
+    };
+    let way = serving.way;
+    listener.put(serving);
+    way_number(way)
+}
+
+fn way_number(way: Way) -> u32
+    ensures { result ≡ way_number way }
+{
+    match way {
+        Way::Plain => 0,
+        Way::Greeted => 1,
+        Way::Unanswered => 2,
+        Way::Reopened => 3,
+        Way::Unopened => 4,
+    }
+}
+
+/// How many flows stand; 0 where there is no listener.
+#[unsafe(no_mangle)]
+pub extern "C" fn dccp_listener_flows(listener: &mut ListenerHandle, alloc: Global) -> u16
+    ensures listener { listener.new.kept.value ≡ listener.old.kept.value }
+    ensures flows { result ≡ flows_in (served_in listener.old.kept.value) }
+{
+    let Some(serving) = listener.take(alloc) else {
+        return 0;
+    };
+    let flows = serving.server.server().flows();
+    listener.put(serving);
+    flows
+}
+
+// A peer's flow has done something: its inbox goes with it, unless data wait there, and its frame says what that has to
+// say.
+fn go_on(serving: &mut Serving, peer: Peer)
+    ensures after { holding_of serving.new ≡ holds_on (holding_of serving.old) peer serving.old.server }
+    ensures sent { serving.new.out ≡ flow_speaks serving.new.inboxes serving.new.server.server peer serving.old.out }
+{
+    let server = serving.server.server();
+    serving.inboxes.tidy(server, peer);
+    serving.inboxes.speak(server, peer, &mut serving.out);
+}
+
 // A call of a peer's end, at a server.
 fn ask(serving: &mut Serving, peer: Peer, call: UserCall<'_>, now: u64) -> Result<Seen, NoFlow>
-    ensures after { serving.new.server ≡ with_room serving.old.server (room_does now serving.old.server.room peer (Does (Calls (asked call.entry)))) }
-    ensures sent { serving.new.out ≡ (listens serving.old.server.room.served.listening peer (Calls (asked call.entry))).frame }
-    ensures told { Stepped (seen_if result) ≡ (listens serving.old.server.room.served.listening peer (Calls (asked call.entry))).told }
+    ensures after { holding_of serving.new ≡ holds_called now (holding_of serving.old) peer (asked call.entry) }
+    ensures sent { serving.new.out ≡ flow_speaks serving.new.inboxes serving.new.server.server peer (listens serving.old.server.server.room.served.listening peer (Calls (asked call.entry))).frame }
+    ensures told { Stepped (seen_if result) ≡ (listens serving.old.server.server.room.served.listening peer (Calls (asked call.entry))).told }
 {
-    serving.server.ask(peer, call, now, &mut serving.out)
+    let answer = serving.server.ask(peer, call, now, &mut serving.out);
+    go_on(serving, peer);
+    answer
 }
 
 /// A call of a peer's end, for C.
@@ -294,7 +460,7 @@ pub(crate) fn call(
     now: u64,
     frame: &mut Frame,
 ) -> u32
-    ensures { Serves now (served_in listener.old.kept.value) (served_in listener.new.kept.value) peer (asked call.entry) (handed_in frame.new) result }
+    ensures { Serves now (holding_in listener.old.kept.value) (holding_in listener.new.kept.value) peer (asked call.entry) (handed_in frame.new) result }
 {
     frame.clear();
     let Some(mut serving) = listener.take(alloc) else {
@@ -306,8 +472,21 @@ pub(crate) fn call(
     call_code(&answer)
 }
 
-/// `Server::ask` with `UserCall::Send`. Answers DONE, NOT_MADE, NO_FLOW, NOT_OPEN, TOO_LONG, NOT_NEGOTIATED or
-/// WINDOW_FULL.
+// Why data to a peer have to wait for the sake of the application that reads them, if they have to.
+fn held_back(listener: &mut ListenerHandle, alloc: Global, peer: Peer) -> Option<Restraint>
+    ensures listener { listener.new.kept.value ≡ listener.old.kept.value }
+    ensures why { result ≡ restraint_in (served_in listener.old.kept.value) peer }
+{
+    let Some(serving) = listener.take(alloc) else {
+        return None;
+    };
+    let why = serving.server.server().restraint(peer);
+    listener.put(serving);
+    why
+}
+
+/// `Server::ask` with `UserCall::Send`, unless `Server::restraint` holds the data back. Answers DONE, NOT_MADE,
+/// NOT_LISTENING, NO_FLOW, NOT_OPEN, TOO_LONG, NOT_NEGOTIATED or WINDOW_FULL.
 #[unsafe(no_mangle)]
 pub extern "C" fn dccp_listener_send(
     listener: &mut ListenerHandle,
@@ -317,8 +496,12 @@ pub extern "C" fn dccp_listener_send(
     now: u64,
     frame: &mut Frame,
 ) -> u32
-    ensures { Serves now (served_in listener.old.kept.value) (served_in listener.new.kept.value) (peer_named peer.now) (Sends payload.now) (handed_in frame.new) result }
+    ensures { SendsUnheld now (holding_in listener.old.kept.value) (holding_in listener.new.kept.value) (peer_named peer.now) payload.now (handed_in frame.new) result (restraint_in (served_in listener.old.kept.value) (peer_named peer.now)) }
 {
+    if let Some(why) = held_back(listener, alloc, peer_named(peer)) {
+        frame.clear();
+        return restraint_code(&why);
+    }
     call(
         listener,
         alloc,
@@ -338,7 +521,7 @@ pub extern "C" fn dccp_listener_close(
     now: u64,
     frame: &mut Frame,
 ) -> u32
-    ensures { Serves now (served_in listener.old.kept.value) (served_in listener.new.kept.value) (peer_named peer.now) Closes (handed_in frame.new) result }
+    ensures { Serves now (holding_in listener.old.kept.value) (holding_in listener.new.kept.value) (peer_named peer.now) Closes (handed_in frame.new) result }
 {
     call(
         listener,
@@ -359,7 +542,7 @@ pub extern "C" fn dccp_listener_abort(
     now: u64,
     frame: &mut Frame,
 ) -> u32
-    ensures { Serves now (served_in listener.old.kept.value) (served_in listener.new.kept.value) (peer_named peer.now) Aborts (handed_in frame.new) result }
+    ensures { Serves now (holding_in listener.old.kept.value) (holding_in listener.new.kept.value) (peer_named peer.now) Aborts (handed_in frame.new) result }
 {
     call(
         listener,
@@ -369,6 +552,27 @@ pub extern "C" fn dccp_listener_abort(
         now,
         frame,
     )
+}
+
+/// `Server::ask` with `UserCall::Timer`, for the timer of this number: for whoever keeps the timers of a flow himself.
+/// Answers DONE, NOT_MADE, NO_FLOW, NOTHING_DUE, or NO_TIMER where there is none of this number; then nothing changes.
+#[unsafe(no_mangle)]
+pub extern "C" fn dccp_listener_timer(
+    listener: &mut ListenerHandle,
+    alloc: Global,
+    peer: &PeerAddress,
+    timer: u32,
+    now: u64,
+    frame: &mut Frame,
+) -> u32
+    ensures { FiresAt now (holding_in listener.old.kept.value) (holding_in listener.new.kept.value) (peer_named peer.now) (timer_coded timer) (handed_in frame.new) result }
+{
+    frame.clear();
+    let Some(timer) = timer_of(timer) else {
+        return NO_TIMER;
+    };
+    let call_of = UserCall::Timer(timer);
+    call(listener, alloc, peer_named(peer), call_of, now, frame)
 }
 
 fn rule_code(rule: Rule) -> u32
@@ -400,13 +604,25 @@ fn duty_address(duty: Option<Duty>, old: PeerAddress) -> PeerAddress
     }
 }
 
+// The flow of which there was something to do goes on.
+fn go_on_if(serving: &mut Serving, duty: Option<Duty>)
+    ensures after { holding_of serving.new ≡ holds_done (holding_of serving.old) serving.old.server duty }
+    ensures sent { handed_of serving.new.out ≡ duty_left (holding_of serving.new) duty serving.old.out }
+{
+    if let Some(duty) = duty {
+        go_on(serving, duty.peer());
+    }
+}
+
 // A tick of a server.
 fn do_duty(serving: &mut Serving, now: u64) -> Option<Duty>
-    ensures duty { result ≡ duty_in now serving.old.server.rules serving.old.server.half serving.old.server.room }
-    ensures after { serving.new.server ≡ with_room serving.old.server (duty_done now serving.old.server.room result) }
-    ensures sent { serving.new.out ≡ duty_frame now serving.old.server.room result }
+    ensures duty { result ≡ duty_in now serving.old.server.server.rules serving.old.server.server.half serving.old.server.server.room }
+    ensures after { holding_of serving.new ≡ holds_ticked now (holding_of serving.old) result }
+    ensures sent { handed_of serving.new.out ≡ duty_left (holding_of serving.new) result (duty_frame now serving.old.server.server.room result) }
 {
-    serving.server.tick(now, &mut serving.out)
+    let duty = serving.server.tick(now, &mut serving.out);
+    go_on_if(serving, duty);
+    duty
 }
 
 /// Does what is due of a flow: tells it a timer, or follows a rule of its path; or, where nothing is, gives up a flow that
@@ -420,7 +636,7 @@ pub extern "C" fn dccp_listener_tick(
     peer: &mut PeerAddress,
     frame: &mut Frame,
 ) -> u32
-    ensures { Ticks now (served_in listener.old.kept.value) (served_in listener.new.kept.value) (handed_in frame.new) peer.old peer.new result }
+    ensures { Ticks now (holding_in listener.old.kept.value) (holding_in listener.new.kept.value) (handed_in frame.new) peer.old peer.new result }
 {
     frame.clear();
     let Some(mut serving) = listener.take(alloc) else {
@@ -446,7 +662,7 @@ pub extern "C" fn dccp_listener_until_first(
     let Some(serving) = listener.take(alloc) else {
         return u64::MAX;
     };
-    let left = serving.server.until_first(now);
+    let left = serving.server.server().until_first(now);
     listener.put(serving);
     left
 }
@@ -469,7 +685,7 @@ pub extern "C" fn dccp_listener_look(
     let Some(serving) = listener.take(alloc) else {
         return NOT_MADE;
     };
-    let found = view_of(&serving.server, peer_named(peer));
+    let found = view_of(serving.server.server(), peer_named(peer));
     listener.put(serving);
     match found {
         Some(found) => {
@@ -496,7 +712,7 @@ pub extern "C" fn dccp_listener_peer(
     let Some(serving) = listener.take(alloc) else {
         return NOT_MADE;
     };
-    let found = address_at(&serving.server, place);
+    let found = address_at(serving.server.server(), place);
     listener.put(serving);
     match found {
         Some(found) => {
@@ -507,26 +723,29 @@ pub extern "C" fn dccp_listener_peer(
     }
 }
 
-fn had_code(had: bool) -> u32
+/// The code of a call of a flow, by whether there was one.
+pub(crate) fn had_code(had: bool) -> u32
     ensures { result ≡ (if had then 0 else 15) }
 {
     if had { DONE } else { NO_FLOW }
 }
 
-// A server forgets a peer's flow.
+// A server forgets a peer's flow, and the data that wait of it.
 fn let_go(serving: &mut Serving, peer: Peer, now: u64)
-    ensures { serving.new.server ≡ with_room serving.old.server (forgets now serving.old.server.room peer) }
+    ensures { holding_of serving.new ≡ holds_forgotten now (holding_of serving.old) peer }
 {
     serving.server.forget(peer, now, &mut serving.out);
+    serving.inboxes.forget(peer);
 }
 
-fn has_flow(server: &Server, peer: Peer) -> bool
+/// Whether a peer has a flow.
+pub(crate) fn has_flow(server: &Server, peer: Peer) -> bool
     ensures { result ≡ is_some (end_of_peer server.now.room.served.listening.flows peer) }
 {
     server.flow(peer).is_some()
 }
 
-/// A peer's flow goes at once, whatever its phase, and nothing is sent. Answers DONE, NOT_MADE or NO_FLOW.
+/// A peer's flow goes at once, whatever its phase, with the data that wait of it, and nothing is sent. Answers DONE, NOT_MADE or NO_FLOW.
 #[unsafe(no_mangle)]
 pub extern "C" fn dccp_listener_forget(
     listener: &mut ListenerHandle,
@@ -534,13 +753,13 @@ pub extern "C" fn dccp_listener_forget(
     peer: &PeerAddress,
     now: u64,
 ) -> u32
-    ensures { Forgets now (served_in listener.old.kept.value) (served_in listener.new.kept.value) (peer_named peer.now) result }
+    ensures { Forgets now (holding_in listener.old.kept.value) (holding_in listener.new.kept.value) (peer_named peer.now) result }
 {
     let Some(mut serving) = listener.take(alloc) else {
         return NOT_MADE;
     };
     let peer = peer_named(peer);
-    let had = has_flow(&serving.server, peer);
+    let had = has_flow(serving.server.server(), peer);
     let_go(&mut serving, peer, now);
     listener.put(serving);
     had_code(had)
@@ -553,8 +772,9 @@ pub extern "C" fn dccp_listener_rules(
     alloc: Global,
     rules: &FlowRules,
 ) -> u32
-    ensures listener { served_in listener.new.kept.value ≡ if_sized (rules.now.size == 48) (ruled_by (rules_of rules.now) (served_in listener.old.kept.value)) (served_in listener.old.kept.value) }
-    ensures code { result ≡ sized_code (rules.now.size == 48) (made_code (served_in listener.old.kept.value)) }
+    ensures listener { watched_in listener.new.kept.value ≡ if_sized (rules.now.size == 48) (ruled_by (rules_of rules.now) (cookies_of rules.now.cookies) (watched_in listener.old.kept.value)) (watched_in listener.old.kept.value) }
+    ensures inboxes { inboxes_in listener.new.kept.value ≡ inboxes_in listener.old.kept.value }
+    ensures code { result ≡ sized_code (rules.now.size == 48) (made_code (watched_in listener.old.kept.value)) }
 {
     if rules.size != FLOW_RULES_BYTES {
         return OTHER_SIZE;
@@ -563,6 +783,28 @@ pub extern "C" fn dccp_listener_rules(
         return NOT_MADE;
     };
     serving.server.set_rules(rules_of(rules));
+    serving.server.set_cookies(cookies_of(rules));
+    listener.put(serving);
+    DONE
+}
+
+/// The listener's Init Cookies are written by this key from now on; those of the key before it stay good for their two
+/// minutes. Without a key none is given. Answers DONE or NOT_MADE.
+#[unsafe(no_mangle)]
+pub extern "C" fn dccp_listener_rekey(
+    listener: &mut ListenerHandle,
+    alloc: Global,
+    key: &Key,
+    now: u64,
+) -> u32
+    ensures listener { watched_in listener.new.kept.value ≡ rekeyed_in key.now.bytes now (watched_in listener.old.kept.value) }
+    ensures inboxes { inboxes_in listener.new.kept.value ≡ inboxes_in listener.old.kept.value }
+    ensures code { result ≡ made_code (watched_in listener.old.kept.value) }
+{
+    let Some(mut serving) = listener.take(alloc) else {
+        return NOT_MADE;
+    };
+    serving.server.rekey(key.bytes, now);
     listener.put(serving);
     DONE
 }
@@ -586,8 +828,8 @@ pub extern "C" fn dccp_listener_life(
     life: &mut FlowLife,
 ) -> u32
     ensures listener { listener.new.kept.value ≡ listener.old.kept.value }
-    ensures life { life.new ≡ if_sized (life.old.size == 24) (unwrap_or (life_in (served_in listener.old.kept.value) (peer_named peer.now)) life.old) life.old }
-    ensures code { result ≡ sized_code (life.old.size == 24) (flow_code (served_in listener.old.kept.value) (life_in (served_in listener.old.kept.value) (peer_named peer.now))) }
+    ensures life { life.new ≡ if_sized (life.old.size == 32) (unwrap_or (life_in (served_in listener.old.kept.value) (peer_named peer.now)) life.old) life.old }
+    ensures code { result ≡ sized_code (life.old.size == 32) (flow_code (served_in listener.old.kept.value) (life_in (served_in listener.old.kept.value) (peer_named peer.now))) }
 {
     if life.size != FLOW_LIFE_BYTES {
         return OTHER_SIZE;
@@ -595,7 +837,7 @@ pub extern "C" fn dccp_listener_life(
     let Some(serving) = listener.take(alloc) else {
         return NOT_MADE;
     };
-    let found = life_of(&serving.server, peer_named(peer));
+    let found = life_of(serving.server.server(), peer_named(peer));
     listener.put(serving);
     match found {
         Some(found) => {

@@ -1,8 +1,8 @@
 //! What C makes an end from.
-ghost use Rattle.std.specs.Prelude.{◌≡◌};
+ghost use Rattle.std.specs.Prelude.{◌≡◌, ◌≤◌};
 ghost use Rattle.feature_lists.specs.Wishes.{wish_of};
 ghost use Rattle.dccp_c.specs.Accepting.{as_server};
-ghost use Rattle.dccp_c.specs.Making.{configured_by, first_four, pace_by, pseudo_of, config_by, offered_so, unless_narrow, wished, wished_all, wished_list, wished_so};
+ghost use Rattle.dccp_c.specs.Making.{care_by, configured_by, first_four, most_held_by, pace_by, pseudo_of, config_by, offered_so, unless_narrow, wished, wished_all, wished_list, wished_so};
 
 use crate::codes::{
     BAD_LIST, NO_FEATURE, NO_NUMBER, NOT_OURS, OTHER_SIZE, feature_of, place_of, wish_code,
@@ -50,6 +50,21 @@ pub struct Settings {
     pub without_limits: bool,
     /// Whether the end waits for a silent peer for ever, else some minutes.
     pub without_giving_up: bool,
+    /// Whether data go out whatever the peer reports of the application that reads them, else they wait where it is slow,
+    /// where its buffer is full and where none listens.
+    pub without_heed: bool,
+    /// How many packets' data wait until they are read, 1,024 at most: more counts as 1,024. With 0 they are handed over
+    /// within their datagram.
+    pub most_held: usize,
+}
+
+/// What is done for an end beside its own steps.
+#[derive(Clone, Copy)]
+pub struct Care {
+    /// The rules of its path.
+    pub pace: Pace,
+    /// How many packets' data wait.
+    pub most_held: u16,
 }
 
 /// What an end wishes for a feature from the start on.
@@ -130,6 +145,26 @@ pub(crate) fn pace_by(settings: &Settings) -> Pace
         probes: !settings.without_probes,
         limits_syncs: !settings.without_limits,
         gives_up: !settings.without_giving_up,
+        heeds: !settings.without_heed,
+    }
+}
+
+// How many packets' data wait.
+fn most_held_by(settings: &Settings) -> u16
+    ensures value { result ≡ most_held_by settings.now }
+    ensures few { result ≤ 1024 }
+{
+    settings.most_held.min(1024) as u16
+}
+
+/// What is done for an end of these settings beside its own steps.
+pub(crate) fn care_by(settings: &Settings) -> Care
+    ensures value { result ≡ care_by settings.now }
+    ensures few { result.most_held ≤ 1024 }
+{
+    Care {
+        pace: pace_by(settings),
+        most_held: most_held_by(settings),
     }
 }
 

@@ -1,13 +1,13 @@
 //! What C may read of an end.
 ghost use Rattle.std.specs.Prelude.{◌≡◌};
-ghost use Rattle.dccp_c.specs.Seeing.{seen, seen_feature, seen_path, trip_seen};
+ghost use Rattle.dccp_c.specs.Seeing.{seen, seen_feature, seen_path, seen_within, trip_seen};
 
 use crate::codes::{phase_code, stand_code};
 use crate::sizes::{ROUND_TRIP_VIEW_BYTES, VIEW_BYTES};
 use ccid_two::Kinds;
 use dccp_endpoint::{Endpoint, Feature, Place};
 use dccp_uses::TimedEnd;
-use path_rules::RoundTrip;
+use path_rules::{Allowance, RoundTrip, window_within};
 
 /// An end as C may read it.
 #[repr(C)]
@@ -29,10 +29,13 @@ pub struct View {
     pub marked: u64,
     /// Where the connection stands.
     pub phase: u32,
-    /// How many data packets may be in flight.
+    /// How many data packets may be in flight: by the congestion control, and by what the application that reads them
+    /// leaves of that.
     pub window: u32,
     /// How many data packets are in flight.
     pub in_flight: u32,
+    /// The Service Code that it asks for or serves.
+    pub service: u32,
 }
 
 /// What an end has measured of its path.
@@ -59,7 +62,8 @@ pub struct FeatureState {
     pub stand: u32,
 }
 
-pub(crate) fn seen(end: &Endpoint<Kinds>) -> View
+// An end by itself.
+fn seen_alone(end: &Endpoint<Kinds>) -> View
     ensures { result ≡ seen end.now }
 {
     let marks = end.marks();
@@ -74,6 +78,17 @@ pub(crate) fn seen(end: &Endpoint<Kinds>) -> View
         phase: phase_code(end.phase()),
         window: end.window(),
         in_flight: end.in_flight(),
+        service: end.service(),
+    }
+}
+
+/// An end whose sender is allowed this for the sake of the application that reads its data.
+pub(crate) fn seen(end: &Endpoint<Kinds>, allowance: Option<Allowance>) -> View
+    ensures { result ≡ seen_within allowance end.now }
+{
+    View {
+        window: window_within(allowance, end.window()),
+        ..seen_alone(end)
     }
 }
 

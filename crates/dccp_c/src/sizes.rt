@@ -2,7 +2,7 @@
 //! is refused and never misread.
 
 /// Of [`Settings`](crate::Settings).
-pub const SETTINGS_BYTES: usize = 72;
+pub const SETTINGS_BYTES: usize = 80;
 
 /// Of [`View`](crate::View).
 pub const VIEW_BYTES: usize = 72;
@@ -14,4 +14,7 @@ pub const ROUND_TRIP_VIEW_BYTES: usize = 24;
 pub const FLOW_RULES_BYTES: usize = 48;
 
 /// Of [`FlowLife`](crate::FlowLife).
-pub const FLOW_LIFE_BYTES: usize = 24;
+pub const FLOW_LIFE_BYTES: usize = 32;
+
+/// Of [`EventView`](crate::EventView).
+pub const EVENT_VIEW_BYTES: usize = 48;

@@ -1,25 +1,34 @@
 //! What each call does to an end of C's: one step of it, after which its timers go on.
-ghost use Rattle.std.specs.Prelude.{◌≡◌, ◌≤◌, IfOk, length};
+ghost use Rattle.std.specs.Prelude.{◌≡◌, ◌≤◌, [], IfOk, length};
 ghost use Rattle.ccid_two.specs.Kinds.{at_first, kinds_control};
 ghost use Rattle.dccp_uses.specs.Session.{is_listening};
 ghost use Rattle.dccp_uses.specs.Timed.{timed_begins};
-ghost use Rattle.dccp_c.specs.Stepping.{c_aborts, c_closes, c_fires, c_opens, c_prefers, c_receives, c_sends, c_told, done};
+ghost use Rattle.dccp_uses.specs.Holding.{spoken_by};
+ghost use Rattle.dccp_c.specs.Doing.{c_end};
+ghost use Rattle.dccp_c.specs.Making.{c_begins};
+ghost use Rattle.dccp_c.specs.Stepping.{c_aborts, c_closes, c_fires, c_opens, c_prefers, c_receives, c_sends, c_told, done, record_heard, frame_returned};
 
 use crate::held::Held;
+use crate::making::Care;
 use ccid_two::Kinds;
+use data_dropped::Intake;
 use dccp_endpoint::{
-    AbortFault, CloseFault, Config, Feature, NoMemory, OpenFault, Outbox, Outcome, Phase, Place,
-    PreferFault, SendFault, Timer,
+    AbortFault, CloseFault, Config, Feature, NoMemory, OpenFault, Outbox, Phase, Place,
+    PreferFault, Timer,
 };
-use dccp_uses::{Due, Pace, TimedEnd};
+use dccp_server::ClientCookie;
+use dccp_uses::{DropRecord, Due, Pace, Reading, SendRefusal, TimedEnd, settle_heard};
 use std::alloc::Global;
 
 /// A new end, for which no timer runs. NoMemory where no memory is to be had.
-pub(crate) fn new_end(alloc: Global, config: Config, pace: Pace) -> Result<Box<Held>, NoMemory>
-    ensures { IfOk result (λ held. held.value.timed ≡ timed_begins kinds_control config at_first pace) }
+pub(crate) fn new_end(alloc: Global, config: Config, care: &Care) -> Result<Box<Held>, NoMemory>
+    requires { care.now.most_held ≤ 1024 }
+    ensures end { IfOk result (λ held. c_end held.value ≡ c_begins care.now config) }
+    ensures drops { IfOk result (λ held. held.value.drops ≡ []) }
 {
-    match begun(alloc, config, pace) {
-        Ok(timed) => boxed(alloc, timed),
+    let intake = Intake::new(alloc, care.most_held)?;
+    match begun(alloc, config, care.pace) {
+        Ok(timed) => boxed(alloc, timed, intake),
         Err(fault) => Err(fault),
     }
 }
@@ -32,29 +41,66 @@ fn begun(alloc: Global, config: Config, pace: Pace) -> Result<TimedEnd<Kinds>, N
 }
 
 // An end in a box.
-fn boxed(alloc: Global, timed: TimedEnd<Kinds>) -> Result<Box<Held>, NoMemory>
-    ensures { IfOk result (λ held. held.value.timed ≡ timed) }
+fn boxed(alloc: Global, timed: TimedEnd<Kinds>, intake: Intake) -> Result<Box<Held>, NoMemory>
+    ensures timed { IfOk result (λ held. held.value.timed ≡ timed) }
+    ensures cookie { IfOk result (λ held. held.value.cookie ≡ []) }
+    ensures intake { IfOk result (λ held. held.value.intake ≡ intake) }
+    ensures drops { IfOk result (λ held. held.value.drops ≡ []) }
 {
     let out = Outbox::new();
-    match Box::new(alloc, Held { timed, out }) {
+    let drops = DropRecord::new(alloc)?;
+    let held = Held {
+        timed,
+        intake,
+        out,
+        cookie: ClientCookie::none(),
+        drops,
+    };
+    match Box::new(alloc, held) {
         Ok(held) => Ok(held),
         Err(_) => Err(NoMemory),
     }
 }
 
+// The frame that the end has left says what its inbox has to say, and returns the cookie.
+fn speak(held: &mut Held)
+    ensures frame { held.new.out ≡ frame_returned held.old.cookie held.old.timed (spoken_by held.old.intake held.old.timed held.old.out) }
+    ensures timed { held.new.timed ≡ held.old.timed }
+    ensures intake { held.new.intake ≡ held.old.intake }
+    ensures cookie { held.new.cookie ≡ held.old.cookie }
+    ensures drops { held.new.drops ≡ held.old.drops }
+{
+    dccp_uses::speak(&held.intake, &held.timed, &mut held.out);
+    give_back(&held.timed, &held.cookie, &mut held.out);
+}
+
+// The frame that the end has left returns the cookie.
+fn give_back(timed: &TimedEnd<Kinds>, cookie: &ClientCookie, out: &mut Outbox)
+    ensures { out.new ≡ frame_returned cookie.now timed.now out.old }
+{
+    let end = timed.end();
+    cookie.put(end.phase(), &end.pseudo_out(), out);
+}
+
 /// `Session::open` at `now`, in milliseconds as in each call, whose frame stays here. A refused call changes nothing
 /// and leaves no frame. NotFresh where the end is a server's, or was opened before.
 pub(crate) fn open(held: &mut Held, now: u64) -> Result<(), OpenFault>
-    ensures { done held.new.timed held.new.out result ≡ c_opens now held.old.timed }
+    ensures step { done held.new.timed held.new.intake held.new.cookie held.new.out result ≡ c_opens now (c_end held.old) }
+    ensures drops { held.new.drops ≡ held.old.drops }
 {
-    held.timed.open(now, &mut held.out)
+    let answer = held.timed.open(now, &mut held.out);
+    speak(held);
+    answer
 }
 
-/// `Session::send`. NotOpen, TooLong, NotNegotiated and WindowFull as of `Endpoint::send_soon`.
-pub(crate) fn send(held: &mut Held, payload: &[u8], now: u64) -> Result<(), SendFault>
-    ensures { done held.new.timed held.new.out result ≡ c_sends payload.now now held.old.timed }
+/// `Session::send`. Held where the application that reads the data leaves no room; else Refused as `Endpoint::send_soon`.
+pub(crate) fn send(held: &mut Held, payload: &[u8], now: u64) -> Result<(), SendRefusal>
+    ensures step { done held.new.timed held.new.intake held.new.cookie held.new.out result ≡ c_sends payload.now now (c_end held.old) }
+    ensures drops { held.new.drops ≡ held.old.drops }
 {
-    held.timed.send(payload, now, &mut held.out)
+    let answer = held.timed.send(payload, now, &mut held.out);
+    speak(held);
+    answer
 }
 
 /// `Session::prefer`. NotOpen, BadList and NotOurs as of `Endpoint::prefer`.
@@ -65,46 +111,71 @@ pub(crate) fn prefer(
     values: &[u64],
     now: u64,
 ) -> Result<(), PreferFault>
-    ensures { done held.new.timed held.new.out result ≡ c_prefers feature place values.now now held.old.timed }
+    ensures step { done held.new.timed held.new.intake held.new.cookie held.new.out result ≡ c_prefers feature place values.now now (c_end held.old) }
+    ensures drops { held.new.drops ≡ held.old.drops }
 {
-    held.timed
-        .prefer(feature, place, values, now, &mut held.out)
+    let answer = held
+        .timed
+        .prefer(feature, place, values, now, &mut held.out);
+    speak(held);
+    answer
 }
 
 /// This timer has run out. False where it has nothing to do.
 pub(crate) fn fire(held: &mut Held, timer: Timer, now: u64) -> bool
-    ensures { done held.new.timed held.new.out result ≡ c_fires timer now held.old.timed }
+    ensures step { done held.new.timed held.new.intake held.new.cookie held.new.out result ≡ c_fires timer now (c_end held.old) }
+    ensures drops { held.new.drops ≡ held.old.drops }
 {
-    held.timed.timer(timer, now, &mut held.out)
+    let answer = held.timed.timer(timer, now, &mut held.out);
+    speak(held);
+    answer
 }
 
 /// This is due. False where the end has nothing to do.
 pub(crate) fn tell_due(held: &mut Held, due: Due, now: u64) -> bool
-    ensures { done held.new.timed held.new.out result ≡ c_told due now held.old.timed }
+    ensures step { done held.new.timed held.new.intake held.new.cookie held.new.out result ≡ c_told due now (c_end held.old) }
+    ensures drops { held.new.drops ≡ held.old.drops }
 {
-    held.timed.tell(due, now, &mut held.out)
+    let answer = held.timed.tell(due, now, &mut held.out);
+    speak(held);
+    answer
 }
 
 /// `Session::close`. NotOpen in a phase where nothing is to be closed.
 pub(crate) fn close(held: &mut Held, now: u64) -> Result<(), CloseFault>
-    ensures { done held.new.timed held.new.out result ≡ c_closes now held.old.timed }
+    ensures step { done held.new.timed held.new.intake held.new.cookie held.new.out result ≡ c_closes now (c_end held.old) }
+    ensures drops { held.new.drops ≡ held.old.drops }
 {
-    held.timed.close(now, &mut held.out)
+    let answer = held.timed.close(now, &mut held.out);
+    speak(held);
+    answer
 }
 
 /// `Session::abort`. NotLive where there is no connection.
 pub(crate) fn abort(held: &mut Held, now: u64) -> Result<(), AbortFault>
-    ensures { done held.new.timed held.new.out result ≡ c_aborts now held.old.timed }
+    ensures step { done held.new.timed held.new.intake held.new.cookie held.new.out result ≡ c_aborts now (c_end held.old) }
+    ensures drops { held.new.drops ≡ held.old.drops }
 {
-    held.timed.abort(now, &mut held.out)
+    let answer = held.timed.abort(now, &mut held.out);
+    speak(held);
+    answer
 }
 
-/// A datagram of at most 2,044 bytes has arrived. None where it is left out.
-pub(crate) fn receive(held: &mut Held, datagram: &[u8], now: u64) -> Option<Outcome>
+/// A datagram of at most 2,044 bytes has arrived. What it is the first to report as dropped is recorded.
+pub(crate) fn receive(held: &mut Held, datagram: &[u8], now: u64) -> Reading
     requires { length datagram.now ≤ 2044 }
-    ensures { done held.new.timed held.new.out result ≡ c_receives datagram.now now held.old.timed }
+    ensures step { done held.new.timed held.new.intake held.new.cookie held.new.out result ≡ c_receives datagram.now now (c_end held.old) }
+    ensures drops { held.new.drops ≡ record_heard datagram.now held.old.timed held.new.timed held.old.drops }
 {
-    held.timed.receive(datagram, now, &mut held.out)
+    let before = held.timed.path().reader;
+    let was = held.timed.end().phase();
+    let heard = held.timed.receive(datagram, now, &mut held.out);
+    held.cookie.keep(was, held.timed.end().phase(), datagram);
+    let after = held.timed.path().reader;
+    held.drops.heard(&before, &after, datagram);
+    let arrival = settle_heard(&mut held.intake, &held.timed, datagram, &heard);
+    speak(held);
+    Reading { heard, arrival }
 }
 
 /// Whether it waits for a Request still.

@@ -1,15 +1,18 @@
 //! What C is told of a datagram.
 ghost use Rattle.std.specs.Prelude.{◌≡◌, None};
-ghost use Rattle.dccp_c.specs.Outcomes.{cause_code, told_heard, told_outcome};
+ghost use Rattle.dccp_c.specs.Outcomes.{cause_code, told_arrival, told_heard, told_outcome, told_reading};
 ghost use Rattle.dccp_states.specs.declared.outcome.Outcome.TheVariants.{Took};
 
+use data_dropped::Arrival;
 use dccp_endpoint::{Malformed, Outcome, SumFault, Why};
+use dccp_uses::Reading;
 
 /// What became of a datagram; what does not belong to its kind is 0.
 #[repr(C)]
 #[derive(Clone, Copy)]
 pub struct Told {
-    /// 0 taken, 1 taken with data, 2 dropped, 3 answered with a Sync, 4 a Reset, 5 answered with a Reset.
+    /// 0 taken, 1 taken with data, 2 dropped, 3 answered with a Sync, 4 a Reset, 5 answered with a Reset, 6 taken with
+    /// data that wait in the inbox, 7 taken with data that the inbox dropped.
     pub kind: u32,
     /// Why it was dropped, from 1 on.
     pub cause: u32,
@@ -19,7 +22,7 @@ pub struct Told {
     pub past: usize,
     /// The number that the Sync acknowledges.
     pub number: u64,
-    /// The code of the Reset.
+    /// The code of the Reset, or the Drop Code of the data (RFC 4340, section 11.7).
     pub code: u8,
     /// The bytes Data 1 to 3 of the Reset that answers it.
     pub detail: [u8; 3],
@@ -116,9 +119,38 @@ fn told_heard(outcome: Option<Outcome>) -> Told
     }
 }
 
+// Of data that came into an inbox, or of any other outcome.
+fn told_arrival(arrival: Option<Arrival>, told: Told) -> Told
+    ensures { result ≡ told_arrival arrival told }
+{
+    match arrival {
+        Some(Arrival::Kept) => Told { kind: 6, ..quiet() },
+        Some(Arrival::Dropped(code)) => Told {
+            kind: 7,
+            code,
+            ..quiet()
+        },
+        None => told,
+    }
+}
+
 /// Tells C of a datagram that was heard, or left out.
 pub fn tell_heard(outcome: Option<Outcome>, told: &mut Told)
     ensures { told.new ≡ told_heard outcome }
 {
     *told = told_heard(outcome);
+}
+
+/// Tells C of data that came into an inbox, in place of what it was told of their datagram.
+pub fn tell_kept(arrival: Option<Arrival>, told: &mut Told)
+    ensures { told.new ≡ told_arrival arrival told.old }
+{
+    *told = told_arrival(arrival, *told);
+}
+
+/// Tells C of a datagram and of its data.
+pub fn tell_reading(reading: &Reading, told: &mut Told)
+    ensures { told.new ≡ told_reading reading.now }
+{
+    *told = told_arrival(reading.arrival, told_heard(reading.heard));
 }

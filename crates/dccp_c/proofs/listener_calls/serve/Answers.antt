@@ -1,10 +1,14 @@
+use Rattle.std.proofs.Common.{rules, ◌∙◌}
 use Rattle.dccp_c.specs.Framing.{handed_in}
-use Rattle.dccp_c.proofs.Hearing.{served_for_c}
+use Rattle.dccp_c.specs.Listening.{holding_of}
+use Rattle.dccp_c.proofs.Hearing.{met_for_c, shut_for_c}
 use Rattle.dccp_c.proofs.listener_calls.serve.Goals as goal
 
-pub returns : goal.returns
-returns c =
-    served_for_c c.args.now c.args.serving.now.server c.hear-arrival.new.serving.server c.args.peer c.args.iss c.args.datagram.now
-    c.hear-arrival.new.serving.out c.hear-arrival.result.heard c.hear-arrival.new.serving.evicted c.hear-arrival.result.evicted
-    c.hear-arrival.result.anew (handed_in c.hand.new.frame) c.hand.result c.args.told.now c.hand.new.told c.hear-arrival.ensures.served c.hand.ensures
-    c.hear-arrival.ensures.evicted
+pub returns-in-Ok : goal.returns-in-Ok
+returns-in-Ok c =
+    met_for_c c.args.now (holding_of c.args.serving.now) (holding_of c.hear.new.serving) (holding_of c.take_in.new.serving) c.args.peer c.args.iss
+    c.args.datagram.now c.has_flow-had.result c.hear.new.serving.out c.take_in.new.serving.out c.in-Ok.meeting.arrival.heard c.take_in.new.serving.evicted
+    c.in-Ok.meeting.arrival.evicted c.in-Ok.meeting.made_room c.in-Ok.meeting.arrival.anew c.take_in.new.serving.way c.in-Ok.meeting.way
+    (handed_in c.hand.new.frame) c.hand.result c.args.told.now c.hand.new.told c.in-Ok.ensures.taken c.in-Ok.ensures.met c.in-Ok.ensures.may
+    c.in-Ok.ensures.told c.hear.ensures.inboxes (search rules) c.take_in.ensures.taken c.take_in.ensures.server c.take_in.ensures.sent c.hand.ensures
+    (c.take_in.ensures.evicted ∙ c.in-Ok.ensures.evicted) (c.take_in.ensures.way ∙ c.in-Ok.ensures.way)

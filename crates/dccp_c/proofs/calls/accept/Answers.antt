@@ -1,0 +1,18 @@
+use Rattle.std.proofs.Common.{◌≡◌, Some, ap, ◌∙◌, rules}
+use Rattle.dccp_uses.specs.declared.holding.Reading.{Reading}
+use Rattle.dccp_c.specs.Doing.{c_end, end_in}
+use Rattle.dccp_c.specs.Framing.{handed_in, handed_of}
+use Rattle.dccp_c.specs.Stepping.{CEnd, CStep, c_receives}
+use Rattle.dccp_c.proofs.calls.accept.Goals as goal
+
+pub returns-clause-end : goal.returns-clause-end
+returns-clause-end c =
+    ap end_in c.put.ensures ∙ ap (λ (s : CStep _). Some s.after) c.receive.ensures.step
+    ∙ ap (λ (s : CEnd). Some (c_receives c.args.datagram.now c.args.now s).after) (ap c_end c.deref_mut.ensures.value ∙ c.in-Ok.ensures.end)
+
+pub returns-clause-frame : goal.returns-clause-frame
+returns-clause-frame c =
+    let filled : handed_in c.fill.new.self ≡ handed_of c.receive.new.held.out = search rules in
+    filled
+    ∙ ap (λ (s : CStep Reading). handed_of s.frame) c.receive.ensures.step
+    ∙ ap (λ (s : CEnd). handed_of (c_receives c.args.datagram.now c.args.now s).frame) (ap c_end c.deref_mut.ensures.value ∙ c.in-Ok.ensures.end)

@@ -1,0 +1,13 @@
+use Rattle.std.proofs.Common.{rules, subst}
+use Rattle.ccid_two.specs.Kinds.{kinds_control}
+use Rattle.congestion_trait.specs.Flight.{Has}
+use Rattle.dccp_server.specs.FlowDrops.{flow_drop_code}
+use Rattle.dccp_c.specs.Fates.{IsFate}
+use Rattle.dccp_c.proofs.Fating.{fate-bounded}
+use Rattle.dccp_c.proofs.flow_fates.fate_at.Goals as goal
+
+pub returns-in-Some : goal.returns-in-Some
+returns-in-Some c =
+    fate-bounded c.args.end.now c.args.number (flow_drop_code c.args.drops.now c.args.peer c.args.number) c.fate_in.result (search rules)
+    (subst (λ n. IsFate (λ standing. Has (kinds_control.flight c.args.end.now.congestion) n standing) (flow_drop_code c.args.drops.now c.args.peer n) c.fate_in.result)
+    c.in-Some.ensures.value (subst (λ k. IsFate (λ standing. Has (kinds_control.flight c.args.end.now.congestion) c.in-Some.number standing) k c.fate_in.result) c.code.ensures c.fate_in.ensures))

@@ -1,0 +1,96 @@
+-- How a server of C's that has an end for each peer answers a Request without one (RFC 4340, section 8.1.4; own).
+use Rattle.std.specs.Prelude.{◌≡◌, ◌⊎◌, ℕ, ◌==◌, Bool, true, false, List, Option, Some, None, Result, Ok, Err, if◌then◌else◌}
+use Rattle.dccp_endpoint.specs.declared.config.Config.{Config}
+use Rattle.dccp_options.specs.Kinds.{init_cookie}
+use Rattle.dccp_options.specs.Written.{spelled}
+use Rattle.dccp_packets.specs.Grammar.{decoded}
+use Rattle.dccp_packets.specs.Outgoing.{Outgoing}
+use Rattle.dccp_server.specs.Meeting.{asking_of, cookie_read, opening_in}
+use Rattle.dccp_server.specs.declared.asking.Asking.{Asking}
+use Rattle.dccp_server.specs.declared.asking.Asking.TheVariants.{Nothing, TooLong, This}
+use Rattle.dccp_states.specs.declared.outcome.Outcome.{Outcome}
+use Rattle.dccp_sum.specs.declared.pseudo_header.Pseudo.{Pseudo}
+use Rattle.dccp_sum.specs.declared.pseudo_header.Pseudo.TheVariants.{V4, V6}
+use Rattle.dccp_uses.specs.Timed.{is_taken}
+use Rattle.dccp_uses.specs.declared.holding.Reading.{Reading}
+use Rattle.init_cookies.specs.Appending.{appended}
+use Rattle.init_cookies.specs.Cookies.{cookie_bytes}
+use Rattle.init_cookies.specs.Openings.{OpeningState, request_bytes}
+use Rattle.init_cookies.specs.Routes.{back}
+use Rattle.init_cookies.specs.declared.cookie.CookieKeys.{CookieKeys}
+use Rattle.init_cookies.specs.declared.route.Route.{Route}
+use Rattle.dccp_c.specs.Accepting.{first_heard}
+use Rattle.dccp_c.specs.Framing.{Handed, handed_of, nothing_handed}
+use Rattle.dccp_c.specs.Making.{first_four}
+use Rattle.dccp_c.specs.Stepping.{CStep}
+use Rattle.dccp_c.specs.Telling.{is_short}
+use Rattle.dccp_c.specs.declared.cookie_calls.KeyPair.{KeyPair}
+use Rattle.dccp_c.specs.declared.making.Care.{Care}
+use Rattle.dccp_c.specs.declared.making.Settings.{Settings}
+
+-- the keys that C gives
+abbrev pub keys_of : KeyPair → CookieKeys
+keys_of pair = record { key = pair.key.bytes; before = pair.before.bytes; since = pair.since }
+
+-- the addresses of what comes from the peer
+abbrev pub pseudo_from : Settings → Pseudo
+pseudo_from s = if s.is_v6 then V6 s.peer_address s.own_address else V4 (first_four s.peer_address) (first_four s.own_address)
+
+-- from the peer of these settings to their server (section 5.1)
+abbrev pub route_by : Settings → Route
+route_by s = record { pseudo = pseudo_from s; from = s.peer_port; to = s.own_port }
+
+-- the Request was taken
+abbrev pub is_heard_so : Option Outcome → Bool
+is_heard_so None = false
+is_heard_so (Some outcome) = is_taken outcome
+
+-- What goes out once an end has heard the Request of an opening: its Response with an Init Cookie, or its answer as it is
+-- where it has not taken the Request.
+abbrev pub greeting_of : CookieKeys → Route → OpeningState → CStep Reading → Option Outgoing
+greeting_of keys route o step =
+    if is_heard_so step.answer.heard then appended (back route.pseudo) (spelled false init_cookie (cookie_bytes keys route o)) step.frame else step.frame
+
+-- What greeting comes to once an end has heard it: 0, or 13 where it has not taken the Request; or no memory is found for
+-- one, by 2.
+abbrev pub GreetsBy : CookieKeys → Route → OpeningState → CStep Reading → Handed → ℕ → Type 0
+GreetsBy keys route o step left code =
+    ((left ≡ nothing_handed) × (code ≡ 2))
+    ⊎ ((left ≡ handed_of (greeting_of keys route o step)) × (code ≡ (if is_heard_so step.answer.heard then 0 else 13)))
+
+-- by what is asked for: no connection by 13, one with too many options by 5
+abbrev pub GreetsAsked : CookieKeys → Route → ℕ → Care → Config → Asking → Handed → ℕ → Type 0
+GreetsAsked keys route now care config Nothing left code = (left ≡ nothing_handed) × (code ≡ 13)
+GreetsAsked keys route now care config TooLong left code = (left ≡ nothing_handed) × (code ≡ 5)
+GreetsAsked keys route now care config (This o) left code =
+    GreetsBy keys route o (first_heard (request_bytes route o) now care config) left code
+
+-- a datagram that is too long is answered by 5
+abbrev pub GreetsIfShort : Bool → CookieKeys → Route → ℕ → Care → Config → List ℕ → Handed → ℕ → Type 0
+GreetsIfShort true keys route now care config bytes left code =
+    GreetsAsked keys route now care config (asking_of now config.iss route bytes) left code
+GreetsIfShort false keys route now care config bytes left code = (left ≡ nothing_handed) × (code ≡ 5)
+
+-- What greeting a datagram comes to: a Request is heard as its opening spells it again, by an end of which nothing stays.
+abbrev pub Greets : CookieKeys → Route → ℕ → Care → Result Config ℕ → List ℕ → Handed → ℕ → Type 0
+Greets keys route now care (Ok config) bytes left code = GreetsIfShort (is_short bytes) keys route now care config bytes left code
+Greets keys route now care (Err refusal) bytes left code = (left ≡ nothing_handed) × (code ≡ refusal)
+
+-- what a datagram brings back to the server of these settings
+abbrev pub opening_brought : CookieKeys → Settings → ℕ → List ℕ → Option OpeningState
+opening_brought keys s now bytes =
+    if s.size == 80 then (if is_short bytes then opening_in now keys (route_by s) (cookie_read (decoded bytes)) else None) else None
+
+-- the Request of an opening, and the first number of the end that is to hear it
+abbrev pub request_handed : Route → Option OpeningState → Handed
+request_handed route None = nothing_handed
+request_handed route (Some o) = record { bytes = request_bytes route o; number = o.iss }
+
+-- 0, or 13 where nothing comes back
+abbrev pub recalled_code : Option OpeningState → ℕ
+recalled_code None = 13
+recalled_code (Some o) = 0
+
+-- the code of recalling: 20 for settings of another size, 5 where the datagram is too long
+abbrev pub recall_code : CookieKeys → Settings → ℕ → List ℕ → ℕ
+recall_code keys s now bytes = if s.size == 80 then (if is_short bytes then recalled_code (opening_brought keys s now bytes) else 5) else 20

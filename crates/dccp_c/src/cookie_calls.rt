@@ -1,0 +1,233 @@
+//! The functions by which a server of C's that has an end for each peer answers Requests without one, by Init Cookies.
+ghost use Rattle.std.specs.Prelude.{◌≡◌, ◌≤◌, length};
+ghost use Rattle.init_cookies.specs.Openings.{request_bytes};
+ghost use Rattle.dccp_c.specs.Accepting.{as_server, first_heard};
+ghost use Rattle.dccp_c.specs.CookieCalls.{Greets, GreetsAsked, GreetsBy, is_heard_so, keys_of, opening_brought, pseudo_from, recall_code, recalled_code, request_handed, route_by};
+ghost use Rattle.dccp_c.specs.Doing.{c_end};
+ghost use Rattle.dccp_c.specs.Framing.{handed_in};
+ghost use Rattle.dccp_c.specs.Making.{care_by, configured_by};
+ghost use Rattle.dccp_c.specs.Stepping.{c_receives};
+
+use crate::codes::{DONE, NO_CONNECTION, NO_MEMORY, OTHER_SIZE, TOO_LONG};
+use crate::frame::Frame;
+use crate::held::Held;
+use crate::making::{Care, as_server, care_by, configured_by, first_four};
+use crate::sizes::SETTINGS_BYTES;
+use crate::steps::{new_end, receive};
+use crate::{Key, Settings, Wish};
+use dccp_endpoint::{Config, MOST_FRAME_BYTES, Outcome, Pseudo};
+use dccp_server::{Asking, append_cookie, asking_of, opening_of};
+use dccp_uses::is_taken;
+use init_cookies::{CookieKeys, Opening, Route, put_request};
+use std::alloc::Global;
+
+/// The keys of a server's Init Cookies. Times are in milliseconds, as in each call.
+#[repr(C)]
+#[derive(Clone, Copy)]
+pub struct KeyPair {
+    /// That by which they are written.
+    pub key: Key,
+    /// The one before it, whose cookies stay good for their two minutes.
+    pub before: Key,
+    /// Since when they are written by the first.
+    pub since: u64,
+}
+
+fn keys_of(pair: &KeyPair) -> CookieKeys
+    ensures { result ≡ keys_of pair.now }
+{
+    let mut keys = CookieKeys::new(pair.before.bytes, pair.since);
+    keys.change(pair.key.bytes, pair.since);
+    keys
+}
+
+fn pseudo_from(settings: &Settings) -> Pseudo
+    ensures { result ≡ pseudo_from settings.now }
+{
+    if settings.is_v6 {
+        Pseudo::V6 {
+            from: settings.peer_address,
+            to: settings.own_address,
+        }
+    } else {
+        Pseudo::V4 {
+            from: first_four(&settings.peer_address),
+            to: first_four(&settings.own_address),
+        }
+    }
+}
+
+fn route_by(settings: &Settings) -> Route
+    ensures { result ≡ route_by settings.now }
+{
+    Route {
+        pseudo: pseudo_from(settings),
+        from: settings.peer_port,
+        to: settings.own_port,
+    }
+}
+
+fn is_heard_so(heard: &Option<Outcome>) -> bool
+    ensures { result ≡ is_heard_so heard.now }
+{
+    match heard {
+        Some(outcome) => is_taken(outcome),
+        None => false,
+    }
+}
+
+// A new end hears the Request of an opening.
+fn hear_request(
+    held: &mut Held,
+    keys: &CookieKeys,
+    route: &Route,
+    opening: &Opening,
+    now: u64,
+    frame: &mut Frame,
+) -> u32
+    ensures { GreetsBy keys.now route.now opening.now (c_receives (request_bytes route.now opening.now) now (c_end held.old)) (handed_in frame.new) result }
+{
+    let mut request = dccp_packets::Frame::new();
+    put_request(route, opening, &mut request);
+    let reading = receive(held, request.bytes(), now);
+    if is_heard_so(&reading.heard) {
+        append_cookie(keys, route, opening, &mut held.out);
+        frame.fill(&held.out);
+        return DONE;
+    }
+    frame.fill(&held.out);
+    NO_CONNECTION
+}
+
+// The same with a new end of this configuration.
+fn greet(
+    alloc: Global,
+    config: Config,
+    care: &Care,
+    keys: &CookieKeys,
+    route: &Route,
+    opening: &Opening,
+    now: u64,
+    frame: &mut Frame,
+) -> u32
+    requires { care.now.most_held ≤ 1024 }
+    ensures { GreetsBy keys.now route.now opening.now (first_heard (request_bytes route.now opening.now) now care.now config) (handed_in frame.new) result }
+{
+    frame.clear();
+    let Ok(mut held) = new_end(alloc, config, care) else {
+        return NO_MEMORY;
+    };
+    hear_request(&mut held, keys, route, opening, now, frame)
+}
+
+// By what is asked for.
+fn greet_asked(
+    alloc: Global,
+    config: Config,
+    care: &Care,
+    keys: &CookieKeys,
+    route: &Route,
+    asking: Asking,
+    now: u64,
+    frame: &mut Frame,
+) -> u32
+    requires { care.now.most_held ≤ 1024 }
+    ensures { GreetsAsked keys.now route.now now care.now config asking (handed_in frame.new) result }
+{
+    frame.clear();
+    match asking {
+        Asking::Nothing => NO_CONNECTION,
+        Asking::TooLong => TOO_LONG,
+        Asking::This(opening) => greet(alloc, config, care, keys, route, &opening, now, frame),
+    }
+}
+
+/// Answers a Request by a Response with an Init Cookie, without an end that stays: `dccp_recall` gives the Request back once
+/// the cookie comes. Answers DONE, NO_CONNECTION where the datagram is no Request that the server of these settings takes,
+/// which the frame answers, if anything does; TOO_LONG for a datagram, or options that no cookie holds; NO_MEMORY, or a code
+/// of `dccp_make`.
+#[unsafe(no_mangle)]
+pub extern "C" fn dccp_greet(
+    alloc: Global,
+    settings: &Settings,
+    wishes: &[Wish],
+    keys: &KeyPair,
+    datagram: &[u8],
+    now: u64,
+    frame: &mut Frame,
+) -> u32
+    ensures { Greets (keys_of keys.now) (route_by settings.now) now (care_by settings.now) (configured_by (as_server settings.now) wishes.now) datagram.now (handed_in frame.new) result }
+{
+    frame.clear();
+    let config = match configured_by(&as_server(settings), wishes) {
+        Ok(config) => config,
+        Err(code) => return code,
+    };
+    if MOST_FRAME_BYTES < datagram.len() {
+        return TOO_LONG;
+    }
+    let (route, care, keys) = (route_by(settings), care_by(settings), keys_of(keys));
+    let asking = asking_of(now, config.iss, &route, datagram);
+    greet_asked(alloc, config, &care, &keys, &route, asking, now, frame)
+}
+
+// What a datagram brings back.
+fn opening_brought(
+    keys: &CookieKeys,
+    settings: &Settings,
+    route: &Route,
+    datagram: &[u8],
+    now: u64,
+) -> Option<Opening>
+    requires short { length datagram.now ≤ 2044 }
+    requires size { settings.now.size ≡ 80 }
+    requires route { route.now ≡ route_by settings.now }
+    ensures { result ≡ opening_brought keys.now settings.now now datagram.now }
+{
+    opening_of(now, keys, route, datagram)
+}
+
+// Leaves the Request of an opening.
+fn hand_request(route: &Route, opening: &Option<Opening>, request: &mut Frame) -> u32
+    ensures request { handed_in request.new ≡ request_handed route.now opening.now }
+    ensures code { result ≡ recalled_code opening.now }
+{
+    match opening {
+        Some(opening) => {
+            let mut spelled = dccp_packets::Frame::new();
+            put_request(route, opening, &mut spelled);
+            request.put(spelled.bytes(), opening.iss().get());
+            DONE
+        }
+        None => {
+            request.clear();
+            NO_CONNECTION
+        }
+    }
+}
+
+/// The Request for which the Init Cookie of a datagram was given, where the datagram brings a good one back to the server of
+/// these settings; and the number that was the first of its answer, with which an end is to be made of it. Answers DONE,
+/// OTHER_SIZE, TOO_LONG, or NO_CONNECTION where it brings none.
+#[unsafe(no_mangle)]
+pub extern "C" fn dccp_recall(
+    settings: &Settings,
+    keys: &KeyPair,
+    datagram: &[u8],
+    now: u64,
+    request: &mut Frame,
+) -> u32
+    ensures request { handed_in request.new ≡ request_handed (route_by settings.now) (opening_brought (keys_of keys.now) settings.now now datagram.now) }
+    ensures code { result ≡ recall_code (keys_of keys.now) settings.now now datagram.now }
+{
+    request.clear();
+    if settings.size != SETTINGS_BYTES {
+        return OTHER_SIZE;
+    }
+    if MOST_FRAME_BYTES < datagram.len() {
+        return TOO_LONG;
+    }
+    let route = route_by(settings);
+    let opening = opening_brought(&keys_of(keys), settings, &route, datagram, now);
+    hand_request(&route, &opening, request)
+}

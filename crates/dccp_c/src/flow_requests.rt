@@ -1,0 +1,124 @@
+//! The functions of a listener that C calls before a flow opens.
+ghost use Rattle.std.specs.Prelude.{◌≡◌, ◌≤◌, if◌then◌else◌, is_some, length, unwrap_or};
+ghost use Rattle.dccp_c.specs.FlowRequests.{asks_code, refused_after, refused_left, refuses_code, service_asked, set_shut_in};
+ghost use Rattle.dccp_c.specs.Framing.{handed_in};
+ghost use Rattle.dccp_c.specs.Listening.{inboxes_in, made_code, peer_named, watched_in};
+ghost use Rattle.dccp_server.specs.Events.{shut_out};
+ghost use Rattle.dccp_server.specs.Refusals.{flow_asked, refused_frame};
+
+use crate::codes::{DONE, NO_CONNECTION, NOT_MADE, TOO_LONG};
+use crate::frame::Frame;
+use crate::peer::peer_named;
+use crate::serving::Serving;
+use crate::{ListenerHandle, PeerAddress};
+use dccp_endpoint::MOST_FRAME_BYTES;
+use dccp_listener::Peer;
+use dccp_server::Server;
+use std::alloc::Global;
+
+// What a datagram that is short enough asks for.
+fn asks(server: &Server, peer: Peer, datagram: &[u8]) -> Option<u32>
+    requires { length datagram.now ≤ 2044 }
+    ensures { result ≡ flow_asked server.now.room.served.listening peer datagram.now }
+{
+    server.asks(peer, datagram)
+}
+
+/// The Service Code of the flow that a datagram of a peer would open, so that C may ask itself whether it wants it.
+/// Answers DONE, TOO_LONG, NOT_MADE, or NO_CONNECTION where it opens none. Nothing changes.
+#[unsafe(no_mangle)]
+pub extern "C" fn dccp_listener_asks(
+    listener: &mut ListenerHandle,
+    alloc: Global,
+    peer: &PeerAddress,
+    datagram: &[u8],
+    service: &mut u32,
+) -> u32
+    ensures listener { listener.new.kept.value ≡ listener.old.kept.value }
+    ensures service { service.new ≡ unwrap_or (service_asked (watched_in listener.old.kept.value) (peer_named peer.now) datagram.now) service.old }
+    ensures code { result ≡ asks_code (watched_in listener.old.kept.value) (peer_named peer.now) datagram.now }
+{
+    if MOST_FRAME_BYTES < datagram.len() {
+        return TOO_LONG;
+    }
+    let Some(serving) = listener.take(alloc) else {
+        return NOT_MADE;
+    };
+    let asked = asks(serving.server.server(), peer_named(peer), datagram);
+    listener.put(serving);
+    match asked {
+        Some(asked) => {
+            *service = asked;
+            DONE
+        }
+        None => NO_CONNECTION,
+    }
+}
+
+fn opening_code(opens: bool) -> u32
+    ensures { result ≡ (if opens then 0 else 13) }
+{
+    if opens { DONE } else { NO_CONNECTION }
+}
+
+// Refuses a datagram that is short enough.
+fn refuse(serving: &mut Serving, peer: Peer, datagram: &[u8], code: u8, now: u64) -> bool
+    requires { length datagram.now ≤ 2044 }
+    ensures opens { result ≡ is_some (flow_asked serving.old.server.server.room.served.listening peer datagram.now) }
+    ensures after { serving.new.server ≡ shut_out now serving.old.server peer datagram.now }
+    ensures inboxes { serving.new.inboxes ≡ serving.old.inboxes }
+    ensures sent { serving.new.out ≡ refused_frame now serving.old.server.server peer datagram.now code }
+{
+    serving
+        .server
+        .refuse(peer, datagram, code, now, &mut serving.out)
+}
+
+/// `EventServer::refuse`. Answers DONE, TOO_LONG, NOT_MADE, or NO_CONNECTION where the datagram opens no flow; then nothing
+/// is left.
+#[unsafe(no_mangle)]
+pub extern "C" fn dccp_listener_refuse(
+    listener: &mut ListenerHandle,
+    alloc: Global,
+    peer: &PeerAddress,
+    datagram: &[u8],
+    code: u8,
+    now: u64,
+    frame: &mut Frame,
+) -> u32
+    ensures listener { watched_in listener.new.kept.value ≡ refused_after now (watched_in listener.old.kept.value) (peer_named peer.now) datagram.now }
+    ensures inboxes { inboxes_in listener.new.kept.value ≡ inboxes_in listener.old.kept.value }
+    ensures frame { handed_in frame.new ≡ refused_left now (watched_in listener.old.kept.value) (peer_named peer.now) datagram.now code }
+    ensures code { result ≡ refuses_code (watched_in listener.old.kept.value) (peer_named peer.now) datagram.now }
+{
+    frame.clear();
+    if MOST_FRAME_BYTES < datagram.len() {
+        return TOO_LONG;
+    }
+    let Some(mut serving) = listener.take(alloc) else {
+        return NOT_MADE;
+    };
+    let opens = refuse(&mut serving, peer_named(peer), datagram, code, now);
+    frame.fill(&serving.out);
+    listener.put(serving);
+    opening_code(opens)
+}
+
+/// Takes no new flows from now on, or takes them again; those that stand go on. Answers DONE or NOT_MADE.
+#[unsafe(no_mangle)]
+pub extern "C" fn dccp_listener_shut(
+    listener: &mut ListenerHandle,
+    alloc: Global,
+    is_shut: bool,
+) -> u32
+    ensures listener { watched_in listener.new.kept.value ≡ set_shut_in is_shut (watched_in listener.old.kept.value) }
+    ensures inboxes { inboxes_in listener.new.kept.value ≡ inboxes_in listener.old.kept.value }
+    ensures code { result ≡ made_code (watched_in listener.old.kept.value) }
+{
+    let Some(mut serving) = listener.take(alloc) else {
+        return NOT_MADE;
+    };
+    serving.server.set_shut(is_shut);
+    listener.put(serving);
+    DONE
+}
