@@ -6,7 +6,7 @@ use Rattle.std.proofs.lemmas.List.{drop_at, length-drop, take-append-drop, take_
 use Rattle.std.specs.Prelude.{codes}
 use Rattle.bridge_command.specs.FrameLines.{comment_line, cut_comment}
 
--- what is behind the text that stood there
+-- what is after the text that stood there
 pub comment_put : (old line text : List ℕ) (start : ℕ) → start ≡ length old → text ≡ (old ++ codes "# ") ++ line
     → take start text ++ cut_comment (drop start text) ≡ old ++ comment_line line
 comment_put old line text start is put =
@@ -28,7 +28,7 @@ comment_kept text start short =
     sym (ap (λ (comment : List ℕ). take start text ++ comment)
     (cut-by (drop start text) false (le-ltb 4097 (length (drop start text)) (omega (arith, size, short)))) ∙ take-append-drop start text)
 
--- one that is ends behind 4,096 bytes
+-- one that is ends after 4,096 bytes
 pub comment_cut : (text : List ℕ) (start : ℕ) → 4097 < length text - start
     → take (start + 4096) text ++ codes "\n" ≡ take start text ++ cut_comment (drop start text)
 comment_cut text start long =

@@ -78,13 +78,13 @@ byte-small : (place number : ℕ) → byte_at place number < 256
 byte-small zero number = mod_below number 256 (lit< tt)
 byte-small (suc place) number = mod_below (number / 256 ^ suc place) 256 (lit< tt)
 
-number-are : (count number : ℕ) → AreBytes (big_bytes count number)
+pub number-are : (count number : ℕ) → AreBytes (big_bytes count number)
 number-are zero number = refl
 number-are (suc count) number = bytes-cons (byte_at count number) (big_bytes count number) (byte-small count number) (number-are count number)
 
 -- Headers
 
--- of what a type alone carries, these fields stand in bytes as they are
+-- of what a type alone carries, these fields are in bytes as they are
 abbrev pub HasByteFields : Kind → Type 0
 HasByteFields (Request service) = Unit {0}
 HasByteFields (Response ack service) = Unit {0}

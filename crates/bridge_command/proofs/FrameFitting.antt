@@ -6,7 +6,7 @@ use Rattle.std.proofs.lemmas.List.{append-nil}
 use Rattle.std.proofs.lemmas.List.Elements.{All-append, All-cons, All-head, All-nil, All-tail}
 use Rattle.std.specs.Str.{bytes_eq}
 use Rattle.dccp_io.specs.Lines.{Next, End, Line, Long, Much, next_in_lines, lines_of, text_of}
-use Rattle.tool_text.specs.Jobs.{Accepted, Gone, Refused, Verdict, by_next, deeds_of, gone_by, gone_from, last_lines}
+use Rattle.tool_text.specs.Jobs.{Accepted, Gone, Refused, Verdict, by_next, deeds_of, gone_by, gone_from, last_in}
 use Rattle.tool_text.specs.Numbers.{number_below}
 use Rattle.tool_text.proofs.Numerals.{number-spelled}
 use Rattle.tool_text.specs.Kinds.{found_or, hex_kind, read_at, word_read}
@@ -151,18 +151,21 @@ lines-fit clock number given (line ∷ lines) time =
 pub deeds-fit : (input : List ℕ) → All FitsFrame (transcript_gone input).deeds
 deeds-fit input = lines-fit first_clock 1 0 (lines_of input) (omega arith)
 
--- the records of frames, one behind the other
+-- the records of frames, one after the other
 records-of : (frames : List TimedFrame) → flat_map (λ f. raw_record (frame_record f)) frames ≡ flat_map raw_record (map frame_record frames)
 records-of [] = refl
 records-of (f ∷ frames) = ap (λ (more : List ℕ). raw_record (frame_record f) ++ more) (records-of frames)
 
--- without a refusal nothing stands behind the records
-pub made-of : (input : List ℕ) → (transcript_gone input).refusal ≡ None
-    → frames_capture input ≡ capture_of false (map frame_record (transcript_gone input).deeds)
-made-of input none =
+-- nothing follows the records, whether a line is refused or not
+nothing-last : (last : Clock) (number : ℕ) (refusal : Option LineFault) → last_in true capture_job last number refusal ≡ []
+nothing-last last number None = refl
+nothing-last last number (Some fault) = refl
+
+pub made-of : (input : List ℕ) → frames_capture input ≡ capture_of false (map frame_record (transcript_gone input).deeds)
+made-of input =
     let gone = transcript_gone input in
-    ap (λ (refusal : Option LineFault). file_header false
-    ++ (flat_map (λ f. raw_record (frame_record f)) gone.deeds ++ last_lines capture_job gone.last gone.number refusal)) none
+    ap (λ (last : List ℕ). file_header false ++ (flat_map (λ f. raw_record (frame_record f)) gone.deeds ++ last))
+    (nothing-last gone.last gone.number gone.refusal)
     ∙ ap (λ (records : List ℕ). file_header false ++ records) (append-nil (flat_map (λ f. raw_record (frame_record f)) gone.deeds))
     ∙ ap (λ (records : List ℕ). file_header false ++ records) (records-of gone.deeds)
 
@@ -175,10 +178,10 @@ headers-fit (f ∷ frames) fits =
     (record { seconds = first.time; fraction = omega arith; original = omega (arith, first.size); size = omega (arith, size, first.size) })
     (headers-fit frames (All-tail FitsFrame f frames fits))
 
-pub frames-read : (input : List ℕ) → (transcript_gone input).refusal ≡ None → length (frames_capture input) ≤ 2 ^ 32
+pub frames-read : (input : List ℕ) → length (frames_capture input) ≤ 2 ^ 32
     → captured (frames_capture input) ≡ record { records = raw_entries false 0 (map frame_record (transcript_gone input).deeds); end = None }
-frames-read input none room =
+frames-read input room =
     let records = map frame_record (transcript_gone input).deeds in
-    let made = made-of input none in
+    let made = made-of input in
     ap captured made ∙ records-read false records (headers-fit (transcript_gone input).deeds (deeds-fit input))
     (subst (λ (bytes : List ℕ). length bytes ≤ 2 ^ 32) made room)

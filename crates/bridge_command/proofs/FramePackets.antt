@@ -1,15 +1,17 @@
 -- Both lines of each packet that `frames` finds in bytes are read back.
-use Rattle.std.proofs.Common.{◌≡◌, refl, ap, ◌∙◌, subst, ℕ, zero, suc, ◌+◌, ◌-◌, ◌≤◌, ◌==◌, nat_lt, Bool, true, false, if◌then◌else◌, List, [], ◌∷◌, ◌++◌, length, take, All, Option, None, Some, Result, Ok, Err}
+use Rattle.std.proofs.Common.{◌≡◌, refl, ap, ◌∙◌, subst, ℕ, zero, suc, ◌+◌, ◌-◌, ◌≤◌, ◌==◌, nat_lt, Bool, true, false, if◌then◌else◌, List, [], ◌∷◌, ◌++◌, length, drop, take, All, Option, None, Some, Result, Ok, Err}
 use Rattle.std.proofs.lemmas.List.Elements.{All-cons, All-nil}
 use Rattle.std.specs.Prelude.{codes}
+use Rattle.byteorder.specs.Endian.{big_bytes}
 use Rattle.hex.specs.Hex.{IsBytes}
 use Rattle.schedule_text.specs.Frames.{read_frame}
-use Rattle.dccp_packets.specs.Grammar.{Parts, decoded, packet_type}
+use Rattle.dccp_packets.specs.Grammar.{Parts, decoded, number_at, packet_type}
 use Rattle.dccp_packets.specs.Kinds.{has_ack}
 use Rattle.dccp_packets.specs.declared.header.Header.{Header}
 use Rattle.dccp_packets.specs.declared.reading.Malformed.{Malformed}
 use Rattle.capture_reader.specs.Records.{RecordParts}
-use Rattle.packet_show.specs.Flows.{AddressAndPort, Flow, flow_number, flow_of, from_end, same_end, with_flow}
+use Rattle.packet_show.specs.Flows.{AddressAndPort, Flow, flow_number, flow_of, from_end, with_flow}
+use Rattle.bridge_pictures.specs.Walk.{record_behind, side_from}
 use Rattle.packet_show.specs.Network.{DatagramParts, behind_v4, behind_v6, in_ip, in_v4, in_v6, is_v4, is_v6, v4_header, v4_total, v6_payload}
 use Rattle.bridge_records.specs.Pieces.{Goes, Judgement, Piece, PieceNext, PieceWork, PieceWrong, Stops, Taken, by_next_piece, most_piece_bytes, next_piece, pieces_from, taken_by}
 use Rattle.bridge_records.specs.declared.pieces.fault.PieceFault.TheVariants as why
@@ -17,10 +19,12 @@ use Rattle.bridge_records.specs.Reading.{FileState, bytes_held, file_judged, nex
 use Rattle.bridge_records.specs.Recording.{RecordStep, RecordsState, by_judged, first_reading, numbered_entry, records_work}
 use Rattle.bridge_records.specs.declared.found.Found.{Found}
 use Rattle.bridge_records.specs.declared.found.Found.TheVariants as found
-use Rattle.bridge_links.specs.Links.{bytes_at_start, ip_bytes, ip_start}
+use Rattle.bridge_links.specs.Links.{bytes_at_start, captured_ip, ip_bytes, ip_start}
+use Rattle.bridge_links.specs.Extensions.{holds_dccp, is_extended, plain_by, plain_ip, upper_of, without_extensions}
+use Rattle.bridge_links.specs.declared.extensions.Upper.{Upper}
 use Rattle.dccp_io.specs.Counts.{one_more}
 use Rattle.world_events.specs.declared.event.Side.{Side}
-use Rattle.bridge_command.specs.Framing.{FlowPacket, IsReadBack, by_carried, by_decoded, by_direction, by_number, by_sender, first_framing, flow_packet, frame_said, framed_record, frames_pieces, frames_work, goes_to, met_by, passed_over, record_behind}
+use Rattle.bridge_command.specs.Framing.{FlowPacket, IsReadBack, by_carried, by_decoded, by_direction, by_number, by_sender, first_framing, flow_packet, frame_said, framed_record, frames_pieces, frames_work, goes_to, met_by, passed_over}
 use Rattle.bridge_command.specs.FrameLines.{comment_line, packet_frame_words}
 use Rattle.bridge_command.specs.Mapping.{frame_for, moved_frame, moved_header}
 use Rattle.bridge_command.specs.declared.frames.framing.Framing.{Framing}
@@ -28,7 +32,7 @@ use Rattle.bridge_command.specs.declared.frames.framing.Met.{Met}
 use Rattle.bridge_command.specs.declared.frames.mapping.NoFrame.{NoFrame}
 use Rattle.bridge_command.specs.declared.frames.mapping.NoFrame.TheVariants as none
 use Rattle.bridge_command.specs.declared.frames.mapping.UsualEnd.{UsualEnd}
-use Rattle.bridge_command.proofs.FrameBytes.{AreBytes, DecodesToBytes, IsOfBytes, all-bytes, bytes-drop, bytes-part, decoded-are, each-byte, eight-bytes, either, moved-fields, other-bytes, spelled-are}
+use Rattle.bridge_command.proofs.FrameBytes.{AreBytes, DecodesToBytes, IsOfBytes, all-bytes, bytes-append, bytes-drop, bytes-part, decoded-are, each-byte, eight-bytes, either, moved-fields, number-are, other-bytes, spelled-are}
 use Rattle.bridge_command.proofs.FrameReadingBack.{comment-ends, comment-read, is-frame, none-read, sealed-read}
 use Rattle.bridge_command.proofs.Texts.{HasByteAddresses, packet-line}
 
@@ -91,9 +95,9 @@ number-reads : (s : Framing) (number : ℕ) (entry : RecordParts) (there : Datag
     → IsPassedBack (by_number s number entry there packet)
 number-reads s number entry there packet addresses are =
     let from : AddressAndPort = from_end there.pseudo packet.header.from in
-    let met : Met = met_by s.met from in
+    let met : Met = met_by s.met from (packet_type packet.header.kind) in
     either IsPassedBack (number == s.flow) (by_sender s entry there packet from) (passed_over s)
-    (direction-reads s met entry there packet (goes_to s.side (same_end from met.client)) addresses are) tt
+    (direction-reads s met entry there packet (goes_to s.side (side_from met.ends from)) addresses are) tt
 
 decoded-reads : (s : Framing) (entry : RecordParts) (there : DatagramParts) (packet : Result Parts Malformed) → HasByteAddresses there.pseudo
     → DecodesToBytes packet
@@ -135,12 +139,37 @@ start-are : (start : Option ℕ) (bytes : List ℕ) → AreBytes bytes → AreBy
 start-are (Some start) bytes are = bytes-drop start bytes are
 start-are None bytes are = refl
 
--- a record of bytes, behind its link's header
+-- an IP packet of bytes, without its extension headers
+without-are : (upper : Upper) (ip : List ℕ) → AreBytes ip → AreBytes (without_extensions upper ip)
+unfolding without_extensions
+without-are upper ip are =
+    let size : ℕ = number_at 4 2 ip - (upper.place - 40) in
+    let two : List ℕ = take 4 ip ++ big_bytes 2 size in
+    let three : List ℕ = two ++ (33 ∷ []) in
+    let four : List ℕ = three ++ take 17 (drop 7 ip) in
+    let five : List ℕ = four ++ take 16 (drop upper.to ip) in
+    bytes-append five (drop upper.place ip)
+    (bytes-append four (take 16 (drop upper.to ip))
+    (bytes-append three (take 17 (drop 7 ip))
+    (bytes-append two (33 ∷ []) (bytes-append (take 4 ip) (big_bytes 2 size) (bytes-part 4 0 ip are) (number-are 2 size)) refl)
+    (bytes-part 17 7 ip are))
+    (bytes-part 16 upper.to ip are))
+    (bytes-drop upper.place ip are)
+
+plain-by-are : (upper : Option Upper) (ip : List ℕ) → AreBytes ip → AreBytes (plain_by upper ip)
+plain-by-are None ip are = are
+plain-by-are (Some upper) ip are = either AreBytes (holds_dccp upper ip) (without_extensions upper ip) ip (without-are upper ip are) are
+
+plain-are : (ip : List ℕ) → AreBytes ip → AreBytes (plain_ip ip)
+plain-are ip are = either AreBytes (is_extended ip) (plain_by (upper_of ip) ip) ip (plain-by-are (upper_of ip) ip are) are
+
+-- a record of bytes, after its link's header
 record-reads : (s : Framing) (entry : RecordParts) → AreBytes entry.bytes → IsPassedBack (framed_record s (record_behind entry))
 unfolding framed_record
 record-reads s entry are =
     carried-reads s (record_behind entry) (in_ip (ip_bytes entry.link entry.bytes))
-    (ip-carried (ip_bytes entry.link entry.bytes) (start-are (ip_start entry.link entry.bytes) entry.bytes are))
+    (ip-carried (ip_bytes entry.link entry.bytes)
+    (plain-are (captured_ip entry.link entry.bytes) (start-are (ip_start entry.link entry.bytes) entry.bytes are)))
 
 -- Pieces
 

@@ -1,4 +1,4 @@
--- A frame is spelled in two parts: its header with the options, and the data behind them.
+-- A frame is spelled in two parts: its header with the options, and the data after them.
 use Rattle.std.proofs.Common.{◌≡◌, refl, sym, ap, ◌∙◌, ℕ, ◌+◌, ◌≤◌, ◌<◌, ◌||◌, nat_lt, arith, Bool, true, false, if◌then◌else◌, List, [], ◌++◌, length, length-append, append_assoc, Ok, Err}
 use Rattle.std.proofs.lemmas.Bool.{le-ltb, lt-ltb}
 use Rattle.std.proofs.lemmas.List.{append-nil}
@@ -11,7 +11,7 @@ use Rattle.bridge_command.specs.FrameLines.{packet_frame_line}
 use Rattle.bridge_command.specs.Mapping.{frame_with}
 use Rattle.bridge_command.specs.declared.frames.mapping.NoFrame.TheVariants as none
 
--- the data stand behind all else
+-- the data follow all else
 behind-spelling : (h : Header) (o d : List ℕ) → spelling h o d ≡ spelling h o [] ++ d
 behind-spelling h o d =
     let front : List ℕ = header_bytes h ((header_length h + length (padded o)) / 4) in

@@ -1,8 +1,8 @@
 pub mod FrameCarrying
 pub mod FrameFitting
+pub mod Telling
 pub mod HeaderSum
 pub mod RecordPutting
-pub mod RefusalRecords
 pub mod Records
 pub mod UnwrappedShowing
 pub mod Commenting

@@ -1,12 +1,10 @@
 -- The texts of an object are text, which is ASCII and so UTF-8.
-use Rattle.std.proofs.Common.{arith, ◌++◌, refl, ℕ, zero, suc, nat_le, Bool, List, [], ◌∷◌, Result}
+use Rattle.std.proofs.Common.{arith, refl, ℕ, zero, suc, nat_le, List, [], ◌∷◌, Result}
 use Rattle.std.proofs.lemmas.Bool.{leb-true}
 use Rattle.std.proofs.lemmas.Str.{IsUtf8-from_ascii}
 use Rattle.std.specs.List.{list_all}
 use Rattle.std.specs.Str.{IsAscii, IsUtf8}
-use Rattle.hex.specs.Hex.{IsBytes}
 use Rattle.tool_text.specs.Names.{malformed_name}
-use Rattle.tool_text.specs.Text.{v4_text}
 use Rattle.tool_text.proofs.Bytes.{both-true}
 use Rattle.tool_text.specs.Lines.{is_text}
 use Rattle.dccp_packets.specs.declared.header.PacketType.{PacketType}
@@ -16,9 +14,7 @@ use Rattle.dccp_sum.specs.declared.packet_sum.SumFault.{SumFault}
 use Rattle.bridge_records.specs.declared.pieces.fault.PieceFault.{PieceFault}
 use Rattle.bridge_records.specs.declared.pieces.fault.PieceFault.TheVariants as why
 use Rattle.packet_show.specs.Names.{sum_name, type_name}
-use Rattle.packet_show.specs.Text.{mark_text, option_text, v6_text}
-use Rattle.bridge_command.proofs.FrameBytes.{all-bytes}
-use Rattle.bridge_command.proofs.Texts.{IsText, form-text, mark-text, text-append, type-text, v4-text, v6-text, verdict-text}
+use Rattle.bridge_command.proofs.Texts.{IsText, type-text, verdict-text}
 use Rattle.bridge_command.specs.Skips.{skip_name}
 use Rattle.bridge_command.specs.Unwrapping.{piece_fault_name}
 use Rattle.bridge_command.specs.declared.json.skips.Skip.{Skip}
@@ -34,16 +30,6 @@ text-ascii (byte ∷ text) are (suc i) = text-ascii text (both-true (is_text byt
 
 pub text_is_utf8 : (text : List ℕ) → IsText text → IsUtf8 text
 text_is_utf8 text are = IsUtf8-from_ascii text (text-ascii text are)
-
-pub v4_is_text : (address : List ℕ) → IsText (v4_text address)
-v4_is_text address = v4-text address
-
-pub v6_is_text : (address : List ℕ) → IsBytes address → IsText (v6_text address)
-v6_is_text address are = v6-text address (all-bytes address are)
-
-pub option_is_text : (mandatory : Bool) (kind : ℕ) (body : List ℕ) → IsBytes body → IsText (mark_text mandatory ++ option_text kind body)
-option_is_text mandatory kind body are =
-    text-append (mark_text mandatory) (option_text kind body) (mark-text mandatory) (form-text kind body (all-bytes body are))
 
 pub type_is_text : (kind : PacketType) → IsText (type_name kind)
 type_is_text kind = type-text kind

@@ -1,4 +1,4 @@
--- Bytes that are put where a text was made longer for them stand behind it.
+-- Bytes that are put where a text was made longer for them follow it.
 use Rattle.std.proofs.Common.{arith, ◌≡◌, sym, ap, ◌∙◌, ℕ, ◌+◌, ◌-◌, List, [], ◌++◌, length, length-append, take, drop}
 use Rattle.std.proofs.Math.Seq.{take-append_seam}
 use Rattle.std.proofs.lemmas.List.{append-nil, drop_all, length-drop, take_all}

@@ -51,7 +51,7 @@ Play = domain world_of
 
 -- ---- one line
 
--- what `run` makes of a line that says this, and of the lines behind it
+-- what `run` makes of a line that says this, and of the lines after it
 line-goes : (play : Play) (number given : ℕ) (text rest : List ℕ) (said : words.Line) → read_line text ≡ Ok said → given + (length text + 1) ≤ most_input_bytes
     → gone_from run_job play number given (lines_of ((text ++ codes "\n") ++ rest))
     ≡ gone_by play number given (by_line play number (Ok said)) (λ next. gone_from run_job next (number + 1) (given + (length text + 1)) (lines_of rest))
@@ -205,7 +205,7 @@ client_number seed = initial_number (generator seed)
 abbrev pub server_number : ℕ → ℕ
 server_number seed = initial_number (behind_two (generator seed))
 
--- behind both numbers
+-- after both numbers
 abbrev pub configured : ℕ → Play
 configured seed = with_iss Server (server_number seed) (with_header (with_iss Client (client_number seed) (with_header first_play)))
 

@@ -1,4 +1,4 @@
--- The lines of a text, one behind the other, as a job goes through them.
+-- The lines of a text, one after the other, as a job goes through them.
 use Rattle.std.proofs.Common.{◌≡◌, refl, ap, ap₂, ◌∙◌, ℕ, suc, ◌+◌, ◌≤◌, ◌==◌, min, nat_le, true, false, List, [], ◌∷◌, ◌++◌, length, take, Ok, append_assoc, length-append, arith}
 use Rattle.std.specs.Prelude.{codes}
 use Rattle.std.specs.List.{list_all}
@@ -60,7 +60,7 @@ not-long text short = long-not (length text) short
     long-not : (n : ℕ) → n ≤ 4096 → nat_le one_too_many n ≡ false
     long-not n short = grind (arith, nat_tests)
 
--- and stands next
+-- and comes next
 stands-next : (given : ℕ) (text : List ℕ) (lines : List (List ℕ)) → IsClean text → given + (length text + 1) ≤ most_input_bytes
     → next_in_lines given ((text ++ (newline ∷ [])) ∷ lines) ≡ Line (text ++ (newline ∷ []))
 stands-next given text lines is few =
@@ -72,7 +72,7 @@ stands-next given text lines is few =
     (ap (nat_le one_too_many) size ∙ not-long text is.short)
     ∙ ap Line whole
 
--- what a job over lines makes of such a text, and of the lines behind it
+-- what a job over lines makes of such a text, and of the lines after it
 pub line-gone : {P V : Type 0} (job : Job P V) (state : V) (number given : ℕ) (text rest : List ℕ) → IsClean text → given + (length text + 1) ≤ most_input_bytes
     → gone_from job state number given (lines_of ((text ++ codes "\n") ++ rest))
     ≡ gone_by state number given (job.judged state number text) (λ next. gone_from job next (number + 1) (given + (length text + 1)) (lines_of rest))

@@ -213,7 +213,7 @@ receiver-text there port are = numbers (codes " > " ++ to_text there.pseudo) (co
 
 -- Options
 
--- a table's choice: the name behind the first test that is passed, or the last
+-- a table's choice: the name after the first test that is passed, or the last
 abbrev chosen : List (Bool × List ℕ) → List ℕ → List ℕ
 chosen [] last = last
 chosen (row ∷ rows) last = if row.0 then row.1 else chosen rows last
@@ -354,7 +354,7 @@ sum-text : (there : DatagramParts) → IsText (sum_text there)
 sum-text there =
     either IsText there.whole (sum_name (checked there.pseudo there.bytes)) (codes "unknown") (verdict-text (checked there.pseudo there.bytes)) refl
 
--- text, and a newline behind it
+-- text, and a newline after it
 pub record IsTextLine (line : List ℕ) : Type 0 where
   pub front : List ℕ
   pub same : line ≡ front ++ codes "\n"

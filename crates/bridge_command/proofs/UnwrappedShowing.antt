@@ -6,7 +6,9 @@ use Rattle.std.proofs.lemmas.List.{get_or-drop}
 use Rattle.std.proofs.Math.ListN.{drop_of_length-le}
 use Rattle.dccp_packets.specs.Grammar.{number_at}
 use Rattle.packet_show.specs.Network.{carried, in_ethernet, in_frame, in_ip, in_v4, in_v6, is_v4, is_v6, version}
-use Rattle.bridge_links.specs.Links.{IsUntagged, bytes_at_start, ip_at, ip_at_first, ip_by_type, ip_bytes, ip_of_type, is_tag, start_or}
+use Rattle.bridge_links.specs.Links.{IsUnextended, IsUntagged, bytes_at_start, captured_ip, ip_at_first, ip_by_type, ip_bytes, ip_of_type, is_tag}
+use Rattle.bridge_links.specs.Starts.{ip_at, start_or}
+use Rattle.bridge_links.specs.Extensions.{plain_by, upper_of}
 
 -- no IP of either version is found where the version is another
 no-v4 : (bytes : List ℕ) → (version bytes == 4) ≡ false → is_v4 bytes ≡ false
@@ -36,13 +38,13 @@ raw-by bytes false false some f x =
     ∙ ap (λ (start : Option ℕ). in_ip (bytes_at_start start bytes)) (ip-at-first 6 bytes false some x)
     ∙ sym none
 
-pub raw-stays : (bytes : List ℕ) → carried 101 (ip_bytes 101 bytes) ≡ carried 101 bytes
-raw-stays [] = refl
-raw-stays (byte ∷ bytes) =
+raw-captured : (bytes : List ℕ) → carried 101 (captured_ip 101 bytes) ≡ carried 101 bytes
+raw-captured [] = refl
+raw-captured (byte ∷ bytes) =
     let all : List ℕ = byte ∷ bytes in
     raw-by all (version all == 4) (version all == 6) (lt-ltb 0 (length all) (omega arith)) refl refl
 
--- behind the header of Ethernet, where IP of this version begins there
+-- after the header of Ethernet, where IP of this version begins there
 ip-at-header : (wanted : ℕ) (bytes : List ℕ) (long is : Bool) → nat_lt 14 (length bytes) ≡ long → (version (drop 14 bytes) == wanted) ≡ is
     → ip_at wanted 14 bytes ≡ (if long && is then Some 14 else None)
 ip-at-header wanted bytes long is l v =
@@ -65,7 +67,7 @@ in-v6 bytes six =
 nothing-behind : (bytes : List ℕ) → nat_lt 14 (length bytes) ≡ false → drop 14 bytes ≡ []
 nothing-behind bytes short = drop_of_length-le bytes (ltb-false 14 (length bytes) short)
 
--- behind a header of Ethernet that says IPv4
+-- after a header of Ethernet that says IPv4
 v4-stays : (bytes : List ℕ) (long four : Bool) → nat_lt 14 (length bytes) ≡ long → (version (drop 14 bytes) == 4) ≡ four
     → in_ip (bytes_at_start (ip_at 4 14 bytes) bytes) ≡ in_v4 (drop 14 bytes)
 v4-stays bytes false four l f =
@@ -104,5 +106,16 @@ ethernet-by bytes false s untagged =
     let behind : in_ethernet bytes ≡ in_frame kind (drop 14 bytes) = rw s refl in
     ap (λ (start : Option ℕ). in_ip (bytes_at_start start bytes)) plain ∙ frame-stays kind bytes (kind == 2048) (kind == 34525) refl refl parts.1 ∙ sym behind
 
-pub ethernet-stays : (bytes : List ℕ) → IsUntagged bytes → carried 101 (ip_bytes 1 bytes) ≡ carried 1 bytes
-ethernet-stays bytes untagged = ethernet-by bytes (nat_lt (length bytes) 14) refl untagged
+ethernet-captured : (bytes : List ℕ) → IsUntagged bytes → carried 101 (captured_ip 1 bytes) ≡ carried 1 bytes
+ethernet-captured bytes untagged = ethernet-by bytes (nat_lt (length bytes) 14) refl untagged
+
+-- a packet without extension headers stays
+unextended-stays : (link : ℕ) (bytes : List ℕ) → IsUnextended link bytes → ip_bytes link bytes ≡ captured_ip link bytes
+unextended-stays link bytes none =
+    ap (λ (is : Bool). if is then plain_by (upper_of (captured_ip link bytes)) (captured_ip link bytes) else captured_ip link bytes) none
+
+pub raw-stays : (bytes : List ℕ) → IsUnextended 101 bytes → carried 101 (ip_bytes 101 bytes) ≡ carried 101 bytes
+raw-stays bytes none = ap (carried 101) (unextended-stays 101 bytes none) ∙ raw-captured bytes
+
+pub ethernet-stays : (bytes : List ℕ) → IsUntagged bytes → IsUnextended 1 bytes → carried 101 (ip_bytes 1 bytes) ≡ carried 1 bytes
+ethernet-stays bytes untagged none = ap (carried 101) (unextended-stays 1 bytes none) ∙ ethernet-captured bytes untagged

@@ -1,7 +1,8 @@
 -- What `capture` writes of a transcript: a capture with a record for each frame that was sent (own).
 use Rattle.std.specs.Prelude.{ℕ, Bool, false, is_some, List, [], ◌++◌, Option, Some, None, Result, Ok, Err}
 use Rattle.bridge_records.specs.Writing.{file_header, raw_record}
-use Rattle.tool_text.specs.Jobs.{Accepted, Gone, Job, Refused, Verdict, gone_through, text_of_job}
+use Rattle.tool_text.specs.Jobs.{Accepted, Gone, Job, Refused, Verdict, gone_through, refusal_told, text_apart}
+use Rattle.tool_text.specs.declared.lines.refusals.Refusal.{Refusal}
 use Rattle.tool_text.specs.declared.words.faults.LineFault.{LineFault}
 use Rattle.world_events.specs.declared.event.Side.{Side}
 use Rattle.bridge_command.specs.declared.capture.capturing.Clock.{Clock}
@@ -30,7 +31,7 @@ by_told clock (Ok (Some (told.Sent from frame))) = Accepted (Some (timed clock f
 unfoldable pub transcript_judged : Clock → ℕ → List ℕ → Verdict TimedFrame Clock
 transcript_judged clock number line = by_told clock (told_of_line line)
 
--- What `capture` makes of the lines: a frame's text is its record, and nothing stands behind the last.
+-- What `capture` makes of the lines: a frame's text is its record, and nothing follows the last.
 abbrev pub capture_job : Job TimedFrame Clock
 capture_job = record { judged = transcript_judged; told = λ f. raw_record (frame_record f); ending = λ clock. [] }
 
@@ -38,9 +39,13 @@ capture_job = record { judged = transcript_judged; told = λ f. raw_record (fram
 abbrev pub transcript_gone : List ℕ → Gone TimedFrame Clock
 transcript_gone input = gone_through capture_job first_clock input
 
--- What `capture` writes of an input: the file header, the records, and where a line is refused the line of that.
+-- What `capture` writes of an input: the file header, and the records.
 abbrev pub frames_capture : List ℕ → List ℕ
-frames_capture input = file_header false ++ text_of_job capture_job (transcript_gone input)
+frames_capture input = file_header false ++ text_apart capture_job (transcript_gone input)
+
+-- The line that is refused, if one is.
+abbrev pub transcript_refusal : List ℕ → Option Refusal
+transcript_refusal input = refusal_told (transcript_gone input)
 
 -- The input is refused at some line.
 abbrev pub transcript_refused : List ℕ → Bool

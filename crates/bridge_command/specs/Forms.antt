@@ -1,33 +1,73 @@
 -- What each form of the second tool's words makes of the input that it reads (own).
-use Rattle.std.specs.Prelude.{◌≡◌, ℕ, Bool, true, false, List, Option, Some, String}
+use Rattle.std.specs.Prelude.{◌≡◌, ℕ, Bool, true, false, List, Option, Some, None, String}
 use Rattle.std.specs.declared.alloc.Global.{Global}
-use Rattle.bridge_command.specs.Capturing.{frames_capture, transcript_accepted, transcript_refused}
+use Rattle.bridge_records.specs.Recording.{capture_refusal, capture_skips}
+use Rattle.bridge_records.specs.declared.recording.CaptureRefusal.{CaptureRefusal}
+use Rattle.bridge_records.specs.declared.skips.Skips.{Skips}
+use Rattle.tool_text.specs.declared.lines.refusals.Refusal.{Refusal}
+use Rattle.bridge_command.specs.Capturing.{frames_capture, transcript_accepted, transcript_refusal, transcript_refused}
+use Rattle.bridge_command.specs.Complaints.{capture_said, line_said}
+use Rattle.bridge_command.specs.declared.complaints.Said.{Said}
 use Rattle.bridge_command.specs.Framing.{frames_pieces, frames_text, is_frames_faulty}
 use Rattle.bridge_pictures.specs.Flow.{flow_ladder_pieces, flow_ladder_text, is_flow_ladder_faulty}
-use Rattle.bridge_pictures.specs.Transcript.{ladder_accepted, ladder_refused, ladder_text}
+use Rattle.bridge_pictures.specs.FlowWindows.{flow_windows_pieces, flow_windows_text, is_flow_windows_faulty}
+use Rattle.bridge_pictures.specs.Played.{windows_accepted, windows_refusal, windows_refused, windows_text}
+use Rattle.bridge_pictures.specs.Transcript.{ladder_accepted, ladder_refusal, ladder_refused, ladder_text}
 use Rattle.bridge_command.specs.Telling.{is_json_faulty, json_pieces, json_text}
 use Rattle.bridge_command.specs.Schedule.{seed_text}
 use Rattle.bridge_command.specs.Unwrapping.{is_unwrapped_faulty, unwrapped_pieces, unwrapped_text}
 use Rattle.bridge_command.specs.Words.{asked_form}
 use Rattle.bridge_command.specs.declared.words.Form.{Form}
 use Rattle.bridge_command.specs.declared.words.Form.TheVariants as form
+use Rattle.bridge_command.specs.declared.words.Picture.{Picture}
+use Rattle.bridge_command.specs.declared.words.Picture.TheVariants as pictures
 
 -- Only `seed` reads no input.
 abbrev pub has_input : Form → Bool
 has_input (form.Seed run) = false
 has_input _ = true
 
+-- what a picture of lines has: a ladder of a transcript, or the windows of a schedule
+abbrev pub picture_text : Picture → List ℕ → List ℕ
+picture_text pictures.Ladder bytes = ladder_text bytes
+picture_text pictures.Windows bytes = windows_text bytes
+
+-- it refuses a line
+abbrev pub picture_refused : Picture → List ℕ → Bool
+picture_refused pictures.Ladder bytes = ladder_refused bytes
+picture_refused pictures.Windows bytes = windows_refused bytes
+
+-- how many bytes its accepted lines have
+abbrev pub picture_accepted : Picture → List ℕ → ℕ
+picture_accepted pictures.Ladder bytes = ladder_accepted bytes
+picture_accepted pictures.Windows bytes = windows_accepted bytes
+
+-- what a picture of a capture's flow has
+abbrev pub flow_picture_text : Picture → ℕ → List ℕ → List ℕ
+flow_picture_text pictures.Ladder flow bytes = flow_ladder_text flow bytes
+flow_picture_text pictures.Windows flow bytes = flow_windows_text flow bytes
+
+-- the capture has a fault
+abbrev pub is_flow_picture_faulty : Picture → ℕ → List ℕ → Bool
+is_flow_picture_faulty pictures.Ladder flow bytes = is_flow_ladder_faulty flow bytes
+is_flow_picture_faulty pictures.Windows flow bytes = is_flow_windows_faulty flow bytes
+
+-- how many bytes of the capture come before the fault
+abbrev pub flow_picture_accepted : Picture → ℕ → List ℕ → ℕ
+flow_picture_accepted pictures.Ladder flow bytes = (flow_ladder_pieces flow bytes).accepted
+flow_picture_accepted pictures.Windows flow bytes = (flow_windows_pieces flow bytes).accepted
+
 -- What a form writes of the bytes that it reads, when all is written: a capture of the frames that they tell, one of raw
--- IP, the schedule of a seed, a flow's packets as lines of `replay`, an object of each record, and a ladder of a
--- transcript or of a flow.
+-- IP, the schedule of a seed, a flow's packets as lines of `replay`, an object of each record, and a picture of lines or
+-- of a flow.
 abbrev pub bridge_text : Form → List ℕ → List ℕ
 bridge_text form.Capture bytes = frames_capture bytes
 bridge_text form.Unwrap bytes = unwrapped_text bytes
 bridge_text (form.Seed run) bytes = seed_text run.seed run.events
 bridge_text (form.Frames asked) bytes = frames_text asked.flow asked.side bytes
-bridge_text form.Json bytes = json_text bytes
-bridge_text form.Ladder bytes = ladder_text bytes
-bridge_text (form.FlowLadder flow) bytes = flow_ladder_text flow bytes
+bridge_text (form.Json payload) bytes = json_text payload bytes
+bridge_text (form.Picture picture) bytes = picture_text picture bytes
+bridge_text (form.FlowPicture picture flow) bytes = flow_picture_text picture flow bytes
 
 -- Whether a form refuses these bytes: a line of them, or a capture for its fault. (Of `seed`, which reads none, the rows here
 -- and below are those of an empty input.)
@@ -36,9 +76,9 @@ is_bridge_refused form.Capture bytes = transcript_refused bytes
 is_bridge_refused form.Unwrap bytes = is_unwrapped_faulty bytes
 is_bridge_refused (form.Seed run) bytes = false
 is_bridge_refused (form.Frames asked) bytes = is_frames_faulty asked.flow asked.side bytes
-is_bridge_refused form.Json bytes = is_json_faulty bytes
-is_bridge_refused form.Ladder bytes = ladder_refused bytes
-is_bridge_refused (form.FlowLadder flow) bytes = is_flow_ladder_faulty flow bytes
+is_bridge_refused (form.Json payload) bytes = is_json_faulty payload bytes
+is_bridge_refused (form.Picture picture) bytes = picture_refused picture bytes
+is_bridge_refused (form.FlowPicture picture flow) bytes = is_flow_picture_faulty picture flow bytes
 
 -- How many of these bytes a form accepts: whole lines, or a capture's header and records, up to what it refuses.
 abbrev pub bridge_accepted : Form → List ℕ → ℕ
@@ -46,14 +86,41 @@ bridge_accepted form.Capture bytes = transcript_accepted bytes
 bridge_accepted form.Unwrap bytes = (unwrapped_pieces bytes).accepted
 bridge_accepted (form.Seed run) bytes = 0
 bridge_accepted (form.Frames asked) bytes = (frames_pieces asked.flow asked.side bytes).accepted
-bridge_accepted form.Json bytes = (json_pieces bytes).accepted
-bridge_accepted form.Ladder bytes = ladder_accepted bytes
-bridge_accepted (form.FlowLadder flow) bytes = (flow_ladder_pieces flow bytes).accepted
+bridge_accepted (form.Json payload) bytes = (json_pieces payload bytes).accepted
+bridge_accepted (form.Picture picture) bytes = picture_accepted picture bytes
+bridge_accepted (form.FlowPicture picture flow) bytes = flow_picture_accepted picture flow bytes
 
--- How many bytes a form may have read behind those that it accepts: two blocks of lines, or a block of a capture.
+-- why a picture of lines is refused, if it is
+abbrev pub picture_refusal : Picture → List ℕ → Option Refusal
+picture_refusal pictures.Ladder bytes = ladder_refusal bytes
+picture_refusal pictures.Windows bytes = windows_refusal bytes
+
+-- why a picture of a capture's flow is, if it is
+abbrev pub flow_picture_refusal : Picture → ℕ → List ℕ → Option CaptureRefusal
+flow_picture_refusal pictures.Ladder flow bytes = capture_refusal (flow_ladder_pieces flow bytes)
+flow_picture_refusal pictures.Windows flow bytes = capture_refusal (flow_windows_pieces flow bytes)
+
+-- what of the capture is skipped
+abbrev pub flow_picture_skips : Picture → ℕ → List ℕ → Skips
+flow_picture_skips pictures.Ladder flow bytes = capture_skips (flow_ladder_pieces flow bytes)
+flow_picture_skips pictures.Windows flow bytes = capture_skips (flow_windows_pieces flow bytes)
+
+-- What a form tells of these bytes apart from its output: what of a capture is skipped, and why they are refused, if they
+-- are, which is a line or a fault of the capture.
+abbrev pub bridge_said : Form → List ℕ → Said
+bridge_said form.Capture bytes = line_said (transcript_refusal bytes)
+bridge_said form.Unwrap bytes = capture_said (capture_refusal (unwrapped_pieces bytes)) (capture_skips (unwrapped_pieces bytes))
+bridge_said (form.Seed run) bytes = line_said None
+bridge_said (form.Frames asked) bytes =
+    capture_said (capture_refusal (frames_pieces asked.flow asked.side bytes)) (capture_skips (frames_pieces asked.flow asked.side bytes))
+bridge_said (form.Json payload) bytes = capture_said (capture_refusal (json_pieces payload bytes)) (capture_skips (json_pieces payload bytes))
+bridge_said (form.Picture picture) bytes = line_said (picture_refusal picture bytes)
+bridge_said (form.FlowPicture picture flow) bytes = capture_said (flow_picture_refusal picture flow bytes) (flow_picture_skips picture flow bytes)
+
+-- How many bytes a form may have read after those that it accepts: two blocks of lines, or a block of a capture.
 abbrev pub bridge_reads_past : Form → ℕ
 bridge_reads_past form.Capture = 16384
-bridge_reads_past form.Ladder = 16384
+bridge_reads_past (form.Picture picture) = 16384
 bridge_reads_past _ = 524288
 
 -- Where a form reads its input, over a source that tells its bytes, something holds of them.

@@ -1,18 +1,18 @@
 -- What `frames` makes of a capture, classic or pcapng: lines of a replay for the packets of one flow that go to one of
 -- its sides (own).
-use Rattle.std.specs.Prelude.{◌≡◌, ℕ, ◌==◌, ◌++◌, Bool, false, true, not, is_some, if◌then◌else◌, List, [], codes, Option, Some, None, Result, Ok, Err}
+use Rattle.std.specs.Prelude.{◌≡◌, ℕ, ◌==◌, ◌++◌, Bool, false, true, is_some, if◌then◌else◌, List, [], codes, Option, Some, None, Result, Ok, Err}
 use Rattle.capture_reader.specs.Records.{RecordParts}
-use Rattle.dccp_packets.specs.Grammar.{Parts, decoded}
+use Rattle.dccp_packets.specs.Grammar.{Parts, decoded, packet_type}
+use Rattle.dccp_packets.specs.declared.header.PacketType.{PacketType}
 use Rattle.dccp_packets.specs.declared.header.Number.{Number}
 use Rattle.dccp_packets.specs.declared.header.Number.TheVariants.{Long, Short}
 use Rattle.dccp_packets.specs.declared.reading.Malformed.{Malformed}
-use Rattle.packet_show.specs.Flows.{AddressAndPort, Flow, flow_number, flow_of, from_end, same_end, with_flow}
+use Rattle.packet_show.specs.Flows.{AddressAndPort, Flow, flow_number, flow_of, from_end, with_flow}
+use Rattle.bridge_pictures.specs.Walk.{ends_by, record_behind, side_from}
 use Rattle.packet_show.specs.Lines.{packet_line}
 use Rattle.packet_show.specs.Network.{DatagramParts, carried}
 use Rattle.bridge_records.specs.Pieces.{Taken, text_of_pieces}
 use Rattle.bridge_records.specs.Recording.{RecordStep, RecordWork, RecordsState, records_of, records_work}
-use Rattle.bridge_links.specs.Links.{ip_bytes}
-use Rattle.bridge_command.specs.Unwrapping.{unwrap_closing}
 use Rattle.schedule_text.specs.Frames.{frame_line, read_frame}
 use Rattle.schedule_text.specs.declared.line.FrameLine.{FrameLine}
 use Rattle.world_events.specs.declared.event.Side.{Side}
@@ -49,14 +49,11 @@ abbrev pub first_framing : ℕ → Side → Framing
 first_framing flow side =
     record { flow = flow; side = side; end = usual_end side; flows = []; met = None }
 
--- a record as `show` finds it behind `unwrap`: raw IP
-abbrev pub record_behind : RecordParts → RecordParts
-record_behind e = record e { link = 101; bytes = ip_bytes e.link e.bytes }
-
--- what is known of the flow at a packet that this end sent: whose packet comes first is the client
-abbrev pub met_by : Option Met → AddressAndPort → Met
-met_by (Some met) from = met
-met_by None from = record { client = from; initial = None }
+-- what is known of the flow at a packet of this type that this end sent: whose packet comes first is the client, unless
+-- it answers as a server does
+abbrev pub met_by : Option Met → AddressAndPort → PacketType → Met
+met_by (Some met) from kind = met
+met_by None from kind = record { ends = ends_by None from kind; initial = None }
 
 -- the captured end's initial number: the first of 48 bits that it sent
 abbrev pub initial_by : Option ℕ → Number → Option ℕ
@@ -66,12 +63,14 @@ initial_by None (Short number) = None
 
 -- the same of the flow, once the captured end sent this number
 abbrev pub met_number : Met → Number → Met
-met_number met number = record { client = met.client; initial = initial_by met.initial number }
+met_number met number = record { ends = met.ends; initial = initial_by met.initial number }
 
 -- a packet goes to this side where the other sent it
-abbrev pub goes_to : Side → Bool → Bool
-goes_to Client by_client = not by_client
-goes_to Server by_client = by_client
+abbrev pub goes_to : Side → Side → Bool
+goes_to Client Client = false
+goes_to Client Server = true
+goes_to Server Client = true
+goes_to Server Server = false
 
 -- the state with this known of the flow
 abbrev pub with_met : Framing → Met → Framing
@@ -95,7 +94,8 @@ by_direction s met entry there packet goes =
 -- the same by who sent it
 abbrev pub by_sender : Framing → RecordParts → DatagramParts → Parts → AddressAndPort → RecordStep FlowPacket Framing
 by_sender s entry there packet from =
-    by_direction s (met_by s.met from) entry there packet (goes_to s.side (same_end from (met_by s.met from).client))
+    let met = met_by s.met from (packet_type packet.header.kind) in
+    by_direction s met entry there packet (goes_to s.side (side_from met.ends from))
 
 -- a packet of the flow that is asked for is looked at, and one of another flow isn't
 abbrev pub by_number : Framing → ℕ → RecordParts → DatagramParts → Parts → RecordStep FlowPacket Framing
@@ -121,13 +121,13 @@ by_carried s entry (Some there) = by_decoded s entry there (decoded there.bytes)
 unfoldable pub framed_record : Framing → RecordParts → RecordStep FlowPacket Framing
 framed_record s entry = by_carried s entry (carried entry.link entry.bytes)
 
--- What `frames` makes of the records of a capture. Behind the last stands nothing, or the line of the fault.
+-- What `frames` makes of the records of a capture. After the last stands nothing.
 abbrev pub frames_work : RecordWork FlowPacket Framing
 frames_work = record {
   begun = λ s nanos. passed_over s;
   passed = λ s e. framed_record s (record_behind e);
   told = flow_packet_text;
-  closing = λ job untold records end. unwrap_closing false records end;
+  closing = λ job untold records end. [];
 }
 
 -- what the pieces of an input come to, for this flow and side

@@ -5,12 +5,14 @@ pub mod TranscriptLines
 pub mod FrameReading
 pub mod FrameRecords
 pub mod Unwrapping
+pub mod Complaints
 pub mod Mapping
 pub mod FrameLines
 pub mod Framing
 pub mod Members
 pub mod Skips
 pub mod Judging
+pub mod OptionObjects
 pub mod Objects
 pub mod Telling
 pub mod Schedule

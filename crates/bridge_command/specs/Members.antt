@@ -3,16 +3,16 @@ use Rattle.std.specs.Prelude.{ℕ, ◌++◌, Bool, List, map, codes}
 use Rattle.serde_json.specs.Data.{Data, Members, array, boolean, number, object, put, string, unsigned}
 use Rattle.serde_json.specs.View.{items_of, members_view, view}
 use Rattle.serde_json.specs.Written.{compact_text}
+use Rattle.bridge_command.specs.declared.json.objects.Items.{Items}
 use Rattle.bridge_command.specs.declared.json.objects.Object.{Object}
-use Rattle.bridge_command.specs.declared.json.objects.Texts.{Texts}
 
 -- the members that an object has
 abbrev pub members_seen : Object → Members
 members_seen o = members_view o.members.entries
 
--- what a list of texts holds
-abbrev pub listed : Texts → List Data
-listed t = map view t.texts.items
+-- what a list holds
+abbrev pub listed : Items → List Data
+listed i = map view i.values.items
 
 -- the members with a number of this name
 abbrev pub with_number_named : List ℕ → ℕ → Members → Members

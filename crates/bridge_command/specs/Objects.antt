@@ -1,9 +1,11 @@
 -- A record of a capture as an object (RFC 4340, section 5, for what the fields of a packet are; the names of members
 -- are own).
-use Rattle.std.specs.Prelude.{ℕ, ◌*◌, ◌++◌, Bool, not, if◌then◌else◌, List, length, map, slice_index, codes, Result, Ok, Err}
-use Rattle.serde_json.specs.Data.{Data as Json, Members, no_members, string}
-use Rattle.dccp_options.specs.Grammar.{Entry, options_of}
-use Rattle.dccp_options.specs.declared.option.OptFault.{OptFault}
+use Rattle.std.specs.Prelude.{ℕ, ◌*◌, ◌/◌, ◌%◌, Bool, not, if◌then◌else◌, List, length, slice_index, codes}
+use Rattle.std.specs.Net.Addr.{segments_of}
+use Rattle.std.specs.Net.Text.{ipv4_text, ipv6_text}
+use Rattle.hex.specs.Hex.{encode_lower}
+use Rattle.serde_json.specs.Data.{Members, no_members}
+use Rattle.dccp_options.specs.Grammar.{options_of}
 use Rattle.dccp_packets.specs.Grammar.{Parts, is_long, packet_type}
 use Rattle.dccp_packets.specs.Kinds.{is_data}
 use Rattle.dccp_packets.specs.declared.header.Header.{Header}
@@ -11,35 +13,64 @@ use Rattle.dccp_packets.specs.declared.header.Kind.{Kind}
 use Rattle.dccp_packets.specs.declared.header.Kind.TheVariants.{Request, Response, Data, Ack, DataAck, CloseReq, Close, Reset, Sync, SyncAck}
 use Rattle.dccp_packets.specs.declared.header.Number.{Number}
 use Rattle.dccp_packets.specs.declared.header.Number.TheVariants.{Long, Short}
+use Rattle.dccp_packets.specs.declared.reading.Malformed.{Malformed}
 use Rattle.dccp_sum.specs.Checksum.{checked}
+use Rattle.dccp_sum.specs.declared.pseudo_header.Pseudo.{Pseudo}
+use Rattle.dccp_sum.specs.declared.pseudo_header.Pseudo.TheVariants.{V4, V6}
 use Rattle.capture_reader.specs.Records.{RecordParts}
 use Rattle.packet_show.specs.Names.{sum_name, type_name}
 use Rattle.packet_show.specs.Network.{DatagramParts}
-use Rattle.packet_show.specs.Text.{from_text, mark_text, option_text, to_text}
 use Rattle.tool_text.specs.Names.{malformed_name}
 use Rattle.bridge_links.specs.Links.{ip_bytes}
 use Rattle.bridge_command.specs.Judging.{HoldsMalformed, HoldsNone, HoldsPacket, Judged, judged_ip}
-use Rattle.bridge_command.specs.Members.{object_line, with_list_named, with_number_named, with_text_named, with_truth_named}
+use Rattle.bridge_command.specs.Members.{with_list_named, with_number_named, with_text_named, with_truth_named}
+use Rattle.bridge_command.specs.OptionObjects.{option_values}
 use Rattle.bridge_command.specs.Skips.{skip_name}
 
 -- the fraction of a time in nanoseconds
 abbrev pub nanoseconds_of : Bool → ℕ → ℕ
 nanoseconds_of nanos fraction = if nanos then fraction else fraction * 1000
 
--- a record's number, its time, its link type, and how many bytes it had there
+-- a record's number, its time, its link type, how many bytes it had there, and how many were captured
 abbrev pub with_stamp : RecordParts → Members → Members
 with_stamp e members =
-    with_number_named (codes "length") e.original (with_number_named (codes "link") e.link
-    (with_number_named (codes "nanoseconds") (nanoseconds_of e.nanos e.fraction) (with_number_named (codes "seconds") e.seconds (with_number_named (codes "record") e.number members))))
+    with_number_named (codes "captured") (length e.bytes) (with_number_named (codes "length") e.original (with_number_named (codes "link") e.link
+    (with_number_named (codes "nanoseconds") (nanoseconds_of e.nanos e.fraction) (with_number_named (codes "seconds") e.seconds
+    (with_number_named (codes "record") e.number members)))))
+
+-- an address of IPv4, or one of IPv6 as RFC 5952 writes it
+abbrev pub source_text : Pseudo → List ℕ
+source_text (V4 from to) = ipv4_text from
+source_text (V6 from to) = ipv6_text (segments_of from)
+
+-- the same of the address that a packet goes to
+abbrev pub destination_text : Pseudo → List ℕ
+destination_text (V4 from to) = ipv4_text to
+destination_text (V6 from to) = ipv6_text (segments_of to)
 
 -- the addresses that a packet goes from and to
 abbrev pub with_addresses : DatagramParts → Members → Members
-with_addresses there members = with_text_named (codes "destination") (to_text there.pseudo) (with_text_named (codes "source") (from_text there.pseudo) members)
+with_addresses there members =
+    with_text_named (codes "destination") (destination_text there.pseudo) (with_text_named (codes "source") (source_text there.pseudo) members)
 
--- the same with the ports
-abbrev pub with_ends : DatagramParts → Header → Members → Members
-with_ends there header members =
-    with_number_named (codes "destination_port") header.to (with_number_named (codes "source_port") header.from (with_addresses there members))
+-- how many hops an IP packet may still go (RFC 791, section 3.1; RFC 8200, section 3)
+abbrev pub hops_of : Pseudo → List ℕ → ℕ
+hops_of (V4 from to) ip = slice_index ip 8
+hops_of (V6 from to) ip = slice_index ip 7
+
+-- its ECN field, the last two bits of the byte that is there, or after the version in four bits (RFC 3168, section 5)
+abbrev pub ecn_of : Pseudo → List ℕ → ℕ
+ecn_of (V4 from to) ip = slice_index ip 1 % 4
+ecn_of (V6 from to) ip = slice_index ip 1 / 16 % 4
+
+-- both, and the addresses
+abbrev pub with_ip : DatagramParts → List ℕ → Members → Members
+with_ip there ip members =
+    with_addresses there (with_number_named (codes "ecn") (ecn_of there.pseudo ip) (with_number_named (codes "ttl") (hops_of there.pseudo ip) members))
+
+-- the ports
+abbrev pub with_ports : Header → Members → Members
+with_ports header members = with_number_named (codes "destination_port") header.to (with_number_named (codes "source_port") header.from members)
 
 -- a sequence or acknowledgement number, as many of its bits as are written
 abbrev pub number_written : Number → ℕ
@@ -80,15 +111,6 @@ with_kind (Reset ack code detail) members = with_code code detail (with_ack (Lon
 with_kind (Sync ack) members = with_ack (Long ack) members
 with_kind (SyncAck ack) members = with_ack (Long ack) members
 
--- an option as `show` has it between brackets, or the fault of Mandatory that ends the options
-abbrev pub option_words : Result Entry OptFault → List ℕ
-option_words (Ok o) = mark_text o.mandatory ++ option_text o.kind o.body
-option_words (Err _) = codes "mandatory fault"
-
--- the options as texts
-abbrev pub option_values : List (Result Entry OptFault) → List Json
-option_values items = map (λ item. string (option_words item)) items
-
 -- the options, of which some are ignored on Data packets
 abbrev pub with_options : Parts → Members → Members
 with_options packet members =
@@ -98,25 +120,32 @@ with_options packet members =
 abbrev pub verdict_name : DatagramParts → List ℕ
 verdict_name there = if there.whole then sum_name (checked there.pseudo there.bytes) else codes "unknown"
 
+-- the bytes of data in hexadecimal, where they are asked for
+abbrev pub with_payload : Bool → List ℕ → Members → Members
+with_payload payload bytes members = if payload then with_text_named (codes "payload") (encode_lower bytes) members else members
+
 -- how many bytes of data are there, and the verdict on the checksum
 abbrev pub with_rest : DatagramParts → Parts → Members → Members
 with_rest there packet members = with_text_named (codes "verdict") (verdict_name there) (with_number_named (codes "data") (length packet.payload) members)
 
--- a packet: its ends, its header, what its type alone carries, its options, and the rest
-abbrev pub with_packet_fields : DatagramParts → Parts → Members → Members
-with_packet_fields there packet members =
-    with_rest there packet (with_options packet (with_kind packet.header.kind (with_header_fields packet.header (with_ends there packet.header members))))
+-- a packet: its ports, its header, what its type alone carries, its options, and the rest
+abbrev pub with_packet_fields : Bool → DatagramParts → Parts → Members → Members
+with_packet_fields payload there packet members =
+    with_payload payload packet.payload (with_rest there packet (with_options packet (with_kind packet.header.kind
+    (with_header_fields packet.header (with_ports packet.header members)))))
 
--- what a record holds: a packet, why its bytes are none, or why it is skipped
-abbrev pub with_judged : Judged → Members → Members
-with_judged (HoldsPacket there packet) members = with_packet_fields there packet members
-with_judged (HoldsMalformed why) members = with_text_named (codes "malformed") (malformed_name why) members
-with_judged (HoldsNone why) members = with_text_named (codes "skipped") (skip_name why) members
+-- why bytes are no packet
+abbrev pub with_malformed : DatagramParts → List ℕ → Malformed → Members → Members
+with_malformed there ip why members = with_text_named (codes "malformed") (malformed_name why) (with_ip there ip members)
 
--- The object of a record.
-unfoldable pub record_members : RecordParts → Members
-record_members e = with_judged (judged_ip (ip_bytes e.link e.bytes)) (with_stamp e no_members)
+-- what a record holds: a packet of this flow, why its bytes are none, or why it is skipped
+abbrev pub with_judged : Bool → ℕ → List ℕ → Judged → Members → Members
+with_judged payload flow ip (HoldsPacket there packet) members =
+    with_packet_fields payload there packet (with_number_named (codes "flow") flow (with_ip there ip members))
+with_judged payload flow ip (HoldsMalformed there why) members = with_malformed there ip why members
+with_judged payload flow ip (HoldsNone why) members = with_text_named (codes "skipped") (skip_name why) members
 
--- The line of a record.
-abbrev pub record_line : RecordParts → List ℕ
-record_line e = object_line (record_members e)
+-- The object of a record, whose packet is of this flow.
+unfoldable pub record_members : Bool → ℕ → RecordParts → Members
+record_members payload flow e =
+    with_judged payload flow (ip_bytes e.link e.bytes) (judged_ip (ip_bytes e.link e.bytes)) (with_stamp e no_members)

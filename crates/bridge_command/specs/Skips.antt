@@ -1,6 +1,8 @@
 -- Why an IP packet holds no DCCP packet that can be read (RFC 791, section 3.1; RFC 8200, section 3; the words are
 -- own).
-use Rattle.std.specs.Prelude.{ℕ, ◌==◌, not, nat_lt, if◌then◌else◌, List, length, slice_index, codes}
+use Rattle.std.specs.Prelude.{ℕ, ◌&&◌, ◌==◌, not, nat_lt, if◌then◌else◌, List, length, slice_index, codes, Option, Some, None}
+use Rattle.bridge_links.specs.Extensions.{upper_of}
+use Rattle.bridge_links.specs.declared.extensions.Upper.{Upper}
 use Rattle.packet_show.specs.Network.{is_unfragmented, v4_header, version}
 use Rattle.bridge_command.specs.declared.json.skips.Skip.{Skip}
 use Rattle.bridge_command.specs.declared.json.skips.Skip.TheVariants as skip
@@ -15,9 +17,22 @@ v4_skip bytes =
     else if nat_lt (length bytes) (v4_header bytes) then skip.ShortHeader
     else skip.BadHeader
 
--- the same of IPv6: its length, or else its next header
+-- the same by the header after the extension headers of IPv6: DCCP, to which the packet's length does not reach, a
+-- fragment of DCCP (RFC 8200, section 4.5), or another
+abbrev pub upper_skip : Upper → List ℕ → Skip
+upper_skip upper bytes =
+    if upper.kind == 33 then skip.BadHeader
+    else if upper.kind == 44 && slice_index bytes upper.place == 33 then skip.Fragment
+    else skip.NotDccp
+
+-- the same where they were captured whole, or not
+abbrev pub upper_skip_by : Option Upper → List ℕ → Skip
+upper_skip_by None bytes = skip.ShortHeader
+upper_skip_by (Some upper) bytes = upper_skip upper bytes
+
+-- the same of IPv6: its length, or else what follows its headers
 abbrev pub v6_skip : List ℕ → Skip
-v6_skip bytes = if nat_lt (length bytes) 40 then skip.ShortHeader else skip.NotDccp
+v6_skip bytes = if nat_lt (length bytes) 40 then skip.ShortHeader else upper_skip_by (upper_of bytes) bytes
 
 -- the same of bytes that may be IP
 abbrev pub ip_skip : List ℕ → Skip

@@ -20,7 +20,7 @@ abbrev pub with_index : Side → Result ℕ Flaw → Result (Side × ℕ) Flaw
 with_index from (Ok index) = Ok (from, index)
 with_index from (Err flaw) = Err flaw
 
--- the frame of this sender whose index stands here: a number below 2^47
+-- the frame of this sender whose index is here: a number below 2^47
 abbrev pub frame_of_sender : Side → List ℕ → Result (Side × ℕ) Flaw
 frame_of_sender from index = with_index from (found_or why.BadNumber (number_below (2 ^ 47) index))
 
@@ -36,7 +36,7 @@ frame_name_read (letter ∷ index) =
 abbrev pub is_other : List ℕ → Bool
 is_other word = bytes_eq word (codes "open:") || bytes_eq word (codes "end")
 
--- a word without the colon at its end, if one stands there
+-- a word without the colon at its end, if one is there
 abbrev pub without_colon : List ℕ → List ℕ
 without_colon word =
     if nat_lt 0 (length word) && slice_index word (length word - 1) == 58 then take (length word - 1) word else word
@@ -52,16 +52,16 @@ abbrev pub told_first : List ℕ → Result Told Flaw
 told_first word =
     if is_other word then Ok told.Other else numbered (found_or why.UnknownWord (number_below (2 ^ 32) (without_colon word)))
 
--- a frame has at most 2,044 bytes; the fault stands at this column
+-- a frame has at most 2,044 bytes; the fault is at this column
 abbrev pub frame_told : ℕ → (Side × ℕ) × (List ℕ × Unit {0}) → Result Told LineFault
 frame_told column said =
     if nat_lt 2044 (length said.1.0) then Err (fault_at column why.FrameTooLong) else Ok (told.Sent said.0.0 said.1.0)
 
--- what stands behind `sent`: a frame's name and its bytes, and nothing behind them
+-- what follows `sent`: a frame's name and its bytes, and nothing after them
 abbrev pub sent_said : WordsLeft → Result Told LineFault
 sent_said left = then_row frame_name_read (then_row hex_kind.reads ended) left >>= (λ said. frame_told (word_at 1 left).column said)
 
--- the words of a line: behind `sent` those of a frame, and otherwise the first word alone tells
+-- the words of a line: after `sent` those of a frame, and otherwise the first word alone tells
 abbrev pub line_said : WordsLeft → Result Told LineFault
 line_said left = if bytes_eq (first_word left).text (codes "sent") then sent_said (later left) else word_read told_first (first_word left)
 

@@ -1,12 +1,12 @@
 -- What `unwrap` makes of a capture, classic or pcapng: a classic one of raw IP, a record for each record (own).
-use Rattle.std.specs.Prelude.{ℕ, ◌-◌, ◌++◌, Bool, false, is_some, if◌then◌else◌, List, [], ◌∷◌, drop, map, codes, decimal, Option, Some, None}
+use Rattle.std.specs.Prelude.{ℕ, ◌-◌, ◌==◌, Bool, false, is_some, if◌then◌else◌, List, [], ◌∷◌, length, map, codes, Option, Some, None}
 use Rattle.capture_reader.specs.Records.{RecordParts}
 use Rattle.bridge_records.specs.Writing.{RawRecord, file_header, raw_record}
 use Rattle.bridge_records.specs.Pieces.{Taken, text_of_pieces}
 use Rattle.bridge_records.specs.declared.pieces.fault.PieceFault.{PieceFault}
 use Rattle.bridge_records.specs.declared.pieces.fault.PieceFault.TheVariants as why
 use Rattle.bridge_records.specs.Recording.{RecordWork, RecordsState, records_of, records_work}
-use Rattle.bridge_links.specs.Links.{ip_start}
+use Rattle.bridge_links.specs.Links.{ip_bytes}
 
 -- What the beginning of a capture or a record makes: the file header, or a record.
 pub data CapturePart : Type 0 where
@@ -18,15 +18,18 @@ abbrev pub capture_part_text : CapturePart → List ℕ
 capture_part_text (Begins nanos) = file_header nanos
 capture_part_text (Holds r) = raw_record r
 
--- the record of the packet that begins at this place of a record's bytes, at the same time; an empty one where there is
--- none
-abbrev pub unwrapped_at : RecordParts → Option ℕ → RawRecord
-unwrapped_at e None = record { seconds = e.seconds; fraction = e.fraction; original = 0; bytes = [] }
-unwrapped_at e (Some start) = record { seconds = e.seconds; fraction = e.fraction; original = e.original - start; bytes = drop start e.bytes }
+-- how many bytes the packet of a record had: those of the record without what does not stand in the packet, and none
+-- where there is no packet
+abbrev pub original_of : RecordParts → List ℕ → ℕ
+original_of e ip = if length ip == 0 then 0 else e.original - (length e.bytes - length ip)
+
+-- the record of the packet that is found in one, at the same time; an empty one where there is none
+abbrev pub unwrapped_of : RecordParts → List ℕ → RawRecord
+unwrapped_of e ip = record { seconds = e.seconds; fraction = e.fraction; original = original_of e ip; bytes = ip }
 
 -- the record that is made of one
 unfoldable pub unwrapped_entry : RecordParts → RawRecord
-unwrapped_entry e = unwrapped_at e (ip_start e.link e.bytes)
+unwrapped_entry e = unwrapped_of e (ip_bytes e.link e.bytes)
 
 -- what is made of such records: the file header, and a record for each
 abbrev pub unwrapped_parts : Bool → List RecordParts → List CapturePart
@@ -52,11 +55,10 @@ records_among [] = []
 records_among (Begins nanos ∷ parts) = records_among parts
 records_among (Holds r ∷ parts) = r ∷ records_among parts
 
--- what stands behind the last record: nothing, but for a file header that was not written yet, or the line of the
--- fault, with how many records stand before it
-abbrev pub unwrap_closing : Bool → ℕ → Option PieceFault → List ℕ
-unwrap_closing untold records None = untold_header untold
-unwrap_closing untold records (Some fault) = codes "capture " ++ piece_fault_name fault ++ codes " after " ++ codes "record " ++ decimal records ++ codes "\n"
+-- what follows the last record: nothing, except for a file header that was not written yet, if there is no fault
+abbrev pub unwrap_closing : Bool → Option PieceFault → List ℕ
+unwrap_closing untold None = untold_header untold
+unwrap_closing untold (Some fault) = []
 
 -- What `unwrap` makes of the records of a capture; it keeps nothing of them.
 abbrev pub unwrap_work : RecordWork CapturePart (Unit {0})
@@ -64,7 +66,7 @@ unwrap_work = record {
   begun = λ job nanos. record { deed = Some (Begins nanos); next = job };
   passed = λ job e. record { deed = Some (Holds (unwrapped_entry e)); next = job };
   told = capture_part_text;
-  closing = λ job untold records end. unwrap_closing untold records end;
+  closing = λ job untold records end. unwrap_closing untold end;
 }
 
 -- what the pieces of an input come to

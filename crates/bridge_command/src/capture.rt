@@ -1,6 +1,6 @@
 //! `capture`: the frames that a transcript tells, as a capture (own; the savefile format of libpcap).
 //!
-//! It reads what `run` and `replay` write. Each frame goes out as it stands, behind an IPv4 header (RFC 791, section
+//! It reads what `run` and `replay` write. Each frame goes out as it stands, after an IPv4 header (RFC 791, section
 //! 3.1); nothing here looks into a frame.
 
 mod capturing;
@@ -10,6 +10,5 @@ mod records;
 
 pub(crate) use crate::capture::capturing::capture_frames;
 pub use crate::capture::laws::{
-    a_capture_has_each_frame, a_frame_stands_in_its_record, a_refusal_is_no_record,
-    addresses_are_the_usual_ones,
+    a_capture_has_each_frame, a_frame_stands_in_its_record, addresses_are_the_usual_ones,
 };

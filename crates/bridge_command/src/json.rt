@@ -2,11 +2,12 @@
 //! are own).
 //!
 //! It tells what is on the wire of each packet of DCCP, and why a record holds none. Objects are built and written by
-//! `serde_json`, whose members stand in the order of their names.
+//! `serde_json`, whose members are in the order of their names.
 
 mod judging;
 mod laws;
 mod objects;
+mod options;
 mod packets;
 mod skips;
 mod telling;

@@ -1,12 +1,13 @@
 //! The second tool's one call: what its words ask for, done over a source and a sink (own).
 //!
-//! It makes captures of what the tool tells, captures of raw IP, lines and objects of captures, and the schedules of
-//! seeds, which it runs as `campaign` does. It opens no file, socket or clock, and reads and writes nothing but the
+//! It makes captures of what the tool tells, captures of raw IP, lines and objects of captures, pictures, and the
+//! schedules of seeds, which it runs as `campaign` does. It opens no file, socket or clock, and reads and writes nothing but the
 //! source and the sink that it is lent. It takes memory for words and text, for a table of flows, for the values of a
 //! record and for the run of a seed.
 #![tactic(auto)]
 
 mod capture;
+mod complaints;
 mod frames;
 mod json;
 mod seed;
@@ -15,8 +16,7 @@ mod unwrap;
 mod words;
 
 pub use crate::capture::{
-    a_capture_has_each_frame, a_frame_stands_in_its_record, a_refusal_is_no_record,
-    addresses_are_the_usual_ones,
+    a_capture_has_each_frame, a_frame_stands_in_its_record, addresses_are_the_usual_ones,
 };
 pub use crate::frames::{
     a_frame_is_its_packet, acknowledgements_keep_their_distance, each_packet_reads_back,
@@ -28,6 +28,6 @@ pub use crate::json::{
 pub use crate::seed::a_schedule_is_the_run_of_its_seed;
 pub use crate::top::bridge;
 pub use crate::unwrap::{each_record_is_unwrapped, what_show_shows_stays};
-pub use crate::words::{Form, USAGE, form_of};
+pub use crate::words::{Form, Picture, USAGE, form_of};
 pub use tool_forms::{FlowSide, SeedRun};
 pub use tool_text::Status;

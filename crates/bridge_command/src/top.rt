@@ -1,53 +1,65 @@
 //! The second tool's one call: a form of its words over a source and a sink.
-ghost use Rattle.std.specs.Prelude.{◌≡◌, ◌⊎◌, [], Some, None, false, true};
+ghost use Rattle.std.specs.Prelude.{◌≡◌, ◌⊎◌, ℕ, List, [], Some, None, false, true};
 ghost use Rattle.dccp_io.specs.Counts.{Rose};
 ghost use Rattle.bridge_command.specs.Schedule.{seed_text};
-ghost use Rattle.bridge_command.specs.Forms.{OnBridgeInput, OnBridgeRead, bridge_accepted, bridge_reads_past, bridge_text, has_input, is_bridge_refused};
+ghost use Rattle.bridge_command.specs.Forms.{OnBridgeInput, OnBridgeRead, bridge_accepted, bridge_reads_past, bridge_said, bridge_text, flow_picture_accepted, flow_picture_refusal, flow_picture_skips, flow_picture_text, has_input, is_bridge_refused, is_flow_picture_faulty, picture_accepted, picture_refusal, picture_refused, picture_text};
 ghost use Rattle.bridge_command.specs.Words.{IsBridgeFormWithinBounds, OnSeed, asked_form, bridge_usage, has_bridge_settings};
-ghost use Rattle.tool_text.specs.Ends.{SinkFails, IsWritten, OnJobEnd, Answers, StopsWithin, EndsForCause};
+ghost use Rattle.bridge_command.specs.Complaints.{OnAnswer, said_text};
+ghost use Rattle.tool_text.specs.Ends.{SinkFails, IsAnswered, IsWritten, OnJobEnd, Answers, StopsWithin, EndsForCause};
 
 use crate::capture::capture_frames;
+use crate::complaints::{FormEnd, capture_said, line_said, tell_said};
 use crate::frames::frame_flow;
 use crate::json::json_records;
 use crate::seed::tell_seed;
 use crate::unwrap::unwrap_capture;
-use crate::words::{Form, USAGE, form_of};
-use bridge_pictures::{ladder_of_flow, ladder_of_transcript};
+use crate::words::{Form, Picture, USAGE, form_of};
+use bridge_pictures::{ladder_of_flow, ladder_of_transcript, windows_of_flow, windows_of_schedule};
+use bridge_records::RecordsEnd;
 use dccp_io::{Sink, Source, write_all};
 use std::alloc::Global;
-use tool_text::{JobEnd, Status};
+use tool_text::{JobEnd, LinesEnd, Status};
 
 /// Does what the words ask for (own), those after the program's name. `capture` reads what `run` or `replay` wrote, and
 /// writes a classic capture with a record for each frame that was sent. `unwrap` reads a capture, classic or pcapng, of
-/// any of ten link types, and writes a classic one of raw IP, record for record. `seed` reads nothing, and writes the
+/// any of eleven link types, and writes a classic one of raw IP, record for record. `seed` reads nothing, and writes the
 /// schedule of a campaign's seed. `frames` reads a capture as `unwrap` does, and writes lines of `replay` for the
 /// packets of a flow that go to a side; and `json` writes an object for each record. `ladder` draws what `run` or `replay`
-/// wrote, and with a flow the packets of that flow in a capture.
+/// wrote, and with a flow the packets of that flow in a capture. `windows` draws the windows of a schedule that it plays,
+/// and with a flow those of that flow in a capture.
 ///
 /// Words are judged first; after that the first refusal met in the order of reading decides. With status 0 or 1 the
-/// output is that of the whole input, with status 3, 4 or 5 a front of it. The clauses on the output speak of a source
-/// that tells its bytes and a sink that tells what it took.
-pub fn bridge<S: Source, K: Sink>(
+/// output is that of the whole input, with status 3, 4 or 5 a front of it. What of a capture was skipped, and why an input
+/// is refused, goes to `errors`, and so does the usage line. The clauses on the output speak of a source that tells its bytes and a sink that tells what
+/// it took.
+pub fn bridge<S: Source, K: Sink, E: Sink>(
     alloc: Global,
     words: &[String],
     input: &mut S,
     output: &mut K,
+    errors: &mut E,
 ) -> Status
-    // Words that are none of the forms come to the usage line, as far as the sink takes it. Where no memory was left to
-    // read settings, nothing is written.
+    // Words that are none of the forms come to the usage line, as far as the sink for errors takes it. Where no memory
+    // was left to read settings, nothing is told. The output stays as it was.
     ensures words { result ≡ Status.Words → asked_form words.now ≡ None }
     ensures others { asked_form words.now ≡ None
         → (result ≡ Status.Words) ⊎ ((result ≡ Status.Memory) × (has_bridge_settings words.now ≡ true)) }
     ensures unread { asked_form words.now ≡ None → input.new ≡ input.old }
     ensures usage { result ≡ Status.Words
-        → IsWritten bridge_usage (K.taken output.old) (K.taken output.new) (SinkFails K.faults K.empty_takes output.old output.new) }
-    ensures silent { asked_form words.now ≡ None → result ≡ Status.Memory → output.new ≡ output.old }
+        → IsWritten bridge_usage (E.taken errors.old) (E.taken errors.new) (SinkFails E.faults E.empty_takes errors.old errors.new) }
+    ensures silent { asked_form words.now ≡ None → output.new ≡ output.old }
 
     // What each form that reads its input writes and how it ends, and how far it had read where it refuses it.
     ensures answers { OnBridgeInput words.now (S.left input.old) (λ form bytes.
         OnJobEnd result (λ end. Answers (bridge_text form bytes) (is_bridge_refused form bytes) end (S.left input.new) (K.taken output.old) (K.taken output.new))) }
     ensures past { OnBridgeInput words.now (S.left input.old) (λ form bytes.
         OnJobEnd result (λ end. StopsWithin (bridge_reads_past form) (bridge_accepted form bytes) bytes end (S.left input.new))) }
+
+    // With an answer, what of a capture was skipped, and why the input is refused, is told on the sink for errors, as far
+    // as it takes that: a line for each kind, and one for the refusal, or nothing.
+    ensures said { OnBridgeInput words.now (S.left input.old) (λ form bytes.
+        OnJobEnd result (λ end. OnAnswer end (IsWritten (said_text (bridge_said form bytes)) (E.taken errors.old) (E.taken errors.new)
+        (SinkFails E.faults E.empty_takes errors.old errors.new)))) }
 
     // What a seed owes, which reads nothing: the same as of an empty input. And why any form ended.
     ensures told { OnSeed words.now (λ run.
@@ -57,38 +69,145 @@ pub fn bridge<S: Source, K: Sink>(
         → OnJobEnd result (λ end. EndsForCause end (Rose (S.faults input.old) (S.faults input.new)) (SinkFails K.faults K.empty_takes output.old output.new)) }
 {
     match form_of(alloc, words) {
-        Ok(Some(form)) => perform(alloc, form, input, output).status(),
-        Ok(None) => refuse_words(output),
+        Ok(Some(form)) => perform_and_tell(alloc, form, input, output, errors).status(),
+        Ok(None) => refuse_words(errors),
         Err(_) => Status::Memory,
     }
 }
 
-// Does what a form asks for.
-fn perform<S: Source, K: Sink>(alloc: Global, form: Form, input: &mut S, output: &mut K) -> JobEnd
+// Does what a form asks for, and tells what was skipped, and why its input is refused, if it is.
+fn perform_and_tell<S: Source, K: Sink, E: Sink>(
+    alloc: Global,
+    form: Form,
+    input: &mut S,
+    output: &mut K,
+    errors: &mut E,
+) -> JobEnd
     requires { IsBridgeFormWithinBounds form }
     ensures answers { OnBridgeRead form (S.left input.old) (λ bytes.
         Answers (bridge_text form bytes) (is_bridge_refused form bytes) result (S.left input.new) (K.taken output.old) (K.taken output.new)) }
     ensures past { OnBridgeRead form (S.left input.old) (λ bytes.
         StopsWithin (bridge_reads_past form) (bridge_accepted form bytes) bytes result (S.left input.new)) }
+    ensures said { OnBridgeRead form (S.left input.old) (λ bytes.
+        OnAnswer result (IsWritten (said_text (bridge_said form bytes)) (E.taken errors.old) (E.taken errors.new)
+        (SinkFails E.faults E.empty_takes errors.old errors.new))) }
     ensures told { has_input form ≡ false → Answers (bridge_text form []) false result (Some []) (K.taken output.old) (K.taken output.new) }
     ensures unread { has_input form ≡ false → input.new ≡ input.old }
     ensures cause { EndsForCause result (Rose (S.faults input.old) (S.faults input.new)) (SinkFails K.faults K.empty_takes output.old output.new) }
 {
+    let ended = perform(alloc, form, input, output);
+    tell_said(alloc, ended, errors)
+}
+
+// Does what a form asks for.
+fn perform<S: Source, K: Sink>(alloc: Global, form: Form, input: &mut S, output: &mut K) -> FormEnd
+    requires { IsBridgeFormWithinBounds form }
+    ensures answers { OnBridgeRead form (S.left input.old) (λ bytes.
+        Answers (bridge_text form bytes) (is_bridge_refused form bytes) result.end (S.left input.new) (K.taken output.old) (K.taken output.new)) }
+    ensures past { OnBridgeRead form (S.left input.old) (λ bytes.
+        StopsWithin (bridge_reads_past form) (bridge_accepted form bytes) bytes result.end (S.left input.new)) }
+    ensures refused { OnBridgeRead form (S.left input.old) (λ bytes.
+        OnAnswer result.end (result.said ≡ bridge_said form bytes)) }
+    ensures told { has_input form ≡ false → Answers (bridge_text form []) false result.end (Some []) (K.taken output.old) (K.taken output.new) }
+    ensures unread { has_input form ≡ false → input.new ≡ input.old }
+    ensures cause { EndsForCause result.end (Rose (S.faults input.old) (S.faults input.new)) (SinkFails K.faults K.empty_takes output.old output.new) }
+{
     match form {
-        Form::Capture => capture_frames(alloc, input, output),
-        Form::Unwrap => unwrap_capture(alloc, input, output),
-        Form::Seed(run) => tell_seed(alloc, run.seed, run.events, output),
-        Form::Frames(asked) => frame_flow(alloc, asked.flow, asked.side, input, output),
-        Form::Json => json_records(alloc, input, output),
-        Form::Ladder => ladder_of_transcript(alloc, input, output),
-        Form::FlowLadder(flow) => ladder_of_flow(alloc, flow, input, output),
+        Form::Capture => {
+            let ended = capture_frames(alloc, input, output);
+            FormEnd {
+                end: ended.end,
+                said: line_said(ended.refusal),
+            }
+        }
+        Form::Picture(picture) => {
+            let ended = draw_lines(alloc, picture, input, output);
+            FormEnd {
+                end: ended.end,
+                said: line_said(ended.refusal),
+            }
+        }
+        Form::Seed(run) => FormEnd {
+            end: tell_seed(alloc, run.seed, run.events, output),
+            said: line_said(None),
+        },
+        Form::Unwrap => {
+            let ended = unwrap_capture(alloc, input, output);
+            FormEnd {
+                end: ended.end,
+                said: capture_said(ended.refusal, ended.skips),
+            }
+        }
+        Form::Frames(asked) => {
+            let ended = frame_flow(alloc, asked.flow, asked.side, input, output);
+            FormEnd {
+                end: ended.end,
+                said: capture_said(ended.refusal, ended.skips),
+            }
+        }
+        Form::Json(payload) => {
+            let ended = json_records(alloc, payload, input, output);
+            FormEnd {
+                end: ended.end,
+                said: capture_said(ended.refusal, ended.skips),
+            }
+        }
+        Form::FlowPicture(picture, flow) => {
+            let ended = draw_flow(alloc, picture, flow, input, output);
+            FormEnd {
+                end: ended.end,
+                said: capture_said(ended.refusal, ended.skips),
+            }
+        }
     }
 }
 
-fn refuse_words<K: Sink>(output: &mut K) -> Status
-    ensures words { result ≡ Status.Words }
-    ensures usage { IsWritten bridge_usage (K.taken output.old) (K.taken output.new) (SinkFails K.faults K.empty_takes output.old output.new) }
+// Draws a picture of the input's lines.
+fn draw_lines<S: Source, K: Sink>(
+    alloc: Global,
+    picture: Picture,
+    input: &mut S,
+    output: &mut K,
+) -> LinesEnd
+    ensures drawn { (bytes : List ℕ) → S.left input.old ≡ Some bytes
+        → Answers (picture_text picture bytes) (picture_refused picture bytes) result.end (S.left input.new) (K.taken output.old) (K.taken output.new) }
+    ensures past { (bytes : List ℕ) → S.left input.old ≡ Some bytes
+        → StopsWithin 16384 (picture_accepted picture bytes) bytes result.end (S.left input.new) }
+    ensures refused { (bytes : List ℕ) → S.left input.old ≡ Some bytes → IsAnswered result.end → result.refusal ≡ picture_refusal picture bytes }
+    ensures cause { EndsForCause result.end (Rose (S.faults input.old) (S.faults input.new)) (SinkFails K.faults K.empty_takes output.old output.new) }
 {
-    let _ = write_all(output, USAGE);
+    match picture {
+        Picture::Ladder => ladder_of_transcript(alloc, input, output),
+        Picture::Windows => windows_of_schedule(alloc, input, output),
+    }
+}
+
+// Draws a picture of a flow of a capture.
+fn draw_flow<S: Source, K: Sink>(
+    alloc: Global,
+    picture: Picture,
+    flow: u64,
+    input: &mut S,
+    output: &mut K,
+) -> RecordsEnd
+    ensures drawn { (bytes : List ℕ) → S.left input.old ≡ Some bytes
+        → Answers (flow_picture_text picture flow bytes) (is_flow_picture_faulty picture flow bytes) result.end (S.left input.new) (K.taken output.old) (K.taken output.new) }
+    ensures past { (bytes : List ℕ) → S.left input.old ≡ Some bytes
+        → StopsWithin 524288 (flow_picture_accepted picture flow bytes) bytes result.end (S.left input.new) }
+    ensures refused { (bytes : List ℕ) → S.left input.old ≡ Some bytes → IsAnswered result.end → result.refusal ≡ flow_picture_refusal picture flow bytes }
+    ensures skipped { (bytes : List ℕ) → S.left input.old ≡ Some bytes → IsAnswered result.end → result.skips ≡ flow_picture_skips picture flow bytes }
+    ensures cause { EndsForCause result.end (Rose (S.faults input.old) (S.faults input.new)) (SinkFails K.faults K.empty_takes output.old output.new) }
+{
+    match picture {
+        Picture::Ladder => ladder_of_flow(alloc, flow, input, output),
+        Picture::Windows => windows_of_flow(alloc, flow, input, output),
+    }
+}
+
+fn refuse_words<E: Sink>(errors: &mut E) -> Status
+    ensures words { result ≡ Status.Words }
+    ensures usage { IsWritten bridge_usage (E.taken errors.old) (E.taken errors.new) (SinkFails E.faults E.empty_takes errors.old errors.new) }
+{
+    let _ = write_all(errors, USAGE);
     Status::Words
 }

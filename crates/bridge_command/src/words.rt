@@ -1,6 +1,6 @@
 //! What the words after the program's name ask for.
 ghost use Rattle.std.specs.Prelude.{◌≡◌, IfOk, IfSome, IsOk, false};
-ghost use Rattle.bridge_command.specs.Words.{IsBridgeFormWithinBounds, asked_flow, asked_form, asked_ladder, asked_seed, flow_ladder, form_behind, joined_ladder, has_bridge_settings, has_settings_behind, stands_alone};
+ghost use Rattle.bridge_command.specs.Words.{IsBridgeFormWithinBounds, asked_flow, asked_form, asked_json, asked_picture, asked_seed, flow_picture, form_behind, joined_picture, has_bridge_settings, has_settings_behind, stands_alone};
 
 use seq_circle::NoMemory;
 use std::alloc::Global;
@@ -18,12 +18,21 @@ pub enum Form {
     Seed(SeedRun),
     /// `frames` makes lines of `replay` of the packets of a flow that go to a side.
     Frames(FlowSide),
-    /// `json` makes an object of JSON of each record of a capture.
-    Json,
-    /// `ladder` draws what `run` or `replay` told.
+    /// `json` makes an object of JSON of each record of a capture, and `json --payload` with the bytes of data.
+    Json(bool),
+    /// `ladder` draws what `run` or `replay` told, and `windows` a schedule.
+    Picture(Picture),
+    /// `ladder --flow F` and `windows --flow F` draw the flow of this number of a capture, from 1.
+    FlowPicture(Picture, u64),
+}
+
+/// What a picture shows (own).
+#[derive(Clone, Copy, Debug, PartialEq, Eq)]
+pub enum Picture {
+    /// The packets between both ends.
     Ladder,
-    /// `ladder --flow F` draws the flow of this number of a capture, from 1.
-    FlowLadder(u64),
+    /// The windows of both ends.
+    Windows,
 }
 
 // A flow and its number as one word.
@@ -31,7 +40,7 @@ const FLOW: &[u8] = b"--flow=";
 
 /// The line that answers words which are none of the forms (own). It names all forms.
 pub const USAGE: &[u8] =
-    b"usage: dccp_bridge capture | unwrap | seed --seed S --events E | frames --flow F --side server|client | json | ladder [--flow F]\n";
+    b"usage: dccp_bridge capture | unwrap | seed --seed S --events E | frames --flow F --side server|client | json [--payload] | ladder [--flow F] | windows [--flow F]\n";
 
 // No word may follow.
 fn stands_alone(form: Form, words: &[String]) -> Option<Form>
@@ -42,7 +51,7 @@ fn stands_alone(form: Form, words: &[String]) -> Option<Form>
     if words.is_empty() { Some(form) } else { None }
 }
 
-// The job that the words behind `seed` ask for.
+// The job that the words after `seed` ask for.
 fn asked_seed(alloc: Global, words: &[String]) -> Result<Option<Form>, NoMemory>
     ensures value { IfOk result (λ form. form ≡ asked_seed words.now) }
     ensures within { IfOk result (λ form. IfSome form IsBridgeFormWithinBounds) }
@@ -53,7 +62,7 @@ fn asked_seed(alloc: Global, words: &[String]) -> Result<Option<Form>, NoMemory>
     }
 }
 
-// The job that the words behind `frames` ask for.
+// The job that the words after `frames` ask for.
 fn asked_flow(alloc: Global, words: &[String]) -> Result<Option<Form>, NoMemory>
     ensures value { IfOk result (λ form. form ≡ asked_flow words.now) }
     ensures within { IfOk result (λ form. IfSome form IsBridgeFormWithinBounds) }
@@ -64,43 +73,55 @@ fn asked_flow(alloc: Global, words: &[String]) -> Result<Option<Form>, NoMemory>
     }
 }
 
-// The ladder of the flow whose number this text is, from 1.
-fn flow_ladder(text: &[u8]) -> Option<Form>
-    ensures value { result ≡ flow_ladder text.now }
+// The job that the words after `json` ask for.
+fn asked_json(words: &[String]) -> Option<Form>
+    ensures value { result ≡ asked_json words.now }
+    ensures within { IfSome result IsBridgeFormWithinBounds }
+{
+    match words {
+        [] => Some(Form::Json(false)),
+        [word] if is_word(word, b"--payload") => Some(Form::Json(true)),
+        _ => None,
+    }
+}
+
+// The picture of the flow whose number this text is, from 1.
+fn flow_picture(picture: Picture, text: &[u8]) -> Option<Form>
+    ensures value { result ≡ flow_picture picture text.now }
     ensures within { IfSome result IsBridgeFormWithinBounds }
 {
     let flow = number_up_to(u64::MAX, text)?;
     if flow == 0 {
         return None;
     }
-    Some(Form::FlowLadder(flow))
+    Some(Form::FlowPicture(picture, flow))
 }
 
 // The same from one word, `--flow=F`.
-fn joined_ladder(word: &[u8]) -> Option<Form>
-    ensures value { result ≡ joined_ladder word.now }
+fn joined_picture(picture: Picture, word: &[u8]) -> Option<Form>
+    ensures value { result ≡ joined_picture picture word.now }
     ensures within { IfSome result IsBridgeFormWithinBounds }
 {
     if word.len() < FLOW.len() || !is_text(&word[..FLOW.len()], FLOW) {
         return None;
     }
-    flow_ladder(&word[FLOW.len()..])
+    flow_picture(picture, &word[FLOW.len()..])
 }
 
-// The job that the words behind `ladder` ask for.
-fn asked_ladder(words: &[String]) -> Option<Form>
-    ensures value { result ≡ asked_ladder words.now }
+// The job that the words after `ladder` or `windows` ask for.
+fn asked_picture(picture: Picture, words: &[String]) -> Option<Form>
+    ensures value { result ≡ asked_picture picture words.now }
     ensures within { IfSome result IsBridgeFormWithinBounds }
 {
     match words {
-        [] => Some(Form::Ladder),
-        [word] => joined_ladder(word.as_bytes()),
-        [name, flow] if is_word(name, b"--flow") => flow_ladder(flow.as_bytes()),
+        [] => Some(Form::Picture(picture)),
+        [word] => joined_picture(picture, word.as_bytes()),
+        [name, flow] if is_word(name, b"--flow") => flow_picture(picture, flow.as_bytes()),
         _ => None,
     }
 }
 
-// The job that a first word and those behind it ask for.
+// The job that a first word and those after it ask for.
 #[tactic(auto, unfolding(crate::specs::Words::form_behind))]
 fn form_behind(alloc: Global, first: &String, words: &[String]) -> Result<Option<Form>, NoMemory>
     ensures value { IfOk result (λ form. form ≡ form_behind first.now words.now) }
@@ -120,16 +141,19 @@ fn form_behind(alloc: Global, first: &String, words: &[String]) -> Result<Option
         return asked_flow(alloc, words);
     }
     if is_word(first, b"json") {
-        return Ok(stands_alone(Form::Json, words));
+        return Ok(asked_json(words));
     }
     if is_word(first, b"ladder") {
-        return Ok(asked_ladder(words));
+        return Ok(asked_picture(Picture::Ladder, words));
+    }
+    if is_word(first, b"windows") {
+        return Ok(asked_picture(Picture::Windows, words));
     }
     Ok(None)
 }
 
 /// The job that these words ask for, those after the program's name, or None where they are none of the forms (own).
-/// NoMemory comes only for words behind `seed` and `frames`, whose settings are read by a command of `clap`, and then
+/// NoMemory comes only for words after `seed` and `frames`, whose settings are read by a command of `clap`, and then
 /// says nothing of them.
 pub fn form_of(alloc: Global, words: &[String]) -> Result<Option<Form>, NoMemory>
     ensures value { IfOk result (λ form. form ≡ asked_form words.now) }

@@ -1,1 +1,5 @@
+pub mod Starts
+pub mod Extensions
+pub mod Logs
 pub mod Links
+pub mod Packets

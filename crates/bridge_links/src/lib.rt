@@ -1,9 +1,16 @@
 //! Where the IP packet of a captured record stands, by the link type (the link-layer header types of libpcap).
 //!
-//! It looks at the header of the link, at VLAN tags and at PPPoE, and no further into the packet than its version. It
-//! takes no memory.
+//! It looks at the header of the link, at VLAN tags and at PPPoE, at the packet's version, and at the extension headers of
+//! IPv6. Where these lead to DCCP they are taken out, which alone takes memory.
 #![tactic(auto)]
 
+mod extensions;
 mod links;
+mod logs;
+mod numbers;
+mod packets;
+mod starts;
 
-pub use crate::links::{ip_bytes, ip_start, read_u16};
+pub use crate::extensions::{Upper, upper_of};
+pub use crate::numbers::read_u16;
+pub use crate::packets::{IpPacket, ip_packet};

@@ -1,8 +1,11 @@
 //! Where the IP packet of a record begins, by the link type.
 ghost use Rattle.std.specs.Prelude.{◌≡◌, ◌+◌, ◌≤◌, ◌<◌, length, IfSome};
 ghost use Rattle.dccp_packets.specs.Grammar.{number_at};
-ghost use Rattle.bridge_links.specs.Links.{ip_at, ip_at_first, ip_behind_tag, ip_behind_tags, ip_by_type, ip_bytes, ip_in_loop, ip_in_null, ip_in_ppp, ip_in_session, ip_of_family, ip_of_later_link, ip_of_protocol, ip_of_type, ip_start, is_tag};
+ghost use Rattle.bridge_links.specs.Links.{captured_ip, ip_at_first, ip_behind_tag, ip_behind_tags, ip_by_type, ip_in_loop, ip_in_null, ip_in_ppp, ip_in_session, ip_of_family, ip_of_later_link, ip_of_protocol, ip_of_type, ip_start, is_tag};
 
+use crate::logs::ip_in_log;
+use crate::numbers::read_u16;
+use crate::starts::ip_at;
 use byteorder::{BigEndian, ByteOrder, LittleEndian};
 
 // The types of Ethernet.
@@ -23,27 +26,8 @@ const PPP_IPV4: u16 = 0x0021;
 
 const PPP_IPV6: u16 = 0x0057;
 
-// The address and the control byte that may stand before them.
+// The address and the control byte that may come before them.
 const PPP_CONTROL: u16 = 0xff03;
-
-/// The number of 16 bits that stands there, the most significant byte first.
-pub fn read_u16(bytes: &[u8], place: usize) -> u16
-    requires { place + 2 ≤ length bytes.now }
-    ensures { result ≡ number_at place 2 bytes.now }
-{
-    BigEndian::read_u16(&bytes[place..])
-}
-
-// IP of this version begins here.
-fn ip_at(version: u8, start: usize, bytes: &[u8]) -> Option<usize>
-    ensures value { result ≡ ip_at version start bytes.now }
-    ensures within { IfSome result (λ n. n < length bytes.now) }
-{
-    if start < bytes.len() && bytes[start] / 16 == version {
-        return Some(start);
-    }
-    None
-}
 
 // IP of either version begins with the record.
 fn ip_at_first(bytes: &[u8]) -> Option<usize>
@@ -114,7 +98,7 @@ fn is_tag(kind: u16) -> bool
     kind == VLAN || kind == SERVICE_VLAN || kind == OUTER_VLAN
 }
 
-// The same behind a tag, of whose four bytes the last two are the next type.
+// The same after a tag, of whose four bytes the last two are the next type.
 fn ip_behind_tag(kind: u16, next: usize, bytes: &[u8]) -> Option<usize>
     requires { next ≤ 60 }
     ensures value { result ≡ ip_behind_tag kind next bytes.now }
@@ -129,7 +113,7 @@ fn ip_behind_tag(kind: u16, next: usize, bytes: &[u8]) -> Option<usize>
     ip_of_type(read_u16(bytes, next + 2), next + 4, bytes)
 }
 
-// The same behind up to two tags.
+// The same after up to two tags.
 fn ip_behind_tags(kind: u16, next: usize, bytes: &[u8]) -> Option<usize>
     requires { next ≤ 32 }
     ensures value { result ≡ ip_behind_tags kind next bytes.now }
@@ -144,7 +128,7 @@ fn ip_behind_tags(kind: u16, next: usize, bytes: &[u8]) -> Option<usize>
     ip_behind_tag(read_u16(bytes, next + 2), next + 4, bytes)
 }
 
-// The type stands at one place of the link's header, and what follows behind the header.
+// The type is at one place of the link's header, and what follows after the header.
 fn ip_by_type(place: usize, header: usize, bytes: &[u8]) -> Option<usize>
     requires place { place + 2 ≤ header }
     requires header { header ≤ 32 }
@@ -169,7 +153,7 @@ fn ip_of_family(family: u32, bytes: &[u8]) -> Option<usize>
     }
 }
 
-// The family stands first, with the most significant byte first.
+// The family comes first, with the most significant byte first.
 fn ip_in_loop(bytes: &[u8]) -> Option<usize>
     ensures value { result ≡ ip_in_loop bytes.now }
     ensures within { IfSome result (λ n. n < length bytes.now) }
@@ -180,7 +164,7 @@ fn ip_in_loop(bytes: &[u8]) -> Option<usize>
     ip_of_family(BigEndian::read_u32(bytes), bytes)
 }
 
-// The family stands first, in the byte order of the system that captured.
+// The family comes first, in the byte order of the system that captured.
 fn ip_in_null(bytes: &[u8]) -> Option<usize>
     ensures value { result ≡ ip_in_null bytes.now }
     ensures within { IfSome result (λ n. n < length bytes.now) }
@@ -194,8 +178,8 @@ fn ip_in_null(bytes: &[u8]) -> Option<usize>
     }
 }
 
-/// Where the IP packet begins in a record of this link type, or None where it has none.
-pub fn ip_start(link: u32, bytes: &[u8]) -> Option<usize>
+// Where the IP packet begins in a record of this link type, or None where it has none.
+fn ip_start(link: u32, bytes: &[u8]) -> Option<usize>
     ensures value { result ≡ ip_start link bytes.now }
     ensures within { IfSome result (λ n. n < length bytes.now) }
 {
@@ -219,15 +203,16 @@ fn ip_of_later_link(link: u32, bytes: &[u8]) -> Option<usize>
         113 => ip_by_type(14, 16, bytes),
         228 => ip_at(4, 0, bytes),
         229 => ip_at(6, 0, bytes),
+        239 => ip_in_log(bytes),
         276 => ip_by_type(0, 20, bytes),
         _ => None,
     }
 }
 
-/// The IP packet in a record of this link type, or no bytes where it has none (the link-layer header types of libpcap;
-/// IEEE 802.1Q), as where its link type is not known.
-pub fn ip_bytes(link: u32, bytes: &[u8]) -> &[u8]
-    ensures { result.now ≡ ip_bytes link bytes.now }
+/// The IP packet in a record of this link type as it was captured, or no bytes where it has none.
+pub(crate) fn captured_ip(link: u32, bytes: &[u8]) -> &[u8]
+    ensures value { result.now ≡ captured_ip link bytes.now }
+    ensures fits { length result.now ≤ length bytes.now }
 {
     match ip_start(link, bytes) {
         Some(start) => &bytes[start..],

@@ -1,5 +1,5 @@
 -- What a line of a transcript draws: of those that `run` and `replay` write (own).
-use Rattle.std.specs.Prelude.{ℕ, ◌^◌, ◌-◌, ◌==◌, ◌||◌, ◌&&◌, not, nat_lt, Bool, false, is_some, if◌then◌else◌, List, [], ◌∷◌, length, take, slice_index, codes, Option, Some, None, option_and_then, Result, Ok, Err}
+use Rattle.std.specs.Prelude.{ℕ, ◌^◌, ◌-◌, ◌==◌, ◌||◌, ◌&&◌, not, nat_lt, Bool, is_some, if◌then◌else◌, List, [], ◌∷◌, length, take, slice_index, codes, Option, Some, None, option_and_then, Result, Ok, Err}
 use Rattle.std.specs.Str.{bytes_eq}
 use Rattle.tool_text.specs.Kinds.{hex_kind, word_read}
 use Rattle.tool_text.specs.Lines.{line_read}
@@ -18,7 +18,7 @@ use Rattle.bridge_pictures.specs.declared.ladder.phases.Asked.TheVariants as ask
 use Rattle.bridge_pictures.specs.declared.ladder.phases.Came.{Came}
 use Rattle.bridge_pictures.specs.declared.ladder.phases.Came.TheVariants as comes
 
--- a word without the colon at its end, if one stands there
+-- a word without the colon at its end, if one is there
 abbrev pub without_colon : List ℕ → List ℕ
 without_colon word =
     if nat_lt 0 (length word) && slice_index word (length word - 1) == 58 then take (length word - 1) word else word
@@ -80,7 +80,7 @@ timer_asked timer answer =
     else if bytes_eq timer (codes "rto:") then asks.TimedOut
     else asks.Other
 
--- An event of two ends, by the words behind its number: an end gives up that aborts, or whose TIMEWAIT is over.
+-- An event of two ends, by the words after its number: an end gives up that aborts, or whose TIMEWAIT is over.
 abbrev pub event : List ℕ → List ℕ → List ℕ → List ℕ → Option Drawn
 event second third fourth fifth =
     if bytes_eq second (codes "open:") then Some (draws.Asked Client asks.Other)
@@ -121,7 +121,7 @@ or_unknown column None = Err (fault_at column why.UnknownWord)
 abbrev pub sent_frame : List ℕ → List ℕ → Option Drawn
 sent_frame name frame = option_and_then (λ f. Some (draws.Sent f.0 f.1 frame)) (named_frame name)
 
--- what stands behind `sent`: a frame's name and its bytes
+-- what follows `sent`: a frame's name and its bytes
 abbrev pub sent_drawn : WordsLeft → Result Drawn LineFault
 sent_drawn left =
     word_read hex_kind.reads (first_word (later left)) >>= (λ frame. or_unknown (first_word left).column (sent_frame (first_word left).text frame))

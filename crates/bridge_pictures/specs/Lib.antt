@@ -5,4 +5,14 @@ pub mod Places
 pub mod Scene
 pub mod LadderLines
 pub mod Transcript
+pub mod Walk
+pub mod Stamps
 pub mod Flow
+pub mod Bars
+pub mod Look
+pub mod Chart
+pub mod Graph
+pub mod Watched
+pub mod Played
+pub mod Senders
+pub mod FlowWindows

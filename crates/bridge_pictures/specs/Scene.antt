@@ -1,5 +1,5 @@
 -- A ladder while it is drawn, row by row (own).
-use Rattle.std.specs.Prelude.{ℕ, ◌+◌, nat_lt, Bool, true, false, if◌then◌else◌, List, [], ◌∷◌, ◌++◌, length, flat_map, slice_get, slice_set, codes, Option, Some, None}
+use Rattle.std.specs.Prelude.{ℕ, ◌+◌, nat_lt, Bool, true, false, if◌then◌else◌, List, [], ◌∷◌, ◌++◌, flat_map, slice_get, slice_set, codes, Option, Some, None}
 use Rattle.dccp_packets.specs.Grammar.{packet_type}
 use Rattle.dccp_packets.specs.declared.header.Kind.{Kind}
 use Rattle.dccp_packets.specs.declared.header.PacketType.{PacketType}
@@ -39,7 +39,7 @@ first_lifeline phase = record { phase = phase; since = 0; frames = [] }
 abbrev pub first_drawing : Drawing
 first_drawing = record { rows = 0; lone = false; client = first_lifeline phases.Closed; server = first_lifeline phases.Listen; body = [] }
 
--- the row behind this one
+-- the row after this one
 abbrev pub next_row : ℕ → ℕ
 next_row row = if nat_lt row 4294967295 then row + 1 else row
 

@@ -26,13 +26,17 @@ begin name class = codes "<" ++ name ++ codes " class='" ++ class ++ codes "'"
 abbrev pub text_begin : List ℕ → Point → List ℕ
 text_begin class at = begin (codes "text") class ++ attribute (codes "x") at.x ++ attribute (codes "y") at.y ++ codes ">"
 
--- the front of a text that stands in a picture
+-- the front of a text that is in a picture
 abbrev pub label_front : List ℕ → List ℕ
 label_front words = take (min (length words) 60) words
 
 -- A text at that place: its first 60 bytes, and the whole as a tooltip.
 abbrev pub label : List ℕ → Point → List ℕ → List ℕ
 label class at words = text_begin class at ++ escaped (label_front words) ++ title words ++ codes "</text>\n"
+
+-- A whole text at that place.
+abbrev pub words : List ℕ → Point → List ℕ → List ℕ
+words class at text = text_begin class at ++ escaped text ++ codes "</text>\n"
 
 -- the beginning of a line between two places
 abbrev pub line_begin : List ℕ → Point → Point → List ℕ

@@ -4,8 +4,9 @@ use Rattle.dccp_packets.specs.Grammar.{Parts, decoded}
 use Rattle.dccp_packets.specs.declared.header.Kind.{Kind}
 use Rattle.dccp_packets.specs.declared.reading.Malformed.{Malformed}
 use Rattle.packet_show.specs.Lines.{words_text}
-use Rattle.tool_text.specs.Jobs.{Accepted, Gone, Job, Refused, Verdict, gone_through, text_of_job}
+use Rattle.tool_text.specs.Jobs.{Accepted, Gone, Job, Refused, Verdict, gone_through, refusal_told, text_apart}
 use Rattle.tool_text.specs.Names.{malformed_name}
+use Rattle.tool_text.specs.declared.lines.refusals.Refusal.{Refusal}
 use Rattle.tool_text.specs.declared.words.faults.LineFault.{LineFault}
 use Rattle.world_events.specs.declared.event.Side.{Side}
 use Rattle.world_events.specs.declared.event.Side.TheVariants.{Client, Server}
@@ -90,9 +91,13 @@ ladder_job = record { judged = line_judged; told = λ _. []; ending = whole_pict
 abbrev pub ladder_gone : List ℕ → Gone (Unit {0}) Drawing
 ladder_gone input = gone_through ladder_job first_drawing input
 
--- What `ladder` writes of a transcript: the picture, or the line of a refusal.
+-- What `ladder` writes of a transcript: the picture, or nothing where a line is refused.
 abbrev pub ladder_text : List ℕ → List ℕ
-ladder_text input = text_of_job ladder_job (ladder_gone input)
+ladder_text input = text_apart ladder_job (ladder_gone input)
+
+-- The line that is refused, if one is.
+abbrev pub ladder_refusal : List ℕ → Option Refusal
+ladder_refusal input = refusal_told (ladder_gone input)
 
 -- The transcript is refused at some line.
 abbrev pub ladder_refused : List ℕ → Bool

@@ -12,7 +12,7 @@ pub(crate) struct Point {
     pub(crate) y: u64,
 }
 
-// So many bytes of a text stand in a picture; its tooltip has all.
+// So many bytes of a text are in a picture; its tooltip has all.
 const LABEL: usize = 60;
 
 // A byte of text, or what XML writes for one that it keeps for itself.
@@ -38,8 +38,8 @@ fn put_escaped(text: &mut Vec<u8>, words: &[u8]) -> Result<(), NoMemory>
     Ok(())
 }
 
-// Puts a tooltip.
-fn put_title(text: &mut Vec<u8>, words: &[u8]) -> Result<(), NoMemory>
+/// Puts a tooltip.
+pub(crate) fn put_title(text: &mut Vec<u8>, words: &[u8]) -> Result<(), NoMemory>
     ensures { OnOk result (text.new.items ≡ text.old.items ++ spec.title words.now) }
 {
     put(text, b"<title>")?;
@@ -47,8 +47,8 @@ fn put_title(text: &mut Vec<u8>, words: &[u8]) -> Result<(), NoMemory>
     put(text, b"</title>")
 }
 
-// Puts a number as an attribute.
-fn put_attribute(text: &mut Vec<u8>, name: &[u8], number: u64) -> Result<(), NoMemory>
+/// Puts a number as an attribute.
+pub(crate) fn put_attribute(text: &mut Vec<u8>, name: &[u8], number: u64) -> Result<(), NoMemory>
     ensures { OnOk result (text.new.items ≡ text.old.items ++ spec.attribute name.now number) }
 {
     put(text, b" ")?;
@@ -57,8 +57,8 @@ fn put_attribute(text: &mut Vec<u8>, name: &[u8], number: u64) -> Result<(), NoM
     put(text, b"'")
 }
 
-// Puts the beginning of an element of this name and class.
-fn put_begin(text: &mut Vec<u8>, name: &[u8], class: &[u8]) -> Result<(), NoMemory>
+/// Puts the beginning of an element of this name and class.
+pub(crate) fn put_begin(text: &mut Vec<u8>, name: &[u8], class: &[u8]) -> Result<(), NoMemory>
     ensures { OnOk result (text.new.items ≡ text.old.items ++ spec.begin name.now class.now) }
 {
     put(text, b"<")?;
@@ -68,8 +68,8 @@ fn put_begin(text: &mut Vec<u8>, name: &[u8], class: &[u8]) -> Result<(), NoMemo
     put(text, b"'")
 }
 
-// The front of a text that stands in a picture.
-fn cut(words: &[u8]) -> &[u8]
+/// The front of a text that is in a picture.
+pub(crate) fn cut(words: &[u8]) -> &[u8]
     ensures { result.now ≡ spec.label_front words.now }
 {
     &words[..words.len().min(LABEL)]
@@ -97,6 +97,20 @@ pub(crate) fn put_label(
     put_text_begin(text, class, at)?;
     put_escaped(text, cut(words))?;
     put_title(text, words)?;
+    put(text, b"</text>\n")
+}
+
+/// Puts a whole text at that place, without a tooltip.
+pub(crate) fn put_words(
+    text: &mut Vec<u8>,
+    class: &[u8],
+    at: Point,
+    words: &[u8],
+) -> Result<(), NoMemory>
+    ensures { OnOk result (text.new.items ≡ text.old.items ++ spec.words class.now at words.now) }
+{
+    put_text_begin(text, class, at)?;
+    put_escaped(text, words)?;
     put(text, b"</text>\n")
 }
 

@@ -1,4 +1,4 @@
--- On the way through an input: what was written, what stands in the text and what is left make the whole.
+-- On the way through an input: what was written, what is in the text and what is left make the whole.
 use Rattle.std.proofs.Common.{arith, ◌≡◌, refl, sym, ap, ◌∙◌, subst, inr, ℕ, ◌+◌, ◌≤◌, true, false, nat_lt, Bool, List, [], ◌∷◌, ◌++◌, length, length-append, take, drop, Option, Some, None, Ok, append_assoc}
 use Rattle.std.proofs.lemmas.Bool.{le-ltb}
 use Rattle.std.proofs.lemmas.Grind.{flat_map-append}
@@ -7,7 +7,6 @@ use Rattle.std.specs.Io.KnownBytes.{append_known, prepend_known}
 use Rattle.std.specs.Prelude.{flat_map, is_some}
 use Rattle.dccp_io.specs.Fronts.{GivesAtMost}
 use Rattle.tool_text.specs.Ends.{HasBegun, IsCutOff, IsMovedOut}
-use Rattle.tool_text.specs.declared.output.status.JobEnd.{JobEnd}
 use Rattle.tool_text.specs.declared.output.status.JobEnd.TheVariants as ended
 use Rattle.tool_text.proofs.Ending.{answers-early, append-none, append-twice, begun-behind, begun-longer, not-both}
 use Rattle.capture_reader.proofs.Opening.{passed-ahead}
@@ -15,9 +14,10 @@ use Rattle.bridge_records.specs.Pieces.{Goes, GoesThroughPieces, Judgement, Judg
 use Rattle.bridge_records.specs.Turns.{LeavesText}
 use Rattle.bridge_records.specs.declared.pieces.fault.PieceFault.{PieceFault}
 use Rattle.bridge_records.specs.declared.pieces.fault.PieceFault.TheVariants.{CutShort}
+use Rattle.bridge_records.specs.declared.pieces.loops.PiecesEnd.{PiecesEnd}
 use Rattle.bridge_records.proofs.FirstPiece.{pieces-cut}
 
--- Behind so many bytes of accepted pieces, where `left` is what is left of the input and `text` was not written yet.
+-- After so many bytes of accepted pieces, where `left` is what is left of the input and `text` was not written yet.
 pub record Along {P V : Type 0} (job : PieceWork P V) (first state : V) (given : ℕ) (left : Option (List ℕ)) (text : List ℕ)
     (before after : Option (List ℕ)) (input : List ℕ) : Type 0 where
   pub written : List ℕ
@@ -125,7 +125,7 @@ module _ {P V : Type 0} (job : PieceWork P V) (first : V) where
       (job.judged state (take used pending))
       (ap Some (sym behind ∙ moved)) goes judges
 
-  -- the text of what is left stands behind that of what was done
+  -- the text of what is left follows that of what was done
   text-behind : (deeds : List P) (rest : Taken P V) → text_of_pieces job (in_front deeds rest) ≡ flat_map job.told deeds ++ text_of_pieces job rest
   text-behind deeds rest =
       let last = job.closing rest.last rest.refusal in
@@ -147,25 +147,28 @@ module _ {P V : Type 0} (job : PieceWork P V) (first : V) where
   end-refused state given true why is = cc is
   end-refused state given false why is = let same : CutShort ≡ why = cc is in ap (λ (w : PieceFault). taken_so_far state given (Some w)) same
 
-  module _ (state : V) (given : ℕ) (left known : Option (List ℕ)) (text : List ℕ) (before after later : Option (List ℕ)) (input : List ℕ) (result : JobEnd)
+  module _ (state : V) (given : ℕ) (left known : Option (List ℕ)) (text : List ℕ) (before after later : Option (List ℕ)) (input : List ℕ) (result : PiecesEnd) (last : V)
       (along : Along job first state given left text before after input) where
     -- the job ended early
-    pub through-early : IsCutOff result → HasBegun after later text → GoesThroughPieces job first input result known before later
+    pub through-early : IsCutOff result.end → HasBegun after later text → GoesThroughPieces job first input result last known before later
     through-early off begun =
         let rest = pieces_from job 0 state given (drop given input) in
         record {
-          answers = answers-early (text_of_pieces job (pieces_of job first input)) (is_some (pieces_of job first input).refusal) result known before later off
+          answers = answers-early (text_of_pieces job (pieces_of job first input)) (is_some (pieces_of job first input).refusal) result.end known before later off
               (subst (HasBegun before later) (sym (whole-text rest state given left text before after input along refl))
               (begun-behind before after later along.written (text ++ text_of_pieces job rest) along.taken_is
               (begun-longer after later text (text_of_pieces job rest) begun)));
-          past = λ is. absurd (not-both result (inr is) off);
+          past = λ is. absurd (not-both result.end (inr is) off);
+          refused = λ answered. absurd (not-both result.end answered off);
+          last_is = λ answered. absurd (not-both result.end answered off);
         }
 
-    -- behind the last turn the rest of the text was left, and what stands behind the last piece
+    -- after the last turn the rest of the text was left, and what follows the last piece
     pub through-last : (refusal : Option PieceFault) (pending : List ℕ) → pieces_from job 0 state given (drop given input) ≡ taken_so_far state given refusal
-        → LeavesText (text ++ job.closing state refusal) (is_some refusal) result after later → (result ≡ ended.Done → known ≡ Some [])
-        → prepend_known pending known ≡ left → length pending ≤ 524288 → GoesThroughPieces job first input result known before later
-    through-last refusal pending is leaves none held fits =
+        → result.fault ≡ refusal → last ≡ state
+        → LeavesText (text ++ job.closing state refusal) (is_some refusal) result.end after later → (result.end ≡ ended.Done → known ≡ Some [])
+        → prepend_known pending known ≡ left → length pending ≤ 524288 → GoesThroughPieces job first input result last known before later
+    through-last refusal pending is told stays leaves none held fits =
         let rest = taken_so_far state given refusal in
         let whole : pieces_of job first input ≡ in_front along.deeds rest = along.whole ∙ ap (in_front along.deeds) is in
         let parts = whole-text rest state given left text before after input along is in
@@ -182,6 +185,8 @@ module _ {P V : Type 0} (job : PieceWork P V) (first : V) where
             input = λ is_input. refused ∙ leaves.input is_input;
           };
           past = λ is_input. subst (λ (n : ℕ). GivesAtMost 524288 (Some (drop n input)) known) (sym (ap (λ (taken : Taken P V). taken.accepted) whole)) far;
+          refused = λ _. told ∙ sym (ap (λ (taken : Taken P V). taken.refusal) whole);
+          last_is = λ _. stays ∙ sym (ap (λ (taken : Taken P V). taken.last) whole);
         }
 
     pub refused-here : (bytes : List ℕ) (why : PieceFault) → 1 ≤ job.wanted state → by_next_piece job state (next_piece job state given bytes) ≡ Stops why

@@ -1,4 +1,4 @@
--- What stands next in an input, and the pieces behind it.
+-- What comes next in an input, and the pieces after it.
 use Rattle.std.proofs.Common.{arith, ◌≡◌, refl, sym, ap, ◌∙◌, ℕ, zero, suc, ◌+◌, ◌-◌, ◌≤◌, ◌<◌, List, [], ◌∷◌, length, drop}
 use Rattle.bridge_records.specs.Pieces.{Goes, Judgement, PieceWork, Stops, Taken, by_next_piece, done_by, in_front, next_piece, pieces_from, taken_by}
 
@@ -15,7 +15,7 @@ followed-by : {P V : Type 0} (state : V) (given : ℕ) (judgement : Judgement P 
 followed-by state given (Goes deed next) rest other same = ap (in_front (done_by deed)) (same next)
 followed-by state given (Stops why) rest other same = refl
 
--- where some bytes are left, what stands next is judged, and then the pieces behind it
+-- where some bytes are left, what comes next is judged, and then the pieces after it
 pub pieces-cut : {P V : Type 0} (job : PieceWork P V) (state : V) (given : ℕ) (bytes : List ℕ) → 0 < length bytes → 1 ≤ job.wanted state
     → pieces_from job 0 state given bytes
     ≡ taken_by state given (by_next_piece job state (next_piece job state given bytes))

@@ -11,13 +11,18 @@ use Rattle.tool_text.proofs.Ending.{none-left, on-err, on-ok, unwritten}
 use Rattle.bridge_records.specs.Pieces.{GoesThroughPieces, PieceWork, Stops, by_next_piece, unended, most_piece_bytes, next_piece, pieces_from, taken_so_far}
 use Rattle.bridge_records.specs.Turns.{KeepsBlock, LeavesText, Standing, TurnsPiece}
 use Rattle.bridge_records.specs.declared.pieces.fault.PieceFault.{PieceFault}
+use Rattle.bridge_records.specs.declared.pieces.loops.PiecesEnd.{PiecesEnd}
 use Rattle.bridge_records.specs.declared.pieces.turns.Turn.{Turn}
 use Rattle.bridge_records.specs.declared.pieces.turns.Turn.TheVariants as turn
 use Rattle.bridge_records.proofs.Along.{Along, along-first, along-moved, along-piece, refused-here, through-early, through-last}
 
--- where the input stands in a turn
+-- where the input is in a turn
 abbrev pub standing : {S V : Type 0} → S → BytesAhead → V → List ℕ → Standing S V
 standing source ahead state text = record { source = source; ahead = ahead; state = state; text = text }
+
+-- the input was not refused
+abbrev pub unrefused_pieces : JobEnd → PiecesEnd
+unrefused_pieces end = record { end = end; fault = None }
 
 -- Before each turn: the block has its size, what was accepted fits an input, the counts of faults never fall, and the text is along that
 -- of the whole input.
@@ -52,8 +57,8 @@ module _ {S K P V : Type 0} (left : S → Option (List ℕ)) (faults : S → ℕ
   }
 
   -- what the loop comes to
-  abbrev pub Through : S → Option (List ℕ) → JobEnd → Type 0
-  Through source later result = IfSome (left first) (λ input. GoesThroughPieces job start input result (left source) (taken opened) later)
+  abbrev pub Through : S → Option (List ℕ) → PiecesEnd → V → Type 0
+  Through source later result last = IfSome (left first) (λ input. GoesThroughPieces job start input result last (left source) (taken opened) later)
 
   module _ (state : V) (source : S) (ahead : BytesAhead) (output : K) (text : List ℕ) (given : ℕ)
       (before : InPieces left faults taken failed empty job start first opened state source ahead output text given) where
@@ -76,20 +81,20 @@ module _ {S K P V : Type 0} (left : S → Option (List ℕ)) (faults : S → ℕ
 
     -- the sink failed
     pub unmoved : {A E : Type 0} (later : K) (flushed : Result A E) → OnErr flushed (TakesFront (taken output) (taken later) text) → is_err flushed ≡ true
-        → Through source (taken later) ended.Write
-    unmoved later flushed taken_front failing =
+        → (last : V) → Through source (taken later) (unrefused_pieces ended.Write) last
+    unmoved later flushed taken_front failing last =
         let begun = on-err flushed (TakesFront (taken output) (taken later) text) taken_front failing in
         IfSome_then (left first) before.along (λ (input : List ℕ) along.
         through-early job start state given (ahead_of ahead (left source)) (left source) text (taken opened) (taken output)
-        (taken later) input ended.Write along
+        (taken later) input (unrefused_pieces ended.Write) last along
         (inr (inl refl)) (begun.0, begun.2))
 
     -- no memory was left
-    pub out-of-memory : (handed : S) → Through handed (taken output) ended.Memory
-    out-of-memory handed =
+    pub out-of-memory : (handed : S) (last : V) → Through handed (taken output) (unrefused_pieces ended.Memory) last
+    out-of-memory handed last =
         IfSome_then (left first) before.along (λ (input : List ℕ) along.
         through-early job start state given (ahead_of ahead (left source)) (left handed) text (taken opened) (taken output)
-        (taken output) input ended.Memory along
+        (taken output) input (unrefused_pieces ended.Memory) last along
         (inr (inr refl)) (unwritten text (taken output) (taken output) refl))
 
     module _ (new : Standing S V) (t : Turn) (keeps : KeepsBlock faults (standing source ahead state text) new)
@@ -139,14 +144,14 @@ module _ {S K P V : Type 0} (left : S → Option (List ℕ)) (faults : S → ℕ
           → TurnsPiece left faults job given (standing source ahead state text) new (Ok (turn.Over end))
           → LeavesText (new.text ++ job.closing new.state end) (is_some end) result (taken output) later
           → Along job start state given (ahead_of ahead (left source)) text (taken opened) (taken output) input
-          → GoesThroughPieces job start input result (left new.source) (taken opened) later
+          → GoesThroughPieces job start input (record { end = result; fault = end }) new.state (left new.source) (taken opened) later
       over-by None later result input (same, may, ends) leaves along =
           let here = subst (λ (all : Option (List ℕ)). IfSome all (λ bytes. bytes ≡ [])) along.rest_is ends in
           let closes = subst (λ (v : V). LeavesText (text ++ job.closing v None) false result (taken output) later) same.state
           (subst (λ (w : List ℕ). LeavesText (w ++ job.closing new.state None) false result (taken output) later) same.text leaves) in
           through-last job start state given (ahead_of ahead (left source)) (left new.source) text (taken opened)
-          (taken output) later input result along None new.ahead.pending
-          (ap (pieces_from job 0 state given) here ∙ ap (λ m. taken_so_far state given (unended m)) may) closes
+          (taken output) later input (unrefused_pieces result) new.state along None new.ahead.pending
+          (ap (pieces_from job 0 state given) here ∙ ap (λ m. taken_so_far state given (unended m)) may) refl same.state closes
           (λ _. none-left new.ahead.pending (left new.source) (same.ahead ∙ along.rest_is ∙ ap (λ (bytes : List ℕ). Some bytes) here)) same.ahead
           (subst (λ (n : ℕ). length new.ahead.pending ≤ n) (keeps.same_size ∙ before.size) keeps.fits)
       over-by (Some why) later result input (same, some, stands) leaves along =
@@ -154,15 +159,17 @@ module _ {S K P V : Type 0} (left : S → Option (List ℕ)) (faults : S → ℕ
           (λ bytes. by_next_piece job state (next_piece job state given bytes) ≡ Stops why)) along.rest_is stands in
           let closes = subst (λ (v : V). LeavesText (text ++ job.closing v (Some why)) true result (taken output) later) same.state
           (subst (λ (w : List ℕ). LeavesText (w ++ job.closing new.state (Some why)) true result (taken output) later) same.text leaves) in
-          through-last job start state given (ahead_of ahead (left source)) (left new.source) text (taken opened) (taken output) later input result along
+          through-last job start state given (ahead_of ahead (left source)) (left new.source) text (taken opened) (taken output) later input
+          (record { end = result; fault = Some why }) new.state along
           (Some why) new.ahead.pending
-          (refused-here job start state given (ahead_of ahead (left source)) (left new.source) text (taken opened) (taken output) later input result along
-          (drop given input) why some here) closes
+          (refused-here job start state given (ahead_of ahead (left source)) (left new.source) text (taken opened) (taken output) later input
+          (record { end = result; fault = Some why }) new.state along
+          (drop given input) why some here) refl same.state closes
           (λ is. cc (closes.done is)) same.ahead
           (subst (λ (n : ℕ). length new.ahead.pending ≤ n) (keeps.same_size ∙ before.size) keeps.fits)
 
       pub over : (end : Option PieceFault) (later : Option (List ℕ)) (result : JobEnd) → t ≡ turn.Over end
-          → LeavesText (new.text ++ job.closing new.state end) (is_some end) result (taken output) later → Through new.source later result
+          → LeavesText (new.text ++ job.closing new.state end) (is_some end) result (taken output) later → Through new.source later (record { end = result; fault = end }) new.state
       over end later result is leaves =
           IfSome_then (left first) before.along (λ (input : List ℕ) along.
           over-by end later result input
@@ -171,9 +178,9 @@ module _ {S K P V : Type 0} (left : S → Option (List ℕ)) (faults : S → ℕ
       -- the source failed
       pub turned-off : (later : Option (List ℕ)) (out : List ℕ) (result : JobEnd) → t ≡ turn.Failed → out ≡ new.text → result ≡ ended.Read
           → HasBegun (taken output) later out
-          → Through new.source later result
-      turned-off later out result is same read begun =
+          → (last : V) → Through new.source later (unrefused_pieces result) last
+      turned-off later out result is same read begun last =
           let failed_now = subst (λ (s : Turn). TurnsPiece left faults job given (standing source ahead state text) new (Ok s)) is turns in
           IfSome_then (left first) before.along (λ (input : List ℕ) along.
-          through-early job start state given (ahead_of ahead (left source)) (left new.source) text (taken opened) (taken output) later input result along
+          through-early job start state given (ahead_of ahead (left source)) (left new.source) text (taken opened) (taken output) later input (unrefused_pieces result) last along
           (inl read) (subst (HasBegun (taken output) later) (same ∙ failed_now.0) begun))

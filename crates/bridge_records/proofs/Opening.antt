@@ -1,5 +1,5 @@
 -- A file header that a reader of captures takes is taken here, and is none of a section.
-use Rattle.std.proofs.Common.{arith, ◌≡◌, refl, sym, ap, ◌∙◌, ℕ, ◌≤◌, ◌==◌, List, [], ◌∷◌, length, take, Bool, true, false, nat_lt, Option, Some, None, Result, Ok, Err}
+use Rattle.std.proofs.Common.{arith, ◌≡◌, refl, sym, ap, ◌∙◌, ℕ, ◌≤◌, ◌%◌, ◌==◌, List, [], ◌∷◌, length, take, Bool, true, false, nat_lt, Option, Some, None, Result, Ok, Err}
 use Rattle.std.proofs.lemmas.Bool.{ltb-false}
 use Rattle.std.proofs.lemmas.Bool.Decides.{nat_tests}
 use Rattle.std.proofs.lemmas.List.{length-take-le}
@@ -11,11 +11,25 @@ use Rattle.capture_reader.specs.declared.format.Format.{Format}
 use Rattle.capture_reader.specs.declared.format.Order.{Order}
 use Rattle.capture_reader.specs.declared.format.Order.TheVariants.{Big, Little}
 use Rattle.bridge_records.specs.Blocks.{section_block}
-use Rattle.bridge_records.specs.Links.{known_links}
+use Rattle.bridge_records.specs.Links.{by_link, classic_format, either_link, known_links}
 
 -- the link types of `show` are known
 known-link : (link : ℕ) → is_link shown_links link ≡ true → is_link known_links link ≡ true
 known-link link is = grind (arith, nat_tests)
+
+-- and have no more than 16 bits
+low-link : (link : ℕ) → is_link shown_links link ≡ true → link % 65536 ≡ link
+low-link link is = grind (arith, nat_tests)
+
+-- what is there in the header's own byte order is one of both
+either-is : (order : Order) (bytes : List ℕ) → is_link (either_link bytes) (ordered_number_at order 20 4 bytes) ≡ true
+either-is Big bytes = grind (arith, nat_tests)
+either-is Little bytes = grind (arith, nat_tests)
+
+-- a link type that has no more bits stays
+link-stays : (order : Order) (nanos : Bool) (link : ℕ) → is_link known_links link ≡ true → link % 65536 ≡ link
+    → by_link (Ok (record { order = order; nanos = nanos; link = link })) ≡ Ok (record { order = order; nanos = nanos; link = link })
+link-stays order nanos link known low = rw (low, known) refl
 
 -- what these say
 abbrev format-with : Order → Bool → List ℕ → Format
@@ -24,21 +38,22 @@ format-with order nanos bytes = record { order = order; nanos = nanos; link = or
 -- a version and link type that are taken
 taken-in : (order : Order) (nanos : Bool) (bytes : List ℕ) (format : Format) (version link : Bool) → is_version order bytes ≡ version
     → is_link shown_links (ordered_number_at order 20 4 bytes) ≡ link → format_in shown_links order nanos bytes ≡ Ok format
-    → format_in known_links order nanos bytes ≡ Ok format
+    → by_link (format_in (either_link bytes) order nanos bytes) ≡ Ok format
 taken-in order nanos bytes format false link v l told =
     let stops : format_in shown_links order nanos bytes ≡ Err fault.BadVersion = rw v refl in cc (sym stops ∙ told)
 taken-in order nanos bytes format true false v l told =
     let stops : format_in shown_links order nanos bytes ≡ Err fault.BadLink = rw (v, l) refl in cc (sym stops ∙ told)
 taken-in order nanos bytes format true true v l told =
-    let known = known-link (ordered_number_at order 20 4 bytes) l in
+    let link : ℕ = ordered_number_at order 20 4 bytes in
+    let one = either-is order bytes in
     let theirs : format_in shown_links order nanos bytes ≡ Ok (format-with order nanos bytes) = rw (v, l) refl in
-    let ours : format_in known_links order nanos bytes ≡ Ok (format-with order nanos bytes) = rw (v, known) refl in
+    let ours : format_in (either_link bytes) order nanos bytes ≡ Ok (format-with order nanos bytes) = rw (v, one) refl in
     let same : format-with order nanos bytes ≡ format = cc (sym theirs ∙ told) in
-    ours ∙ ap (λ (f : Format). Ok f) same
+    ap by_link ours ∙ link-stays order nanos link (known-link link l) (low-link link l) ∙ ap (λ (f : Format). Ok f) same
 
 -- the same by the magic number
 taken-by : (magic : Option (Order × Bool)) (bytes : List ℕ) (format : Format) → format_by shown_links magic bytes ≡ Ok format
-    → format_by known_links magic bytes ≡ Ok format
+    → by_link (format_by (either_link bytes) magic bytes) ≡ Ok format
 taken-by None bytes format told = cc told
 taken-by (Some (order, nanos)) bytes format told =
     taken-in order nanos bytes format (is_version order bytes) (is_link shown_links (ordered_number_at order 20 4 bytes)) refl refl told
@@ -62,7 +77,7 @@ no-section-in (w ∷ x ∷ y ∷ z ∷ bytes) format false false false false lon
 -- a whole file header
 pub record IsTaken (input : List ℕ) (format : Format) : Type 0 where
   pub long : 24 ≤ length input
-  pub taken : format_of known_links (take 24 input) ≡ Ok format
+  pub taken : classic_format (take 24 input) ≡ Ok format
   pub no_section : (ordered_number_at Big 0 4 (take 24 input) == section_block) ≡ false
 
 -- a format that an input opens with is that of its file header

@@ -1,4 +1,4 @@
--- The options behind one that is not sought.
+-- The options after one that is not sought.
 use Rattle.std.proofs.Common.{arith, ◌≡◌, refl, sym, ap, ◌∙◌, ℕ, zero, suc, ◌+◌, ◌-◌, ◌*◌, ◌/◌, ◌<◌, ◌≤◌, List, [], ◌∷◌, length, length-drop, drop, true, false, nat_lt, ◌==◌, Option, Some, None}
 use Rattle.std.proofs.lemmas.Bool.{le-ltb, lt-ltb}
 use Rattle.std.proofs.lemmas.List.{drop-drop}
@@ -20,7 +20,7 @@ skipped order code place (suc skip) (byte ∷ bytes) =
     let same : place + 1 + skip ≡ place + suc skip = omega arith in
     skipped order code (place + 1) skip bytes ∙ ap (λ (n : ℕ). option_from order code n 0 (drop skip bytes)) same
 
--- where some bytes are left, the option there is judged, and then those behind it
+-- where some bytes are left, the option there is judged, and then those after it
 cut : (order : Order) (code place : ℕ) (bytes : List ℕ) → 0 < length bytes
     → option_from order code place 0 bytes ≡ by_option order code place bytes
     (option_from order code (place + option_size order bytes) 0 (drop (option_size order bytes) bytes))
@@ -84,7 +84,7 @@ module _ (order : Order) (code place : ℕ) (options : List ℕ) where
           let is : (ordered_number_at order 0 2 (drop place options) == code) ≡ true = ap (λ (n : ℕ). n == code) (code-here order place options) ∙ here in
           cut order code place (drop place options) some ∙ rw (long, not_last, is) refl
 
-      -- it is sought behind another
+      -- it is sought after another
       pub sought_on : (ordered_number_at order place 2 options == code) ≡ false
           → sought order code place options ≡ sought order code (place + (4 + (ordered_number_at order (place + 2) 2 options + 3) / 4 * 4)) options
       sought_on other =

@@ -6,7 +6,7 @@ use Rattle.std.proofs.lemmas.List.{drop-append-le, drop_at, length-drop, take_al
 use Rattle.byteorder.specs.Endian.{big_from, little_from}
 use Rattle.byteorder.specs.Numbers.{big_from-take, little_from-take}
 use Rattle.capture_reader.specs.Capture.{HasRecords, IsCapture, IsRecord, Opened, Refused}
-use Rattle.capture_reader.specs.Format.{format_of, opened, ordered_number_at}
+use Rattle.capture_reader.specs.Format.{opened, ordered_number_at}
 use Rattle.capture_reader.specs.Records.{RecordParts, captured, record_header}
 use Rattle.capture_reader.specs.declared.fault.CaptureFault.{CaptureFault}
 use Rattle.capture_reader.specs.declared.fault.FormatFault.{FormatFault}
@@ -22,14 +22,19 @@ use Rattle.bridge_records.specs.declared.pieces.fault.PieceFault.{PieceFault}
 use Rattle.tool_text.specs.declared.output.status.JobEnd.{JobEnd}
 use Rattle.dccp_io.specs.Counts.{one_more}
 use Rattle.bridge_records.specs.Blocks.{section_block, section_order}
-use Rattle.bridge_records.specs.Links.{known_links}
+use Rattle.bridge_records.specs.Links.{classic_format}
+use Rattle.bridge_records.specs.Skips.{no_skips}
+use Rattle.bridge_records.specs.declared.skips.Skips.{Skips}
 use Rattle.bridge_records.specs.Reading.{FileState, by_format, by_header, by_section, by_start, first_file}
-use Rattle.bridge_records.specs.Recording.{RecordWork, RecordsState, by_judged, first_reading, numbered_entry, reading_at, records_of, records_work}
+use Rattle.bridge_records.specs.Recording.{GoesOverRecords, RecordWork, RecordsState, by_judged, first_reading, numbered_entry, reading_at, records_of, records_work, refusal_behind}
+use Rattle.bridge_records.specs.declared.pieces.loops.PiecesEnd.{PiecesEnd}
+use Rattle.bridge_records.specs.declared.recording.CaptureRefusal.{CaptureRefusal}
+use Rattle.bridge_records.specs.declared.recording.RecordsEnd.{RecordsEnd}
 use Rattle.bridge_records.specs.declared.reading.Place.{Place}
 use Rattle.bridge_records.specs.declared.reading.Place.TheVariants as place
 use Rattle.bridge_records.proofs.Opening.{IsTaken, header-taken}
 
--- what a job does with these records, one behind the other
+-- what a job does with these records, one after the other
 abbrev pub deeds_along : {P V : Type 0} → RecordWork P V → V → List RecordParts → List P
 deeds_along work job [] = []
 deeds_along work job (entry ∷ entries) = done_by (work.passed job entry).deed ++ deeds_along work (work.passed job entry).next entries
@@ -40,9 +45,31 @@ deeds_from work first nanos entries = done_by (work.begun first nanos).deed ++ d
 
 -- where a job begins may be said otherwise
 module _ {P V : Type 0} (job : PieceWork P V) where
-  pub goes-alike : (first begun : V) (input : List ℕ) (result : JobEnd) (left before after : Option (List ℕ)) → begun ≡ first
-      → GoesThroughPieces job begun input result left before after → GoesThroughPieces job first input result left before after
-  goes-alike first begun input result left before after same goes = subst (λ (state : V). GoesThroughPieces job state input result left before after) same goes
+  pub goes-alike : (first begun : V) (input : List ℕ) (result : PiecesEnd) (last : V) (left before after : Option (List ℕ)) → begun ≡ first
+      → GoesThroughPieces job begun input result last left before after → GoesThroughPieces job first input result last left before after
+  goes-alike first begun input result last left before after same goes =
+      subst (λ (state : V). GoesThroughPieces job state input result last left before after) same goes
+
+-- where a job over records begins may be said otherwise
+module _ {P V : Type 0} (work : RecordWork P V) where
+  pub goes-over-alike : (first begun : V) (input : List ℕ) (result : RecordsEnd) (left before after : Option (List ℕ)) → begun ≡ first
+      → GoesOverRecords work begun input result left before after → GoesOverRecords work first input result left before after
+  goes-over-alike first begun input result left before after same goes =
+      subst (λ (state : V). GoesOverRecords work state input result left before after) same goes
+
+  -- the pieces of a capture were gone through, and so its records
+  pub goes-over : (first : V) (input : List ℕ) (end : JobEnd) (fault : Option PieceFault) (last : RecordsState V) (refusal : Option CaptureRefusal)
+      (skips : Skips) (left before after : Option (List ℕ))
+      → GoesThroughPieces (records_work work) (first_reading first) input (record { end = end; fault = fault }) last left before after
+      → refusal ≡ refusal_behind last.records fault → skips ≡ last.file.skips
+      → GoesOverRecords work first input (record { end = end; refusal = refusal; skips = skips }) left before after
+  goes-over first input end fault last refusal skips left before after goes is skipped = record {
+    answers = goes.answers;
+    past = goes.past;
+    refused = λ answered. is ∙ ap (λ (s : RecordsState V). refusal_behind s.records fault) (goes.last_is answered)
+        ∙ ap (refusal_behind (records_of work first input).last.records) (goes.refused answered);
+    skipped = λ answered. skipped ∙ ap (λ (s : RecordsState V). s.file.skips) (goes.last_is answered);
+  }
 
 -- a number in the front of bytes
 big-front : (count : ℕ) (front rest : List ℕ) → count ≤ length front → big_from 0 count (front ++ rest) ≡ big_from 0 count front
@@ -84,24 +111,24 @@ module _ {P V : Type 0} (work : RecordWork P V) (format : Format) where
 
   -- where a classic capture stands
   abbrev file : Place → FileState
-  file there = record { place = there; interfaces = []; nanos = None }
+  file there = record { place = there; interfaces = []; nanos = None; skips = no_skips }
 
-  -- before a header, and before the bytes of a record, behind so many
+  -- before a header, and before the bytes of a record, after so many
   abbrev here : ℕ → V → RecordsState V
   here n job = reading_at (file (place.Header format)) format.nanos n job
 
   abbrev inside : RecordHeader → ℕ → V → RecordsState V
   inside head n job = reading_at (file (place.Body format head)) format.nanos n job
 
-  -- a record behind so many, with its bytes
+  -- a record after so many, with its bytes
   abbrev entry-behind : ℕ → RecordHeader → List ℕ → RecordParts
   entry-behind n head bytes = numbered_entry (one_more n) format.nanos format.link head bytes
 
-  -- the pieces behind a header, and what they come to
+  -- the pieces after a header, and what they come to
   abbrev onward : ℕ → RecordsState V → List ℕ → Taken P (RecordsState V)
   onward given next bytes = pieces_from pieces 0 next given bytes
 
-  -- the same behind a record
+  -- the same after a record
   abbrev passing : ℕ → V → RecordParts → ℕ → List ℕ → Taken P (RecordsState V)
   passing n job entry given bytes = in_front (done_by (work.passed job entry).deed) (onward given (here (one_more n) (work.passed job entry).next) bytes)
 
@@ -248,12 +275,12 @@ module _ {P V : Type 0} (work : RecordWork P V) (format : Format) where
       (record { refusal = others.refusal; deeds = ap (λ (deeds : List P). done_by (work.passed job entry).deed ++ deeds) others.deeds })
 
   -- the file header begins the capture
-  start-judged : (first : V) (piece : List ℕ) → format_of known_links piece ≡ Ok format → (ordered_number_at Big 0 4 piece == section_block) ≡ false
+  start-judged : (first : V) (piece : List ℕ) → classic_format piece ≡ Ok format → (ordered_number_at Big 0 4 piece == section_block) ≡ false
       → by_judged work (first_reading first) piece (by_start first_file piece) ≡ Goes (work.begun first format.nanos).deed
       (here 0 (work.begun first format.nanos).next)
   start-judged first piece taken other =
       ap (λ (is : Bool). by_judged work (first_reading first) piece
-      (if is then by_section first_file piece (section_order piece) else by_format first_file (format_of known_links piece))) other
+      (if is then by_section first_file piece (section_order piece) else by_format first_file (classic_format piece))) other
       ∙ ap (λ (r : Result Format FormatFault). by_judged work (first_reading first) piece (by_format first_file r)) taken
 
   input-begun : (first : V) (input : List ℕ) → IsTaken input format

@@ -1,4 +1,4 @@
--- A capture that was written, read again: its file header, and each record behind it.
+-- A capture that was written, read again: its file header, and each record after it.
 use Rattle.std.proofs.Common.{arith, ◌≡◌, ◌≤◌, ◌<◌, ◌^◌, ℕ, ◌+◌, List, [], ◌∷◌, ◌++◌, length, length-append, append_assoc, None, Ok, refl, sym, ap, ◌∙◌, subst, Bool, true, false, nat_lt, drop}
 use Rattle.std.specs.Prelude.{All, flat_map}
 use Rattle.std.proofs.lemmas.Bool.{le-ltb}

@@ -33,7 +33,7 @@ abbrev pub is_read_block : ℕ → Bool
 is_read_block kind =
     kind == section_block || (kind == interface_block || (kind == packet_block || (kind == simple_block || kind == enhanced_block)))
 
--- the byte order in which the number 1a2b3c4d stands behind the first eight bytes
+-- the byte order in which the number 1a2b3c4d follows the first eight bytes
 abbrev pub section_order : List ℕ → Option Order
 section_order bytes =
     if ordered_number_at Big 8 4 bytes == 439041101 then Some Big
@@ -52,9 +52,13 @@ length_fault least total =
     else if nat_lt 524288 total then Some why.TooLong
     else None
 
--- a block that is skipped is passed over piece by piece where it is longer than a block that is read may be
+-- blocks of these types tell how others are read
+abbrev pub is_needed_block : ℕ → Bool
+is_needed_block kind = kind == section_block || kind == interface_block
+
+-- any other is passed over piece by piece where it is longer than a block that is read may be
 abbrev pub is_passed_over : BlockHead → Bool
-is_passed_over head = nat_lt 524288 head.total && (head.total % 4 == 0 && not (is_read_block head.kind))
+is_passed_over head = nat_lt 524288 head.total && (head.total % 4 == 0 && not (is_needed_block head.kind))
 
 -- the byte order of a block: a section's own, or that of the section
 abbrev pub block_order : Order → List ℕ → Option Order

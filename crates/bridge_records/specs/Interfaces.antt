@@ -40,7 +40,7 @@ abbrev pub resolution_at : Order → Option ℕ → List ℕ → ℕ
 resolution_at order None options = 6
 resolution_at order (Some place) options = if has_value order 1 place options then slice_index options (place + 4) else 6
 
--- the seconds that stand before all times by the option at this place, a number of 64 bits with a sign: 0, if none says
+-- the seconds that come before all times by the option at this place, a number of 64 bits with a sign: 0, if none says
 -- otherwise
 abbrev pub offset_at : Order → Option ℕ → List ℕ → ℕ
 offset_at order None options = 0
@@ -51,7 +51,7 @@ abbrev pub front_of : Order → ℕ → ℕ
 front_of Big first = first / 65536
 front_of Little first = first % 65536
 
--- an interface, by what stands behind its link type: the most captured bytes of a packet, and options
+-- an interface, by what follows its link type: the most captured bytes of a packet, and options
 abbrev pub interface_in : Order → ℕ → List ℕ → Interface
 interface_in order link bytes = record {
   link = link;
@@ -82,10 +82,10 @@ units_of resolution =
 abbrev pub seconds_of : ℕ → ℕ → ℕ → ℕ
 seconds_of units offset ticks = (ticks / units + offset) % 2 ^ 64 % 2 ^ 32
 
--- the nanoseconds behind them
+-- the nanoseconds after them
 abbrev pub nanos_of : ℕ → ℕ → ℕ
 nanos_of units ticks = ticks % units * 1000000000 / units
 
--- the nanoseconds or microseconds behind them
+-- the nanoseconds or microseconds after them
 abbrev pub fraction_of : Bool → ℕ → ℕ → ℕ
 fraction_of nanos units ticks = if nanos then nanos_of units ticks else nanos_of units ticks / 1000

@@ -1,4 +1,5 @@
 pub mod Links
+pub mod Skips
 pub mod Blocks
 pub mod Interfaces
 pub mod Packets

@@ -20,7 +20,7 @@ enhanced_by (Some units) offset nanos order bytes = Some (record {
   original = ordered_number_at order 12 4 bytes;
 })
 
--- the same by the interface, from what stands behind its number
+-- the same by the interface, from what follows its number
 abbrev pub enhanced_head : Interface → Bool → Order → List ℕ → Option RecordHeader
 enhanced_head i nanos order bytes = enhanced_by (units_of i.resolution) i.offset nanos order bytes
 

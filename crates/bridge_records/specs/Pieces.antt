@@ -1,20 +1,20 @@
 -- What a job makes of the pieces of an input, and what is written of it (own).
 use Rattle.std.specs.Prelude.{◌≡◌, ℕ, zero, suc, ◌+◌, ◌-◌, ◌^◌, ◌++◌, nat_lt, Bool, is_some, if◌then◌else◌, List, [], ◌∷◌, length, take, flat_map, Option, Some, None, Result, Ok, Err}
-use Rattle.tool_text.specs.Ends.{Answers, StopsWithin}
-use Rattle.tool_text.specs.declared.output.status.JobEnd.{JobEnd}
+use Rattle.tool_text.specs.Ends.{Answers, IsAnswered, StopsWithin}
 use Rattle.bridge_records.specs.declared.pieces.fault.PieceError.{PieceError}
 use Rattle.bridge_records.specs.declared.pieces.fault.PieceError.TheVariants as piece_error
 use Rattle.bridge_records.specs.declared.pieces.fault.PieceFault.{PieceFault}
 use Rattle.bridge_records.specs.declared.pieces.fault.PieceFault.TheVariants.{CutShort, TooLarge}
+use Rattle.bridge_records.specs.declared.pieces.loops.PiecesEnd.{PiecesEnd}
 
--- What a piece comes to: the job goes on, with what the piece does, if it does anything, and the state behind it, or it
+-- What a piece comes to: the job goes on, with what the piece does, if it does anything, and the state after it, or it
 -- stops.
 pub data Judgement (P V : Type 0) : Type 0 where
   Goes : (deed : Option P) (next : V) → Judgement P V
   Stops : (why : PieceFault) → Judgement P V
 
 -- A job over pieces: how long the next is and whether the input may end before it, by the state; what it comes to; the
--- text of what it does; and the text behind the last, at the input's end or for a fault.
+-- text of what it does; and the text after the last, at the input's end or for a fault.
 pub record PieceWork (P V : Type 0) : Type 0 where
   pub wanted : V → ℕ
   pub may_end : V → Bool
@@ -38,7 +38,7 @@ JudgesPiece job state (Stops why) old new after answer = (new ≡ old) × (after
 abbrev pub most_piece_bytes : ℕ
 most_piece_bytes = 2 ^ 32
 
--- What stands next: the end, a piece, or why there is none.
+-- What comes next: the end, a piece, or why there is none.
 pub data PieceNext : Type 0 where
   PieceEnd : PieceNext
   Piece : (piece : List ℕ) → PieceNext
@@ -48,14 +48,14 @@ pub data PieceNext : Type 0 where
 abbrev pub end_piece : Bool → PieceNext
 end_piece may = if may then PieceEnd else PieceWrong CutShort
 
--- so many bytes of those that are left, behind `given` of the input
+-- so many bytes of those that are left, after `given` of the input
 abbrev pub piece_in : ℕ → ℕ → List ℕ → PieceNext
 piece_in wanted given bytes =
     if nat_lt most_piece_bytes (given + wanted) then PieceWrong TooLarge
     else if nat_lt (length bytes) wanted then PieceWrong CutShort
     else Piece (take wanted bytes)
 
--- what stands next in the bytes that are left
+-- what comes next in the bytes that are left
 abbrev pub next_piece : {P V : Type 0} → PieceWork P V → V → ℕ → List ℕ → PieceNext
 next_piece job state given [] = end_piece (job.may_end state)
 next_piece job state given (byte ∷ bytes) = piece_in (job.wanted state) given (byte ∷ bytes)
@@ -66,8 +66,8 @@ by_next_piece job state PieceEnd = Goes None state
 by_next_piece job state (Piece piece) = job.judged state piece
 by_next_piece job state (PieceWrong why) = Stops why
 
--- What the pieces of an input come to: what they did, the state behind them, how many bytes they have, and why the
--- input is refused behind them, if it is.
+-- What the pieces of an input come to: what they did, the state after them, how many bytes they have, and why the
+-- input is refused after them, if it is.
 pub record Taken (P V : Type 0) : Type 0 where
   pub deeds : List P
   pub last : V
@@ -87,7 +87,7 @@ in_front deeds rest = record rest { deeds = deeds ++ rest.deeds }
 abbrev pub taken_so_far : {P V : Type 0} → V → ℕ → Option PieceFault → Taken P V
 taken_so_far state given refusal = record { deeds = []; last = state; accepted = given; refusal = refusal }
 
--- the pieces that follow count behind an accepted one; a refused one is the last
+-- the pieces that follow count after an accepted one; a refused one is the last
 abbrev pub taken_by : {P V : Type 0} → V → ℕ → Judgement P V → (V → Taken P V) → Taken P V
 taken_by state given (Goes deed next) rest = in_front (done_by deed) (rest next)
 taken_by state given (Stops why) rest = taken_so_far state given (Some why)
@@ -96,7 +96,7 @@ taken_by state given (Stops why) rest = taken_so_far state given (Some why)
 abbrev pub unended : Bool → Option PieceFault
 unended may = if may then None else Some CutShort
 
--- What the pieces come to behind `given` bytes; the first `skip` bytes belong to the piece before.
+-- What the pieces come to after `given` bytes; the first `skip` bytes belong to the piece before.
 abbrev pub pieces_from : {P V : Type 0} → PieceWork P V → ℕ → V → ℕ → List ℕ → Taken P V
 pieces_from job skip state given [] = taken_so_far state given (unended (job.may_end state))
 pieces_from job (suc skip) state given (byte ∷ bytes) = pieces_from job skip state given bytes
@@ -108,12 +108,15 @@ pieces_from job zero state given (byte ∷ bytes) =
 abbrev pub pieces_of : {P V : Type 0} → PieceWork P V → V → List ℕ → Taken P V
 pieces_of job first input = pieces_from job 0 first 0 input
 
--- What is written of an input: the text of each deed, and the text behind the last piece.
+-- What is written of an input: the text of each deed, and the text after the last piece.
 abbrev pub text_of_pieces : {P V : Type 0} → PieceWork P V → Taken P V → List ℕ
 text_of_pieces job taken = flat_map job.told taken.deeds ++ job.closing taken.last taken.refusal
 
--- The pieces of an input were gone through: what was written and how it ended, and how far the input was read past the
--- last accepted piece where it was refused.
-pub record GoesThroughPieces {P V : Type 0} (job : PieceWork P V) (first : V) (input : List ℕ) (result : JobEnd) (left before after : Option (List ℕ)) : Type 0 where
-  pub answers : Answers (text_of_pieces job (pieces_of job first input)) (is_some (pieces_of job first input).refusal) result left before after
-  pub past : StopsWithin 524288 (pieces_of job first input).accepted input result left
+-- The pieces of an input were gone through: what was written and how it ended, how far the input was read past the last
+-- accepted piece where it was refused, why it was, and the state after the last piece.
+pub record GoesThroughPieces {P V : Type 0} (job : PieceWork P V) (first : V) (input : List ℕ) (result : PiecesEnd) (last : V)
+    (left before after : Option (List ℕ)) : Type 0 where
+  pub answers : Answers (text_of_pieces job (pieces_of job first input)) (is_some (pieces_of job first input).refusal) result.end left before after
+  pub past : StopsWithin 524288 (pieces_of job first input).accepted input result.end left
+  pub refused : IsAnswered result.end → result.fault ≡ (pieces_of job first input).refusal
+  pub last_is : IsAnswered result.end → last ≡ (pieces_of job first input).last

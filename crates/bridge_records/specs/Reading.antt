@@ -1,7 +1,7 @@
 -- How the pieces of a capture, classic or pcapng, are read, and which records they hold (own; the savefile format of
 -- libpcap and draft-ietf-opsawg-pcapng).
 use Rattle.std.specs.Prelude.{◌≡◌, ◌≤◌, ⊤, ℕ, ◌+◌, ◌-◌, ◌%◌, ◌==◌, ◌||◌, not, nat_le, nat_lt, Bool, true, false, if◌then◌else◌, List, [], ◌∷◌, ◌++◌, length, min, drop, take, slice_get, Option, Some, None, IfSome, Result, Ok, Err}
-use Rattle.capture_reader.specs.Format.{format_of, ordered_number_at}
+use Rattle.capture_reader.specs.Format.{is_link, ordered_number_at}
 use Rattle.capture_reader.specs.declared.fault.FormatFault.{FormatFault}
 use Rattle.capture_reader.specs.declared.fault.FormatFault.TheVariants as fault
 use Rattle.capture_reader.specs.declared.format.Format.{Format}
@@ -14,7 +14,9 @@ use Rattle.bridge_records.specs.declared.pieces.fault.PieceError.TheVariants as 
 use Rattle.bridge_records.specs.declared.pieces.fault.PieceFault.{PieceFault}
 use Rattle.bridge_records.specs.declared.pieces.fault.PieceFault.TheVariants as why
 use Rattle.capture_reader.specs.Records.{record_header}
-use Rattle.bridge_records.specs.Links.{known_links}
+use Rattle.bridge_records.specs.Links.{classic_format, known_links}
+use Rattle.bridge_records.specs.Skips.{no_skips, tally_with}
+use Rattle.bridge_records.specs.declared.skips.Skips.{Skips}
 use Rattle.bridge_records.specs.Blocks.{block_head, block_order, ends_block, enhanced_block, interface_block, is_passed_over, is_read_block, is_section_version, length_fault, packet_block, section_block, section_order, simple_block}
 use Rattle.bridge_records.specs.Interfaces.{front_of, interface_of, needs_nanos}
 use Rattle.bridge_records.specs.Packets.{enhanced_head, simple_head}
@@ -25,12 +27,13 @@ use Rattle.bridge_records.specs.declared.interfaces.Interface.{Interface}
 use Rattle.bridge_records.specs.declared.reading.Place.{Place}
 use Rattle.bridge_records.specs.declared.reading.Place.TheVariants as place
 
--- Where reading stands: which piece is next, the interfaces of the section, and, once a pcapng file's first interface
--- was read, whether fractions are nanoseconds.
+-- Where reading stands: which piece is next, the interfaces of the section, once a pcapng file's first interface was
+-- read, whether fractions are nanoseconds, and what was skipped.
 pub record FileState : Type 0 where
   pub place : Place
   pub interfaces : List Interface
   pub nanos : Option Bool
+  pub skips : Skips
 
 -- each piece has some bytes, and not too many
 abbrev pub FitsPlace : Place → Type 0
@@ -44,11 +47,28 @@ FitsPlace (place.Passing order total left) = (4 ≤ left) × (left % 4 ≡ 0)
 
 -- before the first piece
 abbrev pub first_file : FileState
-first_file = record { place = place.Start; interfaces = []; nanos = None }
+first_file = record { place = place.Start; interfaces = []; nanos = None; skips = no_skips }
 
 -- the same elsewhere
 abbrev pub at : FileState → Place → FileState
 at file there = record file { place = there }
+
+-- the same with one packet more whose link type is not known
+abbrev pub link_noted : FileState → ℕ → FileState
+link_noted file link =
+    if is_link known_links link then file else record file { skips = record { links = tally_with file.skips.links link; long = file.skips.long; blocks = file.skips.blocks } }
+
+-- the same with one packet more that is too long
+abbrev pub long_noted : FileState → ℕ → FileState
+long_noted file size = record file { skips = record { links = file.skips.links; long = tally_with file.skips.long size; blocks = file.skips.blocks } }
+
+-- the same with one block more that is not read
+abbrev pub block_noted : FileState → ℕ → FileState
+block_noted file kind = record file { skips = record { links = file.skips.links; long = file.skips.long; blocks = tally_with file.skips.blocks kind } }
+
+-- the same with a block that is passed over: a packet's, or another
+abbrev pub passing_noted : FileState → BlockHead → FileState
+passing_noted file head = if is_read_block head.kind then long_noted file head.total else block_noted file head.kind
 
 -- how many bytes the next piece has
 abbrev pub next_length : Place → ℕ
@@ -96,7 +116,7 @@ abbrev pub by_format : FileState → Result Format FormatFault → Judgement Fou
 by_format file (Err fault) = Stops (format_fault fault)
 by_format file (Ok format) = Goes (Some (Begins format.nanos)) (at file (place.Header format))
 
--- the first section, by its length: the rest of its first block stands next
+-- the first section, by its length: the rest of its first block comes next
 abbrev pub by_section_length : FileState → Order → List ℕ → ℕ → Option PieceFault → Judgement Found FileState
 by_section_length file order piece total (Some fault) = Stops fault
 by_section_length file order piece total None =
@@ -113,7 +133,7 @@ by_section file piece (Some order) =
 abbrev pub by_start : FileState → List ℕ → Judgement Found FileState
 by_start file piece =
     if ordered_number_at Big 0 4 piece == section_block then by_section file piece (section_order piece)
-    else by_format file (format_of known_links piece)
+    else by_format file (classic_format piece)
 
 -- a record's header in a classic capture: too many captured bytes are refused, none are a record, and else they are the
 -- next piece
@@ -133,19 +153,19 @@ by_section_end file order total piece =
 abbrev pub by_empty : FileState → Order → BlockHead → Judgement Found FileState
 by_empty file order head =
     if is_read_block head.kind || not (head.first == 12) then Stops why.BadBlock
-    else Goes None (at file (place.Block order))
+    else Goes None (at (block_noted file head.kind) (place.Block order))
 
--- the first bytes of a block, by its length: the rest stands next
+-- the first bytes of a block, by its length: the rest comes next
 abbrev pub by_block_length : FileState → Order → BlockHead → Option PieceFault → Judgement Found FileState
 by_block_length file order head (Some fault) = Stops fault
 by_block_length file order head None =
     if not (head.total == 12) then Goes None (at file (place.Rest order head))
     else by_empty file order head
 
--- the first bytes of a block: a long one that is skipped is passed over
+-- the first bytes of a block: a long one that is not needed is passed over
 abbrev pub by_block_head : FileState → Order → BlockHead → Judgement Found FileState
 by_block_head file order head =
-    if is_passed_over head then Goes None (at file (place.Passing order head.total (head.total - 12)))
+    if is_passed_over head then Goes None (at (passing_noted file head) (place.Passing order head.total (head.total - 12)))
     else by_block_length file order head (length_fault 12 head.total)
 
 -- the same by its byte order
@@ -170,7 +190,7 @@ abbrev pub begun_capture : Option Bool → Interface → Option Found
 begun_capture (Some nanos) i = None
 begun_capture None i = Some (Begins (needs_nanos i.resolution))
 
--- an interface behind those of the section
+-- an interface after those of the section
 abbrev pub by_interface : FileState → Order → Result Interface PieceFault → Judgement Found FileState
 by_interface file order (Err fault) = Stops fault
 by_interface file order (Ok i) =
@@ -186,12 +206,12 @@ by_interface_block file order first piece =
     if nat_le most_interfaces (length file.interfaces) then Goes None (at file (place.Block order))
     else by_interface file order (interface_of order first piece)
 
--- a packet is a record where its bytes stand before the block's last four
+-- a packet is a record where its bytes come before the block's last four, and are not too many
 abbrev pub by_packet : FileState → Order → ℕ → RecordHeader → ℕ → List ℕ → Judgement Found FileState
 by_packet file order link head start piece =
-    if nat_lt 262144 head.captured then Stops why.TooLong
-    else if nat_lt (length piece) (start + head.captured + 4) then Stops why.BadBlock
-    else Goes (Some (Holds link head start)) (at file (place.Block order))
+    if nat_lt (length piece) (start + head.captured + 4) then Stops why.BadBlock
+    else if nat_lt 262144 head.captured then Goes None (at (long_noted file head.captured) (place.Block order))
+    else Goes (Some (Holds link head start)) (at (link_noted file link) (place.Block order))
 
 -- the same by what its record says, if its time can be told
 abbrev pub by_head : FileState → Order → ℕ → ℕ → List ℕ → Option RecordHeader → Judgement Found FileState
@@ -223,7 +243,7 @@ by_kind file order head piece =
     else if head.kind == simple_block then by_simple file order head.first piece (slice_get file.interfaces 0)
     else if head.kind == enhanced_block then by_enhanced file order piece (slice_get file.interfaces head.first)
     else if head.kind == packet_block then by_enhanced file order piece (slice_get file.interfaces (front_of order head.first))
-    else Goes None (at file (place.Block order))
+    else Goes None (at (block_noted file head.kind) (place.Block order))
 
 -- the rest of a block
 abbrev pub by_rest : FileState → Order → BlockHead → List ℕ → Judgement Found FileState
@@ -252,7 +272,7 @@ judged_at (place.Passing order total left) file piece = by_passing file order to
 abbrev pub file_judged : FileState → List ℕ → Judgement Found FileState
 file_judged file piece = judged_at file.place file piece
 
--- the bytes of a record stand in its piece
+-- the bytes of a record are in its piece
 abbrev pub IsInside : Found → List ℕ → Type 0
 IsInside (Begins nanos) piece = ⊤
 IsInside (Holds link head start) piece = (start + head.captured ≤ length piece) × (head.captured ≤ 262144)

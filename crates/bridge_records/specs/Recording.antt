@@ -1,22 +1,26 @@
 -- What a job makes of the records of a capture, classic or pcapng (own).
-use Rattle.std.specs.Prelude.{ℕ, Bool, false, List, Option, Some, None}
+use Rattle.std.specs.Prelude.{◌≡◌, ℕ, Bool, false, is_some, List, Option, Some, None}
 use Rattle.capture_reader.specs.Records.{RecordParts}
 use Rattle.capture_reader.specs.declared.record.RecordHeader.{RecordHeader}
-use Rattle.bridge_records.specs.Pieces.{Goes, Judgement, PieceWork, Stops, Taken, pieces_of}
+use Rattle.tool_text.specs.Ends.{Answers, IsAnswered, StopsWithin}
+use Rattle.bridge_records.specs.Pieces.{Goes, Judgement, PieceWork, Stops, Taken, pieces_of, text_of_pieces}
 use Rattle.bridge_records.specs.declared.pieces.fault.PieceFault.{PieceFault}
 use Rattle.bridge_records.specs.Reading.{FileState, bytes_held, file_judged, first_file, is_between, is_untold, next_length}
 use Rattle.bridge_records.specs.declared.found.Found.{Found}
 use Rattle.bridge_records.specs.declared.found.Found.TheVariants as found
+use Rattle.bridge_records.specs.declared.recording.CaptureRefusal.{CaptureRefusal}
+use Rattle.bridge_records.specs.declared.recording.RecordsEnd.{RecordsEnd}
+use Rattle.bridge_records.specs.declared.skips.Skips.{Skips}
 use Rattle.dccp_io.specs.Counts.{one_more}
 
 -- What the beginning of a capture or a record comes to: what a job does of it, if it does anything, and its state
--- behind it.
+-- after it.
 pub record RecordStep (P V : Type 0) : Type 0 where
   pub deed : Option P
   pub next : V
 
 -- A job over the records of a capture: what it does where the capture begins, whose fractions are nanoseconds or
--- microseconds, and what with a record; the text of what it does; and the text behind the last of so many records, by
+-- microseconds, and what with a record; the text of what it does; and the text after the last of so many records, by
 -- the job's state, at the end of a capture that told of its fractions or did not, or for a fault.
 pub record RecordWork (P V : Type 0) : Type 0 where
   pub begun : V → Bool → RecordStep P V
@@ -32,7 +36,7 @@ pub record RecordsState (V : Type 0) : Type 0 where
   pub records : ℕ
   pub job : V
 
--- where reading stands then, behind so many records
+-- where reading stands then, after so many records
 abbrev pub reading_at : {V : Type 0} → FileState → Bool → ℕ → V → RecordsState V
 reading_at file nanos records job = record { file = file; nanos = nanos; records = records; job = job }
 
@@ -78,3 +82,25 @@ records_work work = record {
 -- What the records of an input come to, from the job's first state.
 abbrev pub records_of : {P V : Type 0} → RecordWork P V → V → List ℕ → Taken P (RecordsState V)
 records_of work first input = pieces_of (records_work work) (first_reading first) input
+
+-- a capture that is refused after so many records
+abbrev pub refusal_behind : ℕ → Option PieceFault → Option CaptureRefusal
+refusal_behind records None = None
+refusal_behind records (Some fault) = Some (record { fault = fault; records = records })
+
+-- Why a capture is refused, if it is, and after how many records.
+abbrev pub capture_refusal : {P V : Type 0} → Taken P (RecordsState V) → Option CaptureRefusal
+capture_refusal taken = refusal_behind taken.last.records taken.refusal
+
+-- What of a capture is skipped.
+abbrev pub capture_skips : {P V : Type 0} → Taken P (RecordsState V) → Skips
+capture_skips taken = taken.last.file.skips
+
+-- The records of an input were gone over: what was written and how it ended, how far the input was read past the last
+-- accepted piece where it was refused, why it was, and what was skipped.
+pub record GoesOverRecords {P V : Type 0} (work : RecordWork P V) (first : V) (input : List ℕ) (result : RecordsEnd)
+    (left before after : Option (List ℕ)) : Type 0 where
+  pub answers : Answers (text_of_pieces (records_work work) (records_of work first input)) (is_some (records_of work first input).refusal) result.end left before after
+  pub past : StopsWithin 524288 (records_of work first input).accepted input result.end left
+  pub refused : IsAnswered result.end → result.refusal ≡ capture_refusal (records_of work first input)
+  pub skipped : IsAnswered result.end → result.skips ≡ capture_skips (records_of work first input)

@@ -59,7 +59,7 @@ entry_as nanos number seconds fraction original bytes = record {
 abbrev pub raw_entry : Bool → ℕ → RawRecord → RecordParts
 raw_entry nanos number r = entry_as nanos number r.seconds r.fraction r.original r.bytes
 
--- records in their order, the first behind so many others
+-- records in their order, the first after so many others
 abbrev pub raw_entries : Bool → ℕ → List RawRecord → List RecordParts
 raw_entries nanos number [] = []
 raw_entries nanos number (r ∷ records) = raw_entry nanos (number + 1) r ∷ raw_entries nanos (number + 1) records

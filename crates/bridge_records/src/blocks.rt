@@ -1,6 +1,6 @@
 //! What the first and last bytes of a pcapng file's blocks say.
 ghost use Rattle.std.specs.Prelude.{◌≡◌, ◌+◌, ◌%◌, ◌<◌, ◌≤◌, length, None, IsTrue};
-ghost use Rattle.bridge_records.specs.Blocks.{block_head, block_order, ends_block, is_passed_over, is_read_block, is_section_version, length_fault, section_order};
+ghost use Rattle.bridge_records.specs.Blocks.{block_head, block_order, ends_block, is_needed_block, is_passed_over, is_read_block, is_section_version, length_fault, section_order};
 
 use crate::pieces::PieceFault;
 use capture_reader::Order;
@@ -57,7 +57,7 @@ pub(crate) fn section_order(bytes: &[u8]) -> Option<Order>
     None
 }
 
-/// The version of a section stands there, and is one that is known.
+/// The version of a section is there, and is one that is known.
 pub(crate) fn is_section_version(order: Order, place: usize, bytes: &[u8]) -> bool
     requires { place + 4 ≤ length bytes.now }
     ensures { result ≡ is_section_version order place bytes.now }
@@ -80,12 +80,19 @@ pub(crate) fn length_fault(least: u32, total: u32) -> Option<PieceFault>
     None
 }
 
-/// The block is skipped, and longer than one that is read may be: then it is passed over piece by piece.
+// Blocks of this type tell how others are read.
+fn is_needed_block(kind: u32) -> bool
+    ensures { result ≡ is_needed_block kind }
+{
+    matches!(kind, SECTION | INTERFACE)
+}
+
+/// The block is not needed, and longer than one that is read may be: then it is passed over piece by piece.
 pub(crate) fn is_passed_over(head: &BlockHead) -> bool
     ensures value { result ≡ is_passed_over head.now }
     ensures fits { IsTrue result → (524288 < head.now.total) × (head.now.total % 4 ≡ 0) }
 {
-    MOST_BLOCK < head.total && head.total % 4 == 0 && !is_read_block(head.kind)
+    MOST_BLOCK < head.total && head.total % 4 == 0 && !is_needed_block(head.kind)
 }
 
 /// The byte order of a block of a section of this one: a further section has its own.

@@ -15,7 +15,7 @@ pub(crate) struct Interface {
     pub(crate) most: u32,
     /// How it counts time: by this power of ten, or from 128 on of two, in a second.
     pub(crate) resolution: u8,
-    /// The seconds that stand before its times, a number with a sign.
+    /// The seconds that come before its times, a number with a sign.
     pub(crate) offset: u64,
 }
 
@@ -27,7 +27,7 @@ const OFFSET: u16 = 14;
 // In a second, where no option says otherwise: a power of ten.
 const MICROSECONDS: u8 = 6;
 
-// The place of the first option of this code. Behind the options stand four bytes more.
+// The place of the first option of this code. After the options stand four bytes more.
 fn option_place(order: Order, code: u16, options: &[u8]) -> Option<usize>
     requires { length options.now ≤ 524288 }
     ensures value { result ≡ spec.option_place order code options.now }
@@ -141,7 +141,7 @@ pub(crate) fn seconds_of(units: u64, offset: u64, ticks: u64) -> u32
     ((ticks / units).wrapping_add(offset) % (1 << 32)) as u32
 }
 
-// The nanoseconds behind them.
+// The nanoseconds after them.
 #[tactic(auto, using(crate::proofs::Times::nanos_fit))]
 fn nanos_of(units: u64, ticks: u64) -> u32
     requires { 0 < units }
@@ -150,7 +150,7 @@ fn nanos_of(units: u64, ticks: u64) -> u32
     (u128::from(ticks % units) * 1_000_000_000 / u128::from(units)) as u32
 }
 
-/// The nanoseconds or microseconds behind them.
+/// The nanoseconds or microseconds after them.
 pub(crate) fn fraction_of(nanos: bool, units: u64, ticks: u64) -> u32
     requires { 0 < units }
     ensures { result ≡ fraction_of nanos units ticks }

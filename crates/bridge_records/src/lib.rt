@@ -1,9 +1,9 @@
 //! Captures as the second program reads and writes them (own; the savefile format of libpcap and
 //! draft-ietf-opsawg-pcapng): the records of one that is read, classic or pcapng, and the bytes of one that is written.
 //!
-//! A capture of any of ten link types is read in pieces whose lengths are known beforehand, and so is a pcapng file of
-//! any interfaces. Blocks of sections, interfaces and packets are read, all others skipped, and each record is handed
-//! to a job. One block of the input, 524,288 bytes, and the interfaces of one section, 256 at most, are kept. Written
+//! A capture of any of eleven link types is read in pieces whose lengths are known beforehand, and so is a pcapng file of
+//! any interfaces. Blocks of sections, interfaces and packets are read, all others skipped and counted, and each record
+//! is handed to a job. One block of the input, 524,288 bytes, and the interfaces of one section, 256 at most, are kept. Written
 //! are classic captures of raw IP. Nothing here looks into a record's bytes.
 #![tactic(auto)]
 
@@ -15,12 +15,14 @@ mod packets;
 mod pieces;
 mod reading;
 mod recording;
+mod skips;
 mod writing;
 
 pub use crate::found::Found;
 pub use crate::links::is_known_link;
 pub use crate::pieces::PieceFault;
-pub use crate::recording::{RecordJob, run_records};
+pub use crate::recording::{CaptureRefusal, RecordJob, RecordsEnd, run_records};
+pub use crate::skips::{Skips, Tally};
 pub use crate::writing::{
     RAW_IP, put_file_header, put_record_header, put_u16, what_is_written_is_read,
 };

@@ -11,9 +11,10 @@ use crate::blocks::{
 };
 use crate::found::Found;
 use crate::interfaces::{Interface, front_of, interface_of, needs_nanos};
-use crate::links::KNOWN_LINKS;
+use crate::links::{classic_format, is_known_link};
 use crate::packets::{enhanced_head, simple_head};
 use crate::pieces::{PieceError, PieceFault};
+use crate::skips::Skips;
 use capture_reader::{Format, MOST_CAPTURED, Order, RecordHeader};
 use std::alloc::Global;
 use std::marker::Model;
@@ -24,7 +25,7 @@ const MOST_INTERFACES: usize = 256;
 // The length of a block without a body.
 const EMPTY: u32 = 12;
 
-/// Which piece of a capture stands next.
+/// Which piece of a capture comes next.
 #[derive(Clone, Copy)]
 pub(crate) enum Place {
     /// The file header of a classic capture, or the first 24 bytes of a pcapng file.
@@ -43,13 +44,14 @@ pub(crate) enum Place {
     Passing(Order, u32, u32),
 }
 
-/// A capture while it is read, piece by piece. Contracts see which piece stands next, the interfaces of the
-/// section, and what is known of fractions.
+/// A capture while it is read, piece by piece. Contracts see which piece comes next, the interfaces of the
+/// section, what is known of fractions, and what was skipped.
 #[derive(Drop)]
 pub(crate) struct CaptureFile {
     place: Place,
     interfaces: Vec<Interface>,
     nanos: Option<bool>,
+    skips: Skips,
 }
 
 impl Model for CaptureFile {
@@ -57,7 +59,7 @@ impl Model for CaptureFile {
 
     ghost Value = { FileState };
 
-    ghost view = { λ f. record { place = f.place; interfaces = f.interfaces.items; nanos = f.nanos } };
+    ghost view = { λ f. record { place = f.place; interfaces = f.interfaces.items; nanos = f.nanos; skips = f.skips } };
 
     ghost invariant = { λ f. FitsPlace f.place };
 }
@@ -74,6 +76,7 @@ impl CaptureFile {
             place: Place::Start,
             interfaces: Vec::new(alloc),
             nanos: None,
+            skips: Skips::none(),
         }
     }
 
@@ -125,6 +128,47 @@ impl CaptureFile {
         }
     }
 
+    /// What was skipped so far.
+    pub(crate) fn skips(&self) -> Skips
+        ensures { result ≡ self.now.skips }
+    {
+        self.skips
+    }
+
+    // One packet more of this link type.
+    fn note_link(&mut self, link: u32)
+        ensures { self.new ≡ spec.link_noted self.old link }
+    {
+        if !is_known_link(link) {
+            self.skips.links = self.skips.links.one_more(link);
+        }
+    }
+
+    // One packet more that is too long.
+    fn note_long(&mut self, size: u32)
+        ensures { self.new ≡ spec.long_noted self.old size }
+    {
+        self.skips.long = self.skips.long.one_more(size);
+    }
+
+    // One block more that is not read.
+    fn note_block(&mut self, kind: u32)
+        ensures { self.new ≡ spec.block_noted self.old kind }
+    {
+        self.skips.blocks = self.skips.blocks.one_more(kind);
+    }
+
+    // A block that is passed over.
+    fn note_passing(&mut self, head: &BlockHead)
+        ensures { self.new ≡ spec.passing_noted self.old head.now }
+    {
+        if is_read_block(head.kind) {
+            self.note_long(head.total);
+        } else {
+            self.note_block(head.kind);
+        }
+    }
+
     // The first bytes of a file.
     fn begin(&mut self, piece: &[u8]) -> Answer
         requires { length piece.now ≡ 24 }
@@ -133,7 +177,7 @@ impl CaptureFile {
         if Order::Big.read_u32(piece, 0) == SECTION {
             return self.begin_section(piece);
         }
-        let format = Format::read(&KNOWN_LINKS, piece)?;
+        let format = classic_format(piece)?;
         self.place = Place::Header(format);
         Ok(Some(Found::Begins(format.nanos)))
     }
@@ -204,6 +248,7 @@ impl CaptureFile {
         };
         let head = block_head(order, piece);
         if is_passed_over(&head) {
+            self.note_passing(&head);
             self.place = Place::Passing(order, head.total, head.total - EMPTY);
             return Ok(None);
         }
@@ -217,6 +262,7 @@ impl CaptureFile {
         if is_read_block(head.kind) || head.first != EMPTY {
             return Err(PieceFault::BadBlock);
         }
+        self.note_block(head.kind);
         self.place = Place::Block(order);
         Ok(None)
     }
@@ -259,6 +305,7 @@ impl CaptureFile {
             ENHANCED => Ok(self.enhanced(order, head.first, piece)?),
             PACKET => Ok(self.enhanced(order, front_of(order, head.first), piece)?),
             _ => {
+                self.note_block(head.kind);
                 self.place = Place::Block(order);
                 Ok(None)
             }
@@ -341,13 +388,15 @@ impl CaptureFile {
         requires { start ≤ 16 }
         ensures { ReadsPiece (spec.by_packet self.old order link head start piece.now) piece.now self.old self.new result }
     {
-        if MOST_CAPTURED < head.captured as usize {
-            return Err(PieceFault::TooLong);
-        }
         if piece.len() < start + head.captured as usize + 4 {
             return Err(PieceFault::BadBlock);
         }
         self.place = Place::Block(order);
+        if MOST_CAPTURED < head.captured as usize {
+            self.note_long(head.captured);
+            return Ok(None);
+        }
+        self.note_link(link);
         Ok(Some(Found::Holds(link, head, start)))
     }
 

@@ -1,15 +1,16 @@
 //! A job over the records of a capture.
 ghost use Rattle.std.specs.Prelude.{◌≡◌, ◌+◌, ◌≤◌, ◌++◌, ℕ, List, length, OnOk, Some};
-ghost use Rattle.bridge_records.specs.Pieces.{GoesThroughPieces, piece_text};
+ghost use Rattle.bridge_records.specs.Pieces.{piece_text};
 ghost use Rattle.capture_reader.specs.Records.{entry_of};
 ghost use Rattle.dccp_io.specs.Counts.{Rose, one_more};
 ghost use Rattle.tool_text.specs.Ends.{EndsForCause, SinkFails};
 ghost use Rattle.bridge_records.specs.Reading.{bytes_held};
-ghost use Rattle.bridge_records.specs.Recording.{RecordWork, first_reading, held_passed, numbered_entry, reading_at, records_work};
+ghost use Rattle.bridge_records.specs.Recording.{GoesOverRecords, RecordWork, first_reading, held_passed, numbered_entry, reading_at, records_work, refusal_behind};
 
 use crate::found::Found;
 use crate::pieces::{PieceError, PieceFault, PieceJob, run_pieces};
 use crate::reading::CaptureFile;
+use crate::skips::Skips;
 use capture_reader::{Record, RecordHeader};
 use dccp_io::{Sink, Source};
 use seq_circle::NoMemory;
@@ -18,7 +19,7 @@ use std::marker::Model;
 use tool_text::JobEnd;
 
 /// A job over the records of a capture (own). Contracts see what it does where the capture begins and with a record,
-/// the text of what it does, and the text behind the last record.
+/// the text of what it does, and the text after the last record.
 pub trait RecordJob {
     // What the beginning or a record does.
     ghost Deed: { Type 0 };
@@ -37,7 +38,7 @@ pub trait RecordJob {
         ensures text { OnOk result (text.new.items ≡ text.old.items ++ piece_text (records_work work) (work.passed self.old (entry_of record.now)).deed) }
         ensures next { OnOk result (self.new ≡ (work.passed self.old (entry_of record.now)).next) };
 
-    /// Puts the text behind the last of so many records: at the capture's end, or where it is refused. At the end of a
+    /// Puts the text after the last of so many records: at the capture's end, or where it is refused. At the end of a
     /// pcapng file without an interface it is untold whether fractions are nanoseconds: then nothing began.
     fn finish(
         &self,
@@ -47,6 +48,21 @@ pub trait RecordJob {
         text: &mut Vec<u8>,
     ) -> Result<(), NoMemory>
         ensures { OnOk result (text.new.items ≡ text.old.items ++ work.closing self.now untold records end) };
+}
+
+/// Why a capture is refused, and after how many records (own).
+#[derive(Clone, Copy, Debug, PartialEq, Eq)]
+pub struct CaptureRefusal {
+    pub fault: PieceFault,
+    pub records: u64,
+}
+
+/// How a job over records ended, why the capture is refused, if it is, and what of it was skipped (own).
+#[derive(Clone, Copy, Debug, PartialEq, Eq)]
+pub struct RecordsEnd {
+    pub end: JobEnd,
+    pub refusal: Option<CaptureRefusal>,
+    pub skips: Skips,
 }
 
 /// A capture while a job goes over its records.
@@ -107,6 +123,26 @@ impl<J: RecordJob> Recording<J> {
             records: 0,
             job,
         }
+    }
+
+    // Why the capture is refused after the last record, if it is.
+    fn refusal(&self, fault: Option<PieceFault>) -> Option<CaptureRefusal>
+        ensures { result ≡ refusal_behind self.now.records fault }
+    {
+        match fault {
+            Some(fault) => Some(CaptureRefusal {
+                fault,
+                records: self.records,
+            }),
+            None => None,
+        }
+    }
+
+    // What was skipped so far.
+    fn skips(&self) -> Skips
+        ensures { result ≡ self.now.file.skips }
+    {
+        self.file.skips()
     }
 
     // The capture begins.
@@ -175,20 +211,26 @@ impl<J: RecordJob> PieceJob for Recording<J> {
 /// Does a job over the records of a capture, classic or pcapng, one by one as they are read (own): it writes the text
 /// of what the beginning and each record does, and at last the text at the capture's end or of the fault for which it
 /// is refused. The records of a pcapng file are its Enhanced Packet Blocks, and its Simple Packet Blocks at time 0;
-/// their fractions are nanoseconds where the first interface counts time finer than in microseconds.
+/// their fractions are nanoseconds where six digits cannot write the parts of a second in which the first interface
+/// counts time.
 ///
-/// Input comes where the capture has a fault. With status 0 or 1 the output is that of the whole input, with another a
-/// front of it. Read comes where the source failed, Write where the sink did, and Memory where no memory was left.
+/// Input comes where the capture has a fault, which is answered with how many records come before it; and what was
+/// skipped is answered, too. With status 0 or 1 the output is that of the whole input, with another a front of it. Read comes where the source failed, Write where the sink did, and Memory where no memory was left.
 pub fn run_records<J: RecordJob + Drop, S: Source, K: Sink>(
     alloc: Global,
     job: J,
     input: &mut S,
     output: &mut K,
-) -> JobEnd
+) -> RecordsEnd
     ensures through { (bytes : List ℕ) → S.left input.old ≡ Some bytes
-        → GoesThroughPieces (records_work J.work) (first_reading job) bytes result (S.left input.new) (K.taken output.old) (K.taken output.new) }
-    ensures cause { EndsForCause result (Rose (S.faults input.old) (S.faults input.new)) (SinkFails K.faults K.empty_takes output.old output.new) }
+        → GoesOverRecords J.work job bytes result (S.left input.new) (K.taken output.old) (K.taken output.new) }
+    ensures cause { EndsForCause result.end (Rose (S.faults input.old) (S.faults input.new)) (SinkFails K.faults K.empty_takes output.old output.new) }
 {
     let mut recording = Recording::new(alloc, job);
-    run_pieces(alloc, &mut recording, input, output)
+    let ended = run_pieces(alloc, &mut recording, input, output);
+    RecordsEnd {
+        end: ended.end,
+        refusal: recording.refusal(ended.fault),
+        skips: recording.skips(),
+    }
 }

@@ -1,5 +1,5 @@
 //! The bytes of a classic capture of link type 101, raw IP (the savefile format of libpcap): its file header and the
-//! headers of its records, put behind a text. The most significant byte stands first.
+//! headers of its records, put after a text. The most significant byte comes first.
 //!
 //! What is written is read again by capture_reader.
 

@@ -1,27 +1,22 @@
 //! What the definition of a capture of frames says.
-ghost use Rattle.std.specs.Prelude.{◌≡◌, ℕ, ◌≤◌, ◌<◌, ◌^◌, List, All, length, map, None, Some, false};
+ghost use Rattle.std.specs.Prelude.{◌≡◌, ℕ, ◌≤◌, ◌^◌, List, All, length, map, None, Some, false};
 ghost use Rattle.capture_reader.specs.Records.{captured};
-ghost use Rattle.capture_reader.specs.declared.format.Order.{Order};
-ghost use Rattle.capture_reader.specs.Records.{most_captured};
-ghost use Rattle.capture_reader.specs.Format.{ordered_number_at};
 ghost use Rattle.bridge_records.specs.Writing.{capture_of, raw_entries};
 ghost use Rattle.dccp_endpoint.specs.Usual.{to_client, to_server};
 ghost use Rattle.packet_show.specs.Network.{carried};
-ghost use Rattle.tool_text.specs.Refusals.{refusal_line};
-ghost use Rattle.tool_text.specs.declared.words.faults.LineFault.{LineFault};
 ghost use Rattle.world_events.specs.declared.event.Side.TheVariants.{Client, Server};
 ghost use Rattle.bridge_command.specs.Capturing.{frames_capture, transcript_gone};
 ghost use Rattle.bridge_command.specs.FrameReading.{FitsFrame, travels, whole_frame};
 ghost use Rattle.bridge_command.specs.FrameRecords.{TimedFrame, frame_record, ip_packet};
 
-/// The capture that is made of a transcript without a refusal is that of the records of its frames, and a reader of
+/// The capture that is made of a transcript, be it refused or not, is that of the records of its frames, and a reader of
 /// captures finds these, in their order, whole and under their times, and nothing else, where they have no more bytes
 /// than count (the savefile format of libpcap).
 pub fn a_capture_has_each_frame()
-    ensures made { (input : List ℕ) → (transcript_gone input).refusal ≡ None
+    ensures made { (input : List ℕ)
         → frames_capture input ≡ capture_of false (map frame_record (transcript_gone input).deeds) }
     ensures fits { (input : List ℕ) → All FitsFrame (transcript_gone input).deeds }
-    ensures read { (input : List ℕ) → (transcript_gone input).refusal ≡ None → length (frames_capture input) ≤ 2 ^ 32
+    ensures read { (input : List ℕ) → length (frames_capture input) ≤ 2 ^ 32
         → captured (frames_capture input) ≡ record { records = raw_entries false 0 (map frame_record (transcript_gone input).deeds); end = None } }
 {}
 
@@ -29,14 +24,6 @@ pub fn a_capture_has_each_frame()
 /// section 3.1). So `show` tells of each record the packet that the frame decodes to, and the verdict on its checksum.
 pub fn a_frame_stands_in_its_record()
     ensures { (f : TimedFrame) → length f.frame ≤ 2044 → carried 101 (ip_packet f.from f.frame) ≡ Some (whole_frame f) }
-{}
-
-/// The line of a refusal is no record to a reader of captures, in either byte order: where it should have the captured
-/// length of one, it has a number that is greater than any.
-pub fn a_refusal_is_no_record()
-    ensures long { (number : ℕ) (fault : LineFault) → number < 2 ^ 64 → 16 ≤ length (refusal_line number fault) }
-    ensures wrong { (order : Order) (number : ℕ) (fault : LineFault) → number < 2 ^ 64
-        → most_captured < ordered_number_at order 8 4 (refusal_line number fault) }
 {}
 
 /// The addresses are those of the usual ends, between which the checksums of their frames are made.

@@ -65,7 +65,7 @@ fn is_other(word: &[u8]) -> bool
     is_text(word, b"open:") || is_text(word, b"end")
 }
 
-// A word without the colon at its end, if one stands there.
+// A word without the colon at its end, if one is there.
 fn without_colon(word: &[u8]) -> &[u8]
     ensures { result.now ≡ without_colon word.now }
 {
@@ -107,7 +107,7 @@ impl<'a> WordKind<'a> for AFirstWord {
     }
 }
 
-// What stands behind `sent`: a frame's name and its bytes, and nothing behind them.
+// What follows `sent`: a frame's name and its bytes, and nothing after them.
 fn sent<'a>(words: &mut Words<'a>) -> Result<Told<'a>, LineFault>
     ensures { result ≡ sent_said (left_of words.old) }
 {

@@ -5,32 +5,33 @@ ghost use Rattle.bridge_records.specs.Recording.{records_work};
 ghost use Rattle.capture_reader.specs.Records.{entry_of};
 ghost use Rattle.dccp_io.specs.Counts.{Rose};
 ghost use Rattle.dccp_packets.specs.Grammar.{is_valid};
-ghost use Rattle.packet_show.specs.Flows.{flow_of, from_end, same_end};
+ghost use Rattle.packet_show.specs.Flows.{flow_of, from_end};
 ghost use Rattle.packet_show.specs.Lines.{parts_by};
 ghost use Rattle.packet_show.specs.Network.{carried_by};
-ghost use Rattle.tool_text.specs.Ends.{Answers, EndsForCause, SinkFails, StopsWithin};
+ghost use Rattle.bridge_records.specs.Recording.{capture_refusal, capture_skips};
+ghost use Rattle.tool_text.specs.Ends.{Answers, IsAnswered, EndsForCause, SinkFails, StopsWithin};
 ghost use Rattle.bridge_command.specs.Framing as spec;
 ghost use Rattle.bridge_command.specs.Framing.{first_framing, flow_packet_text, framed_record, frames_pieces, frames_text, frames_work, is_frames_faulty};
 
 use crate::frames::lines::{put_comment, put_frame};
 use crate::frames::mapping::{UsualEnd, usual_end};
-use crate::unwrap::put_fault;
-use bridge_links::ip_bytes;
-use bridge_records::{PieceFault, RAW_IP, RecordJob, run_records};
+use bridge_links::ip_packet;
+use bridge_pictures::{FlowEnds, ends_by, record_of_ip, side_from};
+use bridge_records::{PieceFault, RecordJob, RecordsEnd, run_records};
 use capture_reader::Record;
 use dccp_io::{Sink, Source};
-use dccp_packets::{Number, Packet, decode};
+use dccp_packets::{Number, Packet, PacketType, decode};
 use packet_show::{Datagram, FlowEnd, Flows, carried, from_end};
 use seq_circle::{NoMemory, Seq48};
 use std::alloc::Global;
-use tool_text::JobEnd;
+use std::marker::Model;
 use world_events::Side;
 
 /// What is known of the flow, once a packet of it came.
 #[derive(Clone, Copy)]
 pub(crate) struct Met {
-    /// The end that sent the first packet.
-    pub(crate) client: FlowEnd,
+    /// Its ends.
+    pub(crate) ends: FlowEnds,
     /// The captured end's initial number, once it sent one of 48 bits.
     pub(crate) initial: Option<Seq48>,
 }
@@ -61,30 +62,24 @@ fn initial_by(initial: Option<Seq48>, number: Number) -> Option<Seq48>
     }
 }
 
-fn met_by(met: Option<Met>, from: FlowEnd) -> Met
-    ensures { result ≡ spec.met_by met from }
+fn met_by(met: Option<Met>, from: FlowEnd, kind: PacketType) -> Met
+    ensures { result ≡ spec.met_by met from kind }
 {
     match met {
         Some(met) => met,
         None => Met {
-            client: from,
+            ends: ends_by(None, from, kind),
             initial: None,
         },
     }
 }
 
-fn same_end(a: FlowEnd, b: FlowEnd) -> bool
-    ensures { result ≡ same_end a b }
+fn goes_to(side: Side, from: Side) -> bool
+    ensures { result ≡ spec.goes_to side from }
 {
-    a.0 == b.0 && a.1 == b.1
-}
-
-fn goes_to(side: Side, by_client: bool) -> bool
-    ensures { result ≡ spec.goes_to side by_client }
-{
-    match side {
-        Side::Client => !by_client,
-        Side::Server => by_client,
+    match (side, from) {
+        (Side::Client, Side::Server) | (Side::Server, Side::Client) => true,
+        (Side::Client, Side::Client) | (Side::Server, Side::Server) => false,
     }
 }
 
@@ -93,19 +88,8 @@ fn met_number(met: &Met, number: Number) -> Met
     ensures { result ≡ spec.met_number met.now number }
 {
     Met {
-        client: met.client,
+        ends: met.ends,
         initial: initial_by(met.initial, number),
-    }
-}
-
-// A record as `show` finds it behind `unwrap`.
-fn record_behind<'a>(record: &Record<'a>) -> Record<'a>
-    ensures { entry_of result ≡ spec.record_behind (entry_of record.now) }
-{
-    Record {
-        link: RAW_IP,
-        bytes: ip_bytes(record.link, record.bytes),
-        ..*record
     }
 }
 
@@ -161,8 +145,8 @@ impl Framing {
             ≡ (spec.by_sender self.old (entry_of record.now) (carried_by there.now) (parts_by packet.now) (from_end there.now.pseudo packet.now.header.from)).next) }
     {
         let from = from_end(&there.pseudo, packet.header.from);
-        let met = met_by(self.met, from);
-        if goes_to(self.side, same_end(from, met.client)) {
+        let met = met_by(self.met, from, packet.header.kind.packet_type());
+        if goes_to(self.side, side_from(&met.ends, from)) {
             self.put_lines(&met, record, there, packet, text)?;
             self.met = Some(met);
         } else {
@@ -212,7 +196,23 @@ impl Framing {
     }
 }
 
-impl RecordJob for Framing {
+/// A capture while the packets of a flow are sought, with the memory for those that are taken out of extension
+/// headers.
+#[derive(Drop)]
+pub(crate) struct FramingJob {
+    alloc: Global,
+    framing: Framing,
+}
+
+impl Model for FramingJob {
+    ghost use Rattle.bridge_command.specs.declared.frames.framing.Framing.{Framing};
+
+    ghost Value = { Framing };
+
+    ghost view = { λ job. job.framing };
+}
+
+impl RecordJob for FramingJob {
     ghost use Rattle.bridge_command.specs.Framing.{FlowPacket, frames_work};
 
     ghost Deed = { FlowPacket };
@@ -224,20 +224,19 @@ impl RecordJob for Framing {
     }
 
     fn pass(&mut self, record: &Record<'_>, text: &mut Vec<u8>) -> Result<(), NoMemory> {
-        self.pass_ip(&record_behind(record), text)
+        let ip = ip_packet(self.alloc, record.link, record.bytes)?;
+        self.framing
+            .pass_ip(&record_of_ip(record, ip.bytes()), text)
     }
 
     fn finish(
         &self,
         _untold: bool,
-        records: u64,
-        end: Option<PieceFault>,
-        text: &mut Vec<u8>,
+        _records: u64,
+        _end: Option<PieceFault>,
+        _text: &mut Vec<u8>,
     ) -> Result<(), NoMemory> {
-        match end {
-            None => Ok(()),
-            Some(fault) => put_fault(text, records, fault),
-        }
+        Ok(())
     }
 }
 
@@ -246,13 +245,13 @@ impl RecordJob for Framing {
 /// with the ports, the Service Code and, where it acknowledges, the number that `replay`'s end of that side would find
 /// in it. An acknowledgement number is as far above that end's initial number as it was above the captured end's, which
 /// is the first number of 48 bits that this sent (RFC 4340, section 7.2); Ack Vectors count from it and stay, as
-/// sequence numbers, options and data do. Whose packet comes first in the flow is its client. A packet without a frame
-/// has a comment in its place: NumberUnknown where the captured end sent no such number before it, FrameTooLong where
+/// sequence numbers, options and data do. Whose packet comes first in the flow is its client, unless that is a
+/// Response or a CloseReq. A packet without a frame has a comment in its place: NumberUnknown where the captured end sent no such number before it, FrameTooLong where
 /// it has more than 2,044 bytes. Where no packet of the flow goes to the side, nothing is written. The frames show what
 /// the end answers to these packets, and no other connection.
 ///
-/// The capture is one that `unwrap` takes, and its packets are found as by `show` behind `unwrap`. Input comes where it
-/// has a fault, and then its line stands behind the others. With status 0 or 1 the output is that of the whole input,
+/// The capture is one that `unwrap` takes, and its packets are found as by `show` after `unwrap`. Input comes where it
+/// has a fault, which is answered. With status 0 or 1 the output is that of the whole input,
 /// with another a front of it. Read comes where the source failed, Write where the sink did, and Memory where no memory
 /// was left.
 pub(crate) fn frame_flow<S: Source, K: Sink>(
@@ -261,13 +260,16 @@ pub(crate) fn frame_flow<S: Source, K: Sink>(
     side: Side,
     input: &mut S,
     output: &mut K,
-) -> JobEnd
+) -> RecordsEnd
     ensures framed { (bytes : List ℕ) → S.left input.old ≡ Some bytes
-        → Answers (frames_text flow side bytes) (is_frames_faulty flow side bytes) result (S.left input.new) (K.taken output.old) (K.taken output.new) }
+        → Answers (frames_text flow side bytes) (is_frames_faulty flow side bytes) result.end (S.left input.new) (K.taken output.old) (K.taken output.new) }
     ensures past { (bytes : List ℕ) → S.left input.old ≡ Some bytes
-        → StopsWithin 524288 (frames_pieces flow side bytes).accepted bytes result (S.left input.new) }
-    ensures cause { EndsForCause result (Rose (S.faults input.old) (S.faults input.new)) (SinkFails K.faults K.empty_takes output.old output.new) }
+        → StopsWithin 524288 (frames_pieces flow side bytes).accepted bytes result.end (S.left input.new) }
+    ensures refused { (bytes : List ℕ) → S.left input.old ≡ Some bytes → IsAnswered result.end → result.refusal ≡ capture_refusal (frames_pieces flow side bytes) }
+    ensures skipped { (bytes : List ℕ) → S.left input.old ≡ Some bytes → IsAnswered result.end → result.skips ≡ capture_skips (frames_pieces flow side bytes) }
+    ensures cause { EndsForCause result.end (Rose (S.faults input.old) (S.faults input.new)) (SinkFails K.faults K.empty_takes output.old output.new) }
 {
-    let job = Framing::new(alloc, flow, side);
+    let framing = Framing::new(alloc, flow, side);
+    let job = FramingJob { alloc, framing };
     run_records(alloc, job, input, output)
 }

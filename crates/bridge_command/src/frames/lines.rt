@@ -67,7 +67,7 @@ fn put_no_frame(text: &mut Vec<u8>, why: NoFrame) -> Result<(), NoMemory>
     put(text, b"\n")
 }
 
-// Puts the line of a frame: its first bytes, and the data behind them.
+// Puts the line of a frame: its first bytes, and the data after them.
 #[tactic(auto, using(crate::proofs::FrameSpelling::sealed_put))]
 fn put_sealed(text: &mut Vec<u8>, front: &[u8], payload: &[u8]) -> Result<(), NoMemory>
     ensures { OnOk result (text.new.items ≡ text.old.items ++ spec.packet_frame_line (Ok (front.now ++ payload.now))) }

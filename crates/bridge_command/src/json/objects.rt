@@ -2,10 +2,10 @@
 ghost use Rattle.std.specs.List.{list_all};
 ghost use Rattle.std.specs.Prelude.{◌≡◌, ◌++◌, [], ◌∷◌, codes, false, true, IfOk, OnOk};
 ghost use Rattle.tool_text.specs.Lines.{is_text};
-ghost use Rattle.serde_json.specs.Data.{no_members, string, put as with_member};
-ghost use Rattle.serde_json.specs.Written.{members_have_float};
+ghost use Rattle.serde_json.specs.Data.{no_members, number as number_data, object as object_data, put as with_member, string, unsigned};
 ghost use Rattle.serde_json.specs.View.{view};
-ghost use Rattle.bridge_command.specs.Members.{listed, object_line, members_seen, with_list_named, with_number_named, with_text_named, with_truth_named};
+ghost use Rattle.serde_json.specs.Written.{members_have_float};
+ghost use Rattle.bridge_command.specs.Members.{listed, members_seen, object_line, with_list_named, with_number_named, with_text_named, with_truth_named};
 
 use seq_circle::NoMemory;
 use serde_json::{Map, Value, push, put};
@@ -19,11 +19,11 @@ pub(crate) struct Object {
     pub(crate) members: Map<String, Value>,
 }
 
-/// Texts while a list of them is put together.
+/// Values while a list of them is put together.
 #[derive(Drop)]
-pub(crate) struct Texts {
+pub(crate) struct Items {
     pub(crate) alloc: Global,
-    pub(crate) texts: Vec<Value>,
+    pub(crate) values: Vec<Value>,
 }
 
 // A text as a value.
@@ -46,26 +46,38 @@ fn put_with_newline(text: &mut Vec<u8>, line: &[u8]) -> Result<(), NoMemory>
     put_bytes(text, b"\n")
 }
 
-impl Texts {
-    /// No texts.
-    pub(crate) fn new(alloc: Global) -> Texts
+impl Items {
+    /// No values.
+    pub(crate) fn new(alloc: Global) -> Items
         ensures { listed result ≡ [] }
     {
-        Texts {
+        Items {
             alloc,
-            texts: Vec::new(alloc),
+            values: Vec::new(alloc),
         }
     }
 
-    /// Puts a text at the list's end. NoMemory comes where no memory was left, here and below.
+    // Puts a value at the list's end. NoMemory comes where no memory was left, here and below.
     #[tactic(auto, using(crate::proofs::JsonLists::listed_so))]
-    pub(crate) fn push(&mut self, text: &[u8]) -> Result<(), NoMemory>
-        requires { list_all is_text text.now ≡ true }
-        ensures { OnOk result (listed self.new ≡ listed self.old ++ string text.now ∷ []) }
+    fn push(&mut self, value: Value) -> Result<(), NoMemory>
+        ensures { OnOk result (listed self.new ≡ listed self.old ++ view value ∷ []) }
     {
-        let value = text_value(self.alloc, text)?;
-        push(&mut self.texts, value)?;
+        push(&mut self.values, value)?;
         Ok(())
+    }
+
+    /// Puts a number at the list's end.
+    pub(crate) fn number(&mut self, number: u64) -> Result<(), NoMemory>
+        ensures { OnOk result (listed self.new ≡ listed self.old ++ number_data (unsigned number) ∷ []) }
+    {
+        self.push(Value::from(number))
+    }
+
+    /// Puts an object at the list's end.
+    pub(crate) fn object(&mut self, object: Object) -> Result<(), NoMemory>
+        ensures { OnOk result (listed self.new ≡ listed self.old ++ object_data (members_seen object) ∷ []) }
+    {
+        self.push(Value::Object(object.members))
     }
 }
 
@@ -111,11 +123,19 @@ impl Object {
         self.put(name, value)
     }
 
-    /// Puts a list of texts under this name.
-    pub(crate) fn texts(&mut self, name: &str, list: Texts) -> Result<(), NoMemory>
-        ensures { OnOk result (members_seen self.new ≡ with_list_named name.now (listed list) (members_seen self.old)) }
+    /// Puts a string under this name.
+    pub(crate) fn string(&mut self, name: &str, text: &str) -> Result<(), NoMemory>
+        ensures { OnOk result (members_seen self.new ≡ with_text_named name.now text.now (members_seen self.old)) }
     {
-        self.put(name, Value::Array(list.texts))
+        let value = Value::try_from_str(self.alloc, text)?;
+        self.put(name, value)
+    }
+
+    /// Puts a list under this name.
+    pub(crate) fn list(&mut self, name: &str, items: Items) -> Result<(), NoMemory>
+        ensures { OnOk result (members_seen self.new ≡ with_list_named name.now (listed items) (members_seen self.old)) }
+    {
+        self.put(name, Value::Array(items.values))
     }
 
     /// Puts the object, which has no number that is a float, on a line of its own at the text's end.

@@ -1,62 +1,96 @@
 //! A packet of DCCP as members of an object (RFC 4340, section 5; the names are own).
 ghost use Rattle.std.specs.List.{list_all};
-ghost use Rattle.std.specs.Prelude.{◌≡◌, ◌≤◌, ◌++◌, [], ◌∷◌, length, not, true, OnOk};
-ghost use Rattle.dccp_options.specs.Grammar.{options_of};
-ghost use Rattle.dccp_options.specs.Left.{item_of};
+ghost use Rattle.std.specs.Net.Text.{ip_text};
+ghost use Rattle.std.specs.Prelude.{◌≡◌, ◌≤◌, length, not, true, OnOk};
 ghost use Rattle.dccp_packets.specs.Grammar.{is_long};
 ghost use Rattle.dccp_packets.specs.declared.header.Number.TheVariants.{Long};
-ghost use Rattle.hex.specs.Hex.{IsBytes};
 ghost use Rattle.packet_show.specs.Lines.{parts_by};
 ghost use Rattle.packet_show.specs.Network.{carried_by};
-ghost use Rattle.packet_show.specs.Text.{from_text, to_text};
 ghost use Rattle.tool_text.specs.Lines.{is_text};
-ghost use Rattle.serde_json.specs.Data.{string};
-ghost use Rattle.bridge_command.specs.Members.{listed, members_seen};
-ghost use Rattle.bridge_command.specs.Objects.{number_written, option_values, option_words, verdict_name, with_ack, with_addresses, with_code, with_ends, with_header_fields, with_kind, with_options, with_packet_fields, with_rest, with_service};
+ghost use Rattle.bridge_command.specs.Members.{members_seen, with_text_named};
+ghost use Rattle.bridge_command.specs.Objects.{destination_text, ecn_of, hops_of, number_written, source_text, verdict_name, with_ack, with_addresses, with_code, with_header_fields, with_ip, with_kind, with_options, with_packet_fields, with_payload, with_ports, with_rest, with_service};
 
-use crate::json::objects::{Object, Texts};
-use dccp_options::{Opt, OptFault, options};
+use crate::json::objects::{Items, Object};
+use crate::json::options::push_options;
+use crate::json::skips::byte_at;
 use dccp_packets::{Header, Kind, Number, Packet};
 use dccp_sum::{Pseudo, check};
-use packet_show::{Datagram, put_from, put_mark, put_option, put_to, sum_name, type_name};
+use packet_show::{Datagram, sum_name, type_name};
 use seq_circle::{NoMemory, Seq48};
-use tool_text::put;
+use std::net::{IpAddr, Ipv4Addr, Ipv6Addr};
 
-// Each byte is below 256.
-fn items_are_bytes(bytes: &[u8])
-    ensures { IsBytes bytes.now }
-{}
-
-// Addresses are printed as text.
-#[tactic(auto, using(crate::proofs::ObjectTexts::v4_is_text, crate::proofs::ObjectTexts::v6_is_text))]
-fn addresses_are_text(pseudo: &Pseudo)
-    ensures from { list_all is_text (from_text pseudo.now) ≡ true }
-    ensures to { list_all is_text (to_text pseudo.now) ≡ true }
+// The address that a packet goes from.
+fn source(pseudo: &Pseudo) -> IpAddr
+    ensures { ip_text result ≡ source_text pseudo.now }
 {
-    if let Pseudo::V6 { from, to } = pseudo {
-        items_are_bytes(from);
-        items_are_bytes(to);
+    match *pseudo {
+        Pseudo::V4 { from, .. } => IpAddr::V4(Ipv4Addr::from_octets(from)),
+        Pseudo::V6 { from, .. } => IpAddr::V6(Ipv6Addr::from_octets(from)),
     }
+}
+
+// The address that a packet goes to.
+fn destination(pseudo: &Pseudo) -> IpAddr
+    ensures { ip_text result ≡ destination_text pseudo.now }
+{
+    match *pseudo {
+        Pseudo::V4 { to, .. } => IpAddr::V4(Ipv4Addr::from_octets(to)),
+        Pseudo::V6 { to, .. } => IpAddr::V6(Ipv6Addr::from_octets(to)),
+    }
+}
+
+// Puts an address under this name.
+fn put_address(object: &mut Object, name: &str, address: IpAddr) -> Result<(), NoMemory>
+    ensures { OnOk result (members_seen object.new ≡ with_text_named name.now (ip_text address) (members_seen object.old)) }
+{
+    let alloc = object.alloc;
+    let Ok(text) = format!(in alloc; "{address}") else {
+        return Err(NoMemory);
+    };
+    object.string(name, &text)
 }
 
 // Puts the addresses that a packet goes from and to.
 fn put_addresses(object: &mut Object, there: &Datagram<'_>) -> Result<(), NoMemory>
     ensures { OnOk result (members_seen object.new ≡ with_addresses (carried_by there.now) (members_seen object.old)) }
 {
-    addresses_are_text(&there.pseudo);
-    let mut source = Vec::new(object.alloc);
-    put_from(&mut source, &there.pseudo)?;
-    object.text("source", &source)?;
-    let mut destination = Vec::new(object.alloc);
-    put_to(&mut destination, &there.pseudo)?;
-    object.text("destination", &destination)
+    put_address(object, "source", source(&there.pseudo))?;
+    put_address(object, "destination", destination(&there.pseudo))
 }
 
-// Puts the addresses and ports of a packet.
-fn put_ends(object: &mut Object, there: &Datagram<'_>, header: &Header) -> Result<(), NoMemory>
-    ensures { OnOk result (members_seen object.new ≡ with_ends (carried_by there.now) header.now (members_seen object.old)) }
+// How many hops an IP packet may still go.
+fn hops_of(pseudo: &Pseudo, ip: &[u8]) -> u8
+    ensures { result ≡ hops_of pseudo.now ip.now }
 {
-    put_addresses(object, there)?;
+    match pseudo {
+        Pseudo::V4 { .. } => byte_at(ip, 8),
+        Pseudo::V6 { .. } => byte_at(ip, 7),
+    }
+}
+
+// Its ECN field.
+fn ecn_of(pseudo: &Pseudo, ip: &[u8]) -> u8
+    ensures { result ≡ ecn_of pseudo.now ip.now }
+{
+    match pseudo {
+        Pseudo::V4 { .. } => byte_at(ip, 1) % 4,
+        Pseudo::V6 { .. } => byte_at(ip, 1) / 16 % 4,
+    }
+}
+
+/// Puts what an IP packet says of one of DCCP: the hops that are left, its ECN field, and the addresses.
+pub(crate) fn put_ip(object: &mut Object, there: &Datagram<'_>, ip: &[u8]) -> Result<(), NoMemory>
+    ensures { OnOk result (members_seen object.new ≡ with_ip (carried_by there.now) ip.now (members_seen object.old)) }
+{
+    object.number("ttl", u64::from(hops_of(&there.pseudo, ip)))?;
+    object.number("ecn", u64::from(ecn_of(&there.pseudo, ip)))?;
+    put_addresses(object, there)
+}
+
+// Puts the ports of a packet.
+fn put_ports(object: &mut Object, header: &Header) -> Result<(), NoMemory>
+    ensures { OnOk result (members_seen object.new ≡ with_ports header.now (members_seen object.old)) }
+{
     object.number("source_port", u64::from(header.from))?;
     object.number("destination_port", u64::from(header.to))
 }
@@ -141,62 +175,15 @@ fn put_kind(object: &mut Object, kind: &Kind) -> Result<(), NoMemory>
     }
 }
 
-// Puts an option as `show` has it between brackets, or the fault of Mandatory that ends the options.
-fn put_option_words(text: &mut Vec<u8>, item: &Result<Opt<'_>, OptFault>) -> Result<(), NoMemory>
-    ensures { OnOk result (text.new.items ≡ text.old.items ++ option_words (item_of item.now)) }
-{
-    match item {
-        Ok(option) => {
-            put_mark(text, option.mandatory)?;
-            put_option(text, option.kind, option.body)
-        }
-        Err(_) => put(text, b"mandatory fault"),
-    }
-}
-
-// An option is printed as text.
-#[tactic(auto, using(crate::proofs::ObjectTexts::option_is_text))]
-fn words_are_text(item: &Result<Opt<'_>, OptFault>)
-    ensures { list_all is_text (option_words (item_of item.now)) ≡ true }
-{
-    if let Ok(option) = item {
-        items_are_bytes(option.body);
-    }
-}
-
-// Puts one more option at a list's end.
-fn push_option(texts: &mut Texts, item: &Result<Opt<'_>, OptFault>) -> Result<(), NoMemory>
-    ensures { OnOk result (listed texts.new ≡ listed texts.old ++ string (option_words (item_of item.now)) ∷ []) }
-{
-    words_are_text(item);
-    let mut words = Vec::new(texts.alloc);
-    put_option_words(&mut words, item)?;
-    texts.push(&words)
-}
-
-// Puts the options of an area at a list's end.
-fn push_options(texts: &mut Texts, area: &[u8], on_data: bool) -> Result<(), NoMemory>
-    requires { length area.now ≤ 1008 }
-    ensures { OnOk result (listed texts.new ≡ listed texts.old ++ option_values (options_of area.now on_data)) }
-{
-    for item in options(area, on_data) {
-        push_option(texts, &item)?;
-    }
-    Ok(())
-}
-
 // Puts the options, of which some are ignored on Data packets.
 fn put_options(object: &mut Object, packet: &Packet<'_>) -> Result<(), NoMemory>
     requires { length packet.now.options.now ≤ 1008 }
     ensures { OnOk result (members_seen object.new ≡ with_options (parts_by packet.now) (members_seen object.old)) }
 {
-    let mut texts = Texts::new(object.alloc);
-    push_options(
-        &mut texts,
-        packet.options,
-        packet.header.kind.packet_type().is_data(),
-    )?;
-    object.texts("options", texts)
+    let on_data = packet.header.kind.packet_type().is_data();
+    let mut items = Items::new(object.alloc);
+    push_options(&mut items, packet.options, on_data)?;
+    object.list("options", items)
 }
 
 // The verdict on the checksum; it is unknown where bytes are missing.
@@ -223,20 +210,33 @@ fn put_rest(object: &mut Object, there: &Datagram<'_>, packet: &Packet<'_>) -> R
     object.text("verdict", verdict_name(there))
 }
 
-/// Puts a packet: its ends, its header, what its type alone carries, its options, and the rest.
+// Puts the bytes of data in hexadecimal, where they are asked for.
+fn put_payload(object: &mut Object, payload: bool, bytes: &[u8]) -> Result<(), NoMemory>
+    ensures { OnOk result (members_seen object.new ≡ with_payload payload bytes.now (members_seen object.old)) }
+{
+    if !payload {
+        return Ok(());
+    }
+    let text = hex::encode(object.alloc, bytes)?;
+    object.string("payload", &text)
+}
+
+/// Puts a packet: its ports, its header, what its type alone carries, its options, and the rest.
 pub(crate) fn put_packet(
     object: &mut Object,
+    payload: bool,
     there: &Datagram<'_>,
     packet: &Packet<'_>,
 ) -> Result<(), NoMemory>
     requires low { 8 ≤ length there.now.bytes.now }
     requires high { length there.now.bytes.now ≤ 65535 }
     requires options { length packet.now.options.now ≤ 1008 }
-    ensures { OnOk result (members_seen object.new ≡ with_packet_fields (carried_by there.now) (parts_by packet.now) (members_seen object.old)) }
+    ensures { OnOk result (members_seen object.new ≡ with_packet_fields payload (carried_by there.now) (parts_by packet.now) (members_seen object.old)) }
 {
-    put_ends(object, there, &packet.header)?;
+    put_ports(object, &packet.header)?;
     put_header(object, &packet.header)?;
     put_kind(object, &packet.header.kind)?;
     put_options(object, packet)?;
-    put_rest(object, there, packet)
+    put_rest(object, there, packet)?;
+    put_payload(object, payload, packet.payload)
 }

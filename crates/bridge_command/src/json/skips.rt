@@ -1,20 +1,20 @@
 //! Why an IP packet holds no DCCP packet that can be read.
-ghost use Rattle.std.specs.Prelude.{◌≡◌};
+ghost use Rattle.std.specs.Prelude.{◌≡◌, slice_index};
 ghost use Rattle.bridge_command.specs.Skips as spec;
 ghost use Rattle.bridge_command.specs.Skips.{skip_name};
 
-use bridge_links::read_u16;
+use bridge_links::{Upper, read_u16, upper_of};
 
 /// Why a record holds no DCCP packet that can be read (own).
 #[derive(Clone, Copy)]
 pub(crate) enum Skip {
-    /// No IP packet was found behind the header of its link.
+    /// No IP packet was found after the header of its link.
     NotIp,
-    /// The IP header was not captured whole.
+    /// The IP header, or extension headers of IPv6, were not captured whole; or these are more than 16.
     ShortHeader,
-    /// The lengths in the IPv4 header contradict each other.
+    /// The lengths in the IP header contradict each other, or the headers that follow.
     BadHeader,
-    /// IP carries another protocol, or IPv6 an extension header.
+    /// IP carries another protocol, or IPv6 an extension header that is not passed over.
     NotDccp,
     /// A fragment of DCCP.
     Fragment,
@@ -32,6 +32,9 @@ const FRAGMENT_PLACE: usize = 6;
 const FRAGMENT: u16 = 1 << 14;
 
 const DCCP: u8 = 33;
+
+// The extension header of IPv6 that has a fragment.
+const FRAGMENT_HEADER: u8 = 44;
 
 fn v4_skip(bytes: &[u8]) -> Skip
     ensures { result ≡ spec.v4_skip bytes.now }
@@ -51,13 +54,34 @@ fn v4_skip(bytes: &[u8]) -> Skip
     Skip::BadHeader
 }
 
+/// The byte that is there, or 0 where none does.
+pub(crate) fn byte_at(bytes: &[u8], place: usize) -> u8
+    ensures { result ≡ slice_index bytes.now place }
+{
+    bytes.get(place).copied().unwrap_or(0)
+}
+
+// Why no DCCP was found after the extension headers of IPv6, of which this is the next.
+fn upper_skip(upper: &Upper, bytes: &[u8]) -> Skip
+    ensures { result ≡ spec.upper_skip upper.now bytes.now }
+{
+    match upper.kind {
+        DCCP => Skip::BadHeader,
+        FRAGMENT_HEADER if byte_at(bytes, upper.place) == DCCP => Skip::Fragment,
+        _ => Skip::NotDccp,
+    }
+}
+
 fn v6_skip(bytes: &[u8]) -> Skip
     ensures { result ≡ spec.v6_skip bytes.now }
 {
     if bytes.len() < IPV6_HEADER {
         return Skip::ShortHeader;
     }
-    Skip::NotDccp
+    match upper_of(bytes) {
+        Some(upper) => upper_skip(&upper, bytes),
+        None => Skip::ShortHeader,
+    }
 }
 
 /// Why no DCCP was found in bytes that may be IP.

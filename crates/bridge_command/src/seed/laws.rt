@@ -11,7 +11,7 @@ ghost use Rattle.tool_jobs.specs.WorldLines.{end_lines};
 use fault_campaign::drawn_events_happen;
 
 /// The schedule of a seed is the run that `campaign` counts for it, of as many events as a campaign may ask for (own).
-/// `run` refuses none of its lines; it begins with the same two ends, the same events happen to them one behind the
+/// `run` refuses none of its lines; it begins with the same two ends, the same events happen to them one after the
 /// other, and it ends with the same world. So its text is that of this run, with its end lines, and what is counted of
 /// its events, its frames and its features is the report of the seed.
 pub fn a_schedule_is_the_run_of_its_seed()

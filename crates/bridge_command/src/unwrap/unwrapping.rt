@@ -1,24 +1,29 @@
 //! `unwrap`: a job over the records of a capture.
-ghost use Rattle.std.specs.Prelude.{◌≡◌, ◌≤◌, ◌++◌, ℕ, List, length, false, OnOk, Some};
+ghost use Rattle.std.specs.Prelude.{◌≡◌, ◌≤◌, ◌++◌, ℕ, List, length, OnOk, Some};
 ghost use Rattle.capture_reader.specs.Records.{entry_of};
 ghost use Rattle.bridge_records.specs.Writing.{header_for, raw_record};
 ghost use Rattle.dccp_io.specs.Counts.{Rose};
-ghost use Rattle.tool_text.specs.Ends.{Answers, EndsForCause, SinkFails, StopsWithin};
+ghost use Rattle.bridge_records.specs.Recording.{capture_refusal, capture_skips};
+ghost use Rattle.tool_text.specs.Ends.{Answers, IsAnswered, EndsForCause, SinkFails, StopsWithin};
 ghost use Rattle.bridge_command.specs.Unwrapping as spec;
-ghost use Rattle.bridge_command.specs.Unwrapping.{is_unwrapped_faulty, piece_fault_name, unwrap_closing, unwrap_work, unwrapped_entry, unwrapped_pieces, unwrapped_text, untold_header};
+ghost use Rattle.bridge_command.specs.Unwrapping.{is_unwrapped_faulty, piece_fault_name, unwrap_work, unwrapped_entry, unwrapped_pieces, unwrapped_text, untold_header};
 
-use bridge_links::ip_start;
-use bridge_records::{PieceFault, RecordJob, put_file_header, put_record_header, run_records};
-use capture_reader::{Record, RecordHeader, behind};
+use bridge_links::ip_packet;
+use bridge_records::{
+    PieceFault, RecordJob, RecordsEnd, put_file_header, put_record_header, run_records,
+};
+use capture_reader::{Record, RecordHeader};
 use dccp_io::{Sink, Source};
 use seq_circle::NoMemory;
 use std::alloc::Global;
 use std::marker::Model;
-use tool_text::{JobEnd, put, put_counted};
+use tool_text::put;
 
-/// Makes of each record one of raw IP.
+/// Makes of each record one of raw IP. Contracts see nothing of it.
 #[derive(Drop)]
-pub(crate) struct Unwrapping;
+pub(crate) struct Unwrapping {
+    alloc: Global,
+}
 
 impl Model for Unwrapping {
     ghost Value = { Unit {0} };
@@ -26,39 +31,53 @@ impl Model for Unwrapping {
     ghost view = { λ _. tt };
 }
 
-// The header of the record that is made of one, whose packet begins there.
-fn header_behind(record: &Record<'_>, start: usize) -> RecordHeader
-    requires inside { start ≤ length record.now.bytes.now }
+// How many bytes the packet of a record had.
+fn original_of(record: &Record<'_>, ip: &[u8]) -> u32
+    requires part { length ip.now ≤ length record.now.bytes.now }
     requires short { length record.now.bytes.now ≤ 262144 }
-    ensures { result ≡ header_for (spec.unwrapped_at (entry_of record.now) (Some start)) }
+    ensures { result ≡ spec.original_of (entry_of record.now) ip.now }
+{
+    if ip.is_empty() {
+        return 0;
+    }
+    let taken = (record.bytes.len() - ip.len()) as u32;
+    record.original.saturating_sub(taken)
+}
+
+// The header of the record of this packet, which is found in one.
+fn header_of(record: &Record<'_>, ip: &[u8]) -> RecordHeader
+    requires part { length ip.now ≤ length record.now.bytes.now }
+    requires short { length record.now.bytes.now ≤ 262144 }
+    ensures { result ≡ header_for (spec.unwrapped_of (entry_of record.now) ip.now) }
 {
     RecordHeader {
         seconds: record.seconds,
         fraction: record.fraction,
-        captured: (record.bytes.len() - start) as u32,
-        original: record.original.saturating_sub(start as u32),
+        captured: ip.len() as u32,
+        original: original_of(record, ip),
     }
+}
+
+// Puts the record of this packet, which is found in one.
+fn put_record_of(text: &mut Vec<u8>, record: &Record<'_>, ip: &[u8]) -> Result<(), NoMemory>
+    requires part { length ip.now ≤ length record.now.bytes.now }
+    requires short { length record.now.bytes.now ≤ 262144 }
+    ensures { OnOk result (text.new.items ≡ text.old.items ++ raw_record (spec.unwrapped_of (entry_of record.now) ip.now)) }
+{
+    let header = header_of(record, ip);
+    put_record_header(text, &header)?;
+    put(text, ip)?;
+    Ok(())
 }
 
 // Puts the record that is made of one.
 #[tactic(auto, unfolding(crate::specs::Unwrapping::unwrapped_entry))]
-fn put_unwrapped(text: &mut Vec<u8>, record: &Record<'_>) -> Result<(), NoMemory>
+fn put_unwrapped(alloc: Global, text: &mut Vec<u8>, record: &Record<'_>) -> Result<(), NoMemory>
     requires { length record.now.bytes.now ≤ 262144 }
     ensures { OnOk result (text.new.items ≡ text.old.items ++ raw_record (unwrapped_entry (entry_of record.now))) }
 {
-    let Some(start) = ip_start(record.link, record.bytes) else {
-        let empty = RecordHeader {
-            seconds: record.seconds,
-            fraction: record.fraction,
-            captured: 0,
-            original: 0,
-        };
-        return put_record_header(text, &empty);
-    };
-    let header = header_behind(record, start);
-    put_record_header(text, &header)?;
-    put(text, behind(record.bytes, start))?;
-    Ok(())
+    let packet = ip_packet(alloc, record.link, record.bytes)?;
+    put_record_of(text, record, packet.bytes())
 }
 
 /// Why a capture is refused, as a word (own).
@@ -74,18 +93,6 @@ pub(crate) fn fault_name(fault: PieceFault) -> &'static [u8]
         PieceFault::BadBlock => b"BadBlock",
         PieceFault::TooLarge => b"TooLarge",
     }
-}
-
-/// Puts the line of a fault of a capture, behind so many records (own). NoMemory comes where the text could not grow;
-/// then a front of the line may stand there.
-pub(crate) fn put_fault(text: &mut Vec<u8>, records: u64, fault: PieceFault) -> Result<(), NoMemory>
-    ensures { OnOk result (text.new.items ≡ text.old.items ++ unwrap_closing false records (Some fault)) }
-{
-    put(text, b"capture ")?;
-    put(text, fault_name(fault))?;
-    put(text, b" after ")?;
-    put_counted(text, b"record ", records)?;
-    put(text, b"\n")
 }
 
 // Puts the text at the end of a capture in which no interface was read, or one was.
@@ -110,43 +117,46 @@ impl RecordJob for Unwrapping {
     }
 
     fn pass(&mut self, record: &Record<'_>, text: &mut Vec<u8>) -> Result<(), NoMemory> {
-        put_unwrapped(text, record)
+        put_unwrapped(self.alloc, text, record)
     }
 
     fn finish(
         &self,
         untold: bool,
-        records: u64,
+        _records: u64,
         end: Option<PieceFault>,
         text: &mut Vec<u8>,
     ) -> Result<(), NoMemory> {
         match end {
             None => put_untold(text, untold),
-            Some(fault) => put_fault(text, records, fault),
+            Some(_) => Ok(()),
         }
     }
 }
 
 /// Makes of a capture a classic one of raw IP (own): a record for each record, at the same time, with the IP packet
-/// that is found behind the header of its link and up to two VLAN tags, or empty where there is none. Of link types it
-/// knows 0 and 108, which begin with an address family, 1 (Ethernet), 12 and 101 (raw IP), 113 and 276 (the "any"
-/// device of Linux), 228 (IPv4) and 229 (IPv6). The capture is a classic one or a pcapng file, whose records are its
-/// Enhanced Packet Blocks, and its Simple Packet Blocks at time 0. Fractions of a second are nanoseconds where the
-/// first interface of a pcapng file counts time finer than in microseconds.
+/// that is found after the header of its link and up to two VLAN tags, without the extension headers of IPv6 that lead to
+/// DCCP; or empty where there is none. Of link types it knows 0 and 108, which begin with an address family, 1
+/// (Ethernet), 9 (PPP), 12 and 101 (raw IP), 113 and 276 (the "any" device of Linux), 228 (IPv4), 229 (IPv6) and 239
+/// (packets that Linux's packet filter logged). The capture is a classic one or a pcapng file, whose records are its
+/// Enhanced Packet Blocks, and its Simple Packet Blocks at time 0. Fractions of a second are nanoseconds where six
+/// digits cannot write the parts in which the first interface of a pcapng file counts time.
 ///
-/// Input comes where the capture has a fault, and then its line stands behind the records. With status 0 or 1 the
-/// output is that of the whole input, with another a front of it. Read comes where the source failed, Write where the
-/// sink did, and Memory where no memory was left.
+/// Input comes where the capture has a fault, which is answered. With status 0 or 1 the output is that of the whole
+/// input, with another a front of it. Read comes where the source failed, Write where the sink did, and Memory where no
+/// memory was left.
 pub(crate) fn unwrap_capture<S: Source, K: Sink>(
     alloc: Global,
     input: &mut S,
     output: &mut K,
-) -> JobEnd
+) -> RecordsEnd
     ensures unwrapped { (bytes : List ℕ) → S.left input.old ≡ Some bytes
-        → Answers (unwrapped_text bytes) (is_unwrapped_faulty bytes) result (S.left input.new) (K.taken output.old) (K.taken output.new) }
+        → Answers (unwrapped_text bytes) (is_unwrapped_faulty bytes) result.end (S.left input.new) (K.taken output.old) (K.taken output.new) }
     ensures past { (bytes : List ℕ) → S.left input.old ≡ Some bytes
-        → StopsWithin 524288 (unwrapped_pieces bytes).accepted bytes result (S.left input.new) }
-    ensures cause { EndsForCause result (Rose (S.faults input.old) (S.faults input.new)) (SinkFails K.faults K.empty_takes output.old output.new) }
+        → StopsWithin 524288 (unwrapped_pieces bytes).accepted bytes result.end (S.left input.new) }
+    ensures refused { (bytes : List ℕ) → S.left input.old ≡ Some bytes → IsAnswered result.end → result.refusal ≡ capture_refusal (unwrapped_pieces bytes) }
+    ensures skipped { (bytes : List ℕ) → S.left input.old ≡ Some bytes → IsAnswered result.end → result.skips ≡ capture_skips (unwrapped_pieces bytes) }
+    ensures cause { EndsForCause result.end (Rose (S.faults input.old) (S.faults input.new)) (SinkFails K.faults K.empty_takes output.old output.new) }
 {
-    run_records(alloc, Unwrapping, input, output)
+    run_records(alloc, Unwrapping { alloc }, input, output)
 }

@@ -36,7 +36,7 @@ pub(crate) enum Drawn<'a> {
     Ended(Side),
 }
 
-// A word without the colon at its end, if one stands there.
+// A word without the colon at its end, if one is there.
 fn without_colon(word: &[u8]) -> &[u8]
     ensures { result.now ≡ spec.without_colon word.now }
 {
@@ -228,7 +228,7 @@ fn sent_frame<'a>(name: &[u8], frame: Digits<'a>) -> Option<Drawn<'a>>
     Some(Drawn::Sent { from, index, frame })
 }
 
-// What stands behind `sent`: a frame's name and its bytes.
+// What follows `sent`: a frame's name and its bytes.
 fn sent<'a>(words: &mut Words<'a>) -> Result<Drawn<'a>, LineFault>
     ensures { result ≡ spec.sent_drawn (left_of words.old) }
 {

@@ -2,9 +2,9 @@
 ghost use Rattle.std.specs.Prelude.{◌≡◌, ◌++◌, ℕ, List, OnOk, Some};
 ghost use Rattle.dccp_io.specs.Counts.{Rose};
 ghost use Rattle.packet_show.specs.Lines.{parts_by};
-ghost use Rattle.tool_text.specs.Ends.{Answers, EndsForCause, SinkFails, StopsWithin};
+ghost use Rattle.tool_text.specs.Ends.{Answers, IsAnswered, EndsForCause, SinkFails, StopsWithin};
 ghost use Rattle.bridge_pictures.specs.Transcript as spec;
-ghost use Rattle.bridge_pictures.specs.Transcript.{ladder_accepted, ladder_refused, ladder_text};
+ghost use Rattle.bridge_pictures.specs.Transcript.{ladder_accepted, ladder_refusal, ladder_refused, ladder_text};
 
 use crate::ladder::lines::{Drawn, drawn_by_line};
 use crate::ladder::phases::Came;
@@ -16,7 +16,8 @@ use packet_show::put_words;
 use seq_circle::NoMemory;
 use std::alloc::Global;
 use tool_text::{
-    Digits, JobEnd, LineError, LineJob, malformed_name, put, put_named, put_number, run_lines,
+    Digits, LineError, LineJob, LinesEnd, malformed_name, put, put_named, put_number,
+    run_lines_apart,
 };
 use world_events::Side;
 
@@ -170,21 +171,22 @@ impl LineJob for Ladder {
 /// Of `replay` the left line is the end, whose phases are not told, and frames go straight. Each packet is written
 /// beside its sender's line, as `show` has it, cut to 60 bytes, with all of it as a tooltip.
 ///
-/// Where a line is refused, the line that says so is all that is written. With status 0 or 1 the output is that of the
+/// Where a line is refused, nothing is written, and its refusal is answered. With status 0 or 1 the output is that of the
 /// whole input, with another a front of it. Read comes where the source failed, Write where the sink did, and Memory
 /// where no memory was left.
 pub fn ladder_of_transcript<S: Source, K: Sink>(
     alloc: Global,
     input: &mut S,
     output: &mut K,
-) -> JobEnd
+) -> LinesEnd
     ensures drawn { (bytes : List ℕ) → S.left input.old ≡ Some bytes
-        → Answers (ladder_text bytes) (ladder_refused bytes) result (S.left input.new) (K.taken output.old) (K.taken output.new) }
+        → Answers (ladder_text bytes) (ladder_refused bytes) result.end (S.left input.new) (K.taken output.old) (K.taken output.new) }
     ensures past { (bytes : List ℕ) → S.left input.old ≡ Some bytes
-        → StopsWithin 16384 (ladder_accepted bytes) bytes result (S.left input.new) }
-    ensures cause { EndsForCause result (Rose (S.faults input.old) (S.faults input.new)) (SinkFails K.faults K.empty_takes output.old output.new) }
+        → StopsWithin 16384 (ladder_accepted bytes) bytes result.end (S.left input.new) }
+    ensures refused { (bytes : List ℕ) → S.left input.old ≡ Some bytes → IsAnswered result.end → result.refusal ≡ ladder_refusal bytes }
+    ensures cause { EndsForCause result.end (Rose (S.faults input.old) (S.faults input.new)) (SinkFails K.faults K.empty_takes output.old output.new) }
 {
     let mut ladder = Ladder::new(alloc);
     let mut text = Vec::new(alloc);
-    run_lines(alloc, &mut ladder, &mut text, input, output)
+    run_lines_apart(alloc, &mut ladder, &mut text, input, output)
 }

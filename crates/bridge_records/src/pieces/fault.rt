@@ -17,7 +17,7 @@ pub enum PieceFault {
     TooLong,
     /// A block contradicts itself, or names an interface that is not there.
     BadBlock,
-    /// A piece ends behind the first 4,294,967,296 bytes.
+    /// A piece ends after the first 4,294,967,296 bytes.
     TooLarge,
 }
 

@@ -6,7 +6,7 @@ use crate::pieces::fault::{PieceError, PieceFault};
 use seq_circle::NoMemory;
 
 /// A job over the pieces of an input (own). Contracts see what a piece does, and what the job makes of pieces: how long
-/// the next is and what it comes to, by the job's state, the text of what it does, and the text behind the last.
+/// the next is and what it comes to, by the job's state, the text of what it does, and the text after the last.
 pub(crate) trait PieceJob {
     // What a piece does.
     ghost Deed: { Type 0 };
@@ -29,7 +29,7 @@ pub(crate) trait PieceJob {
         requires { length piece.now ≡ job.wanted self.old }
         ensures { JudgesPiece job self.old (job.judged self.old piece.now) text.old.items text.new.items self.new result };
 
-    /// Puts the text behind the last piece: at the input's end, or where it is refused. NoMemory comes where no memory
+    /// Puts the text after the last piece: at the input's end, or where it is refused. NoMemory comes where no memory
     /// was left.
     fn finish(&self, end: Option<PieceFault>, text: &mut Vec<u8>) -> Result<(), NoMemory>
         ensures { OnOk result (text.new.items ≡ text.old.items ++ job.closing self.now end) };

@@ -16,7 +16,7 @@ use tool_text::{JobEnd, answered, cut_off};
 // The bytes of the block.
 const BLOCK: usize = 524_288;
 
-// Writes the rest of the text, and what stands behind the last piece.
+// Writes the rest of the text, and what follows the last piece.
 fn close<J: PieceJob, K: Sink>(
     job: &J,
     output: &mut K,
@@ -35,6 +35,13 @@ fn close<J: PieceJob, K: Sink>(
     }
 }
 
+/// How a job over pieces ended, and why its input was refused, if it was.
+#[derive(Clone, Copy)]
+pub(crate) struct PiecesEnd {
+    pub(crate) end: JobEnd,
+    pub(crate) fault: Option<PieceFault>,
+}
+
 // The loop. What it works on is lent, so that none of its ends has anything to drop.
 fn take_pieces<J: PieceJob, S: Source, K: Sink>(
     job: &mut J,
@@ -42,30 +49,48 @@ fn take_pieces<J: PieceJob, S: Source, K: Sink>(
     ahead: &mut ReadAhead,
     output: &mut K,
     text: &mut Vec<u8>,
-) -> JobEnd
+) -> PiecesEnd
     requires ahead { ahead.old ≡ record { pending = []; size = 524288 } }
     requires text { text.old.items ≡ [] }
-    ensures through { IfSome (S.left source.old) (λ bytes. GoesThroughPieces J.job job.old bytes result (S.left source.new) (K.taken output.old) (K.taken output.new)) }
-    ensures cause { EndsForCause result (Rose (S.faults source.old) (S.faults source.new)) (SinkFails K.faults K.empty_takes output.old output.new) }
+    ensures through { IfSome (S.left source.old) (λ bytes. GoesThroughPieces J.job job.old bytes result job.new (S.left source.new) (K.taken output.old) (K.taken output.new)) }
+    ensures cause { EndsForCause result.end (Rose (S.faults source.old) (S.faults source.new)) (SinkFails K.faults K.empty_takes output.old output.new) }
 {
     let mut given = 0;
     loop {
         if flush_if_due(job, ahead, output, text).is_err() {
-            return JobEnd::Write;
+            return PiecesEnd {
+                end: JobEnd::Write,
+                fault: None,
+            };
         }
         match take_turn(job, source, ahead, given, text) {
             Ok(Turn::Read) => {}
             Ok(Turn::Taken(used)) => given += used as u64,
-            Ok(Turn::Over(end)) => return close(job, output, text, end),
-            Ok(Turn::Failed) => return cut_off(output, text, JobEnd::Read),
-            Err(NoMemory) => return JobEnd::Memory,
+            Ok(Turn::Over(fault)) => {
+                return PiecesEnd {
+                    end: close(job, output, text, fault),
+                    fault,
+                };
+            }
+            Ok(Turn::Failed) => {
+                return PiecesEnd {
+                    end: cut_off(output, text, JobEnd::Read),
+                    fault: None,
+                };
+            }
+            Err(NoMemory) => {
+                return PiecesEnd {
+                    end: JobEnd::Memory,
+                    fault: None,
+                };
+            }
         }
     }
 }
 
 /// Does a job over the pieces of an input, one by one as they are read (own): it writes the text of what each does, and
 /// at last the text at the input's end or of the fault for which it is refused. Text goes out in blocks of 65,536
-/// bytes, and before the source is asked for more. A piece that ends behind the input's first 4,294,967,296 bytes is
+/// bytes, and before the source is asked for more. A piece that ends after the input's first 4,294,967,296 bytes is
 /// refused as TooLarge, and an input that ends inside a piece, or where the job does not let it, as CutShort. With
 /// status 0 or 1 the output is that of the whole input, with another a front of it. Read comes where the source failed,
 /// Write where the sink did, and Memory where no memory was left.
@@ -74,14 +99,17 @@ pub(crate) fn run_pieces<J: PieceJob, S: Source, K: Sink>(
     job: &mut J,
     input: &mut S,
     output: &mut K,
-) -> JobEnd
+) -> PiecesEnd
     ensures through { (bytes : List ℕ) → S.left input.old ≡ Some bytes
-        → GoesThroughPieces J.job job.old bytes result (S.left input.new) (K.taken output.old) (K.taken output.new) }
-    ensures cause { EndsForCause result (Rose (S.faults input.old) (S.faults input.new)) (SinkFails K.faults K.empty_takes output.old output.new) }
+        → GoesThroughPieces J.job job.old bytes result job.new (S.left input.new) (K.taken output.old) (K.taken output.new) }
+    ensures cause { EndsForCause result.end (Rose (S.faults input.old) (S.faults input.new)) (SinkFails K.faults K.empty_takes output.old output.new) }
 {
     let mut text = Vec::new(alloc);
     let Ok(mut ahead) = ReadAhead::new(alloc, BLOCK) else {
-        return JobEnd::Memory;
+        return PiecesEnd {
+            end: JobEnd::Memory,
+            fault: None,
+        };
     };
     take_pieces(job, input, &mut ahead, output, &mut text)
 }

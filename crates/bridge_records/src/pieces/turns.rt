@@ -58,7 +58,7 @@ fn end_of<J: PieceJob>(job: &J, held: usize) -> Option<PieceFault>
     }
 }
 
-// Reads once behind the bytes that are held, which are fewer than the next piece has.
+// Reads once after the bytes that are held, which are fewer than the next piece has.
 fn read_more<J: PieceJob, S: Source>(
     job: &mut J,
     source: &mut S,

@@ -41,7 +41,7 @@ fn magic(nanos: bool) -> u32
 
 /// Puts the file header of a capture whose fractions are nanoseconds or microseconds: version 2.4, no zone and no
 /// accuracy, records of up to 262,144 bytes, and raw IP. NoMemory comes where the text could not grow; then its first
-/// bytes may stand there.
+/// bytes may be there.
 pub fn put_file_header(text: &mut Vec<u8>, nanos: bool) -> Result<(), NoMemory>
     ensures { OnOk result (text.new.items ≡ text.old.items ++ file_header nanos) }
 {
@@ -53,7 +53,7 @@ pub fn put_file_header(text: &mut Vec<u8>, nanos: bool) -> Result<(), NoMemory>
     put_u32(text, RAW_IP)
 }
 
-/// Puts the header of a record. NoMemory comes where the text could not grow; then its first bytes may stand there.
+/// Puts the header of a record. NoMemory comes where the text could not grow; then its first bytes may be there.
 pub fn put_record_header(text: &mut Vec<u8>, header: &RecordHeader) -> Result<(), NoMemory>
     ensures { OnOk result (text.new.items ≡ text.old.items ++ record_head header.now) }
 {

@@ -1,4 +1,4 @@
--- The first event opens the connection, and the lines of all others stand behind its line.
+-- The first event opens the connection, and the lines of all others follow its line.
 use Rattle.std.proofs.Common.{rules}
 use Rattle.std.proofs.lemmas.Result.{on_ok_weaker}
 use Rattle.fault_campaign.proofs.Turns.{opened-few}

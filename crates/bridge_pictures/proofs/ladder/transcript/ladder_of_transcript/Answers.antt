@@ -8,6 +8,6 @@ use Rattle.bridge_pictures.proofs.ladder.transcript.ladder_of_transcript.Goals a
 
 pub returns-clause-past : goal.returns-clause-past
 returns-clause-past g c = λ bytes told.
-    subst (λ (first : Drawing). StopsWithin 16384 (gone_through ladder_job first bytes).accepted bytes c.run_lines.result
-    (g.S.Source.left c.run_lines.new.input))
-    c.new-ladder.ensures (c.run_lines.ensures.through bytes told).past
+    subst (λ (first : Drawing). StopsWithin 16384 (gone_through ladder_job first bytes).accepted bytes c.run_lines_apart.result.end
+    (g.S.Source.left c.run_lines_apart.new.input))
+    c.new-ladder.ensures (c.run_lines_apart.ensures.through bytes told).past

@@ -8,7 +8,7 @@ returns-then-is_err-clause-through g c =
     unmoved g.S.Source.left g.S.Source.faults g.K.Sink.taken g.K.Sink.faults g.K.Sink.empty_takes g.J.PieceJob.job c.args.job.now c.args.source.now
     c.args.output.now
     c.loop-given.job c.loop-given.source c.loop-given.ahead c.loop-given.output c.loop-given.text.items c.loop-given.given c.loop-given.invariant
-    c.flush_if_due.new.output c.flush_if_due.result c.flush_if_due.ensures.front (sym c.is_err.ensures.value ∙ c.if-is_err.true)
+    c.flush_if_due.new.output c.flush_if_due.result c.flush_if_due.ensures.front (sym c.is_err.ensures.value ∙ c.if-is_err.true) _
 
 pub loop-given-preserved-in-Ok-Read : goal.loop-given-preserved-in-Ok-Read
 loop-given-preserved-in-Ok-Read g c =
@@ -44,7 +44,7 @@ returns-in-Ok-Over-clause-through g c =
     over g.S.Source.left g.S.Source.faults g.K.Sink.taken g.K.Sink.faults g.K.Sink.empty_takes g.J.PieceJob.job c.args.job.now c.args.source.now
     c.args.output.now
     c.loop-given.job c.loop-given.source c.loop-given.ahead c.flush_if_due.new.output c.flush_if_due.new.text.items c.loop-given.given before
-    _ c.in-Ok-Over.field-0 c.in-Ok-Over.ensures.keeps c.in-Ok-Over.ensures.turn c.in-Ok-Over.end (g.K.Sink.taken c.close.new.output) _ c.in-Ok-Over.field-0-is
+    _ c.in-Ok-Over.field-0 c.in-Ok-Over.ensures.keeps c.in-Ok-Over.ensures.turn c.in-Ok-Over.fault (g.K.Sink.taken c.close.new.output) _ c.in-Ok-Over.field-0-is
     c.close.ensures.leaves
 
 pub returns-in-Ok-Failed-clause-through : goal.returns-in-Ok-Failed-clause-through
@@ -58,7 +58,7 @@ returns-in-Ok-Failed-clause-through g c =
     c.args.output.now
     c.loop-given.job c.loop-given.source c.loop-given.ahead c.flush_if_due.new.output c.flush_if_due.new.text.items c.loop-given.given before
     _ c.in-Ok-Failed.field-0 c.in-Ok-Failed.ensures.keeps c.in-Ok-Failed.ensures.turn (g.K.Sink.taken c.cut_off.new.output)
-    c.deref.result.now _ c.in-Ok-Failed.field-0-is c.deref.ensures.value c.cut_off.ensures.same c.cut_off.ensures.front
+    c.deref.result.now _ c.in-Ok-Failed.field-0-is c.deref.ensures.value c.cut_off.ensures.same c.cut_off.ensures.front _
 
 pub returns-in-Err-clause-through : goal.returns-in-Err-clause-through
 returns-in-Err-clause-through g c =
@@ -70,4 +70,4 @@ returns-in-Err-clause-through g c =
     out-of-memory g.S.Source.left g.S.Source.faults g.K.Sink.taken g.K.Sink.faults g.K.Sink.empty_takes g.J.PieceJob.job c.args.job.now c.args.source.now
     c.args.output.now
     c.loop-given.job c.loop-given.source c.loop-given.ahead c.flush_if_due.new.output c.flush_if_due.new.text.items c.loop-given.given before
-    c.take_turn.new.source
+    c.take_turn.new.source _

@@ -1,9 +1,7 @@
 -- The line that was drawn is the one that was judged.
-use Rattle.std.proofs.Common.{rules, ◌≡◌, ◌∙◌, sym, Option, Some, Ok, Result}
-use Rattle.tool_text.specs.declared.words.faults.LineFault.{LineFault}
+use Rattle.std.proofs.Common.{rules, ◌≡◌, Some, Ok}
 use Rattle.bridge_pictures.specs.LadderLines.{drawn_by_line}
 use Rattle.bridge_pictures.specs.Transcript.{line_judged}
-use Rattle.bridge_pictures.specs.declared.ladder.lines.Drawn.{Drawn}
 use Rattle.bridge_pictures.proofs.ladder.transcript.LadderLineJob.judge.Goals as goal
 
 pub returns-in_ok-draw-in-Ok-Some-clause-verdict : goal.returns-in_ok-draw-in-Ok-Some-clause-verdict

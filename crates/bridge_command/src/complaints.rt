@@ -1,0 +1,162 @@
+//! What of a capture was skipped, and why the input of a form is refused, told apart from the output (own).
+ghost use Rattle.std.specs.Prelude.{◌≡◌, ◌++◌, Some, OnOk};
+ghost use Rattle.tool_text.specs.Ends.{IsWritten, SinkFails};
+ghost use Rattle.bridge_command.specs.Complaints as spec;
+
+use crate::unwrap::fault_name;
+use bridge_records::{CaptureRefusal, Skips, Tally};
+use dccp_io::{Sink, write_all};
+use seq_circle::NoMemory;
+use std::alloc::Global;
+use tool_text::{JobEnd, Refusal, put, put_counted, put_refusal};
+
+/// Why the input of a form is refused.
+#[derive(Clone, Copy)]
+pub(crate) enum Complaint {
+    /// A line of it is.
+    Line(Refusal),
+    /// The capture has a fault.
+    Capture(CaptureRefusal),
+}
+
+/// What a form tells apart from its output.
+#[derive(Clone, Copy)]
+pub(crate) struct Said {
+    /// What of a capture was skipped.
+    pub(crate) skips: Skips,
+    /// Why its input is refused, if it is.
+    pub(crate) complaint: Option<Complaint>,
+}
+
+/// How a form ended, and what it tells.
+#[derive(Clone, Copy)]
+pub(crate) struct FormEnd {
+    pub(crate) end: JobEnd,
+    pub(crate) said: Said,
+}
+
+// A line that is refused, if one is.
+fn line_complaint(refusal: Option<Refusal>) -> Option<Complaint>
+    ensures { result ≡ spec.line_complaint refusal }
+{
+    match refusal {
+        Some(refusal) => Some(Complaint::Line(refusal)),
+        None => None,
+    }
+}
+
+// The fault of a capture, if it has one.
+fn capture_complaint(refusal: Option<CaptureRefusal>) -> Option<Complaint>
+    ensures { result ≡ spec.capture_complaint refusal }
+{
+    match refusal {
+        Some(refusal) => Some(Complaint::Capture(refusal)),
+        None => None,
+    }
+}
+
+/// What is told of lines.
+pub(crate) fn line_said(refusal: Option<Refusal>) -> Said
+    ensures { result ≡ spec.line_said refusal }
+{
+    Said {
+        skips: Skips::none(),
+        complaint: line_complaint(refusal),
+    }
+}
+
+/// What is told of a capture.
+pub(crate) fn capture_said(refusal: Option<CaptureRefusal>, skips: Skips) -> Said
+    ensures { result ≡ spec.capture_said refusal skips }
+{
+    Said {
+        skips,
+        complaint: capture_complaint(refusal),
+    }
+}
+
+// Puts the line of what of one kind was skipped, if anything was.
+#[tactic(auto, unfolding(crate::specs::Complaints::tally_line))]
+fn put_tally(text: &mut Vec<u8>, name: &[u8], tally: Tally) -> Result<(), NoMemory>
+    ensures { OnOk result (text.new.items ≡ text.old.items ++ spec.tally_line name.now tally) }
+{
+    if tally.count == 0 {
+        return Ok(());
+    }
+    put(text, b"skipped ")?;
+    put(text, name)?;
+    put_counted(text, b": ", tally.count)?;
+    put_counted(text, b", first ", u64::from(tally.first))?;
+    put(text, b"\n")
+}
+
+// Puts the lines of what was skipped.
+#[tactic(auto, unfolding(crate::specs::Complaints::skips_text))]
+fn put_skips(text: &mut Vec<u8>, skips: &Skips) -> Result<(), NoMemory>
+    ensures { OnOk result (text.new.items ≡ text.old.items ++ spec.skips_text skips.now) }
+{
+    put_tally(text, b"packets of other links", skips.links)?;
+    put_tally(text, b"packets of too many bytes", skips.long)?;
+    put_tally(text, b"blocks of other types", skips.blocks)
+}
+
+// Puts the line of a fault of a capture.
+#[tactic(auto, unfolding(crate::specs::Complaints::capture_line))]
+fn put_capture_line(text: &mut Vec<u8>, refusal: &CaptureRefusal) -> Result<(), NoMemory>
+    ensures { OnOk result (text.new.items ≡ text.old.items ++ spec.capture_line refusal.now) }
+{
+    put(text, b"capture ")?;
+    put(text, fault_name(refusal.fault))?;
+    put(text, b" after ")?;
+    put_counted(text, b"record ", refusal.records)?;
+    put(text, b"\n")
+}
+
+// Puts the line that says why an input is refused.
+fn put_complaint(text: &mut Vec<u8>, complaint: &Complaint) -> Result<(), NoMemory>
+    ensures { OnOk result (text.new.items ≡ text.old.items ++ spec.complaint_line complaint.now) }
+{
+    match complaint {
+        Complaint::Line(refusal) => put_refusal(text, refusal.number, refusal.fault),
+        Complaint::Capture(refusal) => put_capture_line(text, refusal),
+    }
+}
+
+// Puts that line, or nothing where it is not.
+fn put_refused(text: &mut Vec<u8>, complaint: &Option<Complaint>) -> Result<(), NoMemory>
+    ensures { OnOk result (text.new.items ≡ text.old.items ++ spec.complaint_text complaint.now) }
+{
+    match complaint {
+        Some(complaint) => put_complaint(text, complaint),
+        None => Ok(()),
+    }
+}
+
+// Puts all that a form tells.
+fn put_said(text: &mut Vec<u8>, said: &Said) -> Result<(), NoMemory>
+    ensures { OnOk result (text.new.items ≡ text.old.items ++ spec.said_text said.now) }
+{
+    put_skips(text, &said.skips)?;
+    put_refused(text, &said.complaint)
+}
+
+// Writes lines as far as the sink takes them.
+fn write_lines<E: Sink>(errors: &mut E, lines: &[u8])
+    ensures { IsWritten lines.now (E.taken errors.old) (E.taken errors.new) (SinkFails E.faults E.empty_takes errors.old errors.new) }
+{
+    let _ = write_all(errors, lines);
+}
+
+/// Tells what was skipped, and why an input is refused, as far as the sink takes it, and answers how the form ended; or
+/// Memory, where none was left for the lines.
+pub(crate) fn tell_said<E: Sink>(alloc: Global, ended: FormEnd, errors: &mut E) -> JobEnd
+    ensures end { spec.EndsAs ended.end result }
+    ensures said { spec.OnAnswer result (IsWritten (spec.said_text ended.said) (E.taken errors.old) (E.taken errors.new) (SinkFails E.faults E.empty_takes errors.old errors.new)) }
+{
+    let mut lines = Vec::new(alloc);
+    if put_said(&mut lines, &ended.said).is_err() {
+        return JobEnd::Memory;
+    }
+    write_lines(errors, &lines);
+    ended.end
+}

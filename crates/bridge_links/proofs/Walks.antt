@@ -1,0 +1,80 @@
+-- One turn of the walks over headers and parts.
+use Rattle.std.proofs.Common.{arith, if◌then◌else◌, ◌≡◌, refl, ap, ◌∙◌, sym, ℕ, zero, suc, ◌+◌, ◌-◌, ◌<◌, ◌≤◌, ◌&&◌, ◌==◌, nat_le, nat_lt, Bool, true, false, List, length, slice_index, Option, Some, None}
+use Rattle.std.proofs.lemmas.Bool.{le-leb, le-ltb, lt-leb, lt-ltb, ne_eqb}
+use Rattle.capture_reader.specs.Format.{ordered_number_at}
+use Rattle.capture_reader.specs.declared.format.Order.{Order}
+use Rattle.bridge_links.specs.Extensions.{destination_after, extension_size, is_extension, upper_at, upper_from}
+use Rattle.bridge_links.specs.Logs.{part_size, payload_from}
+
+-- one that was not captured is not passed over
+short-by : (left kind place to : ℕ) (bytes : List ℕ) (is : Bool) → nat_le (place + 8) (length bytes) ≡ false
+    → (if is && nat_le (place + 8) (length bytes)
+    then upper_from left (slice_index bytes place) (place + extension_size place bytes) (destination_after kind place to bytes) bytes
+    else upper_at kind place to bytes) ≡ upper_at kind place to bytes
+short-by left kind place to bytes true short = rw short refl
+short-by left kind place to bytes false short = refl
+
+-- no header is passed over
+pub upper_none : (left kind place to : ℕ) (bytes : List ℕ) → left ≡ 0 → upper_from left kind place to bytes ≡ upper_at kind place to bytes
+unfolding upper_from
+upper_none zero kind place to bytes none = refl
+upper_none (suc left) kind place to bytes none = absurd (omega (arith, none))
+
+pub upper_stop : (left kind place to : ℕ) (bytes : List ℕ) → is_extension kind ≡ false → upper_from left kind place to bytes ≡ upper_at kind place to bytes
+unfolding upper_from
+upper_stop zero kind place to bytes other = refl
+upper_stop (suc left) kind place to bytes other =
+    ap (λ (is : Bool). if is && nat_le (place + 8) (length bytes)
+    then upper_from left (slice_index bytes place) (place + extension_size place bytes) (destination_after kind place to bytes) bytes
+    else upper_at kind place to bytes) other
+
+pub upper_short : (left kind place to : ℕ) (bytes : List ℕ) → length bytes < place + 8 → upper_from left kind place to bytes ≡ upper_at kind place to bytes
+unfolding upper_from
+upper_short zero kind place to bytes short = refl
+upper_short (suc left) kind place to bytes short =
+    short-by left kind place to bytes (is_extension kind) (lt-leb (place + 8) (length bytes) short)
+
+-- one is
+pub upper_step : (left kind place to : ℕ) (bytes : List ℕ) → 0 < left → is_extension kind ≡ true → place + 8 ≤ length bytes
+    → upper_from left kind place to bytes
+    ≡ upper_from (left - 1) (slice_index bytes place) (place + extension_size place bytes) (destination_after kind place to bytes) bytes
+unfolding upper_from
+upper_step zero kind place to bytes some goes long = absurd (omega (arith, some))
+upper_step (suc left) kind place to bytes some goes long =
+    let there = le-leb (place + 8) (length bytes) long in
+    let one : left ≡ suc left - 1 = omega arith in
+    rw (goes, there)
+    (ap (λ (n : ℕ). upper_from n (slice_index bytes place) (place + extension_size place bytes) (destination_after kind place to bytes) bytes) one)
+
+-- no part is left
+pub payload_none : (left : ℕ) (order : Order) (place : ℕ) (bytes : List ℕ) → left ≡ 0 → payload_from left order place bytes ≡ None
+unfolding payload_from
+payload_none zero order place bytes none = refl
+payload_none (suc left) order place bytes none = absurd (omega (arith, none))
+
+pub payload_short : (left : ℕ) (order : Order) (place : ℕ) (bytes : List ℕ) → length bytes < place + 4 → payload_from left order place bytes ≡ None
+unfolding payload_from
+payload_short zero order place bytes short = refl
+payload_short (suc left) order place bytes short = let is = lt-ltb (length bytes) (place + 4) short in rw is refl
+
+-- the packet is found
+pub payload_here : (left : ℕ) (order : Order) (place : ℕ) (bytes : List ℕ) → 0 < left → place + 4 ≤ length bytes
+    → ordered_number_at order (place + 2) 2 bytes ≡ 9 → payload_from left order place bytes ≡ Some (place + 4)
+unfolding payload_from
+payload_here zero order place bytes some long here = absurd (omega (arith, some))
+payload_here (suc left) order place bytes some long here =
+    let there = le-ltb (length bytes) (place + 4) long in
+    let is : (ordered_number_at order (place + 2) 2 bytes == 9) ≡ true = ap (λ (n : ℕ). n == 9) here in
+    rw (there, is) refl
+
+-- it is sought after another part
+pub payload_step : (left : ℕ) (order : Order) (place : ℕ) (bytes : List ℕ) → 0 < left → place + 4 ≤ length bytes
+    → (ordered_number_at order (place + 2) 2 bytes ≡ 9 → ⊥)
+    → payload_from left order place bytes ≡ payload_from (left - 1) order (place + part_size order place bytes) bytes
+unfolding payload_from
+payload_step zero order place bytes some long other = absurd (omega (arith, some))
+payload_step (suc left) order place bytes some long other =
+    let there = le-ltb (length bytes) (place + 4) long in
+    let is = ne_eqb (ordered_number_at order (place + 2) 2 bytes) 9 other in
+    let one : left ≡ suc left - 1 = omega arith in
+    rw (there, is) (ap (λ (n : ℕ). payload_from n order (place + part_size order place bytes) bytes) one)

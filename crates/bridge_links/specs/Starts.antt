@@ -1,0 +1,11 @@
+-- Where IP begins.
+use Rattle.std.specs.Prelude.{ℕ, ◌/◌, ◌&&◌, ◌==◌, nat_lt, if◌then◌else◌, List, length, slice_index, Option, Some, None}
+
+-- IP of this version begins at a place: the first four bits there are the version
+abbrev pub ip_at : ℕ → ℕ → List ℕ → Option ℕ
+ip_at version start bytes = if nat_lt start (length bytes) && slice_index bytes start / 16 == version then Some start else None
+
+-- the one, or else the other
+abbrev pub start_or : Option ℕ → Option ℕ → Option ℕ
+start_or (Some start) other = Some start
+start_or None other = other

@@ -1,0 +1,100 @@
+-- The graph: a chart for each end over the same columns, and below them what was told of features (own).
+use Rattle.std.specs.Prelude.{ℕ, ◌+◌, ◌*◌, ◌%◌, ◌==◌, nat_lt, max, if◌then◌else◌, List, [], ◌++◌, codes, decimal}
+use Rattle.bridge_pictures.specs.Bars.{column_at, downward, group_end}
+use Rattle.bridge_pictures.specs.Chart.{ChartParts, chart, chart_high, column_drawn, first_chart}
+use Rattle.bridge_pictures.specs.Look.{look}
+use Rattle.bridge_pictures.specs.Places.{point}
+use Rattle.bridge_pictures.specs.Svg.{front, words}
+use Rattle.bridge_pictures.specs.declared.svg.Point.{Point}
+use Rattle.bridge_pictures.specs.declared.windows.chart.Counts.{Counts}
+use Rattle.bridge_pictures.specs.declared.windows.chart.Span.{Span}
+
+-- A graph while it is drawn: how many columns it has, both charts, the numbers of columns, how many notes it has, and
+-- their lines.
+pub record GraphParts : Type 0 where
+  pub columns : ℕ
+  pub client : ChartParts
+  pub server : ChartParts
+  pub axis : List ℕ
+  pub notes : ℕ
+  pub told : List ℕ
+
+-- before the first column
+abbrev pub first_graph : GraphParts
+first_graph = record { columns = 0; client = first_chart; server = first_chart; axis = []; notes = 0; told = [] }
+
+-- one more of these
+abbrev pub one_further : ℕ → ℕ
+one_further count = if nat_lt count 4294967295 then count + 1 else count
+
+-- how far a note lies below the first
+abbrev pub note_at : ℕ → ℕ
+note_at notes = 18 * notes
+
+-- the number of a column, below it
+unfoldable pub column_number : ℕ → List ℕ
+column_number column = words (codes "at") (point (column_at column) 0) (decimal column)
+
+-- the same of every twentieth column
+abbrev pub axis_mark : ℕ → List ℕ
+axis_mark column = if column % 20 == 0 then column_number column else []
+
+-- a column of this number was drawn
+abbrev pub column_of : GraphParts → ℕ → Counts → Counts → List ℕ → GraphParts
+column_of g column client server happened =
+    record g {
+      columns = column;
+      client = column_drawn g.client column client happened;
+      server = column_drawn g.server column server happened;
+      axis = g.axis ++ axis_mark column;
+    }
+
+-- Draws a column: what both ends count where this happened.
+unfoldable pub counts_drawn : GraphParts → Counts → Counts → List ℕ → GraphParts
+counts_drawn g client server happened = column_of g (one_further g.columns) client server happened
+
+-- Notes a line below the charts.
+unfoldable pub noted_below : GraphParts → List ℕ → GraphParts
+noted_below g note = record g { notes = one_further g.notes; told = g.told ++ words (codes "note") (point 40 (note_at g.notes)) note }
+
+-- where the client's chart stands on its line
+abbrev pub client_bottom : GraphParts → ℕ
+client_bottom g = 60 + chart_high g.client
+
+-- where the server's chart stands on its line
+abbrev pub server_bottom : GraphParts → ℕ
+server_bottom g = client_bottom g + 60 + chart_high g.server
+
+-- how far the columns go to the right
+abbrev pub right_of : GraphParts → ℕ
+right_of g = column_at (one_further g.columns)
+
+-- the size of the picture
+abbrev pub graph_size : GraphParts → Point
+graph_size g = point (max 900 (right_of g + 60)) (server_bottom g + 60 + note_at g.notes + 20)
+
+-- where the client's chart stands
+abbrev pub client_span : GraphParts → Span
+client_span g = record { top = 60; bottom = client_bottom g; right = right_of g }
+
+-- where the server's chart stands
+abbrev pub server_span : GraphParts → Span
+server_span g = record { top = client_bottom g + 60; bottom = server_bottom g; right = right_of g }
+
+-- the client's chart
+unfoldable pub client_chart : GraphParts → List ℕ → List ℕ
+client_chart g marks = chart g.client (codes "client") (client_span g) marks
+
+-- the server's chart
+unfoldable pub server_chart : GraphParts → List ℕ → List ℕ
+server_chart g marks = chart g.server (codes "server") (server_span g) marks
+
+-- what is below both charts: the numbers of columns, and the notes
+unfoldable pub below_charts : GraphParts → List ℕ
+below_charts g =
+    downward (server_bottom g + 26) ++ g.axis ++ group_end ++ downward (server_bottom g + 60) ++ g.told ++ group_end
+
+-- The picture: both charts with these marks below their lines, and what is below them.
+unfoldable pub graph_picture : GraphParts → List ℕ → List ℕ → List ℕ
+graph_picture g client server =
+    front (graph_size g) ++ look ++ client_chart g client ++ server_chart g server ++ below_charts g ++ codes "</svg>\n"

@@ -1,0 +1,14 @@
+//! The windows of both ends: a column for each event or packet, with the window, what is in flight, where the window
+//! fell, and what was told of features (own).
+
+mod bars;
+mod chart;
+mod flow;
+mod graph;
+mod look;
+mod schedule;
+mod senders;
+mod watched;
+
+pub use crate::windows::flow::windows_of_flow;
+pub use crate::windows::schedule::windows_of_schedule;

@@ -1,0 +1,51 @@
+//! What of a capture is skipped, counted.
+ghost use Rattle.std.specs.Prelude.{◌≡◌};
+ghost use Rattle.bridge_records.specs.Skips as spec;
+
+/// How many of one kind were skipped (own).
+#[derive(Clone, Copy, Debug, PartialEq, Eq)]
+pub struct Tally {
+    pub count: u64,
+    /// What is told of the first, and 0 where there is none.
+    pub first: u32,
+}
+
+/// What of a pcapng file is skipped (own).
+#[derive(Clone, Copy, Debug, PartialEq, Eq)]
+pub struct Skips {
+    /// Packets whose link type is not known, which are records without IP; of the first its link type.
+    pub links: Tally,
+    /// Packets of more than 262,144 bytes, or in blocks of more than 524,288, which are no records; of the first so many
+    /// bytes.
+    pub long: Tally,
+    /// Blocks of types that are not read; of the first its type.
+    pub blocks: Tally,
+}
+
+// Nothing of a kind.
+const NONE: Tally = Tally { count: 0, first: 0 };
+
+impl Tally {
+    /// One more.
+    pub(crate) fn one_more(self, told: u32) -> Tally
+        ensures { result ≡ spec.tally_with self told }
+    {
+        Tally {
+            count: self.count.saturating_add(1),
+            first: if self.count == 0 { told } else { self.first },
+        }
+    }
+}
+
+impl Skips {
+    /// Nothing was skipped.
+    pub fn none() -> Skips
+        ensures { result ≡ spec.no_skips }
+    {
+        Skips {
+            links: NONE,
+            long: NONE,
+            blocks: NONE,
+        }
+    }
+}
