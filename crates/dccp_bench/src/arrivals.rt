@@ -60,7 +60,7 @@ const REQUEST_WITH_OPTIONS: [u8; 28] = [
     0, 0, 0,
 ];
 
-// The same with an option behind Mandatory that nobody knows.
+// The same with an option after Mandatory that nobody knows.
 const REQUEST_WITH_FAULT: [u8; 24] = [
     0x9c, 0x40, 0x13, 0x89, 6, 0, 0, 0, 1, 0, 0, 0, 0, 0, 3, 0xe8, 0, 0, 0, 42, 1, 123, 2, 0,
 ];

@@ -49,13 +49,13 @@ fn add_decoded(alloc: Global, text: &str, frames: &mut Vec<Vec<u8>>) -> bool {
     }
 }
 
-// Puts a frame behind the others. False where no memory was left.
+// Puts a frame after the others. False where no memory was left.
 fn add(alloc: Global, frame: &Frame, frames: &mut Vec<Vec<u8>>) -> bool {
     let mut bytes = Vec::new(alloc);
     bytes.extend_from_slice(frame.bytes()).is_ok() && frames.push(bytes).is_ok()
 }
 
-// Ack Vectors that fill an area behind the fixed part of a DataAck.
+// Ack Vectors that fill an area after the fixed part of a DataAck.
 fn full_options() -> OptWriter {
     let mut writer = OptWriter::new();
     let bytes = [0; 253];

@@ -56,9 +56,9 @@ records_in_any_pieces :
     × (captured (bytes "a1b2c3d40002000309090909090909090909090900000002") ≡ reads [] (Some BadVersion))
     × (captured (bytes "00b2c3d40002000309090909090909090909090900000002") ≡ reads [] (Some BadMagic))
     × (captured (bytes "00b2c3d400020003090909090909090909090909000000") ≡ reads [] (Some CutShort))
-    -- Bytes behind a file header that is refused
+    -- Bytes after a file header that is refused
     × (captured (bytes "00b2c3d4000200040909090909090909090909090000000172657374") ≡ reads [] (Some BadMagic))
-    -- A record, and the header of one of 262,145 bytes: it is judged behind its header
+    -- A record, and the header of one of 262,145 bytes: it is judged after its header
     × (captured (bytes "a1b2c3d400020004090909090909090909090909000000010000000100000002000000050000000673686f727400000001000000020004000100000000") ≡ reads (entry 1 1 2 false 1 6 (codes "short") ∷ []) (Some RecordTooLong))
     × (captured (bytes "a1b2c3d400020004090909090909090909090909000000010000000100000002000000050000000673686f7274000000010000000200040001000000") ≡ reads (entry 1 1 2 false 1 6 (codes "short") ∷ []) (Some CutShort))
 records_in_any_pieces = (refl, refl, refl, refl, refl, refl, refl, refl, refl, refl, refl, refl, refl, refl, refl, refl, refl, refl, refl, refl, refl, refl, refl, refl, refl, refl, refl)
@@ -86,7 +86,7 @@ every_prefix_of_a_capture = (refl, refl)
 abbrev big_and_plain : Format
 big_and_plain = record { order = Big; nanos = false; link = 1 }
 
--- Of 262,144 bytes a record has room, and of one more it has none; this is judged behind its header. The numbers of `body_fault` are how many
+-- Of 262,144 bytes a record has room, and of one more it has none; this is judged after its header. The numbers of `body_fault` are how many
 -- bytes were captured, how many count, and how many are there; that of `found_in` is how many count, with those of the header.
 records_of_the_greatest_length :
     (body_fault 262144 4294967256 262144 ≡ None)
@@ -103,7 +103,7 @@ records_of_the_greatest_length :
     × (found_in Big 17 (bytes "00000001000000020000000100000001") ≡ Err CutShort)
 records_of_the_greatest_length = (refl, refl, refl, refl, refl, refl, refl, refl, refl, refl, refl, refl)
 
--- Of a capture 4,294,967,296 bytes count: a record's header of 16 may end with them, and not behind them. The row has how many bytes stand before
+-- Of a capture 4,294,967,296 bytes count: a record's header of 16 may end with them, and not after them. The row has how many bytes come before
 -- the header.
 the_last_bytes_that_count :
     (next_of big_and_plain 0 4294967280 (bytes "00000001000000020000000000000001") ≡ Ok (Some (entry 1 1 2 false 1 1 [])))
@@ -112,11 +112,11 @@ the_last_bytes_that_count :
     × (next_of big_and_plain 0 4294967280 (bytes "0000000100000002000000010000000107") ≡ Err TooLarge)
 the_last_bytes_that_count = (refl, refl, refl, refl)
 
--- the capture of one packet behind its file header
+-- the capture of one packet after its file header
 abbrev of_one : List ℕ
 of_one = bytes "0100000020a1070028000000280000004500002800010000402166b20a0000010a0000029c401389050031ec01000000000003e80000002a"
 
--- a reader behind that file header, which has read these bytes
+-- a reader after that file header, which has read these bytes
 abbrev with_pending : List ℕ → CapturesState ℕ
 with_pending pending = record {
   source = 0;

@@ -66,7 +66,7 @@ numbers_on_their_circles :
     -- Over the circle's end
     × (from 0 281474976710655 ≡ (true, 140737488355326))
     × (from 281474976710655 0 ≡ (false, 140737488355327))
-    -- Half a circle ahead, half a circle behind, and a step less
+    -- Half a circle ahead, half a circle back, and a step less
     × (from 140737488355328 0 ≡ (false, 140737488355327))
     × (from 0 140737488355328 ≡ (false, 281474976710655))
     × (from 140737488355328 1 ≡ (true, 140737488355328))

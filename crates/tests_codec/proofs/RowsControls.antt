@@ -21,7 +21,7 @@ data Step : Type 0 where
   Send : (first past : ℕ) → Step
   -- a packet with these options reports, at Ack Ratio 2
   Tell : (ack : ℕ) → (options : String) → Step
-  -- the numbers behind the first up to the second fill the window, and all are received at this Ack Ratio
+  -- the numbers after the first up to the second fill the window, and all are received at this Ack Ratio
   Fill : (behind until ratio : ℕ) → Step
   Timeout : Step
   MaySend : Bool → Step
@@ -139,7 +139,7 @@ windows_up_to_the_cap :
     × (shown (timed_out (wide 1024)) ≡ (1, 512))
 windows_up_to_the_cap = (refl, refl, refl)
 
--- Behind so many full rounds the window and the threshold by one more packet that was marked, and by a timeout.
+-- After so many full rounds the window and the threshold by one more packet that was marked, and by a timeout.
 halves_round_down : CcidTwo (
     Start 2 ∷ Send 5000 5001 ∷ Tell 5000 "260440c0" ∷ Shown 2 2 ∷ Start 2 ∷ Timeout ∷ Shown 1 2 ∷
     Start 2 ∷ Fill 0 4 65535 ∷ Send 5000 5001 ∷ Tell 5000 "260440c0" ∷ Shown 3 3 ∷ Start 2 ∷ Fill 0 4 65535 ∷ Timeout ∷ Shown 1 3 ∷
@@ -150,7 +150,7 @@ halves_round_down : CcidTwo (
 halves_round_down = refl
 
 -- A marked number halves down to one packet, and at a window that is the threshold the window grows by one for a window: not by three of
--- four. Of more than a window nothing is left over: behind 3 and 4 of four, 2 of five are too few, and 3 more are enough.
+-- four. Of more than a window nothing is left over: after 3 and 4 of four, 2 of five are too few, and 3 more are enough.
 avoidance_from_the_threshold_on : CcidTwo (
     Send 1 2 ∷ Tell 1 "260440c0" ∷ Shown 2 2 ∷ Send 2 3 ∷ Tell 2 "260440c0" ∷ Shown 1 2 ∷ Send 3 4 ∷ Tell 3 "260440c0" ∷ Shown 1 2 ∷
     Start 2 ∷ Fill 100 104 65535 ∷ Fill 104 110 65535 ∷ Send 5000 5001 ∷ Tell 5000 "260440c0" ∷ Shown 4 4 ∷
@@ -177,7 +177,7 @@ slow_start_past_the_threshold : CcidTwo (timed_out_at_47 ++
     Shown 14 10 ∷ [])
 slow_start_past_the_threshold = refl
 
--- Behind them a marked number counts where it is past the number sent last, and after a start any does.
+-- After them a marked number counts where it is past the number sent last, and after a start any does.
 the_mark_of_a_timeout : CcidTwo (timed_out_at_47 ++
     Send 47 48 ∷ Tell 47 "260440c0" ∷ Threshold 10 ∷ [])
 the_mark_of_a_timeout = refl
@@ -190,7 +190,7 @@ marked_after_a_start : CcidTwo (timed_out_at_47 ++
     Start 2 ∷ Send 47 48 ∷ Tell 47 "260440c0" ∷ Threshold 2 ∷ [])
 marked_after_a_start = refl
 
--- Nor has a timeout behind a start a mark: of 1 to 4 all are received, and 5 is marked.
+-- Nor has a timeout after a start a mark: of 1 to 4 all are received, and 5 is marked.
 timed_out_after_a_start : CcidTwo (timed_out_at_47 ++
     Start 2 ∷ Timeout ∷ Fill 0 1 65535 ∷ Fill 1 2 65535 ∷ Fill 2 4 65535 ∷ Shown 3 2 ∷ Send 5 6 ∷ Tell 5 "260440c0" ∷ Shown 1 2 ∷ [])
 timed_out_after_a_start = refl

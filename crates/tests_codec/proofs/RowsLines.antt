@@ -6,14 +6,14 @@ use Rattle.dccp_io.specs.declared.lines.Stop.TheVariants as stop
 use Rattle.dccp_io.specs.Lines.{Next, LinesState, holds_next, next_in_bytes, text_of}
 use Rattle.dccp_io.specs.Lines as next
 
--- what stands next, and behind a line what stands there, which is asked for by the number of bytes that the line has
+-- what comes next, and after a line what is there, which is asked for by the number of bytes that the line has
 abbrev pub onward : Next → (ℕ → List Next) → List Next
 onward (next.Line line) behind = next.Line line ∷ behind (length line)
 onward next.End behind = next.End ∷ []
 onward (next.Long front) behind = next.Long front ∷ []
 onward next.Much behind = next.Much ∷ []
 
--- what so many calls tell of an input, behind so many bytes; an end stays, and so does a line that is too long or too much
+-- what so many calls tell of an input, after so many bytes; an end stays, and so does a line that is too long or too much
 abbrev pub told : ℕ → ℕ → List ℕ → List Next
 told zero given bytes = []
 told (suc calls) given bytes = onward (next_in_bytes given bytes) (λ count. told calls (given + count) (drop count bytes))
@@ -30,7 +30,7 @@ abbrev pub texts : ℕ → List ℕ → List Next
 texts calls bytes = map lent (told calls 0 bytes)
 
 lines_in_any_pieces :
-    -- Empty lines, a carriage return, and no newline at the end; no bytes are no line, and nothing behind the newline is none
+    -- Empty lines, a carriage return, and no newline at the end; no bytes are no line, and nothing after the newline is none
     (texts 6 (codes "open\n\ndeliver c0" ++ 13 ∷ codes "\nlast") ≡ next.Line (codes "open") ∷ next.Line [] ∷ next.Line (codes "deliver c0" ++ 13 ∷ []) ∷ next.Line (codes "last") ∷ next.End ∷ [])
     × (texts 2 [] ≡ next.End ∷ [])
     × (texts 3 (codes "a\n") ≡ next.Line (codes "a") ∷ next.End ∷ [])
@@ -51,7 +51,7 @@ lines_in_any_pieces :
     × (texts 3 (replicate 4098 97 ++ codes "\nnext\n") ≡ next.Long (replicate 4097 97) ∷ [])
 lines_in_any_pieces = (refl, refl, refl, refl, refl, refl, refl, refl, refl, refl, refl, refl, refl, refl, refl, refl)
 
--- At most 16,777,216 bytes of an input are lines: a line's newline or 4,097th byte, or the end behind it, lies within them
+-- At most 16,777,216 bytes of an input are lines: a line's newline or 4,097th byte, or the end after it, lies within them
 most_bytes_of_an_input :
     (next_in_bytes 16777215 (codes "\n") ≡ next.Line (codes "\n"))
     × (next_in_bytes 16777215 (codes "a") ≡ next.Line (codes "a"))
@@ -62,7 +62,7 @@ most_bytes_of_an_input :
     × (next_in_bytes 16773120 (replicate 5000 97) ≡ next.Much)
 most_bytes_of_an_input = (refl, refl, refl, refl, refl, refl, refl)
 
--- a reader that was given so many bytes, and has read these behind them
+-- a reader that was given so many bytes, and has read these after them
 abbrev with_pending : ℕ → List ℕ → LinesState ℕ
 with_pending given pending = record { source = 0; pending = pending; line = []; given = given; stop = None }
 

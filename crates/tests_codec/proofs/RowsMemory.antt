@@ -20,7 +20,7 @@ abbrev reads : ℕ → ℕ → MemoryBytes → List (Result ℕ Failed)
 reads zero room source = []
 reads (suc calls) room source = read_answer source room ∷ reads calls room (after_read source room)
 
--- the bytes that are left behind so many reads, and how many of these failed
+-- the bytes that are left after so many reads, and how many of these failed
 abbrev left_after : ℕ → ℕ → MemoryBytes → List ℕ × ℕ
 left_after zero room source = (source.left, source.calls.faults)
 left_after (suc calls) room source = left_after calls room (after_read source room)
@@ -53,7 +53,7 @@ abbrev writes : List (List ℕ) → MemoryTaken → List (Result ℕ Failed)
 writes [] sink = []
 writes (piece ∷ pieces) sink = write_answer sink piece ∷ writes pieces (after_write sink piece)
 
--- what was taken behind them, how many calls failed, and how many took nothing of a piece that was not empty
+-- what was taken after them, how many calls failed, and how many took nothing of a piece that was not empty
 abbrev taken_after : List (List ℕ) → MemoryTaken → List ℕ × ℕ × ℕ
 taken_after [] sink = (sink.taken, sink.calls.faults, sink.empty_takes)
 taken_after (piece ∷ pieces) sink = taken_after pieces (after_write sink piece)

@@ -179,7 +179,7 @@ happened w [] = []
 happened w (happening ∷ rest) =
     (happening.0, seen_of (happens_by w happening.0)) ∷ happened (state_after w (happens_by w happening.0)) rest
 
--- the state behind them
+-- the state after them
 abbrev behind : EcnState → List (EcnEvent × Result EcnSeen EcnFault) → EcnState
 behind w [] = w
 behind w (happening ∷ rest) = behind (state_after w (happens_by w happening.0)) rest

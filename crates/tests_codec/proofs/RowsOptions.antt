@@ -61,7 +61,7 @@ options_of_areas :
     -- No length, and one that is too long
     × (options_of (bytes "0226") false ≡ option 0 false 2 [] ∷ [])
     × (options_of (bytes "260400") false ≡ [])
-    -- The same behind Mandatory
+    -- The same after Mandatory
     × (options_of (bytes "01260400") false ≡ Err faults.MandatoryAtEnd ∷ [])
     × (options_of (bytes "01260400") true ≡ [])
     -- Mandatory at the end, and Padding between two
@@ -82,11 +82,11 @@ each first last told = map told (from_to first last)
 abbrev pub Listed : Type 0
 Listed = List (Result Entry OptFault)
 
--- the zeros behind an option, which are Padding or its data
+-- the zeros after an option, which are Padding or its data
 abbrev pub zeros : List ℕ
 zeros = replicate 10 0
 
--- the lists of areas with one option of a length from 0 to 12, for each type from one to another: alone, and behind Mandatory
+-- the lists of areas with one option of a length from 0 to 12, for each type from one to another: alone, and after Mandatory
 abbrev pub plain : Bool → ℕ → ℕ → List (List Listed)
 plain on_data first last =
     each first last (λ kind. map (λ count. options_of (kind ∷ count ∷ zeros) on_data) (from_to 0 12))
@@ -124,7 +124,7 @@ every_kind_at_every_length :
     × (each 2 31 (λ kind. options_of (1 ∷ kind ∷ zeros) false) ≡ each 2 31 (λ kind. option 1 true kind [] ∷ []))
     × (each 2 31 (λ kind. options_of (kind ∷ zeros) true) ≡ each 2 31 (λ kind. option 0 false kind [] ∷ []))
     × (each 2 31 (λ kind. options_of (1 ∷ kind ∷ zeros) true) ≡ each 2 31 (λ kind. option 1 false kind [] ∷ []))
-    -- The others end the list at a length of 0 and 1, behind Mandatory with its fault, and have their data from 2 on
+    -- The others end the list at a length of 0 and 1, after Mandatory with its fault, and have their data from 2 on
     × (plain false 32 255 ≡ each 32 255 (by_length [] 0 false))
     × (marked false 32 255 ≡ each 32 255 (by_length (Err faults.MandatoryAtEnd ∷ []) 1 true))
     -- On Data Mandatory counts nowhere, and the types that Data packets ignore are left out

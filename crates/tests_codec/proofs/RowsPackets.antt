@@ -118,7 +118,7 @@ packets_are_read :
     × (told "13899c4006001f3c0b000000000007d300000000000003eb" ≡ Some ((types.CloseReq, 5001, 40000, 0, 0, 7996), Long 2003, CloseReq 1003, Some 1003, None, 0, 0, 0))
     × (told "13899c4003308b4e040007d3a1b2" ≡ Some ((types.Data, 5001, 40000, 3, 0, 35662), Short 2003, Data, None, None, 0, 0, 2))
     × (told "9c4013890500f937080003eb000007d326030000010203" ≡ Some ((types.DataAck, 40000, 5001, 0, 0, 63799), Short 1003, DataAck (Short 2003), Some 2003, None, 0, 4, 3))
-    -- A Reset Code without a name, and reserved bits before the type and behind it
+    -- A Reset Code without a name, and reserved bits before the type and after it
     × (told "13899c400700193a0f000000000007d200000000000003eac8000000" ≡ Some ((types.Reset, 5001, 40000, 0, 0, 6458), Long 2002, Reset 1002 200 (0 ∷ 0 ∷ 0 ∷ []), Some 1002, None, 200, 0, 0))
     × (told "13899c4004000000e5000000000007d0" ≡ Some ((types.Data, 5001, 40000, 0, 0, 0), Long 2000, Data, None, None, 0, 0, 0))
     × (told "9c40138904000000e80003ea000007d1" ≡ Some ((types.DataAck, 40000, 5001, 0, 0, 0), Short 1002, DataAck (Short 2001), Some 2001, None, 0, 0, 0))
@@ -136,7 +136,7 @@ spelled (Err fault) = []
 abbrev pub again : String → List ℕ
 again digits = spelled (reads digits)
 
--- each of them is written as it was read, but for reserved bits, which are written as zeros
+-- each of them is written as it was read, except for reserved bits, which are written as zeros
 packets_are_written_again :
     (again "9c401389050031ec01000000000003e80000002a" ≡ bytes "9c401389050031ec01000000000003e80000002a")
     × (again "13899c400700261403000000000007d000000000000003e80000002a" ≡ bytes "13899c400700261403000000000007d000000000000003e80000002a")
@@ -196,7 +196,7 @@ abbrev pub cut : ℕ → ℕ → List (Option Malformed)
 cut offset behind =
     replicate 12 (Some faults.Short) ++ (replicate (offset - 12) (Some faults.OffsetLarge) ++ replicate (behind + 1) None)
 
--- the same packets cut off anywhere, by where their options end and how many bytes of data stand behind
+-- the same packets cut off anywhere, by where their options end and how many bytes of data follow
 packets_are_cut :
     (fronts "9c401389050031ec01000000000003e80000002a" ≡ cut 20 0)
     × (fronts "13899c400700261403000000000007d000000000000003e80000002a" ≡ cut 28 0)
@@ -351,7 +351,7 @@ numbers_in_a_form :
     × (in_form true (Sync 1108160546054) ≡ Sync 1108160546054)
 numbers_in_a_form = (refl, refl, refl, refl, refl, refl, refl, refl, refl, refl, refl)
 
--- a number as it stands in a form, and what that means near another: up to half a turn of the short form away, and 2^40 away
+-- a number as it is in a form, and what that means near another: up to half a turn of the short form away, and 2^40 away
 forms_of_a_number :
     (value_of (number_in_form true 1108160546054) ≡ 8652038)
     × (near 1108168934661 (number_in_form true 1108160546054) ≡ 1108160546054)
@@ -361,7 +361,7 @@ forms_of_a_number :
     × (near 2207672173830 (number_in_form false 1108160546054) ≡ 1108160546054)
 forms_of_a_number = (refl, refl, refl, refl, refl, refl)
 
--- a byte of options too many for 1,020 bytes of header and options, and the longest frame, whose options have three zeros behind them
+-- a byte of options too many for 1,020 bytes of header and options, and the longest frame, whose options have three zeros after them
 options_padded_to_words :
     (header_length request_header ≡ 20)
     × (length (padded (replicate 1001 0)) ≡ 1004)

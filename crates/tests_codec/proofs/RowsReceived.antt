@@ -49,7 +49,7 @@ full_run_of_64 :
     × (told (took (fresh 1) (from 65 1)) 65 ≡ (63 ∷ 0 ∷ [], true))
 full_run_of_64 = (refl, refl, refl)
 
--- 12 is missing. The vector of 13 went out under the number 50, and the floor rises behind it once 50 is acknowledged.
+-- 12 is missing. The vector of 13 went out under the number 50, and the floor rises after it once 50 is acknowledged.
 abbrev missing_12 : Kept
 missing_12 = took (fresh 10) (10 ∷ 11 ∷ 13 ∷ [])
 
@@ -69,7 +69,7 @@ floor_rises_by_record :
     × (told (took (acked vector_went_out 50) (15 ∷ [])) 15 ≡ (0 ∷ 192 ∷ [], true))
 floor_rises_by_record = (refl, refl, refl, refl, refl, refl, refl, refl, refl, refl)
 
--- Every second number was received, so that each byte is one number's. Large sets stand here as tests of a number: the even ones, and the odd.
+-- Every second number was received, so that each byte is one number's. Large sets are here as tests of a number: the even ones, and the odd.
 abbrev even : ℕ → Bool
 even n = n % 2 == 0
 

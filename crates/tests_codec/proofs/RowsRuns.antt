@@ -32,7 +32,7 @@ after calls = replayed calls (empty_from 0)
 abbrev runs : MarkedSet → List (ℕ × ℕ)
 runs set = map (λ run. (run.hi, run.count)) (stretches set.numbers)
 
--- what is seen after calls, and what of a mark behind them
+-- what is seen after calls, and what of a mark after them
 abbrev state : List RunCall → ℕ × ℕ × List (ℕ × ℕ)
 state calls = (count_of_new calls (empty_from 0), (after calls).floor, runs (after calls))
 

@@ -44,7 +44,7 @@ ends swl swh awl awh = record { swl = swl; swh = swh; awl = awl; awh = awh }
 abbrev pub acknowledges : Marks → Option ℕ → Bool
 acknowledges m ack = is_ack_within (ack_low m) (ack_high m) ack
 
--- packets that are taken, one after another: the verdict on each, and GSR and GAR behind it
+-- packets that are taken, one after another: the verdict on each, and GSR and GAR after it
 abbrev pub takes : Marks → List (PacketType × ℕ × ℕ) → List (Verdict × ℕ × ℕ)
 takes m [] = []
 takes m ((kind, number, ack) ∷ rest) =
@@ -89,7 +89,7 @@ stories_of_marks :
     × (verdict later types.SyncAck 5000 (Some 1400) ≡ Drop)
     × (verdict later types.Sync 140737488358303 (Some 1401) ≡ Valid)
     × (verdict later types.Sync 140737488358304 (Some 1401) ≡ Drop)
-    -- Valid packets that are taken, one after another: GSR and GAR behind each
+    -- Valid packets that are taken, one after another: GSR and GAR after each
     × (takes later
     ((types.Ack, 3050, 1480) ∷ (types.Sync, 3060, 1490) ∷ (types.DataAck, 3040, 1460) ∷ (types.SyncAck, 3061, 1481)
     ∷ (types.Response, 3062, 1482) ∷ (types.CloseReq, 3063, 1483) ∷ (types.Close, 3064, 1484) ∷ [])
@@ -100,7 +100,7 @@ stories_of_marks :
     × (acknowledges uneven (Some 1291) ≡ true)
     × (acknowledges uneven (Some 1500) ≡ true)
     × (acknowledges uneven (Some 1501) ≡ false)
-    -- The first packet received: the eight numbers before it and behind it
+    -- The first packet received: the eight numbers before it and after it
     × (new_marks 0 100 ≡ marks 0 281474976710655 0 0 0 0 100 100)
     × (begun (new_marks 0 100) types.Response 2000 (Some 2) ≡ marks 0 281474976710655 2 2000 2000 2000 100 100)
     × (begun (begun (new_marks 0 100) types.Response 2000 (Some 2)) types.Request 7 None ≡ marks 0 281474976710655 2 7 7 7 100 100)

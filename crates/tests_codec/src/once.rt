@@ -125,7 +125,7 @@ const RESPONSE: [u8; 52] = [
     1, 0, 0,
 ];
 
-// Cut inside the first 12 bytes it is too short to be read, and cut behind them its Data Offset points past its end.
+// Cut inside the first 12 bytes it is too short to be read, and cut after them its Data Offset points past its end.
 #[test]
 fn a_response_that_is_cut(rt: HostRuntime) {
     for length in 0..RESPONSE.len() {
@@ -143,7 +143,7 @@ const TO_CLIENT: Pseudo = Pseudo::V4 {
     to: [10, 0, 0, 1],
 };
 
-// With a byte behind it, it has another length, which its sum covers.
+// With a byte after it, it has another length, which its sum covers.
 #[test]
 fn a_response_and_a_byte(rt: HostRuntime) {
     let mut longer = [0; 53];
@@ -171,7 +171,7 @@ fn keeps_its_frame(header: &Header, bytes: &[u8]) -> bool {
         && out.bytes() == bytes
 }
 
-// Whether the longest frame is written, and its options then have three zeros behind them.
+// Whether the longest frame is written, and its options then have three zeros after them.
 fn writes_the_longest(header: &Header) -> bool {
     let mut out = Frame::new();
     if !header.valid() || encode(header, &[2; 997], &[7; 1024], &mut out).is_err() {
@@ -331,7 +331,7 @@ fn has_states(report: &AckReport<'_>) -> Option<bool> {
     Some(true)
 }
 
-// Whether the vector, behind another option, tells these states, and begins with a run of one.
+// Whether the vector, after another option, tells these states, and begins with a run of one.
 fn states_told() -> Option<bool> {
     let ack = Seq48::new(100)?;
     let list = options(&[2, ACK_VECTOR_0, 7, 0x00, 0xc0, 0x03, 0x40, 0x05], false);

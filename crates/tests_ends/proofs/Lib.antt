@@ -5,6 +5,7 @@ pub mod RowsAsked
 pub mod RowsAtAClient
 pub mod RowsAtAServer
 pub mod RowsCalls
+pub mod RowsCookies
 pub mod RowsData
 pub mod RowsDrops
 pub mod RowsEarly
@@ -20,6 +21,7 @@ pub mod RowsNumbers
 pub mod RowsOffers
 pub mod RowsOptions
 pub mod RowsPairs
+pub mod RowsPaths
 pub mod RowsPrefers
 pub mod RowsReports
 pub mod RowsRoom

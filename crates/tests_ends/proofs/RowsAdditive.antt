@@ -15,7 +15,7 @@ control = control_by_rules additive
 abbrev Report : ℕ → ℕ → Call
 Report ack byte = Reports (reported ack (options_of (38 ∷ 3 ∷ byte ∷ []) false)) 2
 
--- the window and what is in flight behind each call
+-- the window and what is in flight after each call
 abbrev told : Flying ℕ → List Call → List (ℕ × ℕ)
 told state [] = []
 told state (call ∷ rest) =
@@ -51,7 +51,7 @@ halves_round_down :
     ∷ [])
 halves_round_down = refl
 
--- Behind three reports the window is 4. Of 4 to 7 the later three are received: 4 is lost, and halves it.
+-- After three reports the window is 4. Of 4 to 7 the later three are received: 4 is lost, and halves it.
 a_loss_halves :
     AreSo 1
     ((Sends 1, (1, 1))

@@ -17,7 +17,7 @@ use Rattle.tests_ends.proofs.RowsData.{longest, too_long, usual_client}
 use Rattle.tests_ends.proofs.RowsOffers.{usual_ack, usual_open, usual_part_open, usual_responding}
 use Rattle.tests_ends.proofs.RowsSeen.{Reported, Sent, arrives, calls_at, requesting, response, seen, sent}
 
--- The client of the usual connection sends two packets with data behind its Ack 1001, before the server's first Ack: each a DataAck that
+-- The client of the usual connection sends two packets with data after its Ack 1001, before the server's first Ack: each a DataAck that
 -- acknowledges the Response, though nothing is owed.
 abbrev early_aa : Called SendFault
 early_aa = sends_early usual_part_open (170 ∷ []) true

@@ -46,7 +46,7 @@ fed_at_a_server :
     ≡ (2, (phase.Open, (2002, 1001, 1001, 2000), (1000, 2))))
     × (fed_as (request ∷ "9c4013890700183d0f000000000003e900000000000007d002000000" ∷ client_ack ∷ [])
     ≡ (1, (phase.TimeWait, (2000, 1000, 1000, 2000), (1000, 1))))
-    -- An option that is not understood, behind Mandatory, closes the end before it is marked
+    -- An option that is not understood, after Mandatory, closes the end before it is marked
     × (fed_as ("9c40138906002dc801000000000003e80000002a01200200" ∷ request ∷ client_ack ∷ [])
     ≡ (0, (phase.Closed, (2000, 1000, 1000, 2000), (1000, 0))))
     -- Each frame twice: the second Request is answered again, and nothing is marked twice

@@ -2,7 +2,8 @@
 -- section 11.7, and was worked out by hand.
 use Rattle.std.proofs.Common.{◌≡◌, refl, ℕ, ◌+◌, ◌-◌, zero, suc, Bool, true, false, List, [], ◌∷◌, ◌++◌, replicate, length, drop, map, Option, None, Some, codes}
 use Rattle.data_dropped.specs.Drops.{code_table, drop_byte, drop_bytes, drop_code, most_numbers, tells_all}
-use Rattle.data_dropped.specs.Inbox.{InboxState, KeptData, after_arrival, arrival_answer, dropping, empty_inbox, first_over, first_taken, fits_item, is_slow, reason, stopping, taking}
+use Rattle.data_dropped.specs.Intakes.{intake_of}
+use Rattle.data_dropped.specs.Inbox.{InboxState, KeptData, after_arrival, arrival_answer, dropping, empty_inbox, first_over, first_taken, fits_item, inbox_of, is_slow, reason, stopping, taking}
 use Rattle.data_dropped.specs.declared.answers.Arrival.{Arrival}
 use Rattle.data_dropped.specs.declared.answers.Arrival.TheVariants.{Kept, Dropped}
 use Rattle.data_dropped.specs.declared.drops.DropEntry.{DropEntry}
@@ -223,6 +224,14 @@ holding count = record (empty_inbox 1024) { items = replicate count (record { nu
 edges_of_an_inbox :
     (is_slow (holding 767) ≡ false)
     × (is_slow (holding 768) ≡ true)
-    × (fits_item (replicate 1024 0) ≡ true)
-    × (fits_item (replicate 1025 0) ≡ false)
+    × (fits_item (empty_inbox 1) (replicate 1024 0) ≡ true)
+    × (fits_item (empty_inbox 1) (replicate 1025 0) ≡ false)
 edges_of_an_inbox = (refl, refl, refl, refl)
+
+-- A datagram of 2,044 bytes brings 2,032 of data after its least header of 12 (RFC 4340, section 5.1). For 0 packets there is no inbox.
+edges_of_an_intake :
+    (fits_item (inbox_of 2032 1) (replicate 2032 0) ≡ true)
+    × (fits_item (inbox_of 2032 1) (replicate 2033 0) ≡ false)
+    × (intake_of 0 ≡ None)
+    × (intake_of 7 ≡ Some (inbox_of 2032 7))
+edges_of_an_intake = (refl, refl, refl, refl)

@@ -30,7 +30,7 @@ use Rattle.tests_ends.proofs.RowsSeen.{bytes}
 abbrev spelled : String → List ℕ
 spelled digits = bytes (codes digits)
 
--- What a story does: all offers are taken away; a wish and an offer are listed, the latter plain or behind Mandatory; an end of these lists begins;
+-- What a story does: all offers are taken away; a wish and an offer are listed, the latter plain or after Mandatory; an end of these lists begins;
 -- it wishes something else; an offer comes up, and may have met a Confirm; a row's Change goes out under a number; a Change or a Confirm comes for a
 -- row, by its feature's number; and what is listed, active, carried by the row's next Change, held and due is looked at.
 data Word : Type 0 where
@@ -138,7 +138,7 @@ unstable role = (stepped (changing role) f.MinCsCov Here (Prefers (wanted.List (
 abbrev meets : List Row → List Word → List Told
 meets rows words = told usual_lists rows words
 
--- Two ends' stories stand in two rows, the client's first: what one sends comes to the other.
+-- Two ends' stories are in two rows, the client's first: what one sends comes to the other.
 stories :
     -- The server's order wins, and an offer opens once
     (story (Plain ∷ Offer f.Ccid Here false ∷ Begins Client ∷ Open f.Ccid Here false ∷ Send f.Ccid Here 1000 ∷

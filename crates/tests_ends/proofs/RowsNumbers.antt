@@ -22,7 +22,7 @@ abbrev told : Option Outgoing → Option (ℕ × Option ℕ)
 told None = None
 told (Some sent) = Some (sent.number, sent.ack)
 
--- Whole numbers, whether the frame is short or long: of the server's second packet, 2^24 and what is behind it, and an acknowledged 2^24. A
+-- Whole numbers, whether the frame is short or long: of the server's second packet, 2^24 and what is after it, and an acknowledged 2^24. A
 -- Data and a Request acknowledge nothing. A Reset of no connection has the number after the acknowledged one, and a Sync acknowledges the
 -- packet that is not valid. Nothing is told where nothing goes out.
 told_numbers :

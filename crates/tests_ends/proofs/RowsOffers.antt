@@ -17,7 +17,7 @@ use Rattle.dccp_endpoint.specs.declared.config.Config.{Config}
 use Rattle.dccp_states.specs.declared.outcome.Outcome.TheVariants.{SentReset, Took, WasReset}
 use Rattle.tests_ends.proofs.RowsSeen.{arrives, client_ack, initial_rows, listening, offering, open_client, open_server, plain, request, requesting, requests_as, responds_as, response, row, seen, sent, server_ack, shown, usual_rows, wishing}
 
--- the packets of a handshake in which both ends offer ECN Incapable here and Send Ack Vector at the peer, both behind Mandatory
+-- the packets of a handshake in which both ends offer ECN Incapable here and Send Ack Vector at the peer, both after Mandatory
 abbrev usual_request : String
 usual_request = "9c401389080000b601000000000003e80000002a012004040101220406010000"
 
@@ -27,7 +27,7 @@ usual_response = "13899c400d00a1c303000000000007d000000000000003e80000002a230604
 abbrev pub usual_ack : String
 usual_ack = "9c4013890a00eadd07000000000003e900000000000007d026030023060401010021060601010000"
 
--- the server's Ack behind it tells of both packets of the client
+-- the server's Ack after it tells of both packets of the client
 abbrev pub usual_vector : String
 usual_vector = "13899c400700fb3807000000000007d100000000000003e926030100"
 
@@ -91,7 +91,7 @@ only-server-offers :
 unfolding receives opens framed
 only-server-offers = (refl, refl, refl, refl, refl)
 
--- A Request and a Response that go out again carry the Changes that wait, each behind its Mandatory. The Request that came first opened
+-- A Request and a Response that go out again carry the Changes that wait, each after its Mandatory. The Request that came first opened
 -- the rows, so that a Confirm on the answer to it counts.
 abbrev again_requesting : EndState
 again_requesting = (fires usual_requesting timers.Request false).after

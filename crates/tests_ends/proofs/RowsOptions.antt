@@ -91,7 +91,7 @@ mandatory-before-invalid :
 unfolding receives opens framed
 mandatory-before-invalid = (refl, refl, refl, refl, refl, refl, refl)
 
--- An option of the negotiation without a feature number is not understood: it is passed over, and behind Mandatory it is a fault,
+-- An option of the negotiation without a feature number is not understood: it is passed over, and after Mandatory it is a fault,
 -- also on a packet that does not negotiate, and on one that is not the newest.
 abbrev later_server : EndState
 later_server = (arrives open_server "9c4013890600233e07000000000003eb00000000000007d1").after
@@ -266,7 +266,7 @@ abbrev empty_options : ℕ → ℕ → ℕ → List ℕ
 empty_options type zero number = []
 empty_options type (suc count) number = type ∷ 3 ∷ number ∷ empty_options type count (1 + number)
 
--- Behind 63 of them a Change for the client's CCID is answered, and behind 64 it is passed over with its Mandatory.
+-- After 63 of them a Change for the client's CCID is answered, and after 64 it is passed over with its Mandatory.
 abbrev changes_64 : List ℕ
 changes_64 = bytes (codes "9c40138936007dc501000000000003e80000002a") ++ empty_options 32 63 10 ++ bytes (codes "200401f8000000")
 

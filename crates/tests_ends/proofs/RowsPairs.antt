@@ -9,7 +9,6 @@ use Rattle.dccp_endpoint.specs.Calling.{closes, opens}
 use Rattle.dccp_endpoint.specs.Controlled.{in_flight_of, window_of, with_control}
 use Rattle.dccp_endpoint.specs.Early.{sends_soon}
 use Rattle.dccp_endpoint.specs.Usual.{usual}
-use Rattle.dccp_states.specs.declared.calls.SendFault.{SendFault}
 use Rattle.dccp_states.specs.declared.calls.Timer.{Timer}
 use Rattle.dccp_states.specs.declared.phase.Phase.{Phase}
 use Rattle.dccp_states.specs.declared.phase.Phase.TheVariants as phase
@@ -17,8 +16,10 @@ use Rattle.dccp_states.specs.declared.phase.Role.TheVariants.{Client, Server}
 use Rattle.dccp_uses.specs.Alarms.{alarm_of, has_run_out, until_first}
 use Rattle.dccp_uses.specs.Path.{classic_pace}
 use Rattle.dccp_uses.specs.Session.{every_timer}
-use Rattle.dccp_uses.specs.Sessions.{TimedSteps, rings_each_due, session_accepted, session_hears}
+use Rattle.dccp_uses.specs.Holding.{HoldingState, HoldingStep, without_inbox}
+use Rattle.dccp_uses.specs.Sessions.{HoldingSteps, holding_hears, rings_each_due, session_accepted, session_hears}
 use Rattle.dccp_uses.specs.Timed.{TimedState, TimedStep, every_due, timed_begins, timed_closes, timed_opens, timed_sends}
+use Rattle.dccp_uses.specs.declared.reader.SendRefusal.{SendRefusal}
 use Rattle.dccp_uses.specs.declared.alarms.Alarm.{Alarm}
 use Rattle.dccp_uses.specs.declared.alarms.Alarms.{Alarms}
 use Rattle.dccp_uses.specs.declared.news.News.{News}
@@ -59,23 +60,33 @@ told_at_client p (news.Data first past) = p
 told_at_client p news.Quiet = p
 told_at_client p (news.Ended code) = record p { client_ended = Some code }
 told_at_client p news.TooLong = p
+told_at_client p news.Waits = p
+told_at_client p (news.Dropped code) = p
 
 abbrev pub told_at_server : {C : Type 0} → Pair C → List ℕ → News → Pair C
 told_at_server p datagram (news.Data first past) = record p { got = p.got ++ slice_range datagram first past }
 told_at_server p datagram news.Quiet = p
 told_at_server p datagram (news.Ended code) = record p { server_ended = Some code }
 told_at_server p datagram news.TooLong = p
+told_at_server p datagram news.Waits = p
+told_at_server p datagram (news.Dropped code) = p
+
+-- the end with its timers of a session, which has no inbox here
+abbrev pub timed_in : Option (HoldingState Both) → Option (TimedState Both)
+timed_in None = None
+timed_in (Some h) = Some h.timed
 
 -- a datagram at the server: it belongs to the connection, or may open one
-abbrev pub stranger_told : {C : Type 0} → Pair C → TimedStep Both News → Pair C
-stranger_told p step = record p { server = session_accepted step; to_client = onto p.to_client step.frame }
+abbrev pub stranger_told : {C : Type 0} → Pair C → HoldingStep Both News → Pair C
+stranger_told p step = record p { server = timed_in (session_accepted step); to_client = onto p.to_client step.frame }
 
 abbrev pub server_told : {C : Type 0} → Pair C → List ℕ → TimedStep Both News → Pair C
 server_told p datagram step = told_at_server (server_did p step) datagram step.answer
 
 abbrev pub serves : {C : Type 0} → Pair C → Option (TimedState Both) → List ℕ → Pair C
 serves p None datagram =
-    stranger_told p (session_hears kinds_control p.now (timed_begins kinds_control (record (usual Server) { service = p.service }) at_first classic_pace) datagram)
+    stranger_told p
+    (holding_hears kinds_control p.now (without_inbox (timed_begins kinds_control (record (usual Server) { service = p.service }) at_first classic_pace)) datagram)
 serves p (Some s) datagram = server_told p datagram (session_hears kinds_control p.now s datagram)
 
 -- the first frame of a wire, if any, arrives
@@ -98,22 +109,22 @@ abbrev pub is_due : ℕ → Alarms → Bool
 is_due now alarms = list_any (λ timer. has_run_out (alarm_of alarms timer) now) every_timer
 
 -- The timers of both get the time. Where none has run out nothing comes of it.
-abbrev pub client_rang : {C : Type 0} → Pair C → TimedSteps C → Pair C
-client_rang p steps = record p { client = steps.timed; to_server = onto_all p.to_server steps.frames }
+abbrev pub client_rang : {C : Type 0} → Pair C → HoldingSteps C → Pair C
+client_rang p steps = record p { client = steps.holding.timed; to_server = onto_all p.to_server steps.frames }
 
 abbrev pub client_ticks_if : {C : Type 0} → Bool → Control C → Pair C → Pair C
 client_ticks_if false control p = p
-client_ticks_if true control p = client_rang p (rings_each_due control p.now p.client every_due)
+client_ticks_if true control p = client_rang p (rings_each_due control p.now (without_inbox p.client) every_due)
 
 abbrev pub client_ticks : {C : Type 0} → Control C → Pair C → Pair C
 client_ticks control p = client_ticks_if (is_due p.now p.client.alarms) control p
 
-abbrev pub server_rang : {C : Type 0} → Pair C → TimedSteps Both → Pair C
-server_rang p steps = record p { server = Some steps.timed; to_client = onto_all p.to_client steps.frames }
+abbrev pub server_rang : {C : Type 0} → Pair C → HoldingSteps Both → Pair C
+server_rang p steps = record p { server = Some steps.holding.timed; to_client = onto_all p.to_client steps.frames }
 
 abbrev pub server_ticks_if : {C : Type 0} → Bool → Pair C → TimedState Both → Pair C
 server_ticks_if false p s = p
-server_ticks_if true p s = server_rang p (rings_each_due kinds_control p.now s every_due)
+server_ticks_if true p s = server_rang p (rings_each_due kinds_control p.now (without_inbox s) every_due)
 
 abbrev pub server_ticks_in : {C : Type 0} → Pair C → Option (TimedState Both) → Pair C
 server_ticks_in p None = p
@@ -160,7 +171,7 @@ abbrev pub loses : {C : Type 0} → Pair C → Pair C
 loses p = record p { to_server = [] }
 
 -- the client sends data, and the server closes
-abbrev pub client_sends : {C : Type 0} → Control C → Pair C → List ℕ → TimedStep C (Result (Unit {0}) SendFault)
+abbrev pub client_sends : {C : Type 0} → Control C → Pair C → List ℕ → TimedStep C (Result (Unit {0}) SendRefusal)
 client_sends control p payload =
     timed_sends control p.now p.client payload
 
@@ -210,7 +221,7 @@ pub data Word : Type 0 where
   AtClientsTimer AtServersTimer : (timer : Timer) → Word
 
 pub data Told : Type 0 where
-  Answers : (answer : Result (Unit {0}) SendFault) → Told
+  Answers : (answer : Result (Unit {0}) SendRefusal) → Told
   PhasesAre : (client server : Phase) → Told
   Got : (bytes : List ℕ) → Told
   FirstIs : (frames : ℕ) (left : Option ℕ) → Told

@@ -1,5 +1,5 @@
 -- Worked negotiations of open ends: prefer, the timer negotiate, Changes that cross, come late or share nothing, and a Sequence Window with
--- the windows behind it. Both ends go on from a handshake without options, in which the client sent 1000 and 1001, and the server
+-- the windows after it. Both ends go on from a handshake without options, in which the client sent 1000 and 1001, and the server
 -- 2000 and 2001.
 use Rattle.std.proofs.Common.{◌≡◌, refl, ℕ, zero, suc, true, false, List, [], ◌∷◌, None, Ok, Err}
 use Rattle.dccp_states.specs.declared.phase.Phase.TheVariants as phase
@@ -81,7 +81,7 @@ prefer-at-server :
 unfolding receives prefers fires framed
 prefer-at-server = (refl, refl, refl, refl, refl, refl, refl, refl, refl, refl)
 
--- The client that offers to a server without options is in PARTOPEN, and its rows still ask: the timer sends both Changes, each behind its
+-- The client that offers to a server without options is in PARTOPEN, and its rows still ask: the timer sends both Changes, each after its
 -- Mandatory, and a new list goes without.
 abbrev unanswered : EndState
 unanswered = (arrives (requests_as (usual Client)) response).after
@@ -110,7 +110,7 @@ refused-wishes :
 unfolding receives opens prefers framed
 refused-wishes = (refl, refl, refl, refl, refl, refl, refl, refl, refl)
 
--- In UNSTABLE a valid Change is ignored, also behind Mandatory, and so is a Confirm; one that is not valid is answered.
+-- In UNSTABLE a valid Change is ignored, also after Mandatory, and so is a Confirm; one that is not valid is answered.
 in-unstable :
     (seen (arrives unstable "13899c400800f62f07000000000007d200000000000003e92205080201000000") ≡ (Took None, None, phase.Open))
     × (seen (arrives unstable "13899c400800190d07000000000007d200000000000003e90122040803000000") ≡ (Took None, None, phase.Open))
@@ -201,7 +201,7 @@ lost-change :
 unfolding receives opens prefers fires framed
 lost-change = (refl, refl, refl, refl, refl, refl, refl, refl, refl, refl, refl)
 
--- Three lists in a row at the client, the Changes of the first two come behind that of the third: they are older, and say nothing. A
+-- Three lists in a row at the client, the Changes of the first two come after that of the third: they are older, and say nothing. A
 -- Confirm for the first that comes once the third is asked for is late, and is ignored.
 abbrev third_list : EndState
 third_list = asks_again (prefers_here (asks_again unstable) (2 ∷ []))
@@ -280,8 +280,8 @@ nothing-shared-while-open :
 unfolding receives opens prefers framed
 nothing-shared-while-open = (refl, refl, refl, refl, refl, refl)
 
--- The client's Sequence Window becomes 32. From then on the server takes the numbers from 7 before the greatest received to 24 behind
--- it, and not before the first, where 75 were behind it.
+-- The client's Sequence Window becomes 32. From then on the server takes the numbers from 7 before the greatest received to 24 after
+-- it, and not before the first, where 75 were after it.
 abbrev narrowed_server : EndState
 narrowed_server = (arrives open_server "9c4013890900dd2907000000000003ea00000000000007d1200903000000000020000000").after
 

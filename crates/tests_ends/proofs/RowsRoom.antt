@@ -33,7 +33,7 @@ answered frame (Err fault) = (0, 0)
 abbrev answer : List ℕ → ℕ × ℕ
 answer frame = answered frame (decoded frame)
 
--- Behind a header of 24 bytes stand as many as vectors of 510 and Confirms of 229 bytes have, and three more. Data Dropped and Slow Receiver
+-- After a header of 24 bytes stand as many as vectors of 510 and Confirms of 229 bytes have, and three more. Data Dropped and Slow Receiver
 -- take 256: 1,020 bytes in all, and 1,024, which the Data Offset cannot say.
 room_behind_options :
     (length more ≡ 256)

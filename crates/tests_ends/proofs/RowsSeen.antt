@@ -110,7 +110,7 @@ open_client = (arrives (arrives requesting response).after server_ack).after
 abbrev pub shown : EndState → List (ℕ × Stand)
 shown e = map (λ row. (row.value, row.stand)) e.rows
 
--- these rows, with another value and stand at one
+-- these rows, with another value and are at one
 abbrev pub row : Feature → Place → ℕ → Stand → List (ℕ × Stand) → List (ℕ × Stand)
 row feature place value stand rows = slice_set rows (index_of feature place) (value, stand)
 

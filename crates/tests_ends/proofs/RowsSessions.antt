@@ -15,6 +15,7 @@ use Rattle.dccp_uses.specs.Alarms.{next_wait, until_first}
 use Rattle.dccp_uses.specs.OneAtATime.{one_at_a_time}
 use Rattle.dccp_uses.specs.Sessions.{session_hears}
 use Rattle.dccp_uses.specs.declared.news.News.TheVariants as news
+use Rattle.dccp_uses.specs.declared.reader.SendRefusal.TheVariants.{Refused}
 use Rattle.tests_ends.proofs.RowsPairs.{Pair, Say, ServerCloses, Lose, Turns, Pass, Wait, AtPhases, AtGot, AtFirst, AtLeft, AtCodes, AtRoom, AtServer, AtClientsTimer, AtServersTimer, Answers, PhasesAre, Got, FirstIs, LeftIs, CodesAre, RoomIs, IsServed, WaitIs, asking, client_hears, told}
 
 abbrev asked : Pair Both
@@ -117,11 +118,11 @@ asked_by_ones = asking by_ones (record { flight = []; rest = tt }) 42
 one_packet_at_a_time :
     told by_ones asked_by_ones
     (Turns 2 ∷ AtPhases ∷ AtRoom ∷ Say 1 ∷ AtRoom ∷ Say 2 ∷ Turns 10 ∷ AtRoom ∷ AtGot ∷ [])
-    ≡ PhasesAre phase.Open phase.Open ∷ RoomIs 1 ∷ Answers (Ok tt) ∷ RoomIs 0 ∷ Answers (Err WindowFull) ∷ RoomIs 1 ∷ Got (1 ∷ []) ∷ []
+    ≡ PhasesAre phase.Open phase.Open ∷ RoomIs 1 ∷ Answers (Ok tt) ∷ RoomIs 0 ∷ Answers (Err (Refused WindowFull)) ∷ RoomIs 1 ∷ Got (1 ∷ []) ∷ []
 unfolding receives opens closes prefers fires sends_payload sends_early framed until_first
 one_packet_at_a_time = refl
 
--- it stands in for CCID 2 alone; and a wait is never nothing
+-- it is in place of CCID 2 alone; and a wait is never nothing
 own_kind_and_least_wait : (by_ones.is_known 2 ≡ true) × (by_ones.is_known 3 ≡ false) × (next_wait (record { first = 0; most = 64000 }) 0 ≡ 1)
     × (next_wait (record { first = 0; most = 64000 }) 1 ≡ 2)
 own_kind_and_least_wait = (refl, refl, refl, refl)

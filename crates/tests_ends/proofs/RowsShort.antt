@@ -115,7 +115,7 @@ options-of-a-short-packet :
 unfolding receives framed
 options-of-a-short-packet = refl
 
--- Over the end of 2^24: behind the Request 2^24 - 3 and the Ack 2^24 - 2 come Data 2^24 + 1, then 2^24 - 1, and then the first again. They are
+-- Over the end of 2^24: after the Request 2^24 - 3 and the Ack 2^24 - 2 come Data 2^24 + 1, then 2^24 - 1, and then the first again. They are
 -- marked, told in order and acknowledged in full, and so is the number of a Sync.
 abbrev before_2_24 : EndState
 before_2_24 = taking_from 2000 "9c401389050034d70100000000fffffd0000002a" "9c4013890600262c0700000000fffffe00000000000007d0"
@@ -160,7 +160,7 @@ unfolding receives framed
 over-the-end-of-48-bits = (refl, refl, refl, refl, refl, refl)
 
 -- An acknowledgement number is the one near GSS: at a server that begins with 3 * 2^24 + 4, at one whose second number is 2^24, and at one
--- whose second number is 0. Behind it comes one that acknowledges the first number, across the end.
+-- whose second number is 0. After it comes one that acknowledges the first number, across the end.
 abbrev near_gss : Step Outcome
 near_gss =
     arrives (taking_from 50331652 request "9c4013890600280d07000000000003e90000000003000004") "9c40138904002e13060003ea00000005"
@@ -186,7 +186,7 @@ unfolding receives
 acknowledgement-near-gss = (refl, refl, refl, refl, refl, refl, refl, refl)
 
 -- Both are read by the marks as they stand when the packet comes. With windows of 2^25 and 2^26, 67108869 lies 2^23 below 75497477 and is found
--- from there, but from no number behind it. That is GSS in one case, where an Ack goes out with the next number, and GSR in the other.
+-- from there, but from no number after it. That is GSS in one case, where an Ack goes out with the next number, and GSR in the other.
 abbrev far_below_gss : Step Outcome
 far_below_gss =
     let wide : EndState = holding AckRatio There 1 (holding SequenceWindow Here (2 ^ 25) taking) in

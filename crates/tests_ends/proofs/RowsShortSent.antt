@@ -122,7 +122,7 @@ short-packets-with-vectors-and-data :
 unfolding receives fires sends_payload framed
 short-packets-with-vectors-and-data = (refl, refl, refl, refl)
 
--- the low 24 bits of 2^24, of 0 behind 2^48 - 1, and of an acknowledged 2^24
+-- the low 24 bits of 2^24, of 0 after 2^48 - 1, and of an acknowledged 2^24
 cut-to-24-bits :
     (bytes_sent (acknowledges (record sending { marks = record sending.marks { gss = 16777215 } })).frame ≡ sent "13899c4004002e1906000000000003e9")
     × (bytes_sent (acknowledges (record sending { marks = record sending.marks { gss = 281474976710655 } })).frame ≡ sent "13899c4004002e1906000000000003e9")

@@ -96,7 +96,7 @@ unfolding receives opens prefers fires closes aborts sends_payload sends_early f
 a_client_speaks_first = (refl, refl, refl, refl, refl, refl, refl, refl)
 
 a_server_hears_it :
-    -- Behind the client's Ack: data as any other, and the second are acknowledged
+    -- After the client's Ack: data as any other, and the second are acknowledged
     (story (usual Server) (Packet "9c401389080000b601000000000003e80000002a012004040101220406010000" ∷
     Packet "9c4013890a00eadd07000000000003e900000000000007d026030023060401010021060601010000" ∷
     Packet "9c4013890700503709000000000003ea00000000000007d026030000aa" ∷ AtFloor ∷

@@ -42,7 +42,7 @@ full-run-of-64 :
     × (told (took (kept.fresh 1) (from 65 1)) 65 ≡ (63 ∷ 0 ∷ [], true))
 full-run-of-64 = (refl, refl)
 
--- The number 12 is missing. The vector of 13 went out under the number 50, and the floor rises behind it once 50 is acknowledged.
+-- The number 12 is missing. The vector of 13 went out under the number 50, and the floor rises after it once 50 is acknowledged.
 abbrev missing_12 : Kept
 missing_12 = took (kept.fresh 10) (10 ∷ 11 ∷ 13 ∷ [])
 

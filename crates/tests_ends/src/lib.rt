@@ -1,7 +1,7 @@
 //! The tests of what has an end, on their public calls: feature_lists, feature_machine, dccp_endpoint and two_ends, with
 //! worked examples that no schedule or replay of examples/ can say; and what the owner of an end has, data_dropped and
 //! dccp_uses. What a definition tells is a worked row of proofs/, computed from the definitions; run is each public call
-//! that no program makes, once, and what only many calls show. They stand in a crate of their own since a crate with
+//! that no program makes, once, and what only many calls show. They are in a crate of their own since a crate with
 //! tests is proved twice, with them and without; and in one, since each crate over an end loads its statements anew.
 //! Their values come from the standard, were worked out by hand or by a second implementation, and never by this
 //! program.
@@ -10,9 +10,13 @@
 #[cfg(test)]
 mod buffered;
 #[cfg(test)]
+mod cookies;
+#[cfg(test)]
 mod every_call;
 #[cfg(test)]
 mod features;
+#[cfg(test)]
+mod greetings;
 #[cfg(test)]
 mod inboxes;
 #[cfg(test)]

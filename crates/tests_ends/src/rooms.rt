@@ -128,7 +128,7 @@ fn answer(alloc: Global, unknown: u8) -> Option<(usize, u8)> {
     answered(&mut server, unknown)
 }
 
-// Behind a header of 24 bytes and vectors of 510 there are Confirms of 229 bytes, and with one more of 232. Data
+// After a header of 24 bytes and vectors of 510 there are Confirms of 229 bytes, and with one more of 232. Data
 // Dropped and Slow Receiver take 256: 1,020 bytes in all, and 1,024, which the Data Offset cannot say.
 #[test]
 fn room_for_a_report(rt: HostRuntime) {

@@ -1,5 +1,7 @@
 //! Two sessions whose frames get lost.
 mod bursts;
+mod heeding;
+mod holding;
 mod pair;
 mod stories;
 mod wire;

@@ -3,12 +3,15 @@ use Rattle.std.proofs.Common.{◌≡◌, refl, ℕ, Bool, false, true, List, ◌
 use Rattle.std.specs.Prelude.{slice_set}
 use Rattle.std.specs.Fmt.{digits}
 use Rattle.bridge_links.specs.Links.{ip_of_later_link}
-use Rattle.bridge_command.specs.Unwrapping.{is_unwrapped_faulty, unwrapped_entry, unwrapped_text}
+use Rattle.bridge_command.specs.Complaints.{capture_complaint, capture_line, complaint_text}
+use Rattle.bridge_command.specs.Unwrapping.{is_unwrapped_faulty, unwrapped_entry, unwrapped_pieces, unwrapped_text}
+use Rattle.bridge_records.specs.Recording.{capture_refusal, capture_skips}
+use Rattle.bridge_records.specs.Skips.{no_tally}
 use Rattle.tests_tool.proofs.RowsSeen.{bytes, refused_behind}
 
--- what `unwrap` writes of an input, and whether it refuses it
+-- what `unwrap` writes of an input and what it tells apart, and whether it refuses it
 abbrev pub unwrapped : List ℕ → List ℕ × Bool
-unwrapped input = (unwrapped_text input, is_unwrapped_faulty input)
+unwrapped input = (unwrapped_text input ++ complaint_text (capture_complaint (capture_refusal (unwrapped_pieces input))), is_unwrapped_faulty input)
 
 -- The most significant byte first: a section, an interface of Ethernet that counts milliseconds, a block that nobody
 -- knows, an interface of raw IP that counts parts of 512 from a second before 1970, a packet of each, and one without a
@@ -34,8 +37,14 @@ records =
 blocks_of_two_sections :
     (unwrapped blocks ≡ (records, false))
     × (unwrapped (take 32 blocks) ≡ (take 24 records, false))
-unfolding unwrapped_entry ip_of_later_link digits
+unfolding unwrapped_entry ip_of_later_link capture_line digits
 blocks_of_two_sections = (refl, refl)
+
+-- Of these, the block that nobody knows, of type 5, is skipped. With another link type of the first interface, 147, so are both of its packets.
+skips_of_blocks :
+    (capture_skips (unwrapped_pieces blocks) ≡ record { links = no_tally; long = no_tally; blocks = record { count = 1; first = 5 } })
+    × ((capture_skips (unwrapped_pieces (slice_set blocks 41 147))).links ≡ record { count = 2; first = 147 })
+skips_of_blocks = (refl, refl)
 
 -- the blocks, with another byte at a place
 abbrev pub changed : ℕ → ℕ → List ℕ
@@ -44,11 +53,11 @@ changed place byte = slice_set blocks place byte
 -- The packet of the other interface in a block of the older kind, whose interface has two bytes.
 blocks_of_the_older_kind :
     unwrapped (slice_set (slice_set (changed 183 2) 189 1) 191 0) ≡ (records, false)
-unfolding unwrapped_entry ip_of_later_link digits
+unfolding unwrapped_entry ip_of_later_link capture_line digits
 blocks_of_the_older_kind = refl
 
--- A place in the blocks, the byte that stands there instead, how much is written before it is refused, and the line
--- behind that.
+-- A place in the blocks, the byte that is there instead, how much is written before it is refused, and the line
+-- after that.
 refused_blocks :
     (unwrapped (changed 8 0) ≡ refused_behind records 0 "capture BadMagic after record 0\n")
     × (unwrapped (changed 13 2) ≡ refused_behind records 0 "capture BadVersion after record 0\n")
@@ -60,14 +69,14 @@ refused_blocks :
     × (unwrapped (changed 75 6) ≡ refused_behind records 24 "capture BadBlock after record 0\n")
     × (unwrapped (changed 139 2) ≡ refused_behind records 24 "capture BadBlock after record 0\n")
     × (unwrapped (changed 151 21) ≡ refused_behind records 24 "capture BadBlock after record 0\n")
-    × (unwrapped (changed 149 5) ≡ refused_behind records 24 "capture RecordTooLong after record 0\n")
+    × (unwrapped (changed 149 5) ≡ refused_behind records 24 "capture BadBlock after record 0\n")
     × (unwrapped (changed 256 0) ≡ refused_behind records 78 "capture BadBlock after record 3\n")
     × (unwrapped (changed 260 2) ≡ refused_behind records 78 "capture BadVersion after record 3\n")
     × (unwrapped (changed 304 1) ≡ refused_behind records 78 "capture BadBlock after record 3\n")
-unfolding unwrapped_entry ip_of_later_link digits
+unfolding unwrapped_entry ip_of_later_link capture_line digits
 refused_blocks = (refl, refl, refl, refl, refl, refl, refl, refl, refl, refl, refl, refl, refl, refl)
 
--- Link type 276, the least significant byte first: IPv4 behind the header of the device, ARP, IPv6 behind a VLAN tag,
+-- Link type 276, the least significant byte first: IPv4 after the header of the device, ARP, IPv6 after a VLAN tag,
 -- and a record of no bytes.
 abbrev pub of_any_device : List ℕ
 of_any_device =
@@ -86,15 +95,15 @@ raw =
 -- All of it.
 records_of_the_any_device :
     unwrapped of_any_device ≡ (raw, false)
-unfolding unwrapped_entry ip_of_later_link digits
+unfolding unwrapped_entry ip_of_later_link capture_line digits
 records_of_the_any_device = refl
 
--- How much of the output stands before the line.
+-- How much of the output comes before the line.
 captures_that_are_cut :
     (unwrapped (take 0 of_any_device) ≡ refused_behind raw 0 "capture CutShort after record 0\n")
     × (unwrapped (take 23 of_any_device) ≡ refused_behind raw 0 "capture CutShort after record 0\n")
     × (unwrapped (take 39 of_any_device) ≡ refused_behind raw 24 "capture CutShort after record 0\n")
     × (unwrapped (take 63 of_any_device) ≡ refused_behind raw 24 "capture CutShort after record 0\n")
     × (unwrapped (take 65 of_any_device) ≡ refused_behind raw 44 "capture CutShort after record 1\n")
-unfolding unwrapped_entry ip_of_later_link digits
+unfolding unwrapped_entry ip_of_later_link capture_line digits
 captures_that_are_cut = (refl, refl, refl, refl, refl)

@@ -1,13 +1,14 @@
 -- Transcripts as captures: worked bytes, and what is refused (own).
 use Rattle.std.proofs.Common.{◌≡◌, refl, ℕ, Bool, false, true, List, ◌++◌, codes}
 use Rattle.std.specs.Fmt.{digits}
-use Rattle.bridge_command.specs.Capturing.{frames_capture, transcript_judged, transcript_refused}
+use Rattle.bridge_command.specs.Capturing.{frames_capture, transcript_judged, transcript_refusal, transcript_refused}
+use Rattle.bridge_command.specs.Complaints.{complaint_text, line_complaint}
 use Rattle.bridge_command.specs.FrameRecords.{ip_packet}
 use Rattle.tests_tool.proofs.RowsSeen.{bytes, refused_behind}
 
--- what `capture` writes of an input, and whether it refuses it
+-- what `capture` writes of an input and what it tells apart, and whether it refuses it
 abbrev pub captured : List ℕ → List ℕ × Bool
-captured input = (frames_capture input, transcript_refused input)
+captured input = (frames_capture input ++ complaint_text (line_complaint (transcript_refusal input)), transcript_refused input)
 
 -- What a client and a server of a schedule answer, and a replay's first lines.
 abbrev pub transcript : List ℕ
@@ -31,7 +32,7 @@ frames_of_a_transcript :
 unfolding transcript_judged ip_packet digits
 frames_of_a_transcript = refl
 
--- Lines, and the refusal of each behind the file header.
+-- Lines, and the refusal of each after the file header.
 refused_lines_of_transcripts :
     (captured (codes "sent") ≡ refused_behind capture 24 "line 1 column 6: Missing\n")
     × (captured (codes "sent c0") ≡ refused_behind capture 24 "line 1 column 9: Missing\n")

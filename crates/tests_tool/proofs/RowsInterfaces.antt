@@ -1,10 +1,13 @@
 -- Versions, times and captured lengths of pcapng files, and where IP begins in a record, by numbers of the drafts of pcapng and of libpcap.
-use Rattle.std.proofs.Common.{◌≡◌, refl, ℕ, Bool, true, false, List, [], ◌∷◌, map, Option, None, Some}
+use Rattle.std.proofs.Common.{◌≡◌, refl, ℕ, Bool, true, false, List, [], ◌∷◌, ◌++◌, map, codes, Option, None, Some}
 use Rattle.capture_reader.specs.declared.format.Order.TheVariants.{Big, Little}
 use Rattle.bridge_records.specs.Blocks.{is_section_version}
 use Rattle.bridge_records.specs.Interfaces.{needs_nanos, units_of}
 use Rattle.bridge_records.specs.Packets.{captured_of}
+use Rattle.bridge_links.specs.Extensions.{plain_ip, upper_from, without_extensions}
 use Rattle.bridge_links.specs.Links.{ip_start}
+use Rattle.bridge_links.specs.Logs.{ip_in_log, payload_from}
+use Rattle.tests_tool.proofs.RowsSeen.{bytes}
 
 -- 1.0 and 1.2 alone, in either byte order
 versions_of_sections :
@@ -44,3 +47,24 @@ families_of_loopback :
     × (ip_start 108 (0 ∷ 0 ∷ 0 ∷ 30 ∷ 96 ∷ []) ≡ Some 4)
     × (ip_start 108 (0 ∷ 0 ∷ 0 ∷ 30 ∷ 69 ∷ []) ≡ None)
 families_of_loopback = (refl, refl, refl, refl, refl, refl)
+
+-- The parts of a logged packet in either byte order: one of five bytes, and that of type 9. A family has its version.
+starts_in_logs :
+    (ip_in_log (bytes (codes "0200000005000100aa0000000800090045000000")) ≡ Some 16)
+    × (ip_in_log (bytes (codes "0a00000000050001aa0000000008000960000000")) ≡ Some 16)
+    × (ip_in_log (bytes (codes "0a00000005000100aa0000000800090045000000")) ≡ None)
+    × (ip_in_log (bytes (codes "0200000005000100aa0000000800080045000000")) ≡ None)
+unfolding payload_from
+starts_in_logs = (refl, refl, refl, refl)
+
+-- A packet of 41 bytes, and the same with Hop-by-Hop Options; with a Routing header, type 0, whose one segment is left; and with a length that
+-- ends before DCCP.
+extensions_are_taken_out :
+    (plain_ip (bytes (codes "60000000000900400000000000000000000000000000000100000000000000000000000000000002210000000000000007"))
+    ≡ bytes (codes "6000000000012140000000000000000000000000000000010000000000000000000000000000000207"))
+    × (plain_ip (bytes (codes "6000000000192b400000000000000000000000000000000100000000000000000000000000000002210200010000000000000000" ++ codes "00000000000000000000000307"))
+    ≡ bytes (codes "6000000000012140000000000000000000000000000000010000000000000000000000000000000307"))
+    × (plain_ip (bytes (codes "60000000000700400000000000000000000000000000000100000000000000000000000000000002210000000000000007"))
+    ≡ bytes (codes "60000000000700400000000000000000000000000000000100000000000000000000000000000002210000000000000007"))
+unfolding upper_from without_extensions
+extensions_are_taken_out = (refl, refl, refl)

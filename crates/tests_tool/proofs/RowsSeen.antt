@@ -1,4 +1,4 @@
--- What the worked rows of the second tool are seen by: bytes spelled by hexadecimal digits, and what is refused behind a front of a text.
+-- What the worked rows of the second tool are seen by: bytes spelled by hexadecimal digits, and what is refused after a front of a text.
 use Rattle.std.specs.Prelude.{ℕ, ◌+◌, ◌-◌, ◌*◌, nat_le, if◌then◌else◌, Bool, true, List, [], ◌∷◌, ◌++◌, take, codes}
 use Prim.Native.String.{String}
 

@@ -13,7 +13,7 @@ pub(crate) const CALLS: &str = "\
 00000000003400000006000000240000000100000000000006010000000100000028600000000000002400000003000000200000000f02020202\
 020202020202020286dd6000000000200a0d0d0a1c0000004d3c2b1a01000000ffffffffffffffff1c0000000100000014000000650000000000\
 000014000000060000002400000000000000010000000000000001000000280000004500000024000000\
-=> Done\n\
+=> Done skipped blocks of other types: 1, first 5\n\
 a1b2c3d40002000400000000000000000004000000000065000000010007a12000000004000000324500002800000002000007a1000000010000\
 0028600000000000000000000000010000000160000010c6000ec280000000010000002845\
 ~ capture\n\
@@ -21,12 +21,11 @@ a1b2c3d40002000400000000000000000004000000000065000000010007a1200000000400000032
 sent s0 13899c400700261403000000000007d000000000000003e80000002a\nend client REQUEST window 4 flight 0 1=2/2\n\
 # the next transcript\n\nopen: ok\n1: sent reset 4 2 0 0\n\
 sent c1 9c4013890700163b0f000000000003e900000000000007d004020000\nline 4 column 1: BadHex\n\
-=> Input\n\
+=> Input line 11 column 1: UnknownWord\n\
 a1b2c3d40002000400000000000000000004000000000065000000020000000000000028000000284500002800004000402126b30a0000010a00\
 00029c401389050031ec01000000000003e80000002a000000030000000000000030000000304500003000004000402126ab0a0000020a000001\
 13899c400700261403000000000007d000000000000003e80000002a000000010000000000000030000000304500003000004000402126ab0a00\
-00010a0000029c4013890700163b0f000000000003e900000000000007d0040200006c696e6520313120636f6c756d6e20313a20556e6b6e6f77\
-6e576f72640a\
+00010a0000029c4013890700163b0f000000000003e900000000000007d004020000\
 ~ frames,--flow,1,--side,server\n\
 a1b2c3d400020004000000000000000000040000000000650000000100000000000000280000002845000028000040004021b6b1c0000201c000\
 02021b58002105005a4101000000000000070000000500000002000000000000002c0000002c4500002c000040004021b6adc0000201c0000202\
@@ -52,21 +51,19 @@ seal 9c40138906000000110000000000000b00000000000007d9\n\
 ~ frames,--flow,1,--side,server\n\
 a1b2c3d400020004000000000000000000040000000000650000000100000000000000280000002845000028000040004021b6b1c0000201c000\
 02021b58002105005a4101000000000000070000000500\
-=> Input\n\
+=> Input capture CutShort after record 1\n\
 # 1 1.000000 flow 1 192.0.2.1 7000 > 192.0.2.2 33 Request seq 7 service 5 data 0 sum ok\n\
 seal 9c4013890500000001000000000000070000002a\n\
-capture CutShort after record 1\n\
 ~ frames,--flow,1,--side,server\n\
 a1b2c3d400020004000000000000000000040000000000650000000100000000000000280000002845000028000040004021b6b1c0000201c000\
 02021b58002105005a4101000000000000070000000500000002000000000000002c0000002c4500002c000040004021b6adc0000201c0000202\
 1b5800210600534207000000000000080000fffffffffffe0000000300000000000000300000003045000030000040004021b6a9c0000202c000\
 020100211b580700563a0300fffffffffffe0000000000000007000000\
-=> Input\n\
+=> Input capture CutShort after record 2\n\
 # 1 1.000000 flow 1 192.0.2.1 7000 > 192.0.2.2 33 Request seq 7 service 5 data 0 sum ok\n\
 seal 9c4013890500000001000000000000070000002a\n\
 # 2 2.000000 flow 1 192.0.2.1 7000 > 192.0.2.2 33 Ack seq 8 ack 281474976710654 data 0 sum ok\n\
 # no frame: NumberUnknown\n\
-capture CutShort after record 2\n\
 ~ json\n\
 a1b2c3d40002000400000000000000000004000000000001000000010007a1200000003b0000003b02000000000202000000000108004500002d\
 00000000402100000a0000010a0000029c4013890552221a080003e8000007d02503070068656c6c6f0000000200000000000000560000005602\
@@ -76,25 +73,30 @@ a1b2c3d40002000400000000000000000004000000000001000000010007a1200000003b0000003b
 01080600000000000500000000000000320000003602000000000202000000000108004500002800000000402100000a0000010a0000029c4013\
 8903000000040003e961626364\
 => Done\n\
-{\"acknowledgement\":2000,\"ccval\":5,\"checksum\":8730,\"cscov\":2,\"data\":5,\"destination\":\"10.0.0.2\",\
-\"destination_port\":5001,\"length\":59,\"link\":1,\"nanoseconds\":500000000,\"options\":[\"ndp-count 07\"],\"record\":1,\
-\"seconds\":1,\"sequence\":1000,\"short\":true,\"source\":\"10.0.0.1\",\"source_port\":40000,\"type\":\"DataAck\",\"verdict\":\"ok\"}\n\
-{\"acknowledgement\":1000,\"ccval\":0,\"checksum\":1,\"cscov\":0,\"data\":0,\"data_1\":1,\"data_2\":2,\"data_3\":3,\
-\"destination\":\"2001:db8:0:0:0:0:0:a2\",\"destination_port\":5001,\"length\":86,\"link\":1,\"nanoseconds\":0,\"options\":[],\
-\"record\":2,\"reset_code\":9,\"seconds\":2,\"sequence\":2001,\"short\":false,\"source\":\"2001:db8:0:0:0:0:0:1\",\
-\"source_port\":40000,\"type\":\"Reset\",\"verdict\":\"wrong\"}\n\
-{\"length\":46,\"link\":1,\"malformed\":\"ReservedType\",\"nanoseconds\":0,\"record\":3,\"seconds\":3}\n\
-{\"length\":16,\"link\":1,\"nanoseconds\":0,\"record\":4,\"seconds\":4,\"skipped\":\"NotIp\"}\n\
-{\"ccval\":0,\"checksum\":0,\"cscov\":0,\"data\":4,\"destination\":\"10.0.0.2\",\"destination_port\":5001,\"length\":54,\"link\":1,\
-\"nanoseconds\":0,\"options\":[],\"record\":5,\"seconds\":5,\"sequence\":1001,\"short\":true,\"source\":\"10.0.0.1\",\
-\"source_port\":40000,\"type\":\"Data\",\"verdict\":\"unknown\"}\n\
+{\"acknowledgement\":2000,\"captured\":59,\"ccval\":5,\"checksum\":8730,\"cscov\":2,\"data\":5,\
+\"destination\":\"10.0.0.2\",\"destination_port\":5001,\"ecn\":0,\"flow\":1,\"length\":59,\"link\":1,\
+\"nanoseconds\":500000000,\"options\":[{\"count\":7,\"mandatory\":false,\"name\":\"ndp-count\",\"type\":37}],\
+\"record\":1,\"seconds\":1,\"sequence\":1000,\"short\":true,\"source\":\"10.0.0.1\",\"source_port\":40000,\
+\"ttl\":64,\"type\":\"DataAck\",\"verdict\":\"ok\"}\n\
+{\"acknowledgement\":1000,\"captured\":86,\"ccval\":0,\"checksum\":1,\"cscov\":0,\"data\":0,\"data_1\":1,\
+\"data_2\":2,\"data_3\":3,\"destination\":\"2001:db8::a2\",\"destination_port\":5001,\"ecn\":0,\"flow\":2,\
+\"length\":86,\"link\":1,\"nanoseconds\":0,\"options\":[],\"record\":2,\"reset_code\":9,\"seconds\":2,\
+\"sequence\":2001,\"short\":false,\"source\":\"2001:db8::1\",\"source_port\":40000,\"ttl\":64,\"type\":\"Reset\",\
+\"verdict\":\"wrong\"}\n\
+{\"captured\":46,\"destination\":\"10.0.0.2\",\"ecn\":0,\"length\":46,\"link\":1,\"malformed\":\"ReservedType\",\
+\"nanoseconds\":0,\"record\":3,\"seconds\":3,\"source\":\"10.0.0.1\",\"ttl\":64}\n\
+{\"captured\":16,\"length\":16,\"link\":1,\"nanoseconds\":0,\"record\":4,\"seconds\":4,\"skipped\":\"NotIp\"}\n\
+{\"captured\":50,\"ccval\":0,\"checksum\":0,\"cscov\":0,\"data\":4,\"destination\":\"10.0.0.2\",\
+\"destination_port\":5001,\"ecn\":0,\"flow\":1,\"length\":54,\"link\":1,\"nanoseconds\":0,\"options\":[],\
+\"record\":5,\"seconds\":5,\"sequence\":1001,\"short\":true,\"source\":\"10.0.0.1\",\"source_port\":40000,\
+\"ttl\":64,\"type\":\"Data\",\"verdict\":\"unknown\"}\n\
 ~ json\n\
-=> Input\n\
+=> Input capture CutShort after record 0\n\
 {\"fault\":\"CutShort\",\"records\":0}\n\
 ~ json\n\
 a1b2c3d40002000400000000000000000004000000000001000000010007a1200000003b0000003b02000000000202000000000108004500002d\
 00000000402100000a0000010a0000029c4013890552221a080003e8000007d02503070068656c6c\
-=> Input\n\
+=> Input capture CutShort after record 0\n\
 {\"fault\":\"CutShort\",\"records\":0}\n\
 ~ json\n\
 a1b2c3d40002000400000000000000000004000000000001000000010007a1200000003b0000003b02000000000202000000000108004500002d\
@@ -104,16 +106,20 @@ a1b2c3d40002000400000000000000000004000000000001000000010007a1200000003b0000003b
 00002000000000402100000a0000010a0000029c4013890300000014000000000000040000000000000010000000100200000000020200000000\
 01080600000000000500000000000000320000003602000000000202000000000108004500002800000000402100000a0000010a0000029c4013\
 8903000000040003e9616263\
-=> Input\n\
-{\"acknowledgement\":2000,\"ccval\":5,\"checksum\":8730,\"cscov\":2,\"data\":5,\"destination\":\"10.0.0.2\",\
-\"destination_port\":5001,\"length\":59,\"link\":1,\"nanoseconds\":500000000,\"options\":[\"ndp-count 07\"],\"record\":1,\
-\"seconds\":1,\"sequence\":1000,\"short\":true,\"source\":\"10.0.0.1\",\"source_port\":40000,\"type\":\"DataAck\",\"verdict\":\"ok\"}\n\
-{\"acknowledgement\":1000,\"ccval\":0,\"checksum\":1,\"cscov\":0,\"data\":0,\"data_1\":1,\"data_2\":2,\"data_3\":3,\
-\"destination\":\"2001:db8:0:0:0:0:0:a2\",\"destination_port\":5001,\"length\":86,\"link\":1,\"nanoseconds\":0,\"options\":[],\
-\"record\":2,\"reset_code\":9,\"seconds\":2,\"sequence\":2001,\"short\":false,\"source\":\"2001:db8:0:0:0:0:0:1\",\
-\"source_port\":40000,\"type\":\"Reset\",\"verdict\":\"wrong\"}\n\
-{\"length\":46,\"link\":1,\"malformed\":\"ReservedType\",\"nanoseconds\":0,\"record\":3,\"seconds\":3}\n\
-{\"length\":16,\"link\":1,\"nanoseconds\":0,\"record\":4,\"seconds\":4,\"skipped\":\"NotIp\"}\n\
+=> Input capture CutShort after record 4\n\
+{\"acknowledgement\":2000,\"captured\":59,\"ccval\":5,\"checksum\":8730,\"cscov\":2,\"data\":5,\
+\"destination\":\"10.0.0.2\",\"destination_port\":5001,\"ecn\":0,\"flow\":1,\"length\":59,\"link\":1,\
+\"nanoseconds\":500000000,\"options\":[{\"count\":7,\"mandatory\":false,\"name\":\"ndp-count\",\"type\":37}],\
+\"record\":1,\"seconds\":1,\"sequence\":1000,\"short\":true,\"source\":\"10.0.0.1\",\"source_port\":40000,\
+\"ttl\":64,\"type\":\"DataAck\",\"verdict\":\"ok\"}\n\
+{\"acknowledgement\":1000,\"captured\":86,\"ccval\":0,\"checksum\":1,\"cscov\":0,\"data\":0,\"data_1\":1,\
+\"data_2\":2,\"data_3\":3,\"destination\":\"2001:db8::a2\",\"destination_port\":5001,\"ecn\":0,\"flow\":2,\
+\"length\":86,\"link\":1,\"nanoseconds\":0,\"options\":[],\"record\":2,\"reset_code\":9,\"seconds\":2,\
+\"sequence\":2001,\"short\":false,\"source\":\"2001:db8::1\",\"source_port\":40000,\"ttl\":64,\"type\":\"Reset\",\
+\"verdict\":\"wrong\"}\n\
+{\"captured\":46,\"destination\":\"10.0.0.2\",\"ecn\":0,\"length\":46,\"link\":1,\"malformed\":\"ReservedType\",\
+\"nanoseconds\":0,\"record\":3,\"seconds\":3,\"source\":\"10.0.0.1\",\"ttl\":64}\n\
+{\"captured\":16,\"length\":16,\"link\":1,\"nanoseconds\":0,\"record\":4,\"seconds\":4,\"skipped\":\"NotIp\"}\n\
 {\"fault\":\"CutShort\",\"records\":4}\n\
 ~ unwrap\n\
 d4c3b2a1020004000000000000000000ffff0000140100000100000020a10700180000003c000000080000000000000300010006020202020202\
@@ -125,17 +131,37 @@ a1b2c3d40002000400000000000000000004000000000065000000010007a1200000000400000028
 ~ unwrap\n\
 d4c3b2a1020004000000000000000000ffff0000140100000100000020a10700180000003c000000080000000000000300010006020202020202\
 00004500002802\
-=> Input\n\
-a1b2c3d40002000400000000000000000004000000000065000000010007a120000000040000002845000028636170747572652043757453686f\
-7274206166746572207265636f726420310a\
+=> Input capture CutShort after record 1\n\
+a1b2c3d40002000400000000000000000004000000000065000000010007a120000000040000002845000028\
 ~ capture\n\
 sent c0 00 x\
-=> Input\n\
-a1b2c3d400020004000000000000000000040000000000656c696e65203120636f6c756d6e2031323a20547261696c696e670a\
+=> Input line 1 column 12: Trailing\n\
+a1b2c3d40002000400000000000000000004000000000065\
 ~ unwrap\n\
 0a0d0d0a000000201a2b3c4d00010000ffffffffffffffff0000000000000020\
 => Done\n\
 a1b2c3d40002000400000000000000000004000000000065\
+~ json,--payload\n\
+a1b2c3d400020004000000000000000000040000000000650000000000000000000000760000007660200000004e003d20010db8000000000000\
+00000000000120010db80000000000000000000000022b00000000000000210200010000000020010db80000000100000000000000039c401389\
+0b00ba82070000000000000700000000000000052005e0fd1a26040a272a082643607d9ab70000006162\
+=> Done\n\
+{\"acknowledgement\":5,\"captured\":118,\"ccval\":0,\"checksum\":47746,\"cscov\":0,\"data\":2,\
+\"destination\":\"2001:db8:0:1::3\",\"destination_port\":5001,\"ecn\":2,\"flow\":1,\"length\":118,\"link\":101,\
+\"nanoseconds\":0,\"options\":[{\"feature\":224,\"mandatory\":false,\"name\":\"change-l\",\"type\":32,\
+\"values\":[253,26]},{\"mandatory\":false,\"name\":\"ack-vector-0\",\"nonce\":0,\"runs\":[{\"length\":11,\
+\"state\":0},{\"length\":40,\"state\":0}],\"type\":38},{\"elapsed\":39607,\"mandatory\":false,\
+\"name\":\"timestamp-echo\",\"timestamp\":641949821,\"type\":42}],\"payload\":\"6162\",\"record\":1,\"seconds\":0,\
+\"sequence\":7,\"short\":false,\"source\":\"2001:db8::1\",\"source_port\":40000,\"ttl\":61,\"type\":\"Ack\",\
+\"verdict\":\"ok\"}\n\
+~ unwrap\n\
+a1b2c3d400020004000000000000000000040000000000650000000000000000000000760000007660200000004e003d20010db8000000000000\
+00000000000120010db80000000000000000000000022b00000000000000210200010000000020010db80000000100000000000000039c401389\
+0b00ba82070000000000000700000000000000052005e0fd1a26040a272a082643607d9ab70000006162\
+=> Done\n\
+a1b2c3d400020004000000000000000000040000000000650000000000000000000000560000005660200000002e213d20010db8000000000000\
+00000000000120010db80000000100000000000000039c4013890b00ba82070000000000000700000000000000052005e0fd1a26040a272a0826\
+43607d9ab70000006162\
 ~ seed,--seed,7,--events,20\n\
 => Done\n\
 iss client 104355234454718\niss server 5075881245380\nopen\ntimer client rto\ndeliver c0\ndeliver c0\ndeliver s1\n\
@@ -213,56 +239,60 @@ unread\
 => Done\n\
 iss client 168767807923846\niss server 230952348278845\nopen\ndeliver c0\ntimer server ack\n\
 prefer client here 1 2,248\ndeliver c0\ndeliver s0\ndeliver s0\ndeliver s0\n\
-~ seed\nunread=> Words\n\
-usage: dccp_bridge capture | unwrap | seed --seed S --events E | frames --flow F --side server|client | json | ladder [--flow F]\n\
-~ seed,--seed,1\nunread=> Words\n\
-usage: dccp_bridge capture | unwrap | seed --seed S --events E | frames --flow F --side server|client | json | ladder [--flow F]\n\
-~ seed,--events,1\nunread=> Words\n\
-usage: dccp_bridge capture | unwrap | seed --seed S --events E | frames --flow F --side server|client | json | ladder [--flow F]\n\
-~ seed,--seed,1,--events,0\nunread=> Words\n\
-usage: dccp_bridge capture | unwrap | seed --seed S --events E | frames --flow F --side server|client | json | ladder [--flow F]\n\
-~ seed,--seed,1,--events,4097\nunread=> Words\n\
-usage: dccp_bridge capture | unwrap | seed --seed S --events E | frames --flow F --side server|client | json | ladder [--flow F]\n\
-~ seed,--seed,18446744073709551616,--events,1\nunread=> Words\n\
-usage: dccp_bridge capture | unwrap | seed --seed S --events E | frames --flow F --side server|client | json | ladder [--flow F]\n\
-~ seed,--seed,01,--events,1\nunread=> Words\n\
-usage: dccp_bridge capture | unwrap | seed --seed S --events E | frames --flow F --side server|client | json | ladder [--flow F]\n\
-~ seed,--seed,-1,--events,1\nunread=> Words\n\
-usage: dccp_bridge capture | unwrap | seed --seed S --events E | frames --flow F --side server|client | json | ladder [--flow F]\n\
-~ seed,--seed,1,--events,1,--seed,1\nunread=> Words\n\
-usage: dccp_bridge capture | unwrap | seed --seed S --events E | frames --flow F --side server|client | json | ladder [--flow F]\n\
-~ seed,--seed,1,--events,1,--workers,1\nunread=> Words\n\
-usage: dccp_bridge capture | unwrap | seed --seed S --events E | frames --flow F --side server|client | json | ladder [--flow F]\n\
-~ seed,--seed,1,--events,1,--\nunread=> Words\n\
-usage: dccp_bridge capture | unwrap | seed --seed S --events E | frames --flow F --side server|client | json | ladder [--flow F]\n\
-~ seed,1,1\nunread=> Words\n\
-usage: dccp_bridge capture | unwrap | seed --seed S --events E | frames --flow F --side server|client | json | ladder [--flow F]\n\
-~ seed,--help\nunread=> Words\n\
-usage: dccp_bridge capture | unwrap | seed --seed S --events E | frames --flow F --side server|client | json | ladder [--flow F]\n\
-~ --seed,1,--events,1\nunread=> Words\n\
-usage: dccp_bridge capture | unwrap | seed --seed S --events E | frames --flow F --side server|client | json | ladder [--flow F]\n\
-~ \nunread=> Words\n\
-usage: dccp_bridge capture | unwrap | seed --seed S --events E | frames --flow F --side server|client | json | ladder [--flow F]\n\
-~ walk\nunread=> Words\n\
-usage: dccp_bridge capture | unwrap | seed --seed S --events E | frames --flow F --side server|client | json | ladder [--flow F]\n\
-~ Capture\nunread=> Words\n\
-usage: dccp_bridge capture | unwrap | seed --seed S --events E | frames --flow F --side server|client | json | ladder [--flow F]\n\
-~ capture,capture\nunread=> Words\n\
-usage: dccp_bridge capture | unwrap | seed --seed S --events E | frames --flow F --side server|client | json | ladder [--flow F]\n\
-~ ladder,transcript\nunread=> Words\n\
-usage: dccp_bridge capture | unwrap | seed --seed S --events E | frames --flow F --side server|client | json | ladder [--flow F]\n\
-~ ladder,--flow\nunread=> Words\n\
-usage: dccp_bridge capture | unwrap | seed --seed S --events E | frames --flow F --side server|client | json | ladder [--flow F]\n\
-~ ladder,--flow,0\nunread=> Words\n\
-usage: dccp_bridge capture | unwrap | seed --seed S --events E | frames --flow F --side server|client | json | ladder [--flow F]\n\
-~ ladder,--flow=18446744073709551616\nunread=> Words\n\
-usage: dccp_bridge capture | unwrap | seed --seed S --events E | frames --flow F --side server|client | json | ladder [--flow F]\n\
-~ ladder,--side,1\nunread=> Words\n\
-usage: dccp_bridge capture | unwrap | seed --seed S --events E | frames --flow F --side server|client | json | ladder [--flow F]\n\
-~ ladder,--flow,1,2\nunread=> Words\n\
-usage: dccp_bridge capture | unwrap | seed --seed S --events E | frames --flow F --side server|client | json | ladder [--flow F]\n\
-~ show\n00=> Words\n\
-usage: dccp_bridge capture | unwrap | seed --seed S --events E | frames --flow F --side server|client | json | ladder [--flow F]\n";
+~ seed\nunread=> Words \
+usage: dccp_bridge capture | unwrap | seed --seed S --events E | frames --flow F --side server|client | json [--payload] | ladder [--flow F] | windows [--flow F]\n\
+~ seed,--seed,1\nunread=> Words \
+usage: dccp_bridge capture | unwrap | seed --seed S --events E | frames --flow F --side server|client | json [--payload] | ladder [--flow F] | windows [--flow F]\n\
+~ seed,--events,1\nunread=> Words \
+usage: dccp_bridge capture | unwrap | seed --seed S --events E | frames --flow F --side server|client | json [--payload] | ladder [--flow F] | windows [--flow F]\n\
+~ seed,--seed,1,--events,0\nunread=> Words \
+usage: dccp_bridge capture | unwrap | seed --seed S --events E | frames --flow F --side server|client | json [--payload] | ladder [--flow F] | windows [--flow F]\n\
+~ seed,--seed,1,--events,4097\nunread=> Words \
+usage: dccp_bridge capture | unwrap | seed --seed S --events E | frames --flow F --side server|client | json [--payload] | ladder [--flow F] | windows [--flow F]\n\
+~ seed,--seed,18446744073709551616,--events,1\nunread=> Words \
+usage: dccp_bridge capture | unwrap | seed --seed S --events E | frames --flow F --side server|client | json [--payload] | ladder [--flow F] | windows [--flow F]\n\
+~ seed,--seed,01,--events,1\nunread=> Words \
+usage: dccp_bridge capture | unwrap | seed --seed S --events E | frames --flow F --side server|client | json [--payload] | ladder [--flow F] | windows [--flow F]\n\
+~ seed,--seed,-1,--events,1\nunread=> Words \
+usage: dccp_bridge capture | unwrap | seed --seed S --events E | frames --flow F --side server|client | json [--payload] | ladder [--flow F] | windows [--flow F]\n\
+~ seed,--seed,1,--events,1,--seed,1\nunread=> Words \
+usage: dccp_bridge capture | unwrap | seed --seed S --events E | frames --flow F --side server|client | json [--payload] | ladder [--flow F] | windows [--flow F]\n\
+~ seed,--seed,1,--events,1,--workers,1\nunread=> Words \
+usage: dccp_bridge capture | unwrap | seed --seed S --events E | frames --flow F --side server|client | json [--payload] | ladder [--flow F] | windows [--flow F]\n\
+~ seed,--seed,1,--events,1,--\nunread=> Words \
+usage: dccp_bridge capture | unwrap | seed --seed S --events E | frames --flow F --side server|client | json [--payload] | ladder [--flow F] | windows [--flow F]\n\
+~ seed,1,1\nunread=> Words \
+usage: dccp_bridge capture | unwrap | seed --seed S --events E | frames --flow F --side server|client | json [--payload] | ladder [--flow F] | windows [--flow F]\n\
+~ seed,--help\nunread=> Words \
+usage: dccp_bridge capture | unwrap | seed --seed S --events E | frames --flow F --side server|client | json [--payload] | ladder [--flow F] | windows [--flow F]\n\
+~ --seed,1,--events,1\nunread=> Words \
+usage: dccp_bridge capture | unwrap | seed --seed S --events E | frames --flow F --side server|client | json [--payload] | ladder [--flow F] | windows [--flow F]\n\
+~ \nunread=> Words \
+usage: dccp_bridge capture | unwrap | seed --seed S --events E | frames --flow F --side server|client | json [--payload] | ladder [--flow F] | windows [--flow F]\n\
+~ walk\nunread=> Words \
+usage: dccp_bridge capture | unwrap | seed --seed S --events E | frames --flow F --side server|client | json [--payload] | ladder [--flow F] | windows [--flow F]\n\
+~ Capture\nunread=> Words \
+usage: dccp_bridge capture | unwrap | seed --seed S --events E | frames --flow F --side server|client | json [--payload] | ladder [--flow F] | windows [--flow F]\n\
+~ capture,capture\nunread=> Words \
+usage: dccp_bridge capture | unwrap | seed --seed S --events E | frames --flow F --side server|client | json [--payload] | ladder [--flow F] | windows [--flow F]\n\
+~ ladder,transcript\nunread=> Words \
+usage: dccp_bridge capture | unwrap | seed --seed S --events E | frames --flow F --side server|client | json [--payload] | ladder [--flow F] | windows [--flow F]\n\
+~ ladder,--flow\nunread=> Words \
+usage: dccp_bridge capture | unwrap | seed --seed S --events E | frames --flow F --side server|client | json [--payload] | ladder [--flow F] | windows [--flow F]\n\
+~ ladder,--flow,0\nunread=> Words \
+usage: dccp_bridge capture | unwrap | seed --seed S --events E | frames --flow F --side server|client | json [--payload] | ladder [--flow F] | windows [--flow F]\n\
+~ ladder,--flow=18446744073709551616\nunread=> Words \
+usage: dccp_bridge capture | unwrap | seed --seed S --events E | frames --flow F --side server|client | json [--payload] | ladder [--flow F] | windows [--flow F]\n\
+~ ladder,--side,1\nunread=> Words \
+usage: dccp_bridge capture | unwrap | seed --seed S --events E | frames --flow F --side server|client | json [--payload] | ladder [--flow F] | windows [--flow F]\n\
+~ ladder,--flow,1,2\nunread=> Words \
+usage: dccp_bridge capture | unwrap | seed --seed S --events E | frames --flow F --side server|client | json [--payload] | ladder [--flow F] | windows [--flow F]\n\
+~ windows,schedule\nunread=> Words \
+usage: dccp_bridge capture | unwrap | seed --seed S --events E | frames --flow F --side server|client | json [--payload] | ladder [--flow F] | windows [--flow F]\n\
+~ windows,--flow=0\nunread=> Words \
+usage: dccp_bridge capture | unwrap | seed --seed S --events E | frames --flow F --side server|client | json [--payload] | ladder [--flow F] | windows [--flow F]\n\
+~ show\n00=> Words \
+usage: dccp_bridge capture | unwrap | seed --seed S --events E | frames --flow F --side server|client | json [--payload] | ladder [--flow F] | windows [--flow F]\n";
 
 #[test]
 fn calls_of_the_bridge_in_pieces(rt: HostRuntime) -> Result<(), Fail> {

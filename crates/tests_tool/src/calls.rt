@@ -50,8 +50,8 @@ impl Streams {
     }
 }
 
-/// How a call ended, how many bytes it wrote, and how many of its reads and writes failed. Of a text: whether what was
-/// written begins with it, or is a front of it.
+/// How a call ended, how many bytes it wrote, and how many of its reads and writes failed. Of a text and a line: whether
+/// what was written begins with the text and the line was told, or it is a front of the text and nothing else was told.
 #[derive(Clone, Copy)]
 pub(crate) struct Ended {
     pub(crate) status: Status,
@@ -105,35 +105,53 @@ fn sink(alloc: Global, streams: &Streams) -> Result<MemorySink, Fail> {
     Ok(sink.ok().ok_or("no memory")?)
 }
 
-fn compared(status: Status, input: &MemorySource, output: &MemorySink, text: &[u8]) -> Ended {
+// Whether this is all that was told of an input that is refused: the line, or nothing where there is none.
+fn is_told_line(told: &[u8], line: &str) -> bool {
+    match told.split_last() {
+        Some((last, rest)) => *last == b'\n' && rest == line.as_bytes(),
+        None => line.is_empty(),
+    }
+}
+
+// How what was written stands to a text, and what was told apart to a line.
+fn compared(
+    status: Status,
+    input: &MemorySource,
+    (output, errors): (&MemorySink, &MemorySink),
+    (text, line): (&[u8], &str),
+) -> Ended {
     let written = output.taken();
+    let told = errors.taken();
+    let all_is_told = is_told_line(told, line);
     Ended {
         status,
         written: written.len(),
-        begins: written.starts_with(text),
-        is_front: text.starts_with(written),
+        begins: written.starts_with(text) && all_is_told,
+        is_front: text.starts_with(written) && (all_is_told || told.is_empty()),
         failed_reads: input.faults(),
         failed_writes: output.faults(),
     }
 }
 
-/// How a call of a tool with these words, parted by commas, over these bytes, ends, by a text.
+/// How a call of a tool with these words, parted by commas, over these bytes, ends, by a text and the line that is told
+/// apart from it.
 pub(crate) fn end_of<R: Threads + Sync, G: Gate + Sync>(
     rt: &R,
     alloc: Global,
     gate: &G,
     streams: &Streams,
     (tool, words, bytes): (Tool, &str, &[u8]),
-    text: &[u8],
+    wanted: (&[u8], &str),
 ) -> Result<Ended, Fail> {
     let words = words_in(alloc, words)?;
     let mut input = source(alloc, streams, bytes)?;
     let mut output = sink(alloc, streams)?;
+    let mut errors = sink(alloc, &Streams::of(ROOM))?;
     let status = match tool {
         Tool::Dccp => dccp(rt, alloc, gate, &words, &mut input, &mut output),
-        Tool::Bridge => bridge(alloc, &words, &mut input, &mut output),
+        Tool::Bridge => bridge(alloc, &words, &mut input, &mut output, &mut errors),
     };
-    Ok(compared(status, &input, &output, text))
+    Ok(compared(status, &input, (&output, &errors), wanted))
 }
 
 /// Whether a call of the first tool with these words, over this input, ends so and writes this text.
@@ -145,7 +163,7 @@ pub(crate) fn comes<R: Threads + Sync>(
     (status, text): (Status, &str),
 ) -> Result<bool, Fail> {
     let call = (Tool::Dccp, words, input);
-    let ended = end_of(rt, alloc, &OpenGate, streams, call, text.as_bytes())?;
+    let ended = end_of(rt, alloc, &OpenGate, streams, call, (text.as_bytes(), ""))?;
     Ok(ended.is(status))
 }
 

@@ -12,7 +12,7 @@ fn held<R: Threads + Sync>(rt: &R, alloc: Global) -> Result<(bool, bool), Fail> 
     let gate = HoldFirst::new();
     let words = "campaign,--first,5,--seeds,4,--events,120,--workers,2";
     let call = (Tool::Dccp, words, "".as_bytes());
-    let ended = end_of(rt, alloc, &gate, &UNREAD, call, FOUR_SEEDS.as_bytes())?;
+    let ended = end_of(rt, alloc, &gate, &UNREAD, call, (FOUR_SEEDS.as_bytes(), ""))?;
     Ok((ended.is(Status::Done), gate.has_met()))
 }
 

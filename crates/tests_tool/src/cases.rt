@@ -1,6 +1,6 @@
 //! Cases in texts, since a row of a text costs no proof. A case is `~ ` with its words, parted by commas; from the next
-//! line on its input; behind `=> ` the status; and from the next line on all that it writes. Captures stand in
-//! hexadecimal.
+//! line on its input; after `=> ` the status, and after a blank the line that it tells apart, if there is one; and from the
+//! next line on all that it writes. Captures are in hexadecimal.
 use crate::calls::{Ended, Streams, Tool, end_of};
 use crate::failures::fails_in_turn;
 use dccp_command::Status;
@@ -37,6 +37,7 @@ pub(crate) struct Case<'a> {
     pub(crate) input: &'a [u8],
     pub(crate) status: Status,
     pub(crate) text: &'a [u8],
+    pub(crate) line: &'a str,
 }
 
 fn status_of(name: &str) -> Option<Status> {
@@ -48,16 +49,27 @@ fn status_of(name: &str) -> Option<Status> {
     }
 }
 
+// How a case ends: its status, and the line that it tells apart, or an empty one.
+fn end_in(answer: &str) -> Option<(Status, &str)> {
+    match answer.split_once(" ") {
+        Some((status, line)) => Some((status_of(status)?, line)),
+        None => Some((status_of(answer)?, "")),
+    }
+}
+
 // The words of a case, its input, how it ends and what it writes.
-fn parts_of(case: &str) -> Option<(&str, &str, Status, &str)> {
+fn parts_of(case: &str) -> Option<(&str, &str, (Status, &str), &str)> {
     let (words, rest) = case.split_once("\n")?;
     let (input, answer) = rest.split_once("=> ")?;
-    let (status, text) = answer.split_once("\n")?;
-    Some((words, input, status_of(status)?, text))
+    let (end, text) = answer.split_once("\n")?;
+    Some((words, input, end_in(end)?, text))
 }
 
 fn reads_capture(words: &str) -> bool {
-    words == "show" || words == "unwrap" || words == "json" || words.starts_with("frames,")
+    words == "show"
+        || words == "unwrap"
+        || words.starts_with("json")
+        || words.starts_with("frames,")
 }
 
 fn writes_capture(words: &str) -> bool {
@@ -80,7 +92,7 @@ pub(crate) fn end_over<R: Threads + Sync>(
     case: &Case<'_>,
 ) -> Result<Ended, Fail> {
     let call = (case.tool, case.words, case.input);
-    end_of(rt, alloc, &OpenGate, streams, call, case.text)
+    end_of(rt, alloc, &OpenGate, streams, call, (case.text, case.line))
 }
 
 fn comes_over<R: Threads + Sync>(
@@ -126,7 +138,7 @@ fn case_comes<R: Threads + Sync>(
     (tool, way): (Tool, Way),
     case: &str,
 ) -> Result<bool, Fail> {
-    let (words, input, status, text) = parts_of(case).ok_or("a case")?;
+    let (words, input, (status, line), text) = parts_of(case).ok_or("a case")?;
     let input = bytes_of(alloc, reads_capture(words), input)?;
     let text = bytes_of(alloc, writes_capture(words), text)?;
     let case = Case {
@@ -135,6 +147,7 @@ fn case_comes<R: Threads + Sync>(
         input: &input,
         status,
         text: &text,
+        line,
     };
     comes_so(rt, alloc, way, &case)
 }

@@ -12,7 +12,7 @@ use std::test::Fail;
 use std::thread::Threads;
 
 // Of each form calls that are done, and where there is one, one whose input is refused: what comes of them where
-// nothing fails. In the third Mandatory stands at the end of the options, with nothing behind it.
+// nothing fails. In the third Mandatory is at the end of the options, with nothing after it.
 const FORMS: &str = "\
 ~ run\n\
 plain\nopen\ndeliver c0\ndeliver s0\ndeliver c1\n\
@@ -151,7 +151,7 @@ fn by_the_byte(write: u64) -> Streams {
     }
 }
 
-// Whether the last byte fails behind all the others, and one write more is not made.
+// Whether the last byte fails after all the others, and one write more is not made.
 fn holds_for_last_byte<R: Threads + Sync>(
     rt: &R,
     alloc: Global,

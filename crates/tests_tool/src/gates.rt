@@ -14,7 +14,7 @@ pub(crate) struct HoldFirst {
     met: AtomicU64,
 }
 
-// How often each seed has begun stands in 16 bits of one number. A seed past the four leaves no number that is wanted.
+// How often each seed has begun is in 16 bits of one number. A seed past the four leaves no number that is wanted.
 fn share_of(index: u64) -> u64 {
     match index {
         0 => 0x0001,

@@ -135,7 +135,7 @@ d4c3b2a1020004000000000000000000ffff00000100000001000000010000003600000036000000
 4 1.000004 flow 1 10.0.0.2 5001 > 10.0.0.1 40000 Ack seq 2001 ack 1001 data 0 sum ok\n\
 records 6 shown 4 skipped 2 flows 1\n";
 
-// A version stands before all other lines that say something.
+// A version comes before all other lines that say something.
 const VERSIONS: &str = "\
 ~ run\n\
 plain\nversion 2\n\

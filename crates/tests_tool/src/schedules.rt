@@ -114,7 +114,14 @@ fn writes_block<R: Threads + Sync>(
     (least, most): (usize, usize),
 ) -> Result<bool, Fail> {
     let call = (Tool::Dccp, words, input);
-    let ended = end_of(rt, alloc, &OpenGate, &SECOND_BLOCK, call, front.as_bytes())?;
+    let ended = end_of(
+        rt,
+        alloc,
+        &OpenGate,
+        &SECOND_BLOCK,
+        call,
+        (front.as_bytes(), ""),
+    )?;
     let begins = ended.status == Status::Write && ended.begins;
     Ok(begins && least <= ended.written && ended.written < most)
 }

@@ -61,7 +61,7 @@ const FAILING_SINK: Streams = Streams {
 
 const CUT: &str = "campaign,--first,1,--seeds,3,--events,1,--workers,2";
 
-// The sink fails behind the two counts that the words give.
+// The sink fails after the two counts that the words give.
 const MOST_EVENTS: &str = "campaign,--first=0,--seeds=1,--events=4096,--workers=1";
 
 const FAILS_BEHIND_TWO_LINES: Streams = Streams {

@@ -1,7 +1,7 @@
 //! Lists of calls to a set of runs, over both ways to keep it. A model apart, a plain set of numbers with a floor, told
 //! the longer ones.
 //!
-//! A word is `start`, `mark` or `raise` with a number. Behind the number may stand a step up or down and how many such
+//! A word is `start`, `mark` or `raise` with a number. After the number may stand a step up or down and how many such
 //! calls there are: `mark=0+2*1024` marks every second number from 0 to 2,046. Each mark is made twice, which changes
 //! nothing.
 use run_list::{PlainRuns, RunCall, RunList, Runs, Stretch, replay_runs};

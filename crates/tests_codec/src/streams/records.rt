@@ -1,4 +1,4 @@
-//! A record that is shown by `Flows::show` itself, behind a text that is there before.
+//! A record that is shown by `Flows::show` itself, after a text that is there before.
 use capture_reader::Record;
 use packet_show::{Flows, Shown};
 use std::alloc::Global;

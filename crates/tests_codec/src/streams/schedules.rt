@@ -82,7 +82,7 @@ fn events_of_a_wrap_are_printed(rt: HostRuntime) {
     assert!(rt; are_printed(rt.alloc()));
 }
 
-// Whether a timer's results are printed behind the text, in a schedule and in a replay.
+// Whether a timer's results are printed after the text, in a schedule and in a replay.
 fn are_told(text: &mut Vec<u8>) -> bool {
     print_seen(7, &Event::Open, &Seen::Fired(true), b"", text).is_ok()
         && print_result(8, &Seen::Fired(false), b"", text).is_ok()

@@ -156,7 +156,7 @@ fn takes_narrowly(alloc: Global) -> bool {
     is_whole && narrow.taken.as_slice() == b"hello".as_slice()
 }
 
-// The third call fails, and the piece is written on behind what was taken.
+// The third call fails, and the piece is written on after what was taken.
 fn takes_the_rest(sink: &mut MemorySink) -> bool {
     write_all(sink, b"hello") == Err(Failed)
         && write_all(sink, b"llo").is_ok()

@@ -3,7 +3,7 @@
 use crate::uses::wire::Wire;
 use ccid_two::Kinds;
 use dccp_endpoint::{Config, Feature, Held, Phase, Place, Role, SendFault, Timer};
-use dccp_uses::{Alarms, News, Pace, Session, accept};
+use dccp_uses::{Alarms, News, Pace, Restraint, SendRefusal, Session, accept};
 use std::alloc::Global;
 
 // How many milliseconds a turn takes.
@@ -188,7 +188,7 @@ impl Pair {
                 return self.got.extend_from_slice(&datagram[first..past]).is_ok();
             }
             News::Ended { code } => self.server_ended = Some(code),
-            News::Quiet | News::TooLong => {}
+            News::Waits | News::Dropped { .. } | News::Quiet | News::TooLong => {}
         }
         true
     }
@@ -208,8 +208,12 @@ impl Pair {
     pub(crate) fn send(&mut self, payload: &[u8]) -> Option<bool> {
         match self.client.send(payload, self.now, &mut self.to_server) {
             Ok(()) => Some(true),
-            Err(SendFault::WindowFull | SendFault::NotNegotiated) => Some(false),
-            Err(SendFault::NotOpen | SendFault::TooLong) => None,
+            Err(SendRefusal::Held(Restraint::Full)) => Some(false),
+            Err(SendRefusal::Held(Restraint::NotListening)) => None,
+            Err(SendRefusal::Refused(SendFault::WindowFull | SendFault::NotNegotiated)) => {
+                Some(false)
+            }
+            Err(SendRefusal::Refused(SendFault::NotOpen | SendFault::TooLong)) => None,
         }
     }
 

@@ -1,0 +1,44 @@
+-- What the tool's call leaves, by the status with which it ends.
+use Rattle.std.proofs.Common.{◌≡◌, ◌∙◌, ap, inl, inr, refl, sym, subst, ℕ, Bool, List, ◌++◌, Option, Some, length}
+use Rattle.std.specs.Io.KnownBytes.{append_known}
+use Rattle.std.specs.Prelude.{◌⊎◌, take}
+use Rattle.std.proofs.Math.Seq.{take-length}
+use Rattle.tool_text.specs.Ends.{Answers, HasBegun, HasTaken, OnJobEnd}
+use Rattle.tool_text.specs.declared.output.status.JobEnd.{JobEnd}
+use Rattle.tool_text.specs.declared.output.status.JobEnd.TheVariants as ended
+use Rattle.tool_text.specs.declared.output.status.Status.{Status}
+use Rattle.tool_text.specs.declared.output.status.Status.TheVariants as status
+
+pub on-done : (s : Status) (Holds : JobEnd → Type 0) → OnJobEnd s Holds → s ≡ status.Done → Holds ended.Done
+on-done s Holds on same = subst (λ (t : Status). OnJobEnd t Holds) same on
+
+pub on-input : (s : Status) (Holds : JobEnd → Type 0) → OnJobEnd s Holds → s ≡ status.Input → Holds ended.Input
+on-input s Holds on same = subst (λ (t : Status). OnJobEnd t Holds) same on
+
+module _ (text : List ℕ) (is_refused : Bool) (left before after : Option (List ℕ)) where
+  abbrev Held : JobEnd → Type 0
+  Held end = Answers text is_refused end left before after
+
+  pub taken-whole : (s : Status) → OnJobEnd s Held → (s ≡ status.Done) ⊎ (s ≡ status.Input) → HasTaken before after text
+  taken-whole s on which =
+      elim which [
+        | inl done ↦ (on-done s Held on done).whole (inl refl)
+        | inr input ↦ (on-input s Held on input).whole (inr refl)
+      ]
+
+  all-of : HasTaken before after text → HasBegun before after text
+  all-of whole = (length text, whole ∙ ap (append_known before) (sym (take-length text)))
+
+  pub begun : (s : Status) → OnJobEnd s Held → HasBegun before after text
+  begun status.Done on = all-of (on.whole (inl refl))
+  begun status.Input on = all-of (on.whole (inr refl))
+  begun status.Words on = absurd on
+  begun status.Read on = on.front (inl refl)
+  begun status.Write on = on.front (inr (inl refl))
+  begun status.Memory on = on.front (inr (inr refl))
+
+  pub known-whole : (old : List ℕ) → before ≡ Some old → HasTaken before after text → after ≡ Some (old ++ text)
+  known-whole old told whole = whole ∙ ap (λ (o : Option (List ℕ)). append_known o text) told
+
+  pub known-front : (old : List ℕ) → before ≡ Some old → HasBegun before after text → (count : ℕ) × (after ≡ Some (old ++ take count text))
+  known-front old told front = (front.0, front.1 ∙ ap (λ (o : Option (List ℕ)). append_known o (take front.0 text)) told)

@@ -1,0 +1,5 @@
+pub mod Reached
+pub mod Going
+pub mod Saying
+pub mod Ending
+pub mod Received

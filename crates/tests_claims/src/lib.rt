@@ -1,0 +1,10 @@
+//! What README claims, and what the rules of a path come to, in a caller's words (own). Each function here follows from
+//! the calls and the laws that it names, and would no longer be proved where a clause of these said less. Nothing runs.
+#![tactic(auto)]
+
+pub mod ends;
+pub mod paths;
+pub mod tables;
+pub mod tool;
+pub mod ways;
+pub mod worlds;

@@ -1,0 +1,76 @@
+//! What a caller has of the tool's call, and of a listener's input.
+ghost use Rattle.std.specs.Prelude.{◌≡◌, ◌⊎◌, ◌↔◌, ◌++◌, ℕ, List, Some, None, true, false, flat_map, map, take};
+ghost use Rattle.dccp_command.specs.CampaignText.{campaign_text};
+ghost use Rattle.dccp_command.specs.Forms.{form_text, is_form_refused, reads_input};
+ghost use Rattle.dccp_io.specs.Lines.{lines_of};
+ghost use Rattle.dccp_listener.specs.Calls.{IsBusy};
+ghost use Rattle.dccp_listener.specs.Chain.{Deed};
+ghost use Rattle.dccp_listener.specs.Listens.{AreInOrder, listens};
+ghost use Rattle.dccp_listener.specs.Peers.{Listening, end_of_peer};
+ghost use Rattle.dccp_listener.specs.Runs.{IsChain, WasBusy, peer_turns};
+ghost use Rattle.dccp_listener.specs.declared.peer.Peer.{Peer};
+ghost use Rattle.tool_forms.specs.Words.{form_of};
+ghost use Rattle.tool_forms.specs.declared.words.Form.{Form};
+ghost use Rattle.tool_forms.specs.declared.words.Form.TheVariants as form;
+ghost use Rattle.tool_jobs.specs.Listen.{first_listening, listen_refused, listen_text, listened, turns_of_input};
+ghost use Rattle.tool_jobs.specs.PeerLines.{exchange_said, said_by_lines};
+ghost use Rattle.tool_jobs.specs.Telling.{exchange_text, flow_lines};
+ghost use Rattle.tool_jobs.specs.Transcript.{SafeThroughout, transcript};
+
+use dccp_command::{Campaign, Gate, Status, dccp};
+use dccp_io::{Sink, Source};
+use std::alloc::Global;
+use std::thread::Threads;
+use tool_jobs::each_peer_is_answered_by_its_chain;
+
+/// What `dccp` leaves. With status 0 or 1, and with no other of its own, each accepted event of `run` took place in a
+/// safe world (`done`, `refused`), and the sink took exactly the text of the input: for `run` the transcript
+/// (`transcript`), for each other form that reads its own (`whole`), for a campaign its sums (`sums`). Status 1 comes for
+/// an input that is refused, and 0 for none (`accepted`, `faulty`). With 3, 4 or 5 the sink took a front of the text
+/// (`front`).
+pub fn played<R: Threads + Sync, G: Gate + Sync, S: Source, K: Sink>(
+    rt: &R,
+    alloc: Global,
+    gate: &G,
+    words: &[String],
+    input: &mut S,
+    output: &mut K,
+) -> Status
+    ensures done { (bytes : List ℕ) → form_of words.now ≡ Some form.Run → S.left input.old ≡ Some bytes → result ≡ Status.Done → SafeThroughout bytes }
+    ensures refused { (bytes : List ℕ) → form_of words.now ≡ Some form.Run → S.left input.old ≡ Some bytes → result ≡ Status.Input → SafeThroughout bytes }
+    ensures transcript { (bytes before : List ℕ) → form_of words.now ≡ Some form.Run → S.left input.old ≡ Some bytes
+        → K.taken output.old ≡ Some before → (result ≡ Status.Done) ⊎ (result ≡ Status.Input)
+        → K.taken output.new ≡ Some (before ++ transcript bytes) }
+    ensures whole { (which : Form) (bytes before : List ℕ) → form_of words.now ≡ Some which → reads_input which ≡ true
+        → S.left input.old ≡ Some bytes → K.taken output.old ≡ Some before → (result ≡ Status.Done) ⊎ (result ≡ Status.Input)
+        → K.taken output.new ≡ Some (before ++ form_text which bytes) }
+    ensures accepted { (which : Form) (bytes : List ℕ) → form_of words.now ≡ Some which → reads_input which ≡ true
+        → S.left input.old ≡ Some bytes → result ≡ Status.Done → is_form_refused which bytes ≡ false }
+    ensures faulty { (which : Form) (bytes : List ℕ) → form_of words.now ≡ Some which → reads_input which ≡ true
+        → S.left input.old ≡ Some bytes → result ≡ Status.Input → is_form_refused which bytes ≡ true }
+    ensures front { (which : Form) (bytes before : List ℕ) → form_of words.now ≡ Some which → reads_input which ≡ true
+        → S.left input.old ≡ Some bytes → K.taken output.old ≡ Some before
+        → (count : ℕ) × (K.taken output.new ≡ Some (before ++ take count (form_text which bytes))) }
+    ensures sums { (campaign : Campaign) (before : List ℕ) → form_of words.now ≡ Some (form.Campaign campaign)
+        → K.taken output.old ≡ Some before → result ≡ Status.Done → K.taken output.new ≡ Some (before ++ campaign_text campaign) }
+{
+    dccp(rt, alloc, gate, words, input, output)
+}
+
+/// Of every input of `listen`: each peer is answered and sent what a server of its own would have given it on its lines
+/// alone, those left out that a full table answered (`alone`). Where no line is refused, the text is that of all lines
+/// that say something, in their order and with their numbers, and then of the flows, in the order of their peers (`text`,
+/// `lines`, `ordered`). A peer finds the listener busy exactly where it has no flow and would get one, and as many stand
+/// as may (`busy`).
+pub fn a_listener_answers_each_peer_by_its_own_lines()
+    ensures alone { (most : ℕ) (input : List ℕ) (peer : Peer) → IsChain (first_listening most).config peer None
+        (end_of_peer (listened most input).last.listener.flows peer) (peer_turns peer (turns_of_input most input)) }
+    ensures text { (most : ℕ) (input : List ℕ) → listen_refused most input ≡ false
+        → listen_text most input ≡ flat_map exchange_text (listened most input).deeds ++ flow_lines (listened most input).last.listener.flows }
+    ensures lines { (most : ℕ) (input : List ℕ) → listen_refused most input ≡ false
+        → map exchange_said (listened most input).deeds ≡ said_by_lines 1 0 (lines_of input) }
+    ensures ordered { (most : ℕ) (input : List ℕ) → AreInOrder (listened most input).last.listener.flows }
+    ensures busy { (l : Listening) (peer : Peer) (deed : Deed) → ((listens l peer deed).told ≡ WasBusy) ↔ IsBusy l peer deed }
+{
+    each_peer_is_answered_by_its_chain();
+}

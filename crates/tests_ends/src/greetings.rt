@@ -1,0 +1,210 @@
+//! A server that keeps nothing of a Request, and a client that returns its cookie: by the calls of both.
+ghost use Rattle.std.specs.Prelude.{IfSome};
+ghost use Rattle.dccp_listener.specs.Standing.{IsListening};
+
+use arrayvec::ArrayVec;
+use ccid_two::Kinds;
+use dccp_endpoint::{Config, Endpoint, Frame, Lists, Outbox, Phase, Role, Seq48};
+use dccp_listener::{ListenConfig, Peer};
+use dccp_options::options;
+use dccp_packets::decode;
+use dccp_server::{CookieUse, EventKind, EventServer, FlowEvent, Rules, Server, Way};
+use dccp_uses::Pace;
+use init_cookies::{CookieOption, append_options, one_cookie};
+use std::alloc::Global;
+
+fn peer(last: u8) -> Peer {
+    Peer {
+        address: [10, 0, 0, last],
+        port: 40000,
+    }
+}
+
+// Of a server of one service, with room for two flows.
+fn config() -> Option<ListenConfig>
+    ensures listens { IfSome result IsListening }
+{
+    let mut services = ArrayVec::new();
+    services.try_push(42).ok()?;
+    Some(ListenConfig {
+        own_address: [10, 0, 0, 2],
+        own_port: 5001,
+        services,
+        lists: Lists::usual(),
+        most: 2,
+    })
+}
+
+fn server(alloc: Global, cookies: CookieUse) -> Option<Server> {
+    let mut server = Server::new(alloc, config()?, Pace::usual(), Rules::usual());
+    server.set_cookies(cookies);
+    server.rekey([7; 32], 0);
+    Some(server)
+}
+
+fn frame_in(out: &Outbox) -> Option<Frame> {
+    Frame::of(out.frame()?.bytes())
+}
+
+// What a client returns of a Response.
+fn cookie_of(response: &[u8]) -> CookieOption {
+    let mut option = CookieOption::new();
+    if let Ok(packet) = decode(response) {
+        one_cookie(&options(packet.options, false), &mut option);
+    }
+    option
+}
+
+fn is_open(server: &Server, peer: Peer) -> bool {
+    match server.flow(peer) {
+        Some(end) => end.phase() == Phase::Open,
+        None => false,
+    }
+}
+
+// How a datagram is met.
+fn met(server: &mut Server, last: u8, bytes: &[u8], now: u64, out: &mut Outbox) -> Option<Way> {
+    if 2044 < bytes.len() {
+        return None;
+    }
+    let first = Seq48::new(7000)?;
+    Some(server.meet(peer(last), first, bytes, now, out).way)
+}
+
+// A client's Request, the client, and its Ack with the cookie of the Response that this server gives.
+fn acked(alloc: Global, server: &mut Server, out: &mut Outbox) -> Option<Frame> {
+    let congestion = Kinds::new(alloc).ok()?;
+    let mut client = Endpoint::new(alloc, Config::usual(Role::Client), congestion).ok()?;
+    client.open(out).ok()?;
+    let request = frame_in(out)?;
+    if met(server, 1, request.bytes(), 100, out)? != Way::Greeted || server.flows() != 0 {
+        return None;
+    }
+    let response = frame_in(out)?;
+    let _ = client.receive(response.bytes(), out);
+    let cookie = cookie_of(response.bytes());
+    if 255 < cookie.len() {
+        return None;
+    }
+    append_options(out, cookie.as_slice(), &client.pseudo_out());
+    frame_in(out)
+}
+
+// The Request makes no flow, a stranger gains nothing by the cookie, and the client's Ack opens one.
+fn opens(alloc: Global) -> Option<bool> {
+    let mut server = server(alloc, CookieUse::Always)?;
+    let mut out = Outbox::new();
+    let ack = acked(alloc, &mut server, &mut out)?;
+    let stolen = met(&mut server, 3, ack.bytes(), 150, &mut out)?;
+    let late = met(&mut server, 1, ack.bytes(), 120_101, &mut out)?;
+    let opened = met(&mut server, 1, ack.bytes(), 150, &mut out)?;
+    let heard = met(&mut server, 1, ack.bytes(), 160, &mut out)?;
+    Some(
+        stolen == Way::Plain
+            && late == Way::Plain
+            && opened == Way::Reopened
+            && heard == Way::Plain
+            && server.flows() == 1
+            && is_open(&server, peer(1)),
+    )
+}
+
+// A Request from port 40000 to 5001 with number 1000 and service 42, from 10.0.0.1, 10.0.0.3 and 10.0.0.4.
+const REQUESTS: [[u8; 20]; 3] = [
+    [
+        0x9c, 0x40, 0x13, 0x89, 5, 0, 0x31, 0xec, 1, 0, 0, 0, 0, 0, 0x03, 0xe8, 0, 0, 0, 42,
+    ],
+    [
+        0x9c, 0x40, 0x13, 0x89, 5, 0, 0x31, 0xea, 1, 0, 0, 0, 0, 0, 0x03, 0xe8, 0, 0, 0, 42,
+    ],
+    [
+        0x9c, 0x40, 0x13, 0x89, 5, 0, 0x31, 0xe9, 1, 0, 0, 0, 0, 0, 0x03, 0xe8, 0, 0, 0, 42,
+    ],
+];
+
+// Of a table of two one may be half open without a crowd: the third stranger is greeted.
+fn greets_in_a_crowd(alloc: Global) -> Option<bool> {
+    let mut server = server(alloc, CookieUse::InACrowd)?;
+    let mut out = Outbox::new();
+    let first = met(&mut server, 1, &REQUESTS[0], 100, &mut out)?;
+    let second = met(&mut server, 3, &REQUESTS[1], 100, &mut out)?;
+    let third = met(&mut server, 4, &REQUESTS[2], 100, &mut out)?;
+    Some(
+        first == Way::Plain && second == Way::Plain && third == Way::Greeted && server.flows() == 2,
+    )
+}
+
+// Whoever returns a cookie takes the place of the flow that has been half open for longest.
+fn takes_a_place(alloc: Global) -> Option<bool> {
+    let mut giver = server(alloc, CookieUse::Always)?;
+    let mut out = Outbox::new();
+    let ack = acked(alloc, &mut giver, &mut out)?;
+    let mut server = server(alloc, CookieUse::InACrowd)?;
+    let first = met(&mut server, 3, &REQUESTS[1], 50, &mut out)?;
+    let second = met(&mut server, 4, &REQUESTS[2], 60, &mut out)?;
+    let opened = met(&mut server, 1, ack.bytes(), 150, &mut out)?;
+    Some(
+        first == Way::Plain
+            && second == Way::Plain
+            && opened == Way::Reopened
+            && server.flow(peer(3)).is_none()
+            && server.flow(peer(4)).is_some()
+            && is_open(&server, peer(1)),
+    )
+}
+
+// How a datagram of the first peer is met, and what is told first.
+fn told(
+    server: &mut EventServer,
+    bytes: &[u8],
+    out: &mut Outbox,
+) -> Option<(Way, Option<FlowEvent>)> {
+    if 2044 < bytes.len() {
+        return None;
+    }
+    let first = Seq48::new(7000)?;
+    match server.arrive(peer(1), first, bytes, 150, out) {
+        Ok(meeting) => Some((meeting.way, server.next_event())),
+        Err(_) => None,
+    }
+}
+
+// A server of the same key opens a flow for the Ack, too, and tells its owner; not where it takes no new flows.
+fn tells(alloc: Global) -> Option<bool> {
+    let mut giver = server(alloc, CookieUse::Always)?;
+    let mut out = Outbox::new();
+    let ack = acked(alloc, &mut giver, &mut out)?;
+    let mut server = EventServer::new(alloc, config()?, Pace::usual(), Rules::usual());
+    server.rekey([7; 32], 0);
+    server.set_shut(true);
+    let shut = told(&mut server, ack.bytes(), &mut out)?;
+    let kept = server.server().flows();
+    server.set_shut(false);
+    let opened = told(&mut server, ack.bytes(), &mut out)?;
+    let event = FlowEvent {
+        peer: peer(1),
+        user: 0,
+        kind: EventKind::Opened,
+    };
+    Some(shut == (Way::Plain, None) && kept == 0 && opened == (Way::Reopened, Some(event)))
+}
+
+#[test]
+fn a_cookie_opens_its_flow(rt: HostRuntime) {
+    assert!(rt; opens(rt.alloc()) == Some(true));
+}
+
+#[test]
+fn whoever_returns_a_cookie_takes_a_place(rt: HostRuntime) {
+    assert!(rt; takes_a_place(rt.alloc()) == Some(true));
+}
+
+#[test]
+fn what_a_cookie_opens_is_told(rt: HostRuntime) {
+    assert!(rt; tells(rt.alloc()) == Some(true));
+}
+
+#[test]
+fn a_crowd_is_greeted(rt: HostRuntime) {
+    assert!(rt; greets_in_a_crowd(rt.alloc()) == Some(true));
+}
