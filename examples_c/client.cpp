@@ -1,4 +1,4 @@
-// The shortest client: it sends a word to the server, and prints what comes back: client HOST PORT.
+// The shortest client: it sends a word to the server, and prints the answer: client HOST PORT.
 #include <iostream>
 
 #include "dccp.hpp"

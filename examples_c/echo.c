@@ -1,9 +1,9 @@
-/* A server of many clients over UDP on this machine, which sends back what each sends, as far as the window of each has room.
+/* A server of many clients over UDP on this machine. It sends back what each client sends, as far as its window has room.
  *
  *     echo PORT
  *
- * The client of talk.c may speak to it. The listener gives up one that is silent for two minutes, and limits what strangers call forth. It
- * runs until it is stopped. */
+ * The client of talk.c can use it. The listener gives up a client that is silent for two minutes, and limits answers to strangers. It runs
+ * until it is stopped. */
 #include <arpa/inet.h>
 #include <poll.h>
 #include <stdio.h>
@@ -16,10 +16,12 @@
 #include "dccp.h"
 
 /* MOST_HEARD: how many datagrams are heard before the timers are looked at again. */
-enum { MOST_PEERS = 64, SERVICE = 42, MOST_HEARD = 64 };
+enum { MOST_PEERS = 64, SERVICE = 42, MOST_HEARD = 64, HOUR = 3600000 };
 
 struct server {
     int socket;
+    dccp_settings settings;
+    dccp_key key;
     dccp_listener listener;
 };
 
@@ -34,21 +36,21 @@ static uint64_t now(void) {
     return (uint64_t)t.tv_sec * 1000 + (uint64_t)t.tv_nsec / 1000000;
 }
 
-/* A number that nobody can guess, for the first packet (RFC 4340, section 7.2). */
-static uint64_t first_number(void) {
-    uint64_t number;
-    if (getrandom(&number, sizeof number, 0) != sizeof number) fail("no random number");
-    return number >> 16;
+/* A number that nobody can guess, for a first packet (RFC 4340, section 7.2). */
+static uint64_t first_number(const struct server *server, const dccp_peer *peer) {
+    uint64_t number = 0;
+    dccp_listener_number(&server->settings, &server->key, peer, now(), &number);
+    return number;
 }
 
-/* The frame of a call goes to the peer. One that the socket does not take is lost. */
+/* Sends the frame of a call to the peer. If the socket does not take it, it is lost. */
 static void hand_over(const struct server *server, const dccp_peer *peer, const dccp_frame *frame) {
     struct sockaddr_in to = {.sin_family = AF_INET, .sin_port = htons(peer->port)};
     memcpy(&to.sin_addr, peer->address, 4);
     if (frame->length != 0) (void)!sendto(server->socket, frame->bytes, frame->length, 0, (const struct sockaddr *)&to, sizeof to);
 }
 
-/* Hears one datagram, if one has come. Where data came, they go back. */
+/* Hears one datagram, if one has come, and sends its data back. */
 static bool hear(struct server *server) {
     uint8_t bytes[DCCP_MOST_FRAME_BYTES + 1];
     struct sockaddr_in from;
@@ -59,7 +61,7 @@ static bool hear(struct server *server) {
     if (length < 0) return false;
     dccp_peer peer = {.port = ntohs(from.sin_port)};
     memcpy(peer.address, &from.sin_addr, 4);
-    dccp_listener_arrive(&server->listener, &peer, first_number(), bytes, (size_t)length, now(), &frame, &told);
+    dccp_listener_arrive(&server->listener, &peer, first_number(server, &peer), bytes, (size_t)length, now(), &frame, &told);
     hand_over(server, &peer, &frame);
     if (told.kind != DCCP_TOLD_DATA) return true;
     if (dccp_listener_send(&server->listener, &peer, bytes + told.first, told.past - told.first, now(), &frame) == DCCP_OK)
@@ -67,7 +69,7 @@ static bool hear(struct server *server) {
     return true;
 }
 
-/* Does what the time has come for, at all peers, and answers how long the server may sleep. */
+/* Does what is due for all peers, and returns how long the server may sleep. */
 static int tick(struct server *server) {
     dccp_frame frame;
     dccp_peer peer;
@@ -84,15 +86,18 @@ int main(int count, char **words) {
     struct sockaddr_in own = {.sin_family = AF_INET, .sin_port = htons(port)};
     own.sin_addr.s_addr = htonl(INADDR_LOOPBACK);
     if (server.socket < 0 || bind(server.socket, (struct sockaddr *)&own, sizeof own) != 0) fail("bind");
-    dccp_settings settings = {.size = sizeof settings, .own_address = {127, 0, 0, 1}, .service = SERVICE, .own_port = port};
-    dccp_wish none = {.count = 0};
+    server.settings = (dccp_settings){.size = sizeof server.settings, .own_address = {127, 0, 0, 1}, .service = SERVICE, .own_port = port};
+    if (getrandom(&server.key, sizeof server.key, 0) != sizeof server.key) fail("no random key");
     server.listener = DCCP_NO_LISTENER;
-    if (dccp_listener_make(&server.listener, &settings, &none, 0, MOST_PEERS) != DCCP_OK) fail("no listener");
-    /* Where strangers fill the table by Requests, these have a fifth of a second for the handshake. */
-    dccp_flow_rules rules = DCCP_USUAL_RULES;
-    rules.crowded = 200;
-    dccp_listener_rules(&server.listener, &rules);
-    for (;;) {
+    if (dccp_listener_make(&server.listener, &server.settings, NULL, 0, NULL, 0, MOST_PEERS) != DCCP_OK) fail("no listener");
+    for (uint64_t rekeyed = 0;;) {
+        /* Where strangers fill the table by Requests, these are answered by Init Cookies, whose key is another each hour. */
+        if (rekeyed == 0 || rekeyed + HOUR <= now()) {
+            dccp_key key;
+            if (getrandom(&key, sizeof key, 0) != sizeof key) fail("no random key");
+            rekeyed = now();
+            dccp_listener_rekey(&server.listener, &key, rekeyed);
+        }
         struct pollfd poll_fd = {.fd = server.socket, .events = POLLIN};
         poll(&poll_fd, 1, tick(&server));
         for (unsigned heard = 0; heard < MOST_HEARD && hear(&server); heard++) continue;

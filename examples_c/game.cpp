@@ -1,11 +1,10 @@
-// A game: the server sends its state 30 times a second to each client, a client its inputs 60 times. What finds no room is left out, since a
-// newer one follows.
+// A game: the server sends its state 30 times a second to each client, and a client its inputs 60 times. A packet without room is left out,
+// since a newer one follows.
 //
-//     game server PORT SECONDS
-//     game client PORT SECONDS
+//     game server PORT SECONDS, or game client PORT SECONDS
 //
-// Both run CCID 248, a fixed window of eight packets, and agree on names, so a relay may be between. A line for each connection says how many
-// packets came over it, and the longest silence.
+// Both use CCID 248, a fixed window of eight packets, and agree on names, so there may be a relay between them. A line for each connection says
+// how many packets arrived, and the longest silence.
 #include <algorithm>
 #include <chrono>
 #include <cstdio>

@@ -1,4 +1,4 @@
-// The shortest server: it sends back what each client sends, as far as there is room: server HOST PORT.
+// The shortest server: it sends back what each client sends, if there is room: server HOST PORT.
 #include "dccp.hpp"
 
 int main(int count, char **words) {

@@ -3,9 +3,9 @@
  *     talk server PORT [closes]        serves one client on 127.0.0.1, and ends
  *     talk client PORT [closes]        talks to it
  *
- * Neither wishes for anything at first; the one that closes asks for a Sequence Window of 20,000 while data flow. One frame in twenty
- * is lost on purpose. Last comes a line: how many packets came, the Sequence Windows of this end and of its peer, and the code with which
- * the connection ended. It is what a caller of the library needs: a socket, a clock, a random first number, and a limit on answers
+ * Neither has wishes at first; the one that closes asks for a Sequence Window of 20,000 while data flow. One frame in twenty is lost on
+ * purpose. The last line says how many packets arrived, the Sequence Windows of this end and of its peer, and the code with which the
+ * connection ended. The program has what a caller of the library needs: a socket, a clock, a random first number, and a limit on answers
  * to strangers. */
 #include <arpa/inet.h>
 #include <errno.h>
@@ -25,7 +25,7 @@ enum { PACKETS = 200, SERVICE = 42, WIDER = 20000, LOST_OF = 20, ANSWERS_A_SECON
 struct talk {
     int socket;
     dccp_end end;
-    uint64_t heard, second; /* when data came last; the second in which answers are counted */
+    uint64_t heard, second; /* when data arrived last; the second in which answers are counted */
     unsigned handed, answers, sent, got;
     bool closes, waits, has_ended;
     unsigned code;
@@ -50,7 +50,7 @@ static uint64_t first_number(void) {
     return number >> 16;
 }
 
-/* The frame goes to the peer, unless it is one that is lost on purpose. One that the socket does not take is lost too. */
+/* Sends a frame to the peer, unless it is to be lost on purpose. A frame that the socket does not take is lost too. */
 static void hand_over(struct talk *talk, const dccp_frame *frame) {
     if (frame->length == 0 || ++talk->handed % LOST_OF == 0) return;
     if (send(talk->socket, frame->bytes, frame->length, 0) < 0 && errno != ECONNREFUSED && errno != EAGAIN) fail("send");
@@ -62,7 +62,7 @@ static dccp_view look(struct talk *talk) {
     return view;
 }
 
-/* Tells the end each timer that has run out. */
+/* Fires each timer of the end that has run out. */
 static void tick(struct talk *talk) {
     dccp_frame frame;
     while (dccp_tick(&talk->end, now(), &frame) == DCCP_OK) hand_over(talk, &frame);
@@ -83,7 +83,7 @@ static bool may_answer(struct talk *talk) {
     return talk->answers++ < ANSWERS_A_SECOND;
 }
 
-/* Takes what is told of a datagram, and hands over the frame that answers it. */
+/* Takes what became of a datagram, and hands over the frame that answers it. */
 static void take(struct talk *talk, const dccp_told *told, const dccp_frame *frame) {
     bool is_answer = told->kind == DCCP_TOLD_SYNCED || told->kind == DCCP_TOLD_SENT_RESET;
     if (!is_answer || may_answer(talk)) hand_over(talk, frame);
@@ -105,14 +105,14 @@ static void arrived(struct talk *talk, const uint8_t *datagram, size_t length) {
     if (dccp_receive(&talk->end, datagram, length, now(), &frame, &told) == DCCP_OK) take(talk, &told, &frame);
 }
 
-/* Hears all that has come. */
+/* Hears all datagrams that have come. */
 static void hear(struct talk *talk) {
     uint8_t datagram[DCCP_MOST_FRAME_BYTES + 1];
     ssize_t length;
     while (0 <= (length = recv(talk->socket, datagram, sizeof datagram, MSG_DONTWAIT))) arrived(talk, datagram, (size_t)length);
 }
 
-/* Asks for a wider Sequence Window. What comes of it is seen by dccp_feature. */
+/* Asks for a wider Sequence Window. dccp_feature shows the result. */
 static void widen(struct talk *talk) {
     dccp_frame frame;
     uint64_t wider = WIDER;
@@ -156,7 +156,7 @@ static void connect_to(int socket, const struct sockaddr_in *address) {
     if (connect(socket, (const struct sockaddr *)address, sizeof *address) != 0) fail("connect");
 }
 
-/* Waits for a client whose first datagram opens a connection. Any other is forgotten, but for its answer. */
+/* Waits for a client whose first datagram opens a connection. Any other datagram is only answered. */
 static void serve(struct talk *talk, unsigned port) {
     struct sockaddr_in own = here(port), peer;
     if (bind(talk->socket, (struct sockaddr *)&own, sizeof own) != 0) fail("bind");
@@ -197,7 +197,7 @@ static dccp_feature_state width(struct talk *talk, bool at_peer) {
     return state;
 }
 
-/* It is time to close once all was sent, the wider window is settled, and nothing has come for a second. */
+/* Closes once everything was sent, the wider window is settled, and nothing has arrived for a second. */
 static void close_if_done(struct talk *talk) {
     dccp_frame frame;
     dccp_view view = look(talk);
@@ -217,7 +217,7 @@ int main(int count, char **words) {
     else
         ask(&talk, (unsigned)atoi(words[2]));
     uint64_t begun = now();
-    /* An end that has ended is kept a while for what is still under way. TIMEWAIT would keep it for four minutes. */
+    /* An end that has ended is kept for a while, for late packets. TIMEWAIT would keep it for four minutes. */
     while (!talk.has_ended || now() - talk.ended < LINGER) {
         if (60000 < now() - begun) fail("it takes over a minute");
         struct pollfd poll_fd = {.fd = talk.socket, .events = POLLIN};

@@ -1,4 +1,4 @@
-/* A libFuzzer target over the functions of dccp.h: what any bytes, and any order of calls, come to. An input is a list of calls, each a byte
+/* A libFuzzer target over the functions of dccp.h: what any bytes, and any order of calls, lead to. An input is a list of calls, each a byte
  * that names it and what it needs; where the bytes end, the rest is 0. It stops the program where an answer is none of those that the header
  * lists, a refused call leaves bytes or changes an end, or what is told lies outside the datagram.
  *
@@ -9,9 +9,9 @@
 
 #include "dccp.h"
 
-enum { CLIENT = 0, SERVER = 1, LISTENER = 2, CALLS = 18, PHASES = 9, STATUSES = 21, CAUSES = 13, PEERS = 4 };
+enum { CLIENT = 0, SERVER = 1, LISTENER = 2, CALLS = 20, PHASES = 9, STATUSES = 24, CAUSES = 13, KINDS = 8, PEERS = 4 };
 
-__attribute__((section("__libfuzzer_extra_counters"))) static uint8_t answered[CALLS * PHASES * STATUSES], was_told[3 * PHASES * 6 * CAUSES];
+__attribute__((section("__libfuzzer_extra_counters"))) static uint8_t answered[CALLS * PHASES * STATUSES], was_told[3 * PHASES * KINDS * CAUSES];
 
 struct input {
     const uint8_t *next, *past;
@@ -70,6 +70,9 @@ static dccp_settings settings_of(bool is_server, struct input *in) {
     it.without_limits = flags >> 5 & 1;
     it.without_giving_up = flags >> 6 & 1;
     it.without_wide_window = flags >> 7;
+    uint8_t reading = (uint8_t)draw(in, 1);
+    it.without_heed = reading & 1;
+    it.most_held = reading >> 1 & 7;
     return it;
 }
 
@@ -92,7 +95,7 @@ static uint32_t phase_of(int who) {
 
 /* Notes an answer. A refused call leaves no bytes, and an end that is read the same. */
 static void judge(int call, int who, dccp_status status, const dccp_view *before) {
-    require(status < STATUSES && s.frame.length <= DCCP_MOST_FRAME_BYTES, "a status or a length that is none");
+    require((unsigned)status < STATUSES && s.frame.length <= DCCP_MOST_FRAME_BYTES, "a status or a length that is none");
     answered[(call * PHASES + (int)phase_of(who)) * STATUSES + (int)status] = 1;
     if (status == DCCP_OK && s.frame.length != 0) s.last[who] = s.frame;
     if (status == DCCP_OK || who == LISTENER) return;
@@ -103,9 +106,9 @@ static void judge(int call, int who, dccp_status status, const dccp_view *before
 
 static void judge_told(int who, dccp_status status, const dccp_told *told, size_t length) {
     if (status != DCCP_OK) return;
-    require(told->kind <= DCCP_TOLD_SENT_RESET && told->cause < CAUSES, "something told that is none");
+    require((unsigned)told->kind < KINDS && told->cause < CAUSES, "something told that is none");
     require(told->first <= told->past && told->past <= length, "data that do not lie in the datagram");
-    was_told[((who * PHASES + (int)phase_of(who)) * 6 + (int)told->kind) * CAUSES + (int)told->cause] = 1;
+    was_told[((who * PHASES + (int)phase_of(who)) * KINDS + (int)told->kind) * CAUSES + (int)told->cause] = 1;
 }
 
 /* A datagram for an end or the listener: bytes of the input, or the last frame of another, maybe with a byte changed and mended. */
@@ -127,6 +130,17 @@ static size_t datagram_of(struct input *in, int to, unsigned port, uint8_t *byte
     return length;
 }
 
+/* Takes data that wait: then one fewer do. */
+static void read_one(int who, const dccp_view *before) {
+    static dccp_data data;
+    dccp_end *end = &s.ends[who];
+    size_t waited = dccp_held(end);
+    dccp_status status = dccp_read(end, &data);
+    judge(18, who, status, before);
+    require(status == DCCP_OK ? dccp_held(end) + 1 == waited && data.length <= DCCP_MOST_READ_BYTES : waited == 0, "data that wait otherwise");
+    (void)dccp_look_path(end, &(dccp_round_trip)DCCP_ROUND_TRIP_INIT);
+}
+
 static void call_end(int call, int who, struct input *in) {
     static uint8_t bytes[DCCP_MOST_FRAME_BYTES + 2];
     dccp_end *end = &s.ends[who];
@@ -136,6 +150,7 @@ static void call_end(int call, int who, struct input *in) {
     dccp_view before = DCCP_VIEW_INIT;
     uint64_t values[9];
     size_t length;
+    dccp_status status;
     s.frame.length = 0;
     (void)dccp_look(end, &before);
     switch (call) {
@@ -146,7 +161,7 @@ static void call_end(int call, int who, struct input *in) {
             return;
         case 1:
             length = datagram_of(in, who, 1, bytes);
-            dccp_status status = dccp_receive(end, bytes, length, s.now, &s.frame, &told);
+            status = dccp_receive(end, bytes, length, s.now, &s.frame, &told);
             judge(1, who, status, &before);
             judge_told(who, status, &told, length);
             return;
@@ -163,16 +178,52 @@ static void call_end(int call, int who, struct input *in) {
         case 7: judge(7, who, dccp_timer(end, (uint32_t)draw(in, 1), s.now, &s.frame), &before); return;
         case 8:
             judge(8, who, dccp_feature(end, (uint32_t)draw(in, 1), draw(in, 1) & 1, &(dccp_feature_state){0}), &before);
-            require(dccp_fate_of(end, before.gss - draw(in, 1)) <= DCCP_FATE_LOST, "a fate that is none");
+            require(dccp_fate_of(end, before.gss - draw(in, 1)) <= DCCP_FATE_DELIVERED_CORRUPT, "a fate that is none");
             require(dccp_longest_data(end, draw(in, 2)) <= DCCP_MOST_DATA_BYTES, "data that are too long");
             return;
         case 9: dccp_free(end); return;
+        case 11: read_one(who, &before); return;
+        case 12: judge(19, who, dccp_stop_reading(end), &before); return;
+        case 13:
+            settings = settings_of(true, in);
+            length = datagram_of(in, SERVER, 1, bytes);
+            status = dccp_refuse(&settings, bytes, length, (uint8_t)draw(in, 1), &s.frame);
+            require(status == DCCP_OK || status == DCCP_NO_CONNECTION || s.frame.length == 0, "a refused call that left bytes");
+            status = dccp_greet(&settings, wishes, 0, &(dccp_cookie_keys){.since = 0}, bytes, length, s.now, &s.frame);
+            require(status == DCCP_OK || status == DCCP_NO_CONNECTION || s.frame.length == 0, "a refused call that left bytes");
+            if (status == DCCP_OK) s.last[SERVER] = s.frame;
+            status = dccp_recall(&settings, &(dccp_cookie_keys){.since = 0}, bytes, length, s.now, &s.frame);
+            require((status == DCCP_OK) == (s.frame.length != 0), "a Request that is none");
+            return;
         default:
             settings = settings_of(true, in);
             length = datagram_of(in, SERVER, 1, bytes);
             if (dccp_accept(&s.ends[SERVER], &settings, wishes, 0, bytes, length, s.now, &s.frame, &told) == DCCP_OK) s.last[SERVER] = s.frame;
             return;
     }
+}
+
+/* What may be read of a flow, and of a peer that has none. */
+static void read_listener(dccp_peer *peer, struct input *in) {
+    dccp_view view = DCCP_VIEW_INIT;
+    dccp_round_trip trip = DCCP_ROUND_TRIP_INIT;
+    dccp_settings own = settings_of(true, in), path = settings_of(true, in);
+    uint64_t number = 0;
+    if (dccp_listener_look(&s.listener, peer, &view) == DCCP_OK) require(view.phase < PHASES, "a phase that is none");
+    (void)dccp_listener_look_path(&s.listener, peer, &trip);
+    require(dccp_listener_fate_of(&s.listener, peer, view.gss - draw(in, 1)) <= DCCP_FATE_DELIVERED_CORRUPT, "a fate that is none");
+    require(dccp_listener_longest_data(&s.listener, peer, draw(in, 2)) <= DCCP_MOST_DATA_BYTES, "data that are too long");
+    if (dccp_listener_number(&own, &(dccp_key){{0}}, peer, s.now, &number) == DCCP_OK) require(number >> 48 == 0, "a number that is none");
+    (void)dccp_listener_name(&own, &path, (uint16_t)draw(in, 2), peer);
+}
+
+/* Takes data of a flow that wait: then one fewer do. */
+static void read_of_flow(const dccp_peer *peer) {
+    static dccp_data data;
+    size_t waited = dccp_listener_held(&s.listener, peer);
+    dccp_status status = dccp_listener_read(&s.listener, peer, &data);
+    require((status == DCCP_OK) == (waited != 0) && data.length <= DCCP_MOST_READ_BYTES, "data of a flow that wait otherwise");
+    require(dccp_listener_held(&s.listener, peer) + (status == DCCP_OK) == waited, "data of a flow that are not taken");
 }
 
 static void call_listener(int call, struct input *in) {
@@ -189,9 +240,13 @@ static void call_listener(int call, struct input *in) {
         case 0:
             settings = settings_of(true, in);
             length = wishes_of(in, wishes);
-            (void)dccp_listener_make(&s.listener, &settings, wishes, length, (uint16_t)(draw(in, 1) % 5));
+            (void)dccp_listener_make(&s.listener, &settings, NULL, 0, wishes, length, (uint16_t)(draw(in, 1) % 5));
             return;
         case 1:
+            length = datagram_of(in, LISTENER, peer.port, bytes);
+            (void)dccp_listener_asks(&s.listener, &peer, bytes, length, &(uint32_t){0});
+            (void)dccp_listener_refuse(&s.listener, &peer, bytes, length, (uint8_t)draw(in, 1), s.now, &s.frame);
+            return;
         case 2:
         case 3:
         case 4:
@@ -199,6 +254,8 @@ static void call_listener(int call, struct input *in) {
             status = dccp_listener_arrive(&s.listener, &peer, 2000, bytes, length, s.now, &s.frame, &told);
             if (status == DCCP_OK) judge(11, LISTENER, status, NULL);
             judge_told(LISTENER, status, &told, length);
+            require(dccp_listener_way(&s.listener) <= DCCP_WAY_UNOPENED, "a way that is none");
+            require(dccp_listener_flows(&s.listener) <= 4, "flows that are too many");
             return;
         case 5: judge(12, LISTENER, dccp_listener_send(&s.listener, &peer, bytes, draw(in, 2) % 1026, s.now, &s.frame), NULL); return;
         case 6: judge(13, LISTENER, dccp_listener_close(&s.listener, &peer, s.now, &s.frame), NULL); return;
@@ -206,9 +263,17 @@ static void call_listener(int call, struct input *in) {
         case 8:
             (void)dccp_listener_peer(&s.listener, (uint16_t)draw(in, 2), &peer);
             (void)dccp_listener_evicted(&s.listener, &peer);
+            (void)dccp_listener_timer(&s.listener, &peer, (uint32_t)draw(in, 1), s.now, &s.frame);
             (void)dccp_listener_life(&s.listener, &peer, &(dccp_flow_life)DCCP_FLOW_LIFE_INIT);
             return;
-        case 9: (void)dccp_listener_forget(&s.listener, &peer, s.now); return;
+        case 9:
+            (void)dccp_listener_forget(&s.listener, &peer, s.now);
+            (void)dccp_listener_shut(&s.listener, draw(in, 1) % 4 == 0);
+            (void)dccp_listener_set_user(&s.listener, &peer, draw(in, 2));
+            (void)dccp_listener_event(&s.listener, &(dccp_event)DCCP_EVENT_INIT);
+            if (draw(in, 1) % 8 == 0) (void)dccp_listener_stop_reading(&s.listener, &peer);
+            read_of_flow(&peer);
+            return;
         case 10:
             rules = (dccp_flow_rules){.size = sizeof rules, .respond = draw(in, 2), .crowded = draw(in, 2), .closing = draw(in, 2)};
             rules.idle = draw(in, 2);
@@ -216,7 +281,9 @@ static void call_listener(int call, struct input *in) {
             rules.resets = (uint16_t)draw(in, 2);
             rules.makes_room = draw(in, 1) & 1;
             rules.ends_old_flows = draw(in, 1) & 1;
+            rules.cookies = (uint8_t)(draw(in, 1) % 4);
             (void)dccp_listener_rules(&s.listener, &rules);
+            if (draw(in, 1) & 1) (void)dccp_listener_rekey(&s.listener, &(dccp_key){{7}}, s.now);
             return;
         case 11: {
             uint32_t feature = (uint32_t)draw(in, 1);
@@ -225,6 +292,7 @@ static void call_listener(int call, struct input *in) {
             judge(17, LISTENER, dccp_listener_feature(&s.listener, &peer, feature, draw(in, 1) & 1, &(dccp_feature_state){0}), NULL);
             return;
         }
+        case 12: read_listener(&peer, in); return;
         default: judge(15, LISTENER, dccp_listener_tick(&s.listener, s.now, &peer, &s.frame), NULL); return;
     }
 }
@@ -237,9 +305,9 @@ int LLVMFuzzerTestOneInput(const uint8_t *data, size_t size) {
         s.now += call >> 7 ? draw(&in, 2) : 1;
         int who = (call & 0x7f) % 3;
         if (who == LISTENER)
-            call_listener((call & 0x7f) / 3 % 13, &in);
+            call_listener((call & 0x7f) / 3 % 14, &in);
         else
-            call_end((call & 0x7f) / 3 % 11, who, &in);
+            call_end((call & 0x7f) / 3 % 14, who, &in);
         (void)dccp_until_first(&s.ends[CLIENT], s.now);
         (void)dccp_listener_until_first(&s.listener, s.now);
     }

@@ -23,18 +23,18 @@
 
 /* Syncs and Resets that go out in a second for a connection, and for strangers; milliseconds for which an end that has ended is kept, after
  * which one that has not opened may make room, and after which timers are looked at although datagrams come; places of the table; the buffer
- * asked of the system. */
-enum { ANSWERS = 20, STRANGERS = 100, LINGER = 2000, STAY = 1000, TICK = 5, PLACES = 512, BUFFER = 1 << 21 };
+ * asked of the system; milliseconds for which Init Cookies are written by one key. */
+enum { ANSWERS = 20, STRANGERS = 100, LINGER = 2000, STAY = 1000, TICK = 5, PLACES = 512, BUFFER = 1 << 21, KEY_LIFETIME = 3600000 };
 enum { MOST_WISHES = 16, MOST_SERVICES = 16, MOST_IN_FLIGHT = 1024, TOO_BUSY = 9 };
 
-/* How many datagrams are taken with one call of the system. */
+/* How many datagrams one system call takes. */
 #if defined(__linux__)
 enum { BATCH = 32 };
 #else
 enum { BATCH = 1 };
 #endif
 
-/* An address of the system's, of IPv4 or IPv6. */
+/* An address of the system, of IPv4 or IPv6. */
 typedef union address {
     struct sockaddr any;
     struct sockaddr_in v4;
@@ -55,7 +55,7 @@ struct dccp_connection {
     address peer;
     dccp_end end;
     limit answers;
-    uint64_t heard;  /* when something was taken of the peer last, or a wait for it began */
+    uint64_t heard;  /* when a packet of the peer was taken last, or a wait for one began */
     uint64_t ended;  /* when it ended */
     uint64_t marked; /* how many packets were taken */
     dccp_end_cause cause;
@@ -65,25 +65,28 @@ struct dccp_connection {
     uint32_t oldest, unsettled_count;
     uint64_t last_sent; /* the number of the last of them */
     bool has_ended, is_opened, wants_room;
+    bool is_half_open; /* it has answered a Request and heard nothing since */
     bool is_told; /* that it has ended, or that this is told to nobody */
 };
 
 struct dccp_socket {
     int descriptor, random;
     bool is_server, has_names;
-    uint32_t most, count, patience, idle;
+    uint32_t most, count, half_open, patience, idle;
     uint32_t services[MOST_SERVICES];
     size_t service_count;
     dccp_wish wishes[MOST_WISHES];
     size_t wish_count;
     address own, client_name, server_name;
     limit strangers;
+    dccp_cookie_keys keys;
+    bool has_keys;
     uint64_t ticked; /* when timers were looked at last */
     dccp_connection *places[PLACES], *newest;
     dccp_socket_event data; /* told after the opening that the same datagram is */
     bool has_data;
-    const uint8_t *room; /* the datagram that is looked at */
-    /* Those that the system gave last, of which the next is looked at. */
+    const uint8_t *room; /* the present datagram */
+    /* The datagrams that the system gave last, and the next of them. */
     uint8_t rooms[BATCH][DCCP_MOST_FRAME_BYTES + 1];
     size_t lengths[BATCH];
     address from[BATCH];
@@ -109,6 +112,17 @@ static bool may(limit *it, unsigned most) {
 static bool draw(const dccp_socket *udp, uint64_t *number) {
     if (read(udp->random, number, sizeof *number) != (ssize_t)sizeof *number) return false;
     *number >>= 16;
+    return true;
+}
+
+/* Draws a new key of Init Cookies. If the system gives none, the old one stays. */
+static bool rekey(dccp_socket *udp) {
+    dccp_key key;
+    if (read(udp->random, key.bytes, sizeof key.bytes) != (ssize_t)sizeof key.bytes) return false;
+    udp->keys.before = udp->has_keys ? udp->keys.key : key;
+    udp->keys.key = key;
+    udp->keys.since = now();
+    udp->has_keys = true;
     return true;
 }
 
@@ -146,7 +160,7 @@ static bool is_unspecified(const address *it) {
     return IN6_IS_ADDR_UNSPECIFIED(&it->v6.sin6_addr);
 }
 
-/* An address of IPv4 that the system spells as one of IPv6, as itself. */
+/* An IPv4 address as such, even if the system gives it as one of IPv6. */
 static address plain(const address *it) {
     address found = *it;
     if (it->any.sa_family == AF_INET || !IN6_IS_ADDR_V4MAPPED(&it->v6.sin6_addr)) return found;
@@ -157,7 +171,7 @@ static address plain(const address *it) {
     return found;
 }
 
-/* The address from which the machine speaks to a peer: the socket's own, or where that is any, what the system would take. */
+/* The address from which the machine sends to a peer: the socket's, or if that is any, the one that the system would choose. */
 static bool own_towards(const dccp_socket *udp, const address *peer, address *own) {
     *own = udp->own;
     if (is_unspecified(own)) {
@@ -185,7 +199,7 @@ static void spell(const address *it, bool is_v6, uint8_t *bytes) {
     }
 }
 
-/* The settings of an end towards a peer, by addresses or by the names that were agreed on. */
+/* The settings of an end for a peer, by addresses or by the names on which both ends have agreed. */
 static bool settle(const dccp_socket *udp, const address *peer, uint32_t service, dccp_settings *settings) {
     address own, other = plain(peer);
     if (udp->has_names) {
@@ -238,6 +252,7 @@ static void part(dccp_connection *it) {
     else
         udp->newest = it->older;
     if (it->older != NULL) it->older->newer = it->newer;
+    if (it->is_half_open) udp->half_open--;
     udp->count--;
 }
 
@@ -249,14 +264,14 @@ static void discard(dccp_connection *it) {
 
 /* Frames and events. */
 
-/* Hands a frame to the system. One that it does not take is lost. */
+/* Hands a frame to the system. If the system does not take it, it is lost. */
 static void hand_over(const dccp_socket *udp, const address *peer, const dccp_frame *frame) {
     if (frame->length == 0) return;
     const struct sockaddr *to = udp->is_server ? &peer->any : NULL;
     (void)!sendto(udp->descriptor, frame->bytes, frame->length, 0, to, to == NULL ? 0 : size_of(peer));
 }
 
-/* Counts a packet by its type, which stands in its ninth byte (RFC 4340, section 5.1). */
+/* Counts a packet by its type, which is in its ninth byte (RFC 4340, section 5.1). */
 static void count(dccp_traffic *traffic, const uint8_t *packet, size_t length) {
     if (length < 12) return;
     switch ((packet[8] >> 1) & 15) {
@@ -284,8 +299,8 @@ static dccp_view seen(dccp_connection *it) {
 /* The place of a number in the ring. */
 static uint64_t *unsettled_at(dccp_connection *it, uint32_t place) { return &it->unsettled[(it->oldest + place) % MOST_IN_FLIGHT]; }
 
-/* Looks what became of packets that are in flight no more, as the oldest mostly are, and counts those that are lost. After a timeout nothing is
- * known of any: then all are. */
+/* Removes the packets that are not in flight any more, mostly the oldest, and counts those that are lost. After a timeout nothing is known about
+ * any of them: then all are lost. */
 static void settle_fates(dccp_connection *it, uint32_t in_flight) {
     uint32_t left = 0, seen_of = 0;
     while (seen_of < it->unsettled_count && in_flight + seen_of < it->unsettled_count + left) {
@@ -293,7 +308,7 @@ static void settle_fates(dccp_connection *it, uint32_t in_flight) {
         dccp_fate fate = dccp_fate_of(&it->end, number);
         if (fate == DCCP_FATE_IN_FLIGHT)
             *unsettled_at(it, left++) = number;
-        else if (fate != DCCP_FATE_DELIVERED)
+        else if (fate == DCCP_FATE_LOST || fate == DCCP_FATE_UNKNOWN)
             it->statistics.lost++;
     }
     for (uint32_t at = left; at-- != 0;) *unsettled_at(it, seen_of - left + at) = *unsettled_at(it, at);
@@ -309,7 +324,7 @@ static void finish(dccp_connection *it, dccp_end_cause cause, uint8_t code) {
     it->ended = now();
     it->cause = cause;
     it->code = code;
-    /* Of one that nobody knows of, nobody is told that it has ended. */
+    /* A connection that never opened has no event when it ends. */
     it->is_told = it->udp->is_server && !it->is_opened;
 }
 
@@ -320,7 +335,7 @@ static int tell(dccp_connection *it, dccp_event_kind kind, dccp_socket_event *ev
     return 1;
 }
 
-/* Tells what has come of a connection and is not told yet, if anything. */
+/* Returns what became of a connection and was not returned yet, if anything. */
 static int next_event(dccp_connection *it, dccp_socket_event *event) {
     dccp_view view = seen(it);
     if (!it->has_ended && !it->is_opened && is_open(&view)) {
@@ -339,11 +354,15 @@ static int next_event(dccp_connection *it, dccp_socket_event *event) {
     return 1;
 }
 
-/* Takes what became of a datagram, and hands over what answers it. */
+/* Takes what became of a datagram, and hands over the frame that answers it. */
 static void take(dccp_connection *it, const dccp_told *told, const dccp_frame *frame) {
     bool is_answer = told->kind == DCCP_TOLD_SYNCED || told->kind == DCCP_TOLD_SENT_RESET;
     dccp_view view = seen(it);
     settle_fates(it, view.in_flight);
+    if (it->is_half_open && view.phase != DCCP_PHASE_RESPOND) {
+        it->is_half_open = false;
+        it->udp->half_open--;
+    }
     if (!is_answer || may(&it->answers, ANSWERS))
         send_frame(it, frame);
     else
@@ -354,7 +373,7 @@ static void take(dccp_connection *it, const dccp_told *told, const dccp_frame *f
     if (is_over) finish(it, DCCP_END_RESET, told->code);
 }
 
-/* Counts a datagram by what became of it; a Close that ends the connection in order was taken. */
+/* Counts a datagram by its outcome; a Close that ends the connection in order counts as taken. */
 static void note(dccp_connection *it, const dccp_told *told, size_t length) {
     bool is_close = told->kind == DCCP_TOLD_SENT_RESET && told->code == 1;
     bool is_taken = told->kind == DCCP_TOLD_TOOK || told->kind == DCCP_TOLD_DATA || told->kind == DCCP_TOLD_WAS_RESET || is_close;
@@ -365,7 +384,7 @@ static void note(dccp_connection *it, const dccp_told *told, size_t length) {
     it->statistics.received.data_bytes += told->past - told->first;
 }
 
-/* Hears a datagram of a connection, and tells what came of it, if anything. */
+/* Hears a datagram of a connection, and returns the event, if there is one. */
 static int hear(dccp_connection *it, size_t length, dccp_socket_event *event) {
     dccp_socket *udp = it->udp;
     dccp_frame frame;
@@ -392,13 +411,13 @@ static uint32_t asked_service(const dccp_socket *udp, size_t length, bool *is_re
     return udp->services[0];
 }
 
-/* Since when a connection stands without an owner who needs it: it has ended and that was told, or has not opened; 0 of others. */
+/* Since when no owner needs a connection, because it has ended and its event was returned, or it has not opened; 0 for others. */
 static uint64_t idle_since(const dccp_connection *it) {
     if (it->has_ended) return it->is_told ? it->ended : 0;
     return it->is_opened ? 0 : it->heard;
 }
 
-/* The connection that has stood the longest without being open, if there is one. */
+/* The connection that has not been open for the longest time, if there is one. */
 static dccp_connection *longest_idle(const dccp_socket *udp) {
     dccp_connection *found = NULL;
     for (dccp_connection *it = udp->newest; it != NULL; it = it->older)
@@ -420,22 +439,65 @@ static void take_in(dccp_socket *udp, const address *peer, const dccp_settings *
     dccp_frame frame;
     dccp_told told;
     dccp_status status = dccp_accept(&it->end, settings, udp->wishes, udp->wish_count, udp->room, length, now(), &frame, &told);
-    if (status == DCCP_OK) note(it, &told, length);
-    if (status == DCCP_OK) take(it, &told, &frame);
+    if (status == DCCP_OK) {
+        it->is_half_open = true;
+        udp->half_open++;
+        note(it, &told, length);
+        take(it, &told, &frame);
+    }
     if (status == DCCP_NO_CONNECTION && may(&udp->strangers, STRANGERS)) hand_over(udp, peer, &frame);
     if (status == DCCP_OK && seen(it).phase != DCCP_PHASE_CLOSED) return;
     part(it);
     discard(it);
 }
 
-/* Hears a datagram of a peer without a connection. It may open one, of which nothing is told yet. All but Requests that find a place are looked
- * at as often as strangers may be answered. A Request that finds none takes that of a connection that has not been open for a second; where there
- * may be such a one soon it asks again, and else it is told that there is none. */
+/* Answers a Request with an Init Cookie, and keeps nothing (RFC 4340, section 8.1.4). */
+static void greet(dccp_socket *udp, const address *peer, const dccp_settings *settings, size_t length) {
+    dccp_frame frame;
+    if (udp->keys.since + KEY_LIFETIME <= now()) (void)rekey(udp);
+    dccp_status status = dccp_greet(settings, udp->wishes, udp->wish_count, &udp->keys, udp->room, length, now(), &frame);
+    if (status == DCCP_OK || (status == DCCP_NO_CONNECTION && may(&udp->strangers, STRANGERS))) hand_over(udp, peer, &frame);
+}
+
+/* Whether a datagram is an Ack or a DataAck whose options have room for an Init Cookie, which has 34 bytes at least (RFC 4340, section 5.1). */
+static bool may_return_cookie(const dccp_socket *udp, size_t length) {
+    unsigned type = length < 12 ? 15 : (udp->room[8] >> 1) & 15;
+    return (type == 3 || type == 4) && 15 <= udp->room[4];
+}
+
+/* Opens the connection for which a datagram returns an Init Cookie, for a peer without a connection, or in place of the half-open one `it`. Returns
+ * the connection that there is then. */
+static dccp_connection *recall(dccp_socket *udp, const address *peer, dccp_connection *it, size_t length) {
+    dccp_settings settings;
+    dccp_frame request, frame;
+    dccp_told told;
+    if (!may_return_cookie(udp, length) || !settle(udp, peer, udp->services[0], &settings)) return it;
+    if (dccp_recall(&settings, &udp->keys, udp->room, length, now(), &request) != DCCP_OK) return it;
+    /* The peer has shown its address: a half-open connection makes room at once. */
+    if (it == NULL && udp->most <= udp->count && (it = longest_idle(udp)) == NULL) return NULL;
+    if (it != NULL) {
+        part(it);
+        discard(it);
+    }
+    it = add(udp, peer);
+    if (it == NULL) return NULL;
+    /* Its Response went out when the cookie was given. */
+    settings.first_number = request.number;
+    if (dccp_accept(&it->end, &settings, udp->wishes, udp->wish_count, request.bytes, request.length, now(), &frame, &told) == DCCP_OK) return it;
+    part(it);
+    discard(it);
+    return NULL;
+}
+
+/* Hears a datagram of a peer without a connection. It may open one, which has no event yet. Requests that find a place are always heard, and so are
+ * Requests in a crowd, where half-open connections take over half of the places that others leave; all other datagrams only as often as strangers
+ * may be answered. A Request that finds no place takes that of a connection that has not been open for a second. If there may soon be such a
+ * connection, the peer asks again; otherwise it is answered that there is no place. */
 static void meet(dccp_socket *udp, const address *peer, size_t length) {
-    bool is_request, has_place = udp->count < udp->most;
+    bool is_request, has_place = udp->count < udp->most, is_crowded = udp->most < udp->half_open + udp->count;
     uint32_t service = asked_service(udp, length, &is_request);
-    if (!(is_request && has_place) && !may(&udp->strangers, STRANGERS)) return;
-    dccp_connection *idle = is_request && !has_place ? longest_idle(udp) : NULL;
+    if (!(is_request && (has_place || is_crowded)) && !may(&udp->strangers, STRANGERS)) return;
+    dccp_connection *idle = is_request && !has_place && !is_crowded ? longest_idle(udp) : NULL;
     if (idle != NULL && now() < idle_since(idle) + STAY) return;
     if (idle != NULL) {
         part(idle);
@@ -443,13 +505,15 @@ static void meet(dccp_socket *udp, const address *peer, size_t length) {
     }
     dccp_settings settings;
     if (!settle(udp, peer, service, &settings)) return; /* It asks again. */
-    if (is_request && (has_place || idle != NULL))
+    if (is_request && is_crowded)
+        greet(udp, peer, &settings, length);
+    else if (is_request && (has_place || idle != NULL))
         take_in(udp, peer, &settings, length);
     else
         turn_away(udp, peer, &settings, length);
 }
 
-/* Takes datagrams that have come: how many, or -1 and errno. */
+/* Takes datagrams from the system: returns how many, or -1 and errno. */
 #if defined(__linux__)
 static int take_batch(dccp_socket *udp) {
     struct mmsghdr messages[BATCH];
@@ -478,7 +542,7 @@ static int take_batch(dccp_socket *udp) {
 }
 #endif
 
-/* Whether there is a datagram to be looked at: 1, 0 where one was lost, -1 where there is none, and -2 for a fault. */
+/* Whether there is a datagram: 1, 0 if one was lost, -1 if there is none, and -2 for a fault. */
 static int refill(dccp_socket *udp) {
     if (udp->next < udp->heard) return 1;
     udp->next = 0;
@@ -490,7 +554,7 @@ static int refill(dccp_socket *udp) {
     return is_none ? -1 : is_lost ? 0 : -2;
 }
 
-/* Looks at the next datagram that has come: 1 with an event, 0 without, -1 where there is none, and -2 for a fault. */
+/* Takes the next datagram: 1 with an event, 0 without, -1 if there is no datagram, and -2 for a fault. */
 static int take_datagram(dccp_socket *udp, dccp_socket_event *event) {
     int found = refill(udp);
     if (found != 1) return found;
@@ -505,6 +569,7 @@ static int take_datagram(dccp_socket *udp, dccp_socket_event *event) {
         discard(it);
         it = NULL;
     }
+    if (udp->is_server && (it == NULL || it->is_half_open)) it = recall(udp, &from, it, length);
     if (it != NULL) return hear(it, length, event);
     if (udp->is_server) meet(udp, &from, length);
     return 0;
@@ -512,7 +577,7 @@ static int take_datagram(dccp_socket *udp, dccp_socket_event *event) {
 
 /* Timers. */
 
-/* In how many milliseconds a connection has something to do. */
+/* How many milliseconds it is until a connection has something to do. */
 static uint64_t due_in(dccp_connection *it) {
     uint64_t time = now(), left = dccp_until_first(&it->end, time);
     dccp_view view = seen(it);
@@ -521,7 +586,7 @@ static uint64_t due_in(dccp_connection *it) {
     return own < left ? own : left;
 }
 
-/* Does what the time has come for at a connection. */
+/* Does what is due at a connection. */
 static void tick(dccp_connection *it) {
     dccp_frame frame;
     dccp_view view;
@@ -534,7 +599,7 @@ static void tick(dccp_connection *it) {
     finish(it, DCCP_END_SILENT, 0);
 }
 
-/* Does what the time has come for at all, and tells the first event that it finds. */
+/* Does what is due at all connections, and returns the first event. */
 static int tick_all(dccp_socket *udp, dccp_socket_event *event) {
     udp->ticked = now();
     for (dccp_connection *it = udp->newest, *older; it != NULL; it = older) {
@@ -558,7 +623,7 @@ int dccp_socket_wait(dccp_socket *udp) {
     return least == DCCP_NEVER ? -1 : least < INT_MAX ? (int)least : INT_MAX;
 }
 
-/* Takes what has come, up to the first event; then timers, which are also looked at while datagrams come. */
+/* Takes datagrams, up to the first event; then runs timers, which are also checked while datagrams come. */
 static int turn(dccp_socket *udp, dccp_socket_event *event) {
     for (;;) {
         if (udp->has_data) {
@@ -602,13 +667,13 @@ static struct addrinfo *look_up(const char *host, const char *port, bool is_serv
     return NULL;
 }
 
-/* Opens a socket of the system that is connected or bound to the first of the addresses that takes it. */
+/* Opens a socket of the system, connected or bound to the first of the addresses with which that works. */
 static bool reach(dccp_socket *udp, struct addrinfo *found) {
     const int buffer = BUFFER;
     for (struct addrinfo *it = found; it != NULL; it = it->ai_next) {
         udp->descriptor = socket(it->ai_family, SOCK_DGRAM, 0);
         if (udp->descriptor < 0) continue;
-        /* A refusal leaves the buffer as it is. */
+        /* If it is refused, the buffer stays. */
         (void)setsockopt(udp->descriptor, SOL_SOCKET, SO_RCVBUF, &buffer, sizeof buffer);
         int fault = udp->is_server ? bind(udp->descriptor, it->ai_addr, it->ai_addrlen) : connect(udp->descriptor, it->ai_addr, it->ai_addrlen);
         socklen_t size = sizeof udp->own;
@@ -639,7 +704,7 @@ static bool read_name(const char *text, address *name) {
 
 static uint32_t usual(uint32_t wanted, uint32_t value) { return wanted == 0 ? value : wanted; }
 
-/* Takes over what is asked for; false where a name is none, or there are too many wishes. */
+/* Takes over the options; false if a name is not valid, or there are too many wishes. */
 static bool arrange(dccp_socket *udp, const dccp_socket_options *given) {
     dccp_socket_options options = DCCP_SOCKET_OPTIONS_INIT;
     if (given != NULL) memcpy(&options, given, given->size < sizeof options ? given->size : sizeof options);
@@ -667,6 +732,7 @@ void dccp_socket_free(dccp_socket *udp) {
     if (udp == NULL) return;
     for (dccp_connection *it = udp->newest, *older; it != NULL; it = older) {
         older = it->older;
+        (void)dccp_connection_abort(it);
         discard(it);
     }
     if (0 <= udp->descriptor) close(udp->descriptor);
@@ -681,7 +747,7 @@ static dccp_socket *make(const char *host, const char *port, bool is_server, con
     udp->descriptor = udp->random = -1;
     udp->is_server = is_server;
     errno = EINVAL;
-    bool is_made = arrange(udp, options) && try_wishes(udp) && 0 <= (udp->random = open("/dev/urandom", O_RDONLY | O_CLOEXEC));
+    bool is_made = arrange(udp, options) && try_wishes(udp) && 0 <= (udp->random = open("/dev/urandom", O_RDONLY | O_CLOEXEC)) && (!is_server || rekey(udp));
     struct addrinfo *found = is_made ? look_up(host, port, is_server) : NULL;
     is_made = found != NULL && reach(udp, found);
     if (found != NULL) freeaddrinfo(found);

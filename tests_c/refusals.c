@@ -96,6 +96,9 @@ static void without_an_end(void) {
     same("a look without an end", DCCP_NOT_MADE, dccp_look(&none, &view));
     same("a feature without an end", DCCP_NOT_MADE, dccp_feature(&none, DCCP_FEATURE_CCID, false, &state));
     same("its frame", 0, frame.length);
+    same("a read without an end", DCCP_NOT_MADE, dccp_read(&none, &(dccp_data){0}));
+    same("a stop without an end", DCCP_NOT_MADE, dccp_stop_reading(&none));
+    same("what waits without an end", 0, dccp_held(&none));
     dccp_free(&none);
     dccp_free(&none);
 }
@@ -107,7 +110,7 @@ static void wishes(void) {
     same("a wish", DCCP_OK, dccp_make(&end, &settings, &wish, 1));
     wish.feature = 10;
     same("feature 10", DCCP_NO_FEATURE, dccp_make(&end, &settings, &wish, 1));
-    same("an end behind a refused make", false, end.made);
+    same("an end after a refused make", false, end.made);
     wish.feature = 0;
     same("feature 0", DCCP_NO_FEATURE, dccp_make(&end, &settings, &wish, 1));
     wish.feature = 256 + DCCP_FEATURE_SEQUENCE_WINDOW;
@@ -133,7 +136,7 @@ static void wishes(void) {
     dccp_free(&end);
 }
 
-/* The Request of a client that offers nothing, whose checksum alone tells the addresses (RFC 4340, sections 5.1 and 9.1). */
+/* The Request of a client that offers nothing, whose checksum alone has the addresses (RFC 4340, sections 5.1 and 9.1). */
 static void a_request(void) {
     uint8_t wanted[20] = {0x9c, 0x40, 0x13, 0x89, 5, 0, 0x31, 0xec, 1, 0, 0, 0, 0, 0, 0x03, 0xe8, 0, 0, 0, 42};
     dccp_end end = DCCP_NONE;
@@ -254,7 +257,7 @@ static void memory(uint32_t (*making)(dccp_end *, const dccp_frame *)) {
         same("blocks that are kept", 0, held);
     }
     dccp_free(&end);
-    same("blocks behind free", 0, held);
+    same("blocks after free", 0, held);
 }
 
 /* Timers, and what is refused in OPEN. */
@@ -339,7 +342,7 @@ static void sizes(void) {
     settings.size -= 8;
     same("older settings", DCCP_OTHER_SIZE, dccp_make(&end, &settings, NULL, 0));
     same("an end of them", false, end.made);
-    same("a listener of them", DCCP_OTHER_SIZE, dccp_listener_make(&listener, &settings, NULL, 0, 1));
+    same("a listener of them", DCCP_OTHER_SIZE, dccp_listener_make(&listener, &settings, NULL, 0, NULL, 0, 1));
     settings.size += 16;
     same("newer settings", DCCP_OTHER_SIZE, dccp_make(&end, &settings, NULL, 0));
     same("settings as they are", DCCP_OK, dccp_make(&end, &client, NULL, 0));
@@ -426,7 +429,7 @@ static void fates(void) {
     dccp_free(&other);
 }
 
-/* The longest data in frames of some lengths: 24 bytes are the header of a DataAck (RFC 4340, section 5.3). An Ack Vector tells of one number
+/* The longest data in frames of some lengths: 24 bytes are the header of a DataAck (RFC 4340, section 5.3). An Ack Vector reports one number
  * at first, that of the Response, in three bytes and a fourth that pads them. */
 static void longest_data(void) {
     dccp_end one = DCCP_NONE, other = DCCP_NONE;
@@ -481,7 +484,50 @@ static void a_connection(void) {
     same("the server's phase", DCCP_PHASE_TIMEWAIT, look(&other).phase);
     dccp_free(&one);
     dccp_free(&other);
-    same("blocks behind free", 0, held);
+    same("blocks after free", 0, held);
+}
+
+/* Of two packets one waits, and the other is dropped with the Drop Code 2: the Ack's option says so of its own number, the greatest. It is read,
+ * and after the end of reading a third is dropped with 1 (RFC 4340, section 11.7). */
+static void data_that_wait(void) {
+    dccp_end one = DCCP_NONE, other = DCCP_NONE;
+    dccp_settings settings = server();
+    dccp_frame frame, answer;
+    dccp_told told;
+    dccp_data data = {0};
+    const uint8_t dropped[] = {40, 3, 0xa0}, slow = 2;
+    settings.most_held = 1;
+    same("a client", DCCP_OK, dccp_make(&one, &client, NULL, 0));
+    same("a server with room for one", DCCP_OK, dccp_make(&other, &settings, NULL, 0));
+    same("open", DCCP_OK, dccp_open(&one, 0, &frame));
+    exchange(&other, &one, &frame);
+    same("nothing waits", DCCP_NOTHING_DUE, dccp_read(&other, &data));
+    same("where nothing ever waits", DCCP_NOTHING_DUE, dccp_stop_reading(&one));
+    same("a packet", DCCP_OK, dccp_send(&one, (const uint8_t *)"abc", 3, 0, &frame));
+    uint64_t number = frame.number;
+    same("its arrival", DCCP_OK, dccp_receive(&other, frame.bytes, frame.length, 0, &answer, &told));
+    same("it waits", DCCP_TOLD_WAITS, told.kind);
+    same("as the only one", 1, dccp_held(&other));
+    same("another", DCCP_OK, dccp_send(&one, (const uint8_t *)"de", 2, 0, &frame));
+    same("its arrival", DCCP_OK, dccp_receive(&other, frame.bytes, frame.length, 0, &answer, &told));
+    same("it is dropped", DCCP_TOLD_NOT_KEPT, told.kind);
+    same("for want of room", 2, told.code);
+    same("the Ack tells of it and of the last", 0, answer.length == 0);
+    same("by Data Dropped, and that the end is slow", 0, memcmp(answer.bytes + answer.length - 4, dropped, 3) || answer.bytes[answer.length - 1] != slow);
+    exchange(&one, &other, &answer);
+    same("a read", DCCP_OK, dccp_read(&other, &data));
+    same("its number", number, data.number);
+    same("its length", 3, data.length);
+    same("its bytes", 0, memcmp(data.bytes, "abc", 3) != 0);
+    same("nothing waits", 0, dccp_held(&other));
+    same("the end of reading", DCCP_OK, dccp_stop_reading(&other));
+    same("a third", DCCP_OK, dccp_send(&one, (const uint8_t *)"f", 1, 0, &frame));
+    same("its arrival", DCCP_OK, dccp_receive(&other, frame.bytes, frame.length, 0, &answer, &told));
+    same("it is dropped", DCCP_TOLD_NOT_KEPT, told.kind);
+    same("for want of a reader", 1, told.code);
+    dccp_free(&one);
+    dccp_free(&other);
+    same("blocks after free", 0, held);
 }
 
 static const dccp_peer guest = {.address = {10, 0, 0, 1}, .port = 40000};
@@ -508,6 +554,12 @@ static void without_a_listener(void) {
     same("a feature without one", DCCP_NOT_MADE, dccp_listener_feature(&none, &guest, DCCP_FEATURE_ACK_RATIO, false, &state));
     same("rules without one", DCCP_NOT_MADE, dccp_listener_rules(&none, &rules));
     same("forgetting without one", DCCP_NOT_MADE, dccp_listener_forget(&none, &guest, 0));
+    same("a key without one", DCCP_NOT_MADE, dccp_listener_rekey(&none, &(dccp_key){{7}}, 0));
+    same("a way without one", DCCP_WAY_PLAIN, dccp_listener_way(&none));
+    same("flows without one", 0, dccp_listener_flows(&none));
+    same("a read without one", DCCP_NOT_MADE, dccp_listener_read(&none, &guest, &(dccp_data){0}));
+    same("a stop without one", DCCP_NOT_MADE, dccp_listener_stop_reading(&none, &guest));
+    same("what waits without one", 0, dccp_listener_held(&none, &guest));
     same("its frame", 0, frame.length);
     dccp_listener_free(&none);
 }
@@ -516,13 +568,13 @@ static void limits_of_a_listener(void) {
     dccp_listener listener = DCCP_NO_LISTENER;
     dccp_settings settings = server();
     dccp_wish wish = {.values = {31}, .count = 1, .feature = DCCP_FEATURE_SEQUENCE_WINDOW};
-    same("1,024 flows", DCCP_OK, dccp_listener_make(&listener, &settings, &wish, 0, 1024));
-    same("no flows", DCCP_NO_SUCH_LISTENER, dccp_listener_make(&listener, &settings, &wish, 0, 0));
-    same("a listener behind a refused make", false, listener.made);
-    same("1,025 flows", DCCP_NO_SUCH_LISTENER, dccp_listener_make(&listener, &settings, &wish, 0, 1025));
-    same("a window of 31", DCCP_BAD_LIST, dccp_listener_make(&listener, &settings, &wish, 1, 1));
+    same("1,024 flows", DCCP_OK, dccp_listener_make(&listener, &settings, NULL, 0, &wish, 0, 1024));
+    same("no flows", DCCP_NO_SUCH_LISTENER, dccp_listener_make(&listener, &settings, NULL, 0, &wish, 0, 0));
+    same("a listener after a refused make", false, listener.made);
+    same("1,025 flows", DCCP_NO_SUCH_LISTENER, dccp_listener_make(&listener, &settings, NULL, 0, &wish, 0, 1025));
+    same("a window of 31", DCCP_BAD_LIST, dccp_listener_make(&listener, &settings, NULL, 0, &wish, 1, 1));
     settings.is_v6 = true;
-    same("IPv6", DCCP_NO_SUCH_LISTENER, dccp_listener_make(&listener, &settings, &wish, 0, 1));
+    same("IPv6", DCCP_NO_SUCH_LISTENER, dccp_listener_make(&listener, &settings, NULL, 0, &wish, 0, 1));
     same("blocks that are kept", 0, held);
 }
 
@@ -532,7 +584,7 @@ static dccp_listener begun_as(bool is_plain) {
     dccp_settings settings = server();
     dccp_wish none = {.count = 0};
     settings.is_plain = is_plain;
-    same("a listener", DCCP_OK, dccp_listener_make(&listener, &settings, &none, 0, 1));
+    same("a listener", DCCP_OK, dccp_listener_make(&listener, &settings, NULL, 0, &none, 0, 1));
     return listener;
 }
 
@@ -555,6 +607,187 @@ static dccp_frame other_request(uint8_t last) {
     same("its open", DCCP_OK, dccp_open(&end, 0, &frame));
     dccp_free(&end);
     return frame;
+}
+
+/* How many events of a kind the last call has left, and the last of them. */
+static unsigned told_of(dccp_listener *listener, uint32_t kind, dccp_event *last) {
+    dccp_event event = DCCP_EVENT_INIT;
+    unsigned count = 0;
+    while (dccp_listener_event(listener, &event) == DCCP_OK) {
+        if (event.kind != kind) continue;
+        count++;
+        *last = event;
+    }
+    return count;
+}
+
+/* Before a flow opens: which services there are, whether a datagram asks for one, and what refuses it. */
+static void before_a_flow(void) {
+    dccp_listener listener = DCCP_NO_LISTENER;
+    dccp_settings settings = server();
+    dccp_frame frame, first = request(client.service), other = request(client.service + 1), third = request(client.service + 2);
+    dccp_event event = DCCP_EVENT_INIT;
+    dccp_told told;
+    uint32_t service = 0, services[17] = {client.service + 1, client.service};
+    static uint8_t bytes[DCCP_MOST_FRAME_BYTES + 1];
+    for (uint32_t at = 2; at < 17; at++) services[at] = at + 1000;
+    same("17 services", DCCP_NO_SUCH_LISTENER, dccp_listener_make(&listener, &settings, services, 17, NULL, 0, 4));
+    same("16 services", DCCP_OK, dccp_listener_make(&listener, &settings, services, 16, NULL, 0, 4));
+    services[2] = services[0];
+    same("one twice", DCCP_NO_SUCH_LISTENER, dccp_listener_make(&listener, &settings, services, 3, NULL, 0, 4));
+    same("without a listener", DCCP_NOT_MADE, dccp_listener_asks(&listener, &guest, first.bytes, first.length, &service));
+    same("an event of none", DCCP_NOT_MADE, dccp_listener_event(&listener, &event));
+    same("a number beside none", DCCP_NOT_MADE, dccp_listener_set_user(&listener, &guest, 1));
+    same("a door of none", DCCP_NOT_MADE, dccp_listener_shut(&listener, true));
+    same("a timer of none", DCCP_NOT_MADE, dccp_listener_timer(&listener, &guest, DCCP_TIMER_ACK, 0, &frame));
+    same("two services", DCCP_OK, dccp_listener_make(&listener, &settings, services, 2, NULL, 0, 4));
+    same("no Request", DCCP_NO_CONNECTION, dccp_listener_asks(&listener, &guest, bytes, 20, &service));
+    same("for another service", DCCP_NO_CONNECTION, dccp_listener_asks(&listener, &guest, third.bytes, third.length, &service));
+    same("2,045 bytes", DCCP_TOO_LONG, dccp_listener_asks(&listener, &guest, bytes, sizeof bytes, &service));
+    same("what stood there", 0, service);
+    same("a Request", DCCP_OK, dccp_listener_asks(&listener, &guest, other.bytes, other.length, &service));
+    same("its service", client.service + 1, service);
+    same("it is refused", DCCP_OK, dccp_listener_refuse(&listener, &guest, other.bytes, other.length, 7, 0, &frame));
+    same("its Reset", 7, (frame.bytes[8] >> 1) & 15);
+    same("the code: Connection Refused", 7, frame.bytes[24]);
+    same("no Request is not", DCCP_NO_CONNECTION, dccp_listener_refuse(&listener, &guest, bytes, 20, 7, 0, &frame));
+    same("its frame", 0, frame.length);
+    same("nor 2,045 bytes", DCCP_TOO_LONG, dccp_listener_refuse(&listener, &guest, bytes, sizeof bytes, 7, 0, &frame));
+    same("the door is shut", DCCP_OK, dccp_listener_shut(&listener, true));
+    same("a Request at it", DCCP_REFUSED, arrives(&listener, 1, &first, &frame, &told));
+    same("the code: Connection Refused", 7, frame.bytes[24]);
+    same("what is told of it", DCCP_NO_EVENT, dccp_listener_event(&listener, &event));
+    same("the door is open", DCCP_OK, dccp_listener_shut(&listener, false));
+    same("a Request at it", DCCP_OK, arrives(&listener, 1, &first, &frame, &told));
+    same("its Response", 1, (frame.bytes[8] >> 1) & 15);
+    same("a Request is no handshake", DCCP_NO_EVENT, dccp_listener_event(&listener, &event));
+    same("who has a flow asks for none", DCCP_NO_CONNECTION, dccp_listener_asks(&listener, &guest, first.bytes, first.length, &service));
+    same("a timer of no number", DCCP_NO_TIMER, dccp_listener_timer(&listener, &guest, 6, 0, &frame));
+    same("a timer in RESPOND", DCCP_NOTHING_DUE, dccp_listener_timer(&listener, &guest, DCCP_TIMER_ACK, 0, &frame));
+    same("it goes", DCCP_OK, dccp_listener_forget(&listener, &guest, 0));
+    same("its end is told", 1, told_of(&listener, DCCP_EVENT_ENDED, &event));
+    same("why", DCCP_BY_OWN, event.cause);
+    same("without a Reset", 0, event.code);
+    same("a timer of no flow", DCCP_NO_FLOW, dccp_listener_timer(&listener, &guest, DCCP_TIMER_ACK, 0, &frame));
+    same("a number beside no flow", DCCP_NO_FLOW, dccp_listener_set_user(&listener, &guest, 1));
+    event.size--;
+    same("an older event", DCCP_OTHER_SIZE, dccp_listener_event(&listener, &event));
+    dccp_listener_free(&listener);
+    same("blocks after free", 0, held);
+}
+
+/* The names of 192.0.2.1 and of 2001:db8::2, at a listener at 10.0.0.2, by hand: the first word is the turn, and the second makes the sum of the
+ * addresses that of the path (RFC 1071). */
+/* A listener that keeps nothing of a Request: the Ack that returns the cookie opens the flow (RFC 4340, section 8.1.4). */
+static void cookies(void) {
+    dccp_listener listener = begun();
+    dccp_flow_rules rules = DCCP_USUAL_RULES;
+    dccp_end one = DCCP_NONE;
+    dccp_event event = DCCP_EVENT_INIT;
+    dccp_frame frame, answer, third;
+    dccp_told told;
+    rules.cookies = DCCP_COOKIES_ALWAYS;
+    same("rules", DCCP_OK, dccp_listener_rules(&listener, &rules));
+    same("an end", DCCP_OK, dccp_make(&one, &client, NULL, 0));
+    same("its open", DCCP_OK, dccp_open(&one, 0, &frame));
+    same("a key", DCCP_OK, dccp_listener_rekey(&listener, &(dccp_key){{7}}, 0));
+    same("a Request", DCCP_OK, arrives(&listener, 1, &frame, &answer, &told));
+    same("what became of it", DCCP_TOLD_TOOK, told.kind);
+    same("its way", DCCP_WAY_GREETED, dccp_listener_way(&listener));
+    same("flows", 0, dccp_listener_flows(&listener));
+    same("a Response", DCCP_OK, dccp_receive(&one, answer.bytes, answer.length, 0, &third, &told));
+    same("its type", 1, (answer.bytes[8] >> 1) & 15);
+    same("a client with a cookie", DCCP_PHASE_PARTOPEN, look(&one).phase);
+    /* The Init Cookie is the last option: its type, its length, and 32 bytes beside the Request's options, which fill whole words. */
+    same("a longer Ack", true, 24 + 36 <= third.length);
+    same("its room for data", true, dccp_longest_data(&one, 256) < 256 - 24 - 36);
+    same("the Ack", DCCP_OK, arrives(&listener, 1, &third, &frame, &told));
+    same("its way", DCCP_WAY_REOPENED, dccp_listener_way(&listener));
+    same("it opens", 1, told_of(&listener, DCCP_EVENT_OPENED, &event));
+    same("one flow", 1, dccp_listener_flows(&listener));
+    same("the Ack again", DCCP_OK, arrives(&listener, 1, &third, &frame, &told));
+    same("its way", DCCP_WAY_PLAIN, dccp_listener_way(&listener));
+    /* The table is full. */
+    same("the Ack of another", DCCP_OK, arrives(&listener, 3, &third, &frame, &told));
+    same("which opens none", 1, dccp_listener_flows(&listener));
+    dccp_listener_free(&listener);
+    dccp_free(&one);
+    same("blocks behind free", 0, held);
+}
+
+/* The same of a server with an end for each peer. */
+static void cookies_of_ends(void) {
+    dccp_settings settings = server(), none = server();
+    dccp_cookie_keys keys = {.key = {{7}}, .before = {{7}}};
+    dccp_end one = DCCP_NONE, other = DCCP_NONE;
+    dccp_frame frame, answer, third, request;
+    dccp_told told;
+    static uint8_t bytes[DCCP_MOST_FRAME_BYTES + 1];
+    none.size--;
+    same("an end", DCCP_OK, dccp_make(&one, &client, NULL, 0));
+    same("its open", DCCP_OK, dccp_open(&one, 0, &frame));
+    const unsigned before = held;
+    same("settings of another size", DCCP_OTHER_SIZE, dccp_greet(&none, NULL, 0, &keys, frame.bytes, frame.length, 0, &answer));
+    same("its frame", 0, answer.length);
+    same("a long datagram", DCCP_TOO_LONG, dccp_greet(&settings, NULL, 0, &keys, bytes, sizeof bytes, 0, &answer));
+    same("no Request", DCCP_NO_CONNECTION, dccp_greet(&settings, NULL, 0, &keys, bytes, 16, 0, &answer));
+    same("a Request", DCCP_OK, dccp_greet(&settings, NULL, 0, &keys, frame.bytes, frame.length, 0, &answer));
+    same("what it has kept", before, held);
+    same("a Request returns nothing", DCCP_NO_CONNECTION, dccp_recall(&settings, &keys, frame.bytes, frame.length, 0, &request));
+    same("its Request", 0, request.length);
+    same("a Response", DCCP_OK, dccp_receive(&one, answer.bytes, answer.length, 0, &third, &told));
+    same("settings of another size", DCCP_OTHER_SIZE, dccp_recall(&none, &keys, third.bytes, third.length, 0, &request));
+    same("a long datagram", DCCP_TOO_LONG, dccp_recall(&settings, &keys, bytes, sizeof bytes, 0, &request));
+    same("after two minutes", DCCP_NO_CONNECTION, dccp_recall(&settings, &keys, third.bytes, third.length, 120001, &request));
+    same("by another key", DCCP_NO_CONNECTION,
+         dccp_recall(&settings, &(dccp_cookie_keys){.key = {{8}}, .before = {{8}}}, third.bytes, third.length, 0, &request));
+    same("an Ack", DCCP_OK, dccp_recall(&settings, &keys, third.bytes, third.length, 120000, &request));
+    same("the first number", 2000, request.number);
+    settings.first_number = request.number;
+    same("the Request again", DCCP_OK, dccp_accept(&other, &settings, NULL, 0, request.bytes, request.length, 0, &answer, &told));
+    same("the Ack then", DCCP_OK, dccp_receive(&other, third.bytes, third.length, 0, &answer, &told));
+    same("a server that is open", DCCP_PHASE_OPEN, look(&other).phase);
+    exchange(&one, &other, &answer);
+    same("a client in PARTOPEN or OPEN", true, look(&one).phase == DCCP_PHASE_PARTOPEN || look(&one).phase == DCCP_PHASE_OPEN);
+    dccp_free(&one);
+    dccp_free(&other);
+    same("blocks behind free", 0, held);
+}
+
+static void names_of_peers(void) {
+    dccp_settings listener = server(), path = server();
+    dccp_peer name = {.port = 0};
+    const uint8_t own_v6[16] = {0x20, 1, 0x0d, 0xb8, [15] = 1}, peer_v6[16] = {0x20, 1, 0x0d, 0xb8, [15] = 2};
+    memcpy(path.own_address, (const uint8_t[4]){10, 0, 0, 2}, 4);
+    memcpy(path.peer_address, (const uint8_t[4]){192, 0, 2, 1}, 4);
+    path.peer_port = 5001;
+    memcpy(listener.own_address, (const uint8_t[4]){10, 0, 0, 2}, 4);
+    same("a name", DCCP_OK, dccp_listener_name(&listener, &path, 1, &name));
+    same("its address", 0, memcmp(name.address, (const uint8_t[4]){0, 1, 194, 0}, 4));
+    same("its port", 5001, name.port);
+    memcpy(path.own_address, own_v6, 16);
+    memcpy(path.peer_address, peer_v6, 16);
+    path.is_v6 = true;
+    same("a name for IPv6", DCCP_OK, dccp_listener_name(&listener, &path, 1, &name));
+    same("its address", 0, memcmp(name.address, (const uint8_t[4]){0, 1, 81, 114}, 4));
+    path.size--;
+    same("an older path", DCCP_OTHER_SIZE, dccp_listener_name(&listener, &path, 1, &name));
+}
+
+/* A first number drawn from the key 0, 1, .. 31 for 10.0.0.1, by Python's hmac and hashlib over 0a000002 1389 0a000001 9c40, and 250 more for each
+ * millisecond. */
+static void a_keyed_number(void) {
+    dccp_settings listener = server();
+    dccp_key key;
+    uint64_t number = 1;
+    for (unsigned at = 0; at < 32; at++) key.bytes[at] = (uint8_t)at;
+    same("a number", DCCP_OK, dccp_listener_number(&listener, &key, &guest, 1000, &number));
+    same("its value", 220924168272762, number);
+    same("a second later", DCCP_OK, dccp_listener_number(&listener, &key, &guest, 2000, &number));
+    same("its value", 220924168522762, number);
+    listener.size--;
+    same("of older settings", DCCP_OTHER_SIZE, dccp_listener_number(&listener, &key, &guest, 1000, &number));
+    same("what stood there", 220924168522762, number);
 }
 
 /* Each code of a listener: strangers, a flow, one too many (RFC 4340, section 5.6), and its end. */
@@ -585,6 +818,7 @@ static void a_listener(void) {
     same("its flow", DCCP_OK, dccp_listener_look(&listener, &guest, &view));
     same("its phase", DCCP_PHASE_RESPOND, view.phase);
     same("its first number", 2000, view.iss);
+    same("its service", client.service, view.service);
     same("its place", DCCP_OK, dccp_listener_peer(&listener, 0, &peer));
     same("its port", guest.port, peer.port);
     same("data in RESPOND", DCCP_NOT_OPEN, dccp_listener_send(&listener, &guest, bytes, 1, 0, &frame));
@@ -602,7 +836,7 @@ static void a_listener(void) {
     same("the first place", DCCP_OK, dccp_listener_peer(&listener, 0, &peer));
     same("whose it is", 3, peer.address[3]);
     dccp_listener_free(&listener);
-    same("blocks behind free", 0, held);
+    same("blocks after free", 0, held);
 }
 
 /* What a flow holds and takes: a Sequence Window of 10,000 that it has offered, a wish for its Ack Ratio, and no wish of another's. */
@@ -630,7 +864,11 @@ static void features_of_a_flow(dccp_listener *listener) {
 static void packets_of_no_flow(dccp_listener *listener, const dccp_frame *datagram) {
     dccp_frame frame;
     dccp_told told;
+    dccp_event event = DCCP_EVENT_INIT;
     same("the flow goes", DCCP_OK, dccp_listener_forget(listener, &guest, 0));
+    same("its end is told", 1, told_of(listener, DCCP_EVENT_ENDED, &event));
+    same("why", DCCP_BY_OWN, event.cause);
+    same("with its number", 77, event.user);
     same("and is there no more", DCCP_NO_FLOW, dccp_listener_forget(listener, &guest, 0));
     for (unsigned count = 0; count < 9; count++) {
         same("a stranger's packet", DCCP_OK, arrives(listener, 1, datagram, &frame, &told));
@@ -662,6 +900,7 @@ static void readings_of_a_flow(dccp_listener *listener) {
     trip.size--;
     same("an older round trip", DCCP_OTHER_SIZE, dccp_listener_look_path(listener, &guest, &trip));
     same("its life", DCCP_OK, dccp_listener_life(listener, &guest, &life));
+    same("the number beside it", 77, life.user);
 }
 
 static void a_flow(void) {
@@ -670,6 +909,7 @@ static void a_flow(void) {
     dccp_end end = DCCP_NONE;
     dccp_wish vectors = {.values = {1}, .count = 1, .feature = DCCP_FEATURE_SEND_ACK_VECTOR, .is_offered = true};
     dccp_frame frame, answer, datum;
+    dccp_event event = DCCP_EVENT_INIT;
     dccp_peer peer;
     dccp_told told;
     same("a client", DCCP_OK, dccp_make(&end, &client, &vectors, 1));
@@ -680,10 +920,17 @@ static void a_flow(void) {
         same("its answer", DCCP_OK, dccp_receive(&end, answer.bytes, answer.length, 0, &frame, &told));
     }
     same("the client's phase", DCCP_PHASE_OPEN, look(&end).phase);
+    same("one handshake", 1, told_of(&listener, DCCP_EVENT_OPENED, &event));
+    same("whose it is", guest.port, event.peer.port);
+    same("a number beside it", DCCP_OK, dccp_listener_set_user(&listener, &guest, 77));
     same("data", DCCP_OK, dccp_send(&end, (const uint8_t *)"abc", 3, 0, &frame));
     datum = frame;
     same("their arrival", DCCP_OK, arrives(&listener, 1, &frame, &answer, &told));
     same("what became of them", DCCP_TOLD_DATA, told.kind);
+    same("they are told once", 1, told_of(&listener, DCCP_EVENT_DATA, &event));
+    same("where they stand", told.first, event.first);
+    same("up to where", told.past, event.past);
+    same("with the number", 77, event.user);
     same("the data themselves", 0, memcmp(frame.bytes + told.first, "abc", 3) != 0);
     same("data back", DCCP_OK, dccp_listener_send(&listener, &guest, frame.bytes + told.first, 3, 0, &answer));
     same("their arrival", DCCP_OK, dccp_receive(&end, answer.bytes, answer.length, 0, &frame, &told));
@@ -702,6 +949,99 @@ static void a_flow(void) {
     features_of_a_flow(&listener);
     same("close", DCCP_OK, dccp_listener_close(&listener, &guest, 50, &answer));
     packets_of_no_flow(&listener, &datum);
+    dccp_free(&end);
+    dccp_listener_free(&listener);
+    same("blocks after free", 0, held);
+}
+
+/* A client opens at a listener, and what it has sent has been answered. */
+static void opens_at(dccp_listener *listener, dccp_end *end) {
+    dccp_wish vectors = {.values = {1}, .count = 1, .feature = DCCP_FEATURE_SEND_ACK_VECTOR, .is_offered = true};
+    dccp_frame frame, answer;
+    dccp_told told;
+    same("a client", DCCP_OK, dccp_make(end, &client, &vectors, 1));
+    same("its open", DCCP_OK, dccp_open(end, 0, &frame));
+    while (frame.length) {
+        same("a frame that arrives", DCCP_OK, arrives(listener, 1, &frame, &answer, &told));
+        if (answer.length == 0) break;
+        same("its answer", DCCP_OK, dccp_receive(end, answer.bytes, answer.length, 0, &frame, &told));
+    }
+}
+
+/* A packet of data from a client to its flow, and what the flow answers and is told, by an event of this kind. */
+static uint64_t sends_to(dccp_listener *listener, dccp_end *end, const char *data, dccp_frame *answer, uint32_t kind, dccp_event *event) {
+    dccp_frame frame;
+    dccp_told told;
+    same("a packet", DCCP_OK, dccp_send(end, (const uint8_t *)data, strlen(data), 0, &frame));
+    same("its arrival", DCCP_OK, arrives(listener, 1, &frame, answer, &told));
+    same("what became of it", kind == DCCP_EVENT_WAITS ? DCCP_TOLD_WAITS : DCCP_TOLD_NOT_KEPT, told.kind);
+    same("it is told once", 1, told_of(listener, kind, event));
+    same("with the same code", told.code, event->code);
+    return frame.number;
+}
+
+/* Of two packets to a flow one waits, and the other is dropped with the Drop Code 2: the Ack's option says so of its own number, the greatest. What
+ * waits can be read after the flow has ended. A third packet waits, and after the end of reading a fourth is dropped with 1: of it, of the third and
+ * of the second the option says 1, nothing and 2 (RFC 4340, section 11.7). */
+static void data_of_a_flow_that_wait(void) {
+    dccp_listener listener = DCCP_NO_LISTENER;
+    dccp_end end = DCCP_NONE;
+    dccp_settings settings = server();
+    dccp_frame frame, answer;
+    dccp_told told;
+    dccp_event event = DCCP_EVENT_INIT;
+    dccp_data data = {0};
+    dccp_view view = DCCP_VIEW_INIT;
+    const dccp_peer stranger = {.address = {10, 0, 0, 9}, .port = 9};
+    const uint8_t full[] = {40, 3, 0xa0, 2}, deaf[] = {40, 5, 0x90, 0, 0xa0, 2, 0, 0};
+    settings.most_held = 1;
+    same("a listener with room for one", DCCP_OK, dccp_listener_make(&listener, &settings, NULL, 0, NULL, 0, 2));
+    same("a stop of no flow", DCCP_NO_FLOW, dccp_listener_stop_reading(&listener, &stranger));
+    opens_at(&listener, &end);
+    same("nothing waits", DCCP_NOTHING_DUE, dccp_listener_read(&listener, &guest, &data));
+    uint64_t number = sends_to(&listener, &end, "abc", &answer, DCCP_EVENT_WAITS, &event);
+    same("as the only one", 1, dccp_listener_held(&listener, &guest));
+    same("the longest data beside what it may say", 72, dccp_listener_longest_data(&listener, &guest, 100 + 256));
+    (void)sends_to(&listener, &end, "de", &answer, DCCP_EVENT_DROPPED, &event);
+    same("for want of room", 2, event.code);
+    same("its answer", 0, answer.length < sizeof full);
+    same("by Data Dropped, and that it is slow", 0, memcmp(answer.bytes + answer.length - sizeof full, full, sizeof full) != 0);
+    same("the client hears it", DCCP_OK, dccp_receive(&end, answer.bytes, answer.length, 0, &frame, &told));
+    same("what waits is read", DCCP_OK, dccp_listener_read(&listener, &guest, &data));
+    same("its number", number, data.number);
+    same("its length", 3, data.length);
+    same("its bytes", 0, memcmp(data.bytes, "abc", 3) != 0);
+    (void)sends_to(&listener, &end, "f", &answer, DCCP_EVENT_WAITS, &event);
+    same("the end of reading", DCCP_OK, dccp_listener_stop_reading(&listener, &guest));
+    (void)sends_to(&listener, &end, "g", &answer, DCCP_EVENT_DROPPED, &event);
+    same("for want of a reader", 1, event.code);
+    same("its answer", 0, answer.length < sizeof deaf);
+    same("by Data Dropped, of three numbers, and that it is slow", 0, memcmp(answer.bytes + answer.length - sizeof deaf, deaf, sizeof deaf) != 0);
+    same("the client hears it", DCCP_OK, dccp_receive(&end, answer.bytes, answer.length, 0, &frame, &told));
+    same("none listens", DCCP_NOT_LISTENING, dccp_send(&end, (const uint8_t *)"h", 1, 0, &frame));
+    same("the client's close", DCCP_OK, dccp_close(&end, 0, &frame));
+    same("its arrival", DCCP_OK, arrives(&listener, 1, &frame, &answer, &told));
+    same("the flow is over", DCCP_NO_FLOW, dccp_listener_look(&listener, &guest, &view));
+    same("and is told so", 1, told_of(&listener, DCCP_EVENT_ENDED, &event));
+    same("what waits", 1, dccp_listener_held(&listener, &guest));
+    same("is read", DCCP_OK, dccp_listener_read(&listener, &guest, &data));
+    same("its bytes", 0, data.length != 1 || data.bytes[0] != 'f');
+    same("nothing waits", DCCP_NOTHING_DUE, dccp_listener_read(&listener, &guest, &data));
+    dccp_free(&end);
+    opens_at(&listener, &end);
+    (void)sends_to(&listener, &end, "i", &answer, DCCP_EVENT_WAITS, &event);
+    same("the flow goes", DCCP_OK, dccp_listener_forget(&listener, &guest, 0));
+    same("with what waits of it", 0, dccp_listener_held(&listener, &guest));
+    dccp_free(&end);
+    opens_at(&listener, &end);
+    same("a packet", DCCP_OK, dccp_send(&end, (const uint8_t *)"j", 1, 0, &frame));
+    refused = 1;
+    same("where no memory is left for what is to wait", DCCP_OK, arrives(&listener, 1, &frame, &answer, &told));
+    refused = 0;
+    same("its data stand in the datagram", DCCP_TOLD_DATA, told.kind);
+    same("and are told so", 1, told_of(&listener, DCCP_EVENT_DATA, &event));
+    same("from there", told.first, event.first);
+    (void)sends_to(&listener, &end, "k", &answer, DCCP_EVENT_WAITS, &event);
     dccp_free(&end);
     dccp_listener_free(&listener);
     same("blocks behind free", 0, held);
@@ -732,11 +1072,11 @@ static void refusals_of_a_flow(void) {
     same("abort in TIMEWAIT", DCCP_NOT_LIVE, dccp_listener_abort(&listener, &guest, 0, &answer));
     dccp_free(&end);
     dccp_listener_free(&listener);
-    same("blocks behind free", 0, held);
+    same("blocks after free", 0, held);
 }
 
-/* Each allocation that a flow takes is refused in turn: then there is none, nothing is left, and nothing is kept but the first blocks of two
- * maps, those of lives and of timers, which are allocated first. */
+/* Each allocation that a flow takes is refused in turn: then there is none, nothing is left, and nothing is kept but what is allocated first:
+ * the first blocks of two registers, those of lives and of timers, each of which has a queue and a map. */
 static void memory_of_a_flow(void) {
     dccp_frame datagram = request(client.service), frame;
     dccp_view view = DCCP_VIEW_INIT;
@@ -752,10 +1092,10 @@ static void memory_of_a_flow(void) {
         if (is_reached) {
             same("its frame", 0, frame.length);
             same("the flow", DCCP_NO_FLOW, dccp_listener_look(&listener, &guest, &view));
-            same("blocks that are kept", before + (at > 1) + (at > 2), held);
+            same("blocks that are kept", before + (at < 5 ? at - 1 : 4), held);
         }
         dccp_listener_free(&listener);
-        same("blocks behind free", 0, held);
+        same("blocks after free", 0, held);
         if (!is_reached) break;
     }
 }
@@ -771,6 +1111,7 @@ int main(void) {
     memory(make);
     memory(accept);
     a_connection();
+    data_that_wait();
     sizes();
     turned_away();
     fates();
@@ -779,7 +1120,13 @@ int main(void) {
     without_a_listener();
     limits_of_a_listener();
     a_listener();
+    before_a_flow();
+    cookies();
+    cookies_of_ends();
+    names_of_peers();
+    a_keyed_number();
     a_flow();
+    data_of_a_flow_that_wait();
     refusals_of_a_flow();
     memory_of_a_flow();
     return wrong;

@@ -128,6 +128,18 @@ static void a_full_server() {
     same("the third opens", DCCP_EVENT_OPENED, next.of_client.at(0).kind);
 }
 
+// A socket that is freed aborts its connection, of which the peer hears (Reset Code 2, Aborted: RFC 4340, section 5.6).
+static void a_socket_that_goes() {
+    pair both = open_pair({});
+    same("a word, by which it opens there too", DCCP_OK, both.client.connection()->send("x"));
+    both.settle();
+    both.client = dccp::socket::connect("127.0.0.1", std::to_string(both.server.port()), 42);
+    both.settle();
+    same("the end of the first", DCCP_EVENT_ENDED, both.of_server.at(2).kind);
+    same("its code", 2, both.of_server.at(2).code);
+    same("the second opens", DCCP_EVENT_OPENED, both.of_client.back().kind);
+}
+
 // A relay between a client and a server of this process, which loses every fifth packet of data that goes to the server.
 class relay {
   public:
@@ -317,6 +329,7 @@ int main() {
     a_conversation();
     a_full_window();
     a_full_server();
+    a_socket_that_goes();
     losses();
     refusals();
     a_silent_client();

@@ -1,13 +1,13 @@
-//! Names the library for C, which `tools/library FOLDER` of this repository has installed; DCCP_PREFIX is that folder.
+//! Links the library for C from the folder DCCP_PREFIX, in which `tools/library FOLDER` of this repository has installed it.
 
 use std::env;
 use std::fs;
 use std::path::Path;
 
-/// The number of the border for which this crate is written: that of its `include/dccp.h`.
-const ABI: &str = "2";
+/// The ABI number for which this crate is written: that of `include/dccp.h`.
+const ABI: &str = "4";
 
-/// The number of the border of the library under a folder, by its header.
+/// The ABI number of the library in a folder, by its header.
 fn abi_of(prefix: &Path) -> Option<String> {
     let header = fs::read_to_string(prefix.join("include/dccp.h")).ok()?;
     let line = header
@@ -19,17 +19,19 @@ fn abi_of(prefix: &Path) -> Option<String> {
 fn main() {
     println!("cargo::rerun-if-env-changed=DCCP_PREFIX");
     if env::var_os("DOCS_RS").is_some() {
-        // Pages are written without the library.
+        // The documentation is built without the library.
         return;
     }
     let Ok(prefix) = env::var("DCCP_PREFIX") else {
-        println!("cargo::error=set DCCP_PREFIX to the folder that tools/library FOLDER has filled");
+        println!(
+            "cargo::error=set DCCP_PREFIX to the folder into which tools/library has installed the library"
+        );
         return;
     };
     let prefix = Path::new(&prefix);
     if let Some(found) = abi_of(prefix).filter(|it| it != ABI) {
         println!(
-            "cargo::error=the library under DCCP_PREFIX has the border {found}, and this crate is for {ABI}"
+            "cargo::error=the library in DCCP_PREFIX has ABI number {found}, and this crate needs {ABI}"
         );
         return;
     }

@@ -1,5 +1,5 @@
-//! What the library for C has, as `include/dccp.h` declares it, which also says what each function does and what it asks of its caller.
-//! A quick check of the repository compares both. `build.rs` links the library; the crate `dccp` is the one to use.
+//! The declarations of the library for C, as in `include/dccp.h`, which says what each function does and requires of its caller. A quick
+//! check of the repository compares both. `build.rs` links the library; use the crate `dccp`.
 
 use std::ffi::c_void;
 
@@ -23,6 +23,28 @@ pub struct PeerAddress {
 }
 
 #[repr(C)]
+#[derive(Clone, Copy)]
+pub struct Key {
+    pub bytes: [u8; 32],
+}
+
+/// The keys of Init Cookies: `before` has written those from before `since`.
+#[repr(C)]
+#[derive(Clone, Copy, Debug)]
+pub struct KeyPair {
+    pub key: Key,
+    pub before: Key,
+    pub since: u64,
+}
+
+impl std::fmt::Debug for Key {
+    fn fmt(&self, f: &mut std::fmt::Formatter<'_>) -> std::fmt::Result {
+        // It is secret.
+        f.debug_struct("Key").finish_non_exhaustive()
+    }
+}
+
+#[repr(C)]
 #[derive(Clone, Debug)]
 pub struct Settings {
     pub size: usize,
@@ -42,6 +64,8 @@ pub struct Settings {
     pub without_probes: bool,
     pub without_limits: bool,
     pub without_giving_up: bool,
+    pub without_heed: bool,
+    pub most_held: usize,
 }
 
 #[repr(C)]
@@ -60,6 +84,13 @@ pub struct Frame {
     pub length: usize,
     pub number: u64,
     pub bytes: [u8; MOST_FRAME_BYTES],
+}
+
+#[repr(C)]
+pub struct ReadData {
+    pub length: usize,
+    pub number: u64,
+    pub bytes: [u8; 2032],
 }
 
 #[repr(C)]
@@ -87,6 +118,7 @@ pub struct View {
     pub phase: u32,
     pub window: u32,
     pub in_flight: u32,
+    pub service: u32,
 }
 
 #[repr(C)]
@@ -115,6 +147,7 @@ pub struct FlowRules {
     pub resets: u16,
     pub makes_room: bool,
     pub ends_old_flows: bool,
+    pub cookies: u8,
 }
 
 #[repr(C)]
@@ -122,6 +155,34 @@ pub struct FlowLife {
     pub size: usize,
     pub since: u64,
     pub taken: u64,
+    pub user: u64,
+}
+
+#[repr(C)]
+pub struct EventView {
+    pub size: usize,
+    pub user: u64,
+    pub first: usize,
+    pub past: usize,
+    pub kind: u32,
+    pub cause: u32,
+    pub peer: PeerAddress,
+    pub code: u8,
+}
+
+impl Default for EventView {
+    fn default() -> EventView {
+        EventView {
+            size: size_of::<EventView>(),
+            user: 0,
+            first: 0,
+            past: 0,
+            kind: 0,
+            cause: 0,
+            peer: PeerAddress::default(),
+            code: 0,
+        }
+    }
 }
 
 /// A struct that begins with its size, and has nothing else in it yet.
@@ -136,13 +197,14 @@ macro_rules! empty {
 }
 
 empty! {
-    View { iss gss gar isr gsr marked phase window in_flight }
+    View { iss gss gar isr gsr marked phase window in_flight service }
     RoundTripView { timeout smoothed variance }
-    FlowLife { since taken }
+    FlowLife { since taken user }
 }
 
 pub const MOST_FRAME_BYTES: usize = 2044;
 pub const MOST_DATA_BYTES: usize = 1024;
+pub const MOST_READ_BYTES: usize = 2_032;
 pub const NEVER: u64 = u64::MAX;
 pub const UNLIMITED: u16 = u16::MAX;
 
@@ -156,6 +218,7 @@ pub const WINDOW_FULL: u32 = 7;
 pub const BAD_LIST: u32 = 8;
 pub const NOT_OURS: u32 = 9;
 pub const NOT_LIVE: u32 = 10;
+pub const NOTHING_DUE: u32 = 12;
 pub const NO_CONNECTION: u32 = 13;
 pub const BUSY: u32 = 14;
 pub const NO_FLOW: u32 = 15;
@@ -163,17 +226,41 @@ pub const NO_NUMBER: u32 = 17;
 pub const NO_SUCH_LISTENER: u32 = 18;
 pub const GAVE_UP: u32 = 19;
 pub const OTHER_SIZE: u32 = 20;
+pub const REFUSED: u32 = 21;
+pub const NOT_LISTENING: u32 = 23;
+
+pub const WAY_PLAIN: u32 = 0;
+pub const WAY_GREETED: u32 = 1;
+pub const WAY_UNANSWERED: u32 = 2;
+pub const WAY_REOPENED: u32 = 3;
+pub const WAY_UNOPENED: u32 = 4;
+pub const EVENT_OPENED: u32 = 0;
+pub const EVENT_DATA: u32 = 1;
+pub const EVENT_ROOM: u32 = 2;
+pub const EVENT_ENDED: u32 = 3;
+pub const EVENT_WAITS: u32 = 4;
+pub const EVENT_DROPPED: u32 = 5;
+
+pub const BY_PEER: u32 = 0;
+pub const BY_OWN: u32 = 1;
+pub const BY_SILENT: u32 = 2;
+pub const BY_EVICTED: u32 = 3;
+pub const BY_FAULT: u32 = 4;
+pub const BY_ANEW: u32 = 5;
 
 pub const FATE_UNKNOWN: u32 = 0;
 pub const FATE_IN_FLIGHT: u32 = 1;
 pub const FATE_DELIVERED: u32 = 2;
 pub const FATE_LOST: u32 = 3;
+pub const FATE_DROPPED: u32 = 4;
 
 pub const TOLD_TOOK: u32 = 0;
 pub const TOLD_DATA: u32 = 1;
 pub const TOLD_SYNCED: u32 = 3;
 pub const TOLD_WAS_RESET: u32 = 4;
 pub const TOLD_SENT_RESET: u32 = 5;
+pub const TOLD_WAITS: u32 = 6;
+pub const TOLD_NOT_KEPT: u32 = 7;
 
 const _: () = assert!(size_of::<End>() == 16 && std::mem::offset_of!(End, is_made) == 8);
 const _: () = assert!(size_of::<ListenerHandle>() == 16);
@@ -228,6 +315,9 @@ unsafe extern "C" {
         frame: *mut Frame,
         told: *mut Told,
     ) -> u32;
+    pub fn dccp_read(end: *mut End, data: *mut ReadData) -> u32;
+    pub fn dccp_stop_reading(end: *mut End) -> u32;
+    pub fn dccp_held(end: *mut End) -> usize;
     pub fn dccp_look(end: *mut End, view: *mut View) -> u32;
     pub fn dccp_refuse(
         settings: *const Settings,
@@ -245,9 +335,29 @@ unsafe extern "C" {
         at_peer: bool,
         state: *mut FeatureState,
     ) -> u32;
+    pub fn dccp_greet(
+        settings: *const Settings,
+        wishes: *const Wish,
+        wishes_count: usize,
+        keys: *const KeyPair,
+        datagram: *const u8,
+        datagram_count: usize,
+        now: u64,
+        frame: *mut Frame,
+    ) -> u32;
+    pub fn dccp_recall(
+        settings: *const Settings,
+        keys: *const KeyPair,
+        datagram: *const u8,
+        datagram_count: usize,
+        now: u64,
+        request: *mut Frame,
+    ) -> u32;
     pub fn dccp_listener_make(
         listener: *mut ListenerHandle,
         settings: *const Settings,
+        services: *const u32,
+        services_count: usize,
         wishes: *const Wish,
         wishes_count: usize,
         most: u16,
@@ -263,6 +373,52 @@ unsafe extern "C" {
         frame: *mut Frame,
         told: *mut Told,
     ) -> u32;
+    pub fn dccp_listener_event(listener: *mut ListenerHandle, event: *mut EventView) -> u32;
+    pub fn dccp_listener_read(
+        listener: *mut ListenerHandle,
+        peer: *const PeerAddress,
+        data: *mut ReadData,
+    ) -> u32;
+    pub fn dccp_listener_stop_reading(
+        listener: *mut ListenerHandle,
+        peer: *const PeerAddress,
+    ) -> u32;
+    pub fn dccp_listener_held(listener: *mut ListenerHandle, peer: *const PeerAddress) -> usize;
+    pub fn dccp_listener_set_user(
+        listener: *mut ListenerHandle,
+        peer: *const PeerAddress,
+        user: u64,
+    ) -> u32;
+    pub fn dccp_listener_asks(
+        listener: *mut ListenerHandle,
+        peer: *const PeerAddress,
+        datagram: *const u8,
+        datagram_count: usize,
+        service: *mut u32,
+    ) -> u32;
+    pub fn dccp_listener_refuse(
+        listener: *mut ListenerHandle,
+        peer: *const PeerAddress,
+        datagram: *const u8,
+        datagram_count: usize,
+        code: u8,
+        now: u64,
+        frame: *mut Frame,
+    ) -> u32;
+    pub fn dccp_listener_name(
+        listener: *const Settings,
+        path: *const Settings,
+        turn: u16,
+        peer: *mut PeerAddress,
+    ) -> u32;
+    pub fn dccp_listener_number(
+        listener: *const Settings,
+        key: *const Key,
+        peer: *const PeerAddress,
+        now: u64,
+        number: *mut u64,
+    ) -> u32;
+    pub fn dccp_listener_shut(listener: *mut ListenerHandle, is_shut: bool) -> u32;
     pub fn dccp_listener_send(
         listener: *mut ListenerHandle,
         peer: *const PeerAddress,
@@ -300,6 +456,13 @@ unsafe extern "C" {
         at_peer: bool,
         state: *mut FeatureState,
     ) -> u32;
+    pub fn dccp_listener_timer(
+        listener: *mut ListenerHandle,
+        peer: *const PeerAddress,
+        timer: u32,
+        now: u64,
+        frame: *mut Frame,
+    ) -> u32;
     pub fn dccp_listener_tick(
         listener: *mut ListenerHandle,
         now: u64,
@@ -332,13 +495,15 @@ unsafe extern "C" {
         place: u16,
         peer: *mut PeerAddress,
     ) -> u32;
-    pub fn dccp_listener_evicted(listener: *mut ListenerHandle, peer: *mut PeerAddress) -> u32;
     pub fn dccp_listener_forget(
         listener: *mut ListenerHandle,
         peer: *const PeerAddress,
         now: u64,
     ) -> u32;
     pub fn dccp_listener_rules(listener: *mut ListenerHandle, rules: *const FlowRules) -> u32;
+    pub fn dccp_listener_rekey(listener: *mut ListenerHandle, key: *const Key, now: u64) -> u32;
+    pub fn dccp_listener_way(listener: *mut ListenerHandle) -> u32;
+    pub fn dccp_listener_flows(listener: *mut ListenerHandle) -> u16;
     pub fn dccp_listener_life(
         listener: *mut ListenerHandle,
         peer: *const PeerAddress,

@@ -1,5 +1,5 @@
 //! What a packet takes from one end to another in memory, with frames and data that are given, and with frames that are written into a
-//! buffer and data that are read where they stand.
+//! buffer and data that are read in place.
 //!
 //!     cargo bench --bench calls
 //!
@@ -39,7 +39,7 @@ const ROUNDS: usize = 2_000;
 /// Packets that go before the other end answers.
 const RUN: usize = 4;
 
-/// How many nanoseconds of a processor this thread has had, as Linux tells them.
+/// How many nanoseconds of a processor this thread has had, as Linux counts them.
 fn spent() -> Result<u64, Box<dyn Error>> {
     let told = fs::read_to_string("/proc/self/schedstat")?;
     Ok(told.split(' ').next().ok_or("a number")?.parse()?)

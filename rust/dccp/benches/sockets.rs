@@ -123,7 +123,7 @@ fn in_batches() -> Answer<f64> {
     )
 }
 
-/// The seconds of processor that this process has taken, by /proc: at 100 ticks a second, as Linux tells them.
+/// The seconds of processor that this process has taken, by /proc: at 100 ticks a second, as Linux counts them.
 fn processor() -> Option<f64> {
     let text = fs::read_to_string("/proc/self/stat").ok()?;
     let fields: Vec<&str> = text.rsplit_once(')')?.1.split_whitespace().collect();

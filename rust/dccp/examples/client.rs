@@ -1,4 +1,4 @@
-//! The shortest client: it sends a word to `server`, and prints what comes back.
+//! The shortest client: it sends a word to `server`, and prints the answer.
 //!
 //!     cargo run --example client -- 127.0.0.1:5001
 

@@ -1,11 +1,12 @@
-//! A server of many clients over UDP on this machine, which sends back what each sends.
+//! A server of many clients over UDP on this machine. It sends back what each client sends.
 //!
-//!     cargo run --example echo -- PORT
+//!     cargo run --example echo -- PORT [translated]
 //!
 //! The client of `talk`, in Rust or in C, may speak to it. The listener gives up one that is silent for two minutes, and limits what strangers
-//! call forth. It runs until it is stopped.
+//! call forth. Where a router translates addresses and ports on the way, as `relay` does, both say `translated`: then no address and no port
+//! stands in their packets, and a client is known by where its datagrams come from. It runs until it is stopped.
 
-use dccp::{ArriveError, Change, Config, Event, FlowRules, Listener, MOST_FRAME_BYTES};
+use dccp::{ArriveError, Change, Config, Listener, MOST_FRAME_BYTES};
 use std::collections::{BTreeMap, VecDeque};
 use std::env;
 use std::error::Error;
@@ -16,17 +17,10 @@ use std::time::{Duration, Instant};
 
 const SERVICE: u32 = 42;
 const MOST_PEERS: u16 = 1_000;
-/// What is kept for a peer while its window is full; what is more is dropped.
+/// How many packets are kept for a peer while its window is full; more are dropped.
 const MOST_WAITING: usize = 64;
 
-/// A number that nobody can guess, for the first packet (RFC 4340, section 7.2).
-fn first_number(random: &mut File) -> u64 {
-    let mut bytes = [0; 8];
-    // Where nothing can be drawn, the number is none, and the datagram is not heard, from any peer.
-    random
-        .read_exact(&mut bytes)
-        .map_or(u64::MAX, |()| u64::from_ne_bytes(bytes) >> 16)
-}
+const HOUR: Duration = Duration::from_secs(3_600);
 
 /// The next datagram, if one comes in this time.
 fn receive(
@@ -45,24 +39,23 @@ fn receive(
 }
 
 /// The data of each peer that wait for room in its window.
-type Waiting = BTreeMap<SocketAddrV4, VecDeque<Vec<u8>>>;
+type Waiting = BTreeMap<SocketAddr, VecDeque<Vec<u8>>>;
 
-/// Takes what the server tells: who has come, who has gone, and what data came. A peer that has only asked may be forged: it counts once it
+/// Takes the events of the server: who has come, who has gone, and what data came. A peer that has only asked may be forged: it counts once it
 /// has opened its connection.
 fn take_news(server: &mut Listener, waiting: &mut Waiting) {
     while server.poll_accept().is_some() {}
     while let Some((address, change)) = server.poll_change() {
         match change {
-            Change::Opened => drop(waiting.insert(address, VecDeque::new())),
+            Change::Opened { .. } => drop(waiting.insert(address, VecDeque::new())),
             Change::Ended { .. } => drop(waiting.remove(&address)),
+            Change::Data { data, .. } => {
+                let queue = waiting.get_mut(&address);
+                if let Some(queue) = queue.filter(|it| it.len() < MOST_WAITING) {
+                    queue.push_back(data);
+                }
+            }
             _ => {}
-        }
-    }
-    while let Some((address, event)) = server.poll_event() {
-        if let (Event::Data(data), Some(queue)) = (event, waiting.get_mut(&address))
-            && queue.len() < MOST_WAITING
-        {
-            queue.push_back(data);
         }
     }
 }
@@ -79,33 +72,53 @@ fn send_back(server: &mut Listener, waiting: &mut Waiting, now: Instant) {
     }
 }
 
-/// Sends each frame to its peer. One that the socket does not take is lost.
+/// Sends each frame to its peer. If the socket does not take it, it is lost.
 fn hand_over(server: &mut Listener, socket: &UdpSocket) {
     while let Some((address, frame)) = server.poll_transmit() {
         let _ = socket.send_to(&frame.bytes, address);
     }
 }
 
+/// A key.
+fn drawn() -> io::Result<[u8; 32]> {
+    let mut key = [0; 32];
+    File::open("/dev/urandom")?.read_exact(&mut key)?;
+    Ok(key)
+}
+
 fn main() -> Result<(), Box<dyn Error>> {
-    let port = env::args().nth(1).ok_or("echo PORT")?.parse()?;
+    let words: Vec<String> = env::args().skip(1).collect();
+    let (port, is_translated) = match words.as_slice() {
+        [port] => (port.parse()?, false),
+        [port, how] if how == "translated" => (port.parse()?, true),
+        _ => return Err("echo PORT [translated]".into()),
+    };
     let own = SocketAddrV4::new(Ipv4Addr::LOCALHOST, port);
     let socket = UdpSocket::bind(own)?;
-    let mut random = File::open("/dev/urandom")?;
-    let mut server = Listener::new(&Config::listener(own, SERVICE), MOST_PEERS)?;
-    // Where strangers fill the table by Requests, these have a fifth of a second for the handshake.
-    let mut rules = FlowRules::default();
-    rules.crowded = Some(Duration::from_millis(200));
-    server.set_rules(rules);
+    let mut config = Config::listener(own, SERVICE);
+    if is_translated {
+        let none = SocketAddrV4::new(Ipv4Addr::UNSPECIFIED, 0).into();
+        config = config.agreed(none, none);
+    }
+    let mut server = Listener::new(&config, MOST_PEERS)?;
+    // First numbers that nobody can guess are drawn from a key (RFC 4340, section 7.2).
+    server.set_key(drawn()?);
+    let mut rekeyed = None;
     let (mut room, mut waiting) = ([0; MOST_FRAME_BYTES + 1], Waiting::new());
     loop {
+        // Where strangers fill the table by Requests, these are answered by Init Cookies, whose key is another each hour.
+        if rekeyed.is_none_or(|since: Instant| since.elapsed() >= HOUR) {
+            let now = Instant::now();
+            server.rekey(drawn()?, now);
+            rekeyed = Some(now);
+        }
         let soon = Instant::now() + Duration::from_secs(1);
         let due = server.poll_timeout().map_or(soon, |it| it.min(soon));
         let wait = due.saturating_duration_since(Instant::now());
         let found = receive(&socket, &mut room, wait)?;
         let now = Instant::now();
-        if let Some((length, SocketAddr::V4(address))) = found {
-            let first = first_number(&mut random);
-            match server.handle_datagram(address, first, &room[..length], now) {
+        if let Some((length, address)) = found {
+            match server.hear(address, &room[..length], now) {
                 // A peer that finds the server busy is told so.
                 Ok(()) | Err(ArriveError::Busy) => {}
                 Err(fault) => eprintln!("echo: {address}: {fault}"),

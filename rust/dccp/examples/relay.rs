@@ -2,7 +2,7 @@
 //!
 //!     cargo run --example relay -- PORT SERVER_PORT DELAY_MS LOSS_PERCENT
 //!
-//! What is lost is drawn from a generator with a seed of its own, so two runs lose alike. It runs until it is stopped.
+//! Losses are drawn from a generator with a fixed seed, so two runs lose alike. It runs until it is stopped.
 
 use std::cmp::Reverse;
 use std::collections::{BinaryHeap, HashMap};
@@ -11,13 +11,13 @@ use std::net::{Ipv4Addr, SocketAddr, UdpSocket};
 use std::thread;
 use std::time::{Duration, Instant};
 
-/// How many datagrams of one socket are taken before others are looked at.
+/// How many datagrams of one socket are taken before those of others.
 const MOST_AT_ONCE: usize = 64;
 
-/// How long the relay sleeps where nothing has come.
+/// How long the relay sleeps if nothing has come.
 const PAUSE: Duration = Duration::from_micros(200);
 
-/// A datagram that is under way: when it comes out, its number, over which client's socket, whether to the server, and its bytes.
+/// A datagram under way: when it goes out, its number, the client's socket, whether it goes to the server, and its bytes.
 type Way = Reverse<(Instant, u64, SocketAddr, bool, Vec<u8>)>;
 
 struct Relay {
@@ -34,7 +34,7 @@ struct Relay {
 impl Relay {
     /// Takes a datagram, unless it is lost.
     fn take(&mut self, client: SocketAddr, to_server: bool, bytes: &[u8]) {
-        // The generator of Knuth, MMIX; its upper bits are taken.
+        // Knuth's generator MMIX, of which the upper bits count.
         self.drawn = self
             .drawn
             .wrapping_mul(6_364_136_223_846_793_005)
@@ -52,7 +52,7 @@ impl Relay {
         }
     }
 
-    /// Takes what has come, as much as is heard before what is under way is looked at again, and answers whether something has.
+    /// Takes datagrams, up to the limit for a turn, and returns whether there were any.
     fn hear(&mut self) -> Result<bool, Box<dyn Error>> {
         let mut room = [0; 2_048];
         let before = self.count;
@@ -80,7 +80,7 @@ impl Relay {
         Ok(self.count != before)
     }
 
-    /// Sends what has been under way for long enough. One that the system does not take is lost.
+    /// Sends what has been under way for long enough. A datagram that the system does not take is lost.
     fn hand_over(&mut self) {
         let now = Instant::now();
         while self.under_way.peek().is_some_and(|it| it.0.0 <= now) {

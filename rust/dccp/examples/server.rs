@@ -1,4 +1,4 @@
-//! The shortest server: it sends back what each client sends, on a thread for each.
+//! The shortest server: it sends back what each client sends, with a thread for each.
 //!
 //!     cargo run --example server -- 127.0.0.1:5001
 

@@ -1,11 +1,11 @@
 //! A client and a server over UDP on this machine: what `examples_c/talk.c` is, in Rust, and either talks to that one too.
 //!
 //!     cargo run --example talk -- server PORT [closes]
-//!     cargo run --example talk -- client PORT [closes]
+//!     cargo run --example talk -- client PORT [closes] [translated]
 //!
 //! Neither wishes for anything at first. Each sends 200 packets, the client first, and loses one frame in twenty on purpose; the one that
 //! closes asks for a Sequence Window of 20,000 while data flow. Last comes a line: how many packets came, the Sequence Windows of this
-//! end and of its peer, and the code with which the connection ended.
+//! end and of its peer, and the code with which the connection ended. A client that says `translated` speaks to such an `echo`.
 
 use dccp::{
     Accepted, Config, Connection, Event, Feature, MOST_FRAME_BYTES, Phase, Place, Transmit,
@@ -23,7 +23,7 @@ const WIDER: u64 = 20_000;
 const LOST_OF: u32 = 20;
 const ANSWERS_A_SECOND: u32 = 20;
 const QUIET: Duration = Duration::from_secs(1);
-/// An end that has ended is kept a while for what is still under way; TIMEWAIT would keep it for four minutes.
+/// An end that has ended is kept for a while, for late packets; TIMEWAIT would keep it for four minutes.
 const LINGER: Duration = Duration::from_millis(1_500);
 
 /// A number that nobody can guess, for the first packet (RFC 4340, section 7.2).
@@ -67,7 +67,7 @@ impl Wire {
             return Ok(());
         }
         match self.socket.send(&frame.bytes) {
-            // One that the socket does not take is lost too.
+            // A frame that the socket does not take is lost too.
             Err(fault)
                 if !matches!(
                     fault.kind(),
@@ -113,7 +113,7 @@ fn serve(port: u16) -> Result<(Connection, Wire), Box<dyn Error>> {
                 return Ok((*connection, wire));
             }
             Accepted::Answer(answer) if wire.may_answer() => {
-                // One that the socket does not take is lost.
+                // A frame that the socket does not take is lost.
                 let _ = wire.socket.send_to(&answer.bytes, peer);
             }
             _ => {}
@@ -121,11 +121,17 @@ fn serve(port: u16) -> Result<(Connection, Wire), Box<dyn Error>> {
     }
 }
 
-fn ask(port: u16) -> Result<(Connection, Wire), Box<dyn Error>> {
+fn ask(port: u16, is_translated: bool) -> Result<(Connection, Wire), Box<dyn Error>> {
     let peer = SocketAddr::from(([127, 0, 0, 1], port));
     let socket = UdpSocket::bind(("127.0.0.1", 0))?;
     socket.connect(peer)?;
-    let config = Config::client(socket.local_addr()?, peer, SERVICE, first_number()?);
+    let none = SocketAddr::from(([0, 0, 0, 0], 0));
+    let (own, peer) = if is_translated {
+        (none, none)
+    } else {
+        (socket.local_addr()?, peer)
+    };
+    let config = Config::client(own, peer, SERVICE, first_number()?);
     let mut connection = Connection::new(&config)?;
     connection.open(Instant::now())?;
     Ok((connection, Wire::new(socket)))
@@ -143,7 +149,7 @@ struct Talk {
 }
 
 impl Talk {
-    /// Takes what the connection tells, and sends its frames.
+    /// Takes the events of the connection, and sends its frames.
     fn take(&mut self, connection: &mut Connection, wire: &mut Wire) -> io::Result<()> {
         while let Some(event) = connection.poll_event() {
             match event {
@@ -179,7 +185,7 @@ impl Talk {
         Ok(())
     }
 
-    /// It is time to close once all was sent, the wider window is settled, and nothing has come for a second.
+    /// Whether to close: everything was sent, the wider window is settled, and nothing has arrived for a second.
     fn is_done(&self, connection: &mut Connection) -> bool {
         let is_quiet = self.heard.is_none_or(|it| QUIET < it.elapsed());
         let all_went = self.sent == PACKETS
@@ -231,14 +237,18 @@ fn talk(
 fn main() -> Result<(), Box<dyn Error>> {
     let words: Vec<String> = env::args().skip(1).collect();
     let words: Vec<&str> = words.iter().map(String::as_str).collect();
-    let (side, port, closes) = match words[..] {
+    let (words, is_translated) = match words[..] {
+        [ref words @ .., "translated"] => (words, true),
+        ref words => (words, false),
+    };
+    let (side, port, closes) = match *words {
         [side, port] => (side, port.parse()?, false),
         [side, port, "closes"] => (side, port.parse()?, true),
         _ => return Err("talk server PORT [closes], or talk client PORT [closes]".into()),
     };
     let (mut connection, wire) = match side {
         "server" => serve(port)?,
-        "client" => ask(port)?,
+        "client" => ask(port, is_translated)?,
         _ => return Err("a server or a client".into()),
     };
     let talk = talk(&mut connection, wire, closes, side == "server")?;

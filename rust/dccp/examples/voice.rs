@@ -1,21 +1,20 @@
-//! Voice both ways: 160 bytes each 20 ms. What finds no room is dropped, since it would come too late, and what comes is played 60 ms
-//! after it was said, or not at all.
+//! Voice both ways: 160 bytes each 20 ms. A packet without room is dropped, since it would arrive too late. A packet is played 60 ms after
+//! it was said, or not at all.
 //!
-//!     cargo run --example voice -- server ADDRESS:PORT SECONDS
-//!     cargo run --example voice -- client ADDRESS:PORT SECONDS
+//!     cargo run --example voice -- server ADDRESS:PORT SECONDS, or client ADDRESS:PORT SECONDS
 //!
-//! Last comes a line: what share of the other's packets was played, and the longest silence. Both run CCID 248, a fixed window of eight
-//! packets: over CCID 2 a few losses halve the window, and voice that waits is late. The ends agree on names, so a relay may be between.
+//! The last line says which share of the other's packets was played, and the longest silence. Both use CCID 248, a fixed window of eight
+//! packets: with CCID 2 a few losses halve the window, and voice that waits is late. The ends agree on names for a relay.
 
 use dccp::net::{Error, Options, Socket};
 use dccp::{Feature, Place};
 use std::time::{Duration, Instant};
 
 const FRAME: Duration = Duration::from_millis(20);
-/// How long the first packet waits to be played: packets may come by so much later than it did.
+/// How long the first packet waits to be played: later packets may be delayed by this much more.
 const JITTER: Duration = Duration::from_millis(60);
 
-/// Speaks and plays for so many packets. It answers how many were played, and the longest silence.
+/// Speaks and plays this many packets. Returns how many were played, and the longest silence.
 fn talk(socket: &Socket, packets: u32) -> (u32, Duration) {
     let (begun, mut first) = (Instant::now(), None);
     let (mut played, mut last, mut silence) = (0, begun, Duration::ZERO);
@@ -54,7 +53,7 @@ fn main() -> Result<(), Box<dyn std::error::Error>> {
     let (played, silence) = talk(&socket, packets);
     let (share, silence) = (100 * played / packets, silence.as_millis());
     println!("{side} played {share} of 100, longest silence {silence} ms");
-    // Where the other has gone, nobody answers.
+    // If the other is gone, nobody answers.
     let _ = socket.close(Duration::from_secs(2));
     Ok(())
 }

@@ -1,10 +1,10 @@
-//! A connection: an end, the frames that wait to be sent, and what its owner is told.
+//! A connection: an end, the frames that wait to be sent, and the events for its owner.
 
 use crate::end::End;
 use crate::fates::InFlight;
 use crate::{
-    AbortError, CloseError, Config, Fate, Feature, Held, MakeError, Numbers, OpenError, Phase,
-    Place, PreferError, SendError, Statistics, Timer, sys,
+    AbortError, CloseError, Config, CookieKeys, Fate, Feature, Held, MakeError, Numbers, OpenError,
+    Phase, Place, PreferError, SendError, Statistics, Timer, sys,
 };
 use std::collections::VecDeque;
 use std::time::{Duration, Instant};
@@ -15,18 +15,18 @@ use std::time::{Duration, Instant};
 pub struct Transmit {
     /// At most 2,044 bytes.
     pub bytes: Vec<u8>,
-    /// Whether it is a Sync or a Reset that answers a packet, as anybody may call them forth: limit how many go out in a second
-    /// (RFC 4340, sections 7.5.4 and 8.3.1). One that is left out is a lost frame.
+    /// Whether it is a Sync or a Reset that answers a packet. Anybody may cause these: limit how many go out in a second (RFC 4340,
+    /// sections 7.5.4 and 8.3.1). One that is left out counts as a lost frame.
     pub is_answer: bool,
 }
 
-/// Frames for the peer in a buffer, each a datagram of its own: as UDP_SEGMENT of Linux wants them.
+/// Frames for the peer in a buffer, each of which is one datagram, in the form of UDP_SEGMENT of Linux.
 #[derive(Clone, Copy, Debug, PartialEq, Eq)]
 #[non_exhaustive]
 pub struct Segments {
-    /// How many bytes they have together.
+    /// Their length together, in bytes.
     pub length: usize,
-    /// How many each of them has; the last may have fewer.
+    /// The length of each, in bytes; the last may be shorter.
     pub segment: usize,
     /// Whether it is one frame, which answers a packet, as [`Transmit::is_answer`] has it.
     pub is_answer: bool,
@@ -36,11 +36,11 @@ pub struct Segments {
 #[derive(Clone, Copy, Debug, Default, PartialEq, Eq)]
 #[non_exhaustive]
 pub struct RoundTrip {
-    /// The round trip; zero before there was a sample.
+    /// The round trip; zero before the first sample.
     pub smoothed: Duration,
-    /// Its variance; zero before there was a sample.
+    /// Its variance; zero before the first sample.
     pub variance: Duration,
-    /// How long a report is waited for.
+    /// How long the end waits for a report.
     pub timeout: Duration,
 }
 
@@ -54,40 +54,48 @@ impl RoundTrip {
     }
 }
 
-/// What the owner of a connection is told.
+/// An event of a connection.
 #[derive(Clone, Debug, PartialEq, Eq)]
 #[non_exhaustive]
 pub enum Event {
-    /// Data came, of one packet, maybe none. No packet's data come twice.
+    /// The data of one packet arrived, maybe no bytes. No packet's data arrive twice.
     Data(Vec<u8>),
-    /// The connection has ended, by a Reset with this code: 1 is an orderly close, 2 a peer that gave up, any other a fault (RFC 4340,
-    /// section 5.6). The end that closes may also hear 3. It comes at most once, and not after an own [`Connection::abort`].
+    /// Data came, of one packet, and wait for [`Connection::read`], or [`Listener::read`](crate::Listener::read): so it is with
+    /// [`Config::holding`].
+    Waits,
+    /// Data arrived and were dropped: the application stopped reading (code 1), or there was no room (code 2; RFC 4340, section 11.7).
+    Dropped {
+        /// The Drop Code, which is reported to the peer.
+        code: u8,
+    },
+    /// The connection has ended, by a Reset with this code: 1 is an orderly close, 2 means that the peer gave up, any other is a fault (RFC
+    /// 4340, section 5.6). The end that closes may also hear 3. There is at most one such event, and none after [`Connection::abort`].
     Ended {
         /// The Reset Code.
         code: u8,
     },
 }
 
-/// What a server makes of a datagram from a peer that it does not know.
+/// A server's answer to a datagram from a peer that it does not know.
 #[derive(Debug)]
 #[non_exhaustive]
 pub enum Accepted {
-    /// It is a Request: this is the connection, and its answer waits in [`Connection::poll_transmit`]. Where one of its options is a
-    /// fault, the connection has ended already, and its phase is [`Phase::Closed`].
+    /// It is a Request: this is the connection, and its answer waits in [`Connection::poll_transmit`]. If its options have a fault, the
+    /// connection has already ended, and its phase is [`Phase::Closed`].
     Connection(Box<Connection>),
-    /// It is none, and this answers it.
+    /// It is no Request, and this answers it.
     Answer(Transmit),
-    /// It is none.
+    /// It is no Request, and nothing answers it.
     Nothing,
 }
 
 /// One end of a DCCP connection, with its timers. It has no socket and no clock: its owner hands in datagrams and the time.
 ///
-/// After each call, [`poll_transmit`](Connection::poll_transmit) and [`poll_event`](Connection::poll_event) are asked until they have
-/// nothing more; [`handle_timeout`](Connection::handle_timeout) is called once [`poll_timeout`](Connection::poll_timeout) has gone by.
-/// A connection may go once its phase is [`Phase::Closed`] again; in [`Phase::TimeWait`] it answers what is still under way.
+/// After each call, ask [`poll_transmit`](Connection::poll_transmit) and [`poll_event`](Connection::poll_event) until they have nothing
+/// more. Call [`handle_timeout`](Connection::handle_timeout) once [`poll_timeout`](Connection::poll_timeout) has passed. Drop a connection
+/// once its phase is [`Phase::Closed`] again; in [`Phase::TimeWait`] it still answers late packets.
 ///
-/// A connection may be moved to another thread, and is not shared by several:
+/// A connection may move to another thread, but threads cannot share it:
 ///
 /// ```
 /// fn moves<T: Send>() {}
@@ -102,7 +110,7 @@ pub enum Accepted {
 pub struct Connection {
     end: End,
     view: sys::View,
-    /// The end's time is counted in milliseconds from the first call that has one.
+    /// The end counts its time in milliseconds from the first call that has one.
     begun: Option<Instant>,
     due: Option<Instant>,
     outgoing: Outgoing,
@@ -110,18 +118,18 @@ pub struct Connection {
     has_ended: bool,
 }
 
-/// The frames that wait for the peer, the packets of data that are in flight, and what was counted.
+/// The frames that wait for the peer, the packets of data in flight, and the counts.
 #[derive(Debug, Default)]
 struct Outgoing {
     frames: VecDeque<Transmit>,
-    /// Rooms of frames that were sent.
+    /// Buffers of frames that were sent, for further ones.
     spare: Vec<Vec<u8>>,
     in_flight: InFlight,
     counts: Statistics,
 }
 
 impl Outgoing {
-    /// The next frame, and its room for another.
+    /// The next frame; its buffer is kept for another.
     fn write(&mut self, buffer: &mut [u8]) -> Option<usize> {
         let frame = self.frames.pop_front()?;
         let length = frame.bytes.len();
@@ -133,11 +141,11 @@ impl Outgoing {
     }
 }
 
-/// How many rooms of frames are kept.
+/// How many buffers of frames are kept.
 const MOST_SPARE: usize = 64;
 
 impl Connection {
-    /// A connection that has sent and received nothing. Refused where a wish is, or where there is no memory.
+    /// A connection that has sent and received nothing. Refused if a wish is refused, or if there is no memory.
     ///
     /// ```
     /// use dccp::{Config, Connection, Feature, MakeError, Phase, Place};
@@ -170,7 +178,7 @@ impl Connection {
         }
     }
 
-    /// What a server makes of a datagram from a peer that it does not know: a connection exactly where it leads a new server's end
+    /// Takes a datagram from a peer that the server does not know. It makes a connection exactly if the datagram leads a new server's end
     /// of this configuration out of [`Phase::Listen`].
     ///
     /// ```
@@ -201,7 +209,7 @@ impl Connection {
                 MakeError::answer(status)?;
                 let mut connection = Connection::of(end);
                 connection.outgoing = outgoing;
-                // A Request has no data that are delivered.
+                // The data of a Request are not delivered.
                 let _ = connection.hear(&told, datagram, Phase::Listen);
                 connection.called(now);
                 Ok(Accepted::Connection(Box::new(connection)))
@@ -209,9 +217,77 @@ impl Connection {
         }
     }
 
-    /// Turns the first datagram of a peer away, and takes no memory except for the frame: a Request that [`Connection::accept`] would make
-    /// a connection of is answered by a Reset with this code (RFC 4340, section 5.6), as 9, Too Busy, or 7, Connection Refused; any
-    /// other datagram as that call answers it. Wishes make no difference.
+    /// Answers a Request with an Init Cookie, and keeps nothing (RFC 4340, section 8.1.4): [`recall`](Connection::recall) makes the
+    /// connection once the cookie comes back. Any datagram that is no Request for this server is answered as by [`Connection::accept`].
+    /// None if there is no answer, as for a Request whose options are too long for a cookie.
+    ///
+    /// ```
+    /// use dccp::{Config, Connection, CookieKeys, Phase};
+    /// use std::time::Instant;
+    ///
+    /// let (here, there) = ("192.0.2.1:40000".parse()?, "192.0.2.2:5001".parse()?);
+    /// let (config, now) = (Config::server(there, here, 42, 2_000), Instant::now());
+    /// // A real server draws the key.
+    /// let keys = CookieKeys::new([7; 32], now);
+    /// let mut client = Connection::new(&Config::client(here, there, 42, 1_000))?;
+    /// client.open(now)?;
+    /// let request = client.poll_transmit().ok_or("a Request")?;
+    /// let response = Connection::greet(&config, &keys, &request.bytes, now)?.ok_or("a Response")?;
+    /// client.handle_datagram(&response.bytes, now);
+    /// let ack = client.poll_transmit().ok_or("an Ack")?;
+    /// let server = Connection::recall(&config, &keys, &ack.bytes, now)?.ok_or("a connection")?;
+    /// assert_eq!(server.phase(), Phase::Open);
+    /// // Without the cookie there is none.
+    /// assert!(Connection::recall(&config, &keys, &request.bytes, now)?.is_none());
+    /// # Ok::<(), Box<dyn std::error::Error>>(())
+    /// ```
+    pub fn greet(
+        config: &Config,
+        keys: &CookieKeys,
+        datagram: &[u8],
+        now: Instant,
+    ) -> Result<Option<Transmit>, MakeError> {
+        let (mut end, time) = (End::none(), keys.time(now));
+        let (settings, wishes) = (config.settings(), config.wishes());
+        let (status, frame) = end.greet(settings, wishes, keys.pair(), datagram, time);
+        if !matches!(status, sys::NO_CONNECTION | sys::TOO_LONG) {
+            MakeError::answer(status)?;
+        }
+        Ok((!frame.is_empty()).then(|| Transmit {
+            bytes: frame.to_vec(),
+            is_answer: status != sys::DONE,
+        }))
+    }
+
+    /// The connection of a datagram that returns a good Init Cookie, at most two minutes old. It has heard the datagram. None if there is
+    /// no good cookie. The configuration is that of [`Connection::greet`]; its first number makes no difference.
+    pub fn recall(
+        config: &Config,
+        keys: &CookieKeys,
+        datagram: &[u8],
+        now: Instant,
+    ) -> Result<Option<Box<Connection>>, MakeError> {
+        let mut end = End::none();
+        let (status, request) =
+            end.recall(config.settings(), keys.pair(), datagram, keys.time(now));
+        if status != sys::DONE {
+            return Ok(None);
+        }
+        let request = request.to_vec();
+        let config = config.clone().first_number(end.number());
+        let Accepted::Connection(mut connection) = Connection::accept(&config, &request, now)?
+        else {
+            return Ok(None);
+        };
+        // Its Response went out when the cookie was given.
+        connection.outgoing = Outgoing::default();
+        connection.handle_datagram(datagram, now);
+        Ok(Some(connection))
+    }
+
+    /// Turns away the first datagram of a peer, and takes no memory except for the frame. A Request for which [`Connection::accept`] would
+    /// make a connection is answered by a Reset with this code (RFC 4340, section 5.6), such as 9, Too Busy, or 7, Connection Refused. Any
+    /// other datagram is answered as by that call. Wishes make no difference.
     ///
     /// ```
     /// use dccp::{Config, Connection, Event};
@@ -260,8 +336,8 @@ impl Connection {
         OpenError::answer(status)
     }
 
-    /// Sends data, 0 to 1,024 bytes, in one packet, and answers its sequence number; in [`Phase::PartOpen`] a client speaks first. A
-    /// refused call changes nothing. What became of the packet is told by [`Connection::fate`].
+    /// Sends data, 0 to 1,024 bytes, in one packet, and returns its sequence number; in [`Phase::PartOpen`] a client speaks first. A
+    /// refused call changes nothing. [`Connection::fate`] says what became of the packet.
     ///
     /// ```
     /// use dccp::{Config, Connection, SendError};
@@ -285,8 +361,8 @@ impl Connection {
         Ok(number)
     }
 
-    /// What became of the packet of data with this number, which [`Connection::send`] has answered. Ask after
-    /// [`Connection::handle_datagram`], and before [`Connection::handle_timeout`], which may tell a timeout.
+    /// What became of the packet of data with this number, which [`Connection::send`] has returned. Ask after
+    /// [`Connection::handle_datagram`], and before [`Connection::handle_timeout`], which may cause a timeout.
     ///
     /// ```
     /// use dccp::{Config, Connection, Fate};
@@ -301,8 +377,8 @@ impl Connection {
         self.end.fate(number).once(self.phase())
     }
 
-    /// The longest data, 0 to 1,024 bytes, whose frame surely has no more than `most` bytes now. Beside them stand a header and,
-    /// where the end sends Ack Vectors, one that may grow with what comes. Over IPv6 paths of 1,280 bytes UDP leaves 1,232.
+    /// The longest data, 0 to 1,024 bytes, whose frame surely has no more than `most` bytes now. A frame also has a header and, if the
+    /// end sends Ack Vectors, one that may grow with what arrives. Over IPv6 paths of 1,280 bytes UDP leaves 1,232.
     ///
     /// ```
     /// use dccp::{Config, Connection};
@@ -318,7 +394,7 @@ impl Connection {
         self.end.longest_data(most)
     }
 
-    /// Asks for these values of a feature, best first. What comes of it is seen by [`Connection::feature`].
+    /// Asks for these values of a feature, best first. [`Connection::feature`] shows the result.
     ///
     /// ```
     /// use dccp::{Config, Connection, Feature, Place, PreferError};
@@ -346,8 +422,8 @@ impl Connection {
         PreferError::answer(status)
     }
 
-    /// Closes the connection in order. No data are delivered to this end any more; data that are in flight may come after the close, so
-    /// wait until [`Connection::in_flight`] is 0, or some seconds.
+    /// Closes the connection in order. No more data are delivered to this end. Data in flight may arrive after the close, so first wait
+    /// until [`Connection::in_flight`] is 0, or for some seconds.
     ///
     /// ```
     /// use dccp::{CloseError, Config, Connection};
@@ -405,7 +481,7 @@ impl Connection {
         }
     }
 
-    /// The same, but data are given where they stand in the datagram, and make no event.
+    /// The same, but data are returned in place, in the datagram, and make no event.
     ///
     /// ```
     /// use dccp::{Config, Connection};
@@ -424,7 +500,57 @@ impl Connection {
         self.hear(&told, datagram, was)
     }
 
-    /// Tells each timer that has run out. Calling it early does nothing.
+    /// Takes the data of the packet that has waited longest. None if none wait, as always without [`Config::holding`].
+    ///
+    /// ```
+    /// use dccp::{Accepted, Config, Connection, Event};
+    /// use std::time::Instant;
+    ///
+    /// let (here, there) = ("192.0.2.1:40000".parse()?, "192.0.2.2:5001".parse()?);
+    /// let now = Instant::now();
+    /// let mut client = Connection::new(&Config::client(here, there, 42, 1_000).holding(1))?;
+    /// client.open(now)?;
+    /// let request = client.poll_transmit().ok_or("a Request")?;
+    /// let config = Config::server(there, here, 42, 2_000);
+    /// let Accepted::Connection(mut server) = Connection::accept(&config, &request.bytes, now)? else {
+    ///     return Err("a Request is accepted".into());
+    /// };
+    /// let exchange = |client: &mut Connection, server: &mut Connection| loop {
+    ///     match (client.poll_transmit(), server.poll_transmit()) {
+    ///         (None, None) => break,
+    ///         (to_server, to_client) => {
+    ///             to_server.iter().for_each(|it| server.handle_datagram(&it.bytes, now));
+    ///             to_client.iter().for_each(|it| client.handle_datagram(&it.bytes, now));
+    ///         }
+    ///     }
+    /// };
+    /// exchange(&mut client, &mut server);
+    /// server.send(b"one", now)?;
+    /// server.send(b"two", now)?;
+    /// exchange(&mut client, &mut server);
+    /// // There is room for one: the other is dropped, with the Drop Code 2 (RFC 4340, section 11.7).
+    /// assert_eq!(client.poll_event(), Some(Event::Waits));
+    /// assert_eq!(client.poll_event(), Some(Event::Dropped { code: 2 }));
+    /// assert_eq!((client.held(), client.read()), (1, Some(b"one".to_vec())));
+    /// assert_eq!((client.held(), client.read()), (0, None));
+    /// # Ok::<(), Box<dyn std::error::Error>>(())
+    /// ```
+    pub fn read(&mut self) -> Option<Vec<u8>> {
+        self.end.read()
+    }
+
+    /// The application reads no more: data that arrive from now on are dropped, and the peer is told so. False without
+    /// [`Config::holding`].
+    pub fn stop_reading(&mut self) -> bool {
+        self.end.stop_reading()
+    }
+
+    /// How many packets' data wait to be read.
+    pub fn held(&mut self) -> usize {
+        self.end.held()
+    }
+
+    /// Fires each timer that has run out. Calling it early does nothing.
     ///
     /// ```
     /// use dccp::{Config, Connection};
@@ -446,7 +572,7 @@ impl Connection {
         self.called(now);
     }
 
-    /// A timer has run out: for an owner who keeps the timers himself, and does not call [`Connection::handle_timeout`]. Tells whether
+    /// A timer has run out: for an owner who keeps the timers himself, and does not call [`Connection::handle_timeout`]. Returns whether
     /// it had something to do in this phase; a timer that had nothing to do changes nothing.
     ///
     /// ```
@@ -549,12 +675,12 @@ impl Connection {
         Held::of(&self.end.feature(feature as u32, place.is_peer()))
     }
 
-    /// Where the connection stands.
+    /// The phase of the connection.
     pub fn phase(&self) -> Phase {
         Phase::of(self.view.phase)
     }
 
-    /// How many data packets may be in flight.
+    /// How many data packets may be in flight: the window, or what the application that reads them leaves of it.
     pub fn window(&self) -> u32 {
         self.view.window
     }
@@ -564,7 +690,7 @@ impl Connection {
         self.view.in_flight
     }
 
-    /// What was counted and measured, and where the window stands.
+    /// What was counted and measured, and the window.
     pub fn statistics(&mut self) -> Statistics {
         Statistics {
             window: self.window(),
@@ -579,9 +705,9 @@ impl Connection {
         self.view.marked
     }
 
-    /// Whether frames wait for the peer.
-    pub(crate) fn has_frames(&self) -> bool {
-        !self.outgoing.frames.is_empty()
+    /// How many frames wait for the peer.
+    pub(crate) fn frames(&self) -> usize {
+        self.outgoing.frames.len()
     }
 
     /// All frames that wait for the peer, in place of these, which were sent.
@@ -620,6 +746,8 @@ impl Connection {
         let has_closed = was != Phase::Closed && self.phase() == Phase::Closed;
         match told.kind {
             sys::TOLD_DATA => return Some(&datagram[told.first..told.past]),
+            sys::TOLD_WAITS => self.events.push_back(Event::Waits),
+            sys::TOLD_NOT_KEPT => self.events.push_back(Event::Dropped { code: told.code }),
             sys::TOLD_WAS_RESET => self.ended(told.code),
             sys::TOLD_SENT_RESET if has_closed => self.ended(told.code),
             _ => {}

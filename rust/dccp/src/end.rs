@@ -1,23 +1,22 @@
 //! An end of the library for C. All unsafe code of this crate is here and, of a listener, in `src/flows.rs`.
 //!
-//! What the library asks of its caller, as `include/dccp.h` has it, holds of each call: every pointer is that of a
-//! reference, so that it is not null, points to a value of its type and overlaps no other; a slice gives its own pointer
-//! and length; `bool`s are Rust's; and `&mut self` gives the handle to one call at a time. It asks nothing of values, and
-//! what a call then does is proved (`docs/LIBRARY.md`).
+//! `include/dccp.h` says what the library requires of its caller, and each call here keeps to that. Every pointer is that
+//! of a reference, so it is not null, points to a value of its type and overlaps no other. A slice gives its pointer and
+//! length. `bool`s are Rust's. `&mut self` gives the handle to one call at a time. The library requires nothing of values,
+//! and what a call then does is proved (`docs/LIBRARY.md`).
 
 use crate::{Fate, sys};
 use std::fmt;
 use std::ptr;
 
-/// One end, or none yet. It takes its memory where it is made, and gives it back where it is dropped.
+/// One end, or none yet. It takes its memory when it is made, and gives it back when it is dropped.
 pub struct End {
     handle: sys::End,
     frame: Box<sys::Frame>,
 }
 
-// SAFETY: the library has no thread, and no state beside what a handle owns, which may be used from another thread: the
-// crate dccp_c proves `Send` of it. It has no `Sync`, since its readers take the end out of the handle and put it
-// back.
+// SAFETY: the library has no thread, and no state except what a handle owns, which another thread may use: the crate
+// dccp_c proves `Send` of it. It is not `Sync`, since its readers take the end out of the handle and put it back.
 unsafe impl Send for End {}
 
 impl fmt::Debug for End {
@@ -31,6 +30,16 @@ impl Drop for End {
         // SAFETY: the handle is this end's alone, as the head of this module says, and nothing uses it afterwards.
         unsafe { sys::dccp_free(&mut self.handle) }
     }
+}
+
+/// The data that a call of the library reads, if it reads any.
+pub fn read_by(call: impl FnOnce(&mut sys::ReadData) -> u32) -> Option<Vec<u8>> {
+    let mut data = sys::ReadData {
+        length: 0,
+        number: 0,
+        bytes: [0; sys::MOST_READ_BYTES],
+    };
+    (call(&mut data) == sys::DONE).then(|| data.bytes[..data.length].to_vec())
 }
 
 impl End {
@@ -48,13 +57,13 @@ impl End {
         End { handle, frame }
     }
 
-    /// Makes an end, and answers the status; where it is not `DONE`, there is none.
+    /// Makes an end, and returns the status; if that is not `DONE`, there is no end.
     pub fn make(&mut self, settings: &sys::Settings, wishes: &[sys::Wish]) -> u32 {
         // SAFETY: as the head of this module says.
         unsafe { sys::dccp_make(&mut self.handle, settings, wishes.as_ptr(), wishes.len()) }
     }
 
-    /// Makes a server's end of a datagram, of which is told where the status is `DONE` or `NO_CONNECTION`.
+    /// Makes a server's end from a datagram, whose outcome is valid if the status is `DONE` or `NO_CONNECTION`.
     pub fn accept(
         &mut self,
         settings: &sys::Settings,
@@ -76,12 +85,44 @@ impl End {
         (status, frame, told)
     }
 
-    /// Turns a datagram away with this code, without an end, and answers the status and the frame that it leaves.
+    /// Turns a datagram away with this code, without an end, and returns the status and the frame.
     pub fn refuse(&mut self, settings: &sys::Settings, datagram: &[u8], code: u8) -> (u32, &[u8]) {
         self.call(|_, frame| {
             let (bytes, length) = (datagram.as_ptr(), datagram.len());
             // SAFETY: as the head of this module says.
             unsafe { sys::dccp_refuse(settings, bytes, length, code, frame) }
+        })
+    }
+
+    /// Answers a Request with an Init Cookie, without an end, and returns the status and the frame.
+    pub fn greet(
+        &mut self,
+        settings: &sys::Settings,
+        wishes: &[sys::Wish],
+        keys: &sys::KeyPair,
+        datagram: &[u8],
+        now: u64,
+    ) -> (u32, &[u8]) {
+        self.call(|_, frame| {
+            let (wish, count) = (wishes.as_ptr(), wishes.len());
+            let (bytes, length) = (datagram.as_ptr(), datagram.len());
+            // SAFETY: as the head of this module says.
+            unsafe { sys::dccp_greet(settings, wish, count, keys, bytes, length, now, frame) }
+        })
+    }
+
+    /// The Request for which a datagram's Init Cookie was given; the frame has its number too.
+    pub fn recall(
+        &mut self,
+        settings: &sys::Settings,
+        keys: &sys::KeyPair,
+        datagram: &[u8],
+        now: u64,
+    ) -> (u32, &[u8]) {
+        self.call(|_, frame| {
+            let (bytes, length) = (datagram.as_ptr(), datagram.len());
+            // SAFETY: as the head of this module says.
+            unsafe { sys::dccp_recall(settings, keys, bytes, length, now, frame) }
         })
     }
 
@@ -100,7 +141,7 @@ impl End {
         unsafe { sys::dccp_longest_data(&mut self.handle, most) }
     }
 
-    /// Does a call, and answers its status and the frame that it leaves, which may be of no bytes.
+    /// Makes a call, and returns its status and the frame that it leaves, which may have no bytes.
     fn call(&mut self, doing: impl FnOnce(&mut sys::End, &mut sys::Frame) -> u32) -> (u32, &[u8]) {
         let status = doing(&mut self.handle, &mut self.frame);
         (status, &self.frame.bytes[..self.frame.length])
@@ -142,26 +183,26 @@ impl End {
         })
     }
 
-    /// Tells the first timer that has run out; the status is `DONE` where one has.
+    /// Fires the first timer that has run out; the status is `DONE` if one has.
     pub fn tick(&mut self, now: u64) -> (u32, &[u8]) {
         // SAFETY: as the head of this module says.
         self.call(|end, frame| unsafe { sys::dccp_tick(end, now, frame) })
     }
 
-    /// Tells that this timer has run out; the status is `DONE` where it had something to do.
+    /// Fires this timer, which has run out; the status is `DONE` if it had something to do.
     pub fn timer(&mut self, timer: u32, now: u64) -> (u32, &[u8]) {
         // SAFETY: as the head of this module says.
         self.call(|end, frame| unsafe { sys::dccp_timer(end, timer, now, frame) })
     }
 
-    /// How many milliseconds it is until a timer runs out, or None where none runs.
+    /// How many milliseconds it is until a timer runs out, or None if none runs.
     pub fn until_first(&mut self, now: u64) -> Option<u64> {
         // SAFETY: as the head of this module says.
         let left = unsafe { sys::dccp_until_first(&mut self.handle, now) };
         (left != sys::NEVER).then_some(left)
     }
 
-    /// Takes a datagram; what became of it is told where the status is `DONE`.
+    /// Takes a datagram. If the status is `DONE`, its outcome is valid.
     pub fn receive(&mut self, datagram: &[u8], now: u64) -> (u32, &[u8], sys::Told) {
         let mut told = sys::Told::default();
         let (status, frame) = self.call(|end, frame| {
@@ -170,6 +211,26 @@ impl End {
             unsafe { sys::dccp_receive(end, bytes, length, now, frame, &mut told) }
         });
         (status, frame, told)
+    }
+
+    /// Takes the data that have waited longest, if any wait.
+    pub fn read(&mut self) -> Option<Vec<u8>> {
+        read_by(|data| {
+            // SAFETY: as the head of this module says.
+            unsafe { sys::dccp_read(&mut self.handle, data) }
+        })
+    }
+
+    /// Drops data from now on; false if data do not wait at this end.
+    pub fn stop_reading(&mut self) -> bool {
+        // SAFETY: as the head of this module says.
+        unsafe { sys::dccp_stop_reading(&mut self.handle) == sys::DONE }
+    }
+
+    /// How many packets' data wait.
+    pub fn held(&mut self) -> usize {
+        // SAFETY: as the head of this module says.
+        unsafe { sys::dccp_held(&mut self.handle) }
     }
 
     pub fn look(&mut self) -> sys::View {

@@ -7,19 +7,20 @@ use std::iter;
 use std::net::SocketAddr;
 use std::time::Instant;
 
-/// The Reset Code of a server that has no place (RFC 4340, section 5.6).
+/// The Reset Codes of a server that takes no more connections, and of a full one (RFC 4340, section 5.6).
+pub(crate) const REFUSED: u8 = 7;
 pub(crate) const TOO_BUSY: u8 = 9;
 
-/// What makes the configuration of a connection to a peer.
+/// Makes the configuration of a connection to a peer.
 type Configure = Box<dyn FnMut(SocketAddr) -> Config + Send>;
 
 /// A server of many peers over one socket: a connection for each address from which a Request has come, up to a greatest number of them.
-/// What one peer sends changes nothing for another, as long as there is room. It has no socket and no clock, as a [`Connection`].
+/// What one peer sends changes nothing for another, as long as there is room. Like a [`Connection`], it has no socket and no clock.
 ///
-/// After each call, [`poll_accept`](Endpoint::poll_accept), [`poll_transmit`](Endpoint::poll_transmit) and
-/// [`poll_event`](Endpoint::poll_event) are asked until they have nothing more: what waits there has no bound.
-/// [`handle_timeout`](Endpoint::handle_timeout) is called once [`poll_timeout`](Endpoint::poll_timeout) has gone by. A connection that is
-/// closed goes by itself. A peer that has fallen silent keeps its place until its connection is aborted, which is left to the owner.
+/// After each call, ask [`poll_accept`](Endpoint::poll_accept), [`poll_transmit`](Endpoint::poll_transmit) and
+/// [`poll_event`](Endpoint::poll_event) until they have nothing more: what waits there has no bound. Call
+/// [`handle_timeout`](Endpoint::handle_timeout) once [`poll_timeout`](Endpoint::poll_timeout) has passed. A closed connection is dropped. A
+/// silent peer keeps its place until the owner aborts its connection.
 ///
 /// ```
 /// use dccp::{Config, Connection, Endpoint, Event};
@@ -63,6 +64,11 @@ impl fmt::Debug for Endpoint {
     }
 }
 
+/// Whether a datagram has the type of a Request (RFC 4340, section 5.1).
+fn is_request(datagram: &[u8]) -> bool {
+    datagram.get(8).is_some_and(|it| (it >> 1) & 15 == 0)
+}
+
 impl Endpoint {
     /// A server of at most so many peers at a time. `configure` gives the configuration for a peer that is not known, a
     /// [`Config::server`] with a first number that nobody can guess.
@@ -80,9 +86,9 @@ impl Endpoint {
         }
     }
 
-    /// A datagram has arrived from this address. Of a peer that is not known it may be a Request, which makes a connection, but for one
-    /// with a fault in its options, which is answered alone; where there are as many connections as may be, a Reset with code 9, Too
-    /// Busy, answers it. Refused as [`Connection::accept`] is.
+    /// A datagram has arrived from this address. A Request from an unknown peer makes a connection, unless its options have a fault, which
+    /// is only answered. If there is no room for a connection, a Reset with code 9, Too Busy, answers it. Refused as [`Connection::accept`]
+    /// is.
     pub fn handle_datagram(
         &mut self,
         peer: SocketAddr,
@@ -91,10 +97,10 @@ impl Endpoint {
     ) -> Result<(), MakeError> {
         if let Some(connection) = self.connections.get_mut(&peer) {
             connection.handle_datagram(datagram, now);
-        } else if self.connections.len() < self.most {
+        } else if self.connections.len() < self.most && is_request(datagram) {
             match Connection::accept(&(self.configure)(peer), datagram, now)? {
                 Accepted::Connection(mut connection) if connection.phase() == Phase::Closed => {
-                    // It has ended before the owner knew of it: its Reset goes out, and the owner is told nothing.
+                    // It has ended before the owner knew of it: its Reset goes out, and the owner gets no event.
                     let frames = iter::from_fn(|| connection.poll_transmit());
                     self.frames.extend(frames.map(|frame| (peer, frame)));
                 }
@@ -106,6 +112,7 @@ impl Endpoint {
                 Accepted::Nothing => {}
             }
         } else {
+            // No end is made for it: any other packet is answered as an end would answer it.
             let refused = Connection::refuse(&(self.configure)(peer), datagram, TOO_BUSY);
             self.frames.extend(refused.map(|frame| (peer, frame)));
         }
@@ -113,7 +120,7 @@ impl Endpoint {
         Ok(())
     }
 
-    /// Makes calls of the connection of a peer, as `send` and `close`; None where there is none.
+    /// Makes calls of a peer's connection, such as `send` and `close`. None if there is no connection.
     pub fn call<T>(
         &mut self,
         peer: SocketAddr,
@@ -129,7 +136,7 @@ impl Endpoint {
         self.connections.iter().map(|(peer, it)| (*peer, it))
     }
 
-    /// Tells each timer of each connection that has run out. Calling it early does nothing.
+    /// Fires each timer of each connection that has run out. Calling it early does nothing.
     pub fn handle_timeout(&mut self, now: Instant) {
         let due: Vec<SocketAddr> = self
             .connections()
@@ -141,29 +148,29 @@ impl Endpoint {
         }
     }
 
-    /// When [`Endpoint::handle_timeout`] has something to do; None where no timer runs. Ask again after every other call.
+    /// When [`Endpoint::handle_timeout`] has something to do; None if no timer runs. Ask again after every other call.
     pub fn poll_timeout(&self) -> Option<Instant> {
         self.connections()
             .filter_map(|(_, it)| it.poll_timeout())
             .min()
     }
 
-    /// The next peer whose connection is new. It may have gone again, and [`Endpoint::call`] then answers None.
+    /// The next peer with a new connection. If that has already ended, [`Endpoint::call`] returns None.
     pub fn poll_accept(&mut self) -> Option<SocketAddr> {
         self.accepted.pop_front()
     }
 
-    /// The next frame, and the peer to whom it goes.
+    /// The next frame, and the peer to which it goes.
     pub fn poll_transmit(&mut self) -> Option<(SocketAddr, Transmit)> {
         self.frames.pop_front()
     }
 
-    /// The next that the owner is told, and of which peer.
+    /// The next event, and its peer.
     pub fn poll_event(&mut self) -> Option<(SocketAddr, Event)> {
         self.events.pop_front()
     }
 
-    /// Takes what a connection has for the owner, and lets one go that is closed.
+    /// Takes the frames and events of a connection, and drops it once it is closed.
     fn gather(&mut self, peer: SocketAddr) {
         let Some(connection) = self.connections.get_mut(&peer) else {
             return;

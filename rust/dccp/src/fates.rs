@@ -3,7 +3,7 @@
 use crate::names::Fate;
 use std::collections::VecDeque;
 
-/// The numbers of the packets of data that are in flight, in the order in which they went.
+/// The numbers of the packets of data that are in flight, in the order in which they were sent.
 #[derive(Debug, Default)]
 pub(crate) struct InFlight {
     numbers: VecDeque<u64>,
@@ -11,12 +11,16 @@ pub(crate) struct InFlight {
 }
 
 impl InFlight {
+    pub(crate) fn is_empty(&self) -> bool {
+        self.numbers.is_empty()
+    }
+
     pub(crate) fn note(&mut self, number: u64) {
         self.numbers.push_back(number);
     }
 
-    /// Takes out those that are in flight no more, as the oldest mostly are, once so many are left, and answers how many of them are
-    /// lost. After a timeout nothing is known of any: then all are.
+    /// Removes those that are not in flight any more, mostly the oldest, until this many are left, and returns how many of them are
+    /// lost. After a timeout nothing is known about any of them: then all are lost.
     pub(crate) fn settle(&mut self, left: u32, mut fate_of: impl FnMut(u64) -> Fate) -> u64 {
         let mut lost = 0;
         while (left as usize) < self.numbers.len() + self.kept.len() {
@@ -25,7 +29,7 @@ impl InFlight {
             };
             match fate_of(number) {
                 Fate::InFlight => self.kept.push(number),
-                Fate::Delivered => {}
+                Fate::Delivered | Fate::Dropped(_) => {}
                 Fate::Lost | Fate::Unknown => lost += 1,
             }
         }
@@ -41,7 +45,7 @@ mod tests {
     use super::InFlight;
     use crate::names::Fate;
 
-    /// Of seven packets the third and fourth are on their way still, the second and the last are lost, and the others came.
+    /// Of seven packets the third and fourth are still on their way, the second and the last are lost, and the others arrived.
     #[test]
     fn packets_leave_once_their_fate_is_known() {
         let mut flight = InFlight::default();

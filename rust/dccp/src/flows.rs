@@ -1,17 +1,20 @@
-//! A listener of the library for C. What is unsafe here is as `src/end.rs` says of an end.
+//! A listener of the library for C. The reasons for its unsafe code are those of `src/end.rs`.
 
+use crate::end::read_by;
+use crate::origins::{Origins, Paths};
 use crate::{Fate, sys};
 use std::fmt;
-use std::net::{Ipv4Addr, SocketAddrV4};
+use std::net::{Ipv4Addr, SocketAddr, SocketAddrV4};
 use std::ptr;
 
 /// A listener with its flows, or none yet.
 pub struct Flows {
     handle: sys::ListenerHandle,
     frame: Box<sys::Frame>,
+    origins: Origins,
 }
 
-// SAFETY: as of an end: no state is shared, and the crate dccp_c proves `Send` of what a handle holds.
+// SAFETY: as for an end: no state is shared, and the crate dccp_c proves `Send` of what a handle holds.
 unsafe impl Send for Flows {}
 
 impl fmt::Debug for Flows {
@@ -27,20 +30,23 @@ impl Drop for Flows {
     }
 }
 
-fn address_of(peer: SocketAddrV4) -> sys::PeerAddress {
+/// How many names are kept for peers that may have no flow any more.
+const MOST_NAMES: usize = 2_048;
+
+fn address_of(name: SocketAddrV4) -> sys::PeerAddress {
     sys::PeerAddress {
-        address: peer.ip().octets(),
-        port: peer.port(),
+        address: name.ip().octets(),
+        port: name.port(),
     }
 }
 
-fn peer_of(address: &sys::PeerAddress) -> SocketAddrV4 {
+fn name_of(address: &sys::PeerAddress) -> SocketAddrV4 {
     SocketAddrV4::new(Ipv4Addr::from(address.address), address.port)
 }
 
 impl Flows {
-    /// No listener, but the place for one.
-    pub fn none() -> Flows {
+    /// No listener, but a place for one.
+    pub fn none(paths: Paths) -> Flows {
         let handle = sys::ListenerHandle {
             opaque: ptr::null_mut(),
             is_made: false,
@@ -50,17 +56,138 @@ impl Flows {
             number: 0,
             bytes: [0; sys::MOST_FRAME_BYTES],
         });
-        Flows { handle, frame }
+        Flows {
+            handle,
+            frame,
+            origins: Origins::new(paths),
+        }
     }
 
-    /// Makes a listener, and answers the status; where it is not `DONE`, there is none.
-    pub fn make(&mut self, settings: &sys::Settings, wishes: &[sys::Wish], most: u16) -> u32 {
-        let (wish, count) = (wishes.as_ptr(), wishes.len());
+    /// The name of a peer; where it has none, one that no flow has.
+    fn address(&self, peer: SocketAddr) -> sys::PeerAddress {
+        self.origins.known(peer).map(address_of).unwrap_or_default()
+    }
+
+    /// Whether a peer of this name has a flow, or data of it wait.
+    fn stands(&mut self, name: SocketAddrV4) -> bool {
+        let (peer, mut view) = (address_of(name), sys::View::default());
         // SAFETY: as the head of this module says.
-        unsafe { sys::dccp_listener_make(&mut self.handle, settings, wish, count, most) }
+        let status = unsafe { sys::dccp_listener_look(&mut self.handle, &peer, &mut view) };
+        // SAFETY: as the head of this module says.
+        status == sys::DONE || unsafe { sys::dccp_listener_held(&mut self.handle, &peer) } != 0
     }
 
-    /// Does a call, and answers its status and the frame that it leaves, which may be of no bytes.
+    /// The name of a peer, which has one from now on, if the listener has an address for it.
+    fn named(&mut self, peer: SocketAddr) -> sys::PeerAddress {
+        if self.origins.count() >= MOST_NAMES {
+            for name in self.origins.names() {
+                if !self.stands(name) {
+                    self.origins.release(name);
+                }
+            }
+        }
+        self.origins.name(peer).map(address_of).unwrap_or_default()
+    }
+
+    fn origin(&self, address: &sys::PeerAddress) -> SocketAddr {
+        self.origins.origin(name_of(address))
+    }
+
+    /// Makes a listener, and returns the status; if that is not `DONE`, there is no listener.
+    pub fn make(&mut self, services: &[u32], wishes: &[sys::Wish], most: u16) -> u32 {
+        let (service, services_count) = (services.as_ptr(), services.len());
+        let (wish, count) = (wishes.as_ptr(), wishes.len());
+        let (it, settings) = (&mut self.handle, self.origins.listener());
+        // SAFETY: as the head of this module says.
+        unsafe { sys::dccp_listener_make(it, settings, service, services_count, wish, count, most) }
+    }
+
+    /// The next event of the last call.
+    pub fn event(&mut self) -> Option<(SocketAddr, sys::EventView)> {
+        let mut event = sys::EventView::default();
+        // SAFETY: as the head of this module says.
+        let status = unsafe { sys::dccp_listener_event(&mut self.handle, &mut event) };
+        (status == sys::DONE).then(|| (self.origin(&event.peer), event))
+    }
+
+    /// The data of a peer that have waited longest.
+    pub fn read(&mut self, peer: SocketAddr) -> Option<Vec<u8>> {
+        let peer = self.address(peer);
+        read_by(|data| {
+            // SAFETY: as the head of this module says.
+            unsafe { sys::dccp_listener_read(&mut self.handle, &peer, data) }
+        })
+    }
+
+    /// Drops a peer's data from now on, and answers the status.
+    pub fn stop_reading(&mut self, peer: SocketAddr) -> u32 {
+        let peer = self.address(peer);
+        // SAFETY: as the head of this module says.
+        unsafe { sys::dccp_listener_stop_reading(&mut self.handle, &peer) }
+    }
+
+    /// How many packets' data of a peer wait.
+    pub fn held(&mut self, peer: SocketAddr) -> usize {
+        let peer = self.address(peer);
+        // SAFETY: as the head of this module says.
+        unsafe { sys::dccp_listener_held(&mut self.handle, &peer) }
+    }
+
+    pub fn set_user(&mut self, peer: SocketAddr, user: u64) -> u32 {
+        let peer = self.address(peer);
+        // SAFETY: as the head of this module says.
+        unsafe { sys::dccp_listener_set_user(&mut self.handle, &peer, user) }
+    }
+
+    /// The Service Code of the flow that a datagram would open, if it would open one.
+    pub fn asks(&mut self, peer: SocketAddr, datagram: &[u8]) -> Option<u32> {
+        let (peer, mut service) = (self.named(peer), 0);
+        let (bytes, length) = (datagram.as_ptr(), datagram.len());
+        // SAFETY: as the head of this module says.
+        let status = unsafe {
+            sys::dccp_listener_asks(&mut self.handle, &peer, bytes, length, &mut service)
+        };
+        (status == sys::DONE).then_some(service)
+    }
+
+    /// Refuses a datagram that would open a flow, and returns the status and the frame.
+    pub fn refuse(
+        &mut self,
+        peer: SocketAddr,
+        datagram: &[u8],
+        code: u8,
+        now: u64,
+    ) -> (u32, &[u8]) {
+        let peer = self.named(peer);
+        let (bytes, length) = (datagram.as_ptr(), datagram.len());
+        // SAFETY: as the head of this module says.
+        self.call(|it, frame| unsafe {
+            sys::dccp_listener_refuse(it, &peer, bytes, length, code, now, frame)
+        })
+    }
+
+    /// The first number of a flow of this peer that begins now, drawn from a key.
+    pub fn keyed_number(&mut self, peer: SocketAddr, key: &sys::Key, now: u64) -> u64 {
+        let (peer, mut number) = (self.named(peer), 0);
+        // SAFETY: as the head of this module says. The settings are of the library's size.
+        unsafe { sys::dccp_listener_number(self.origins.listener(), key, &peer, now, &mut number) };
+        number
+    }
+
+    /// Takes no new flows from now on, or takes them again.
+    pub fn shut(&mut self, is_shut: bool) {
+        // SAFETY: as the head of this module says. There is a listener, and nothing else is refused.
+        unsafe { sys::dccp_listener_shut(&mut self.handle, is_shut) };
+    }
+
+    /// Fires a timer of a peer's flow.
+    pub fn timer(&mut self, peer: SocketAddr, timer: u32, now: u64) -> (u32, &[u8]) {
+        let peer = self.address(peer);
+        // SAFETY: as the head of this module says.
+        self.call(|it, frame| unsafe { sys::dccp_listener_timer(it, &peer, timer, now, frame) })
+    }
+
+    /// Makes a call, and returns its status and the frame that it leaves, which may have no bytes.
     fn call(
         &mut self,
         doing: impl FnOnce(&mut sys::ListenerHandle, &mut sys::Frame) -> u32,
@@ -69,15 +196,15 @@ impl Flows {
         (status, &self.frame.bytes[..self.frame.length])
     }
 
-    /// Takes a datagram; what became of it is told where the status is `DONE`.
+    /// Takes a datagram. If the status is `DONE`, its outcome is valid.
     pub fn arrive(
         &mut self,
-        peer: SocketAddrV4,
+        peer: SocketAddr,
         first_number: u64,
         datagram: &[u8],
         now: u64,
     ) -> (u32, &[u8], sys::Told) {
-        let (peer, mut told) = (address_of(peer), sys::Told::default());
+        let (peer, mut told) = (self.named(peer), sys::Told::default());
         let (status, frame) = self.call(|it, frame| {
             let (bytes, length) = (datagram.as_ptr(), datagram.len());
             // SAFETY: as the head of this module says.
@@ -97,35 +224,35 @@ impl Flows {
         (status, frame, told)
     }
 
-    pub fn send(&mut self, peer: SocketAddrV4, data: &[u8], now: u64) -> (u32, &[u8]) {
-        let peer = address_of(peer);
+    pub fn send(&mut self, peer: SocketAddr, data: &[u8], now: u64) -> (u32, &[u8]) {
+        let peer = self.address(peer);
         // SAFETY: as the head of this module says.
         self.call(|it, frame| unsafe {
             sys::dccp_listener_send(it, &peer, data.as_ptr(), data.len(), now, frame)
         })
     }
 
-    pub fn close(&mut self, peer: SocketAddrV4, now: u64) -> (u32, &[u8]) {
-        let peer = address_of(peer);
+    pub fn close(&mut self, peer: SocketAddr, now: u64) -> (u32, &[u8]) {
+        let peer = self.address(peer);
         // SAFETY: as the head of this module says.
         self.call(|it, frame| unsafe { sys::dccp_listener_close(it, &peer, now, frame) })
     }
 
-    pub fn abort(&mut self, peer: SocketAddrV4, now: u64) -> (u32, &[u8]) {
-        let peer = address_of(peer);
+    pub fn abort(&mut self, peer: SocketAddr, now: u64) -> (u32, &[u8]) {
+        let peer = self.address(peer);
         // SAFETY: as the head of this module says.
         self.call(|it, frame| unsafe { sys::dccp_listener_abort(it, &peer, now, frame) })
     }
 
     pub fn prefer(
         &mut self,
-        peer: SocketAddrV4,
+        peer: SocketAddr,
         feature: u32,
         at_peer: bool,
         values: &[u64],
         now: u64,
     ) -> (u32, &[u8]) {
-        let peer = address_of(peer);
+        let peer = self.address(peer);
         // SAFETY: as the head of this module says.
         self.call(|it, frame| unsafe {
             let (first, count) = (values.as_ptr(), values.len());
@@ -136,11 +263,11 @@ impl Flows {
     /// What the end of a peer holds for a feature, if it has one.
     pub fn feature(
         &mut self,
-        peer: SocketAddrV4,
+        peer: SocketAddr,
         feature: u32,
         at_peer: bool,
     ) -> Option<sys::FeatureState> {
-        let (peer, mut state) = (address_of(peer), sys::FeatureState::default());
+        let (peer, mut state) = (self.address(peer), sys::FeatureState::default());
         // SAFETY: as the head of this module says.
         let status = unsafe {
             sys::dccp_listener_feature(&mut self.handle, &peer, feature, at_peer, &mut state)
@@ -148,16 +275,17 @@ impl Flows {
         (status == sys::DONE).then_some(state)
     }
 
-    /// Does what is due first of a flow, and tells whose it is, by `DONE`; or gives a flow up, by `GAVE_UP`.
-    pub fn tick(&mut self, now: u64) -> (u32, SocketAddrV4, &[u8]) {
+    /// Does what is due first at a flow (`DONE`), or gives a flow up (`GAVE_UP`), and returns its peer.
+    pub fn tick(&mut self, now: u64) -> (u32, SocketAddr, &[u8]) {
         let mut peer = sys::PeerAddress::default();
         // SAFETY: as the head of this module says.
-        let (status, frame) =
-            self.call(|it, frame| unsafe { sys::dccp_listener_tick(it, now, &mut peer, frame) });
-        (status, peer_of(&peer), frame)
+        let status =
+            unsafe { sys::dccp_listener_tick(&mut self.handle, now, &mut peer, &mut *self.frame) };
+        let origin = self.origin(&peer);
+        (status, origin, &self.frame.bytes[..self.frame.length])
     }
 
-    /// How many milliseconds it is until something is due, or None where nothing will be.
+    /// How many milliseconds it is until something is due, or None if nothing will be.
     pub fn until_first(&mut self, now: u64) -> Option<u64> {
         // SAFETY: as the head of this module says.
         let left = unsafe { sys::dccp_listener_until_first(&mut self.handle, now) };
@@ -165,69 +293,79 @@ impl Flows {
     }
 
     /// The end of a peer, if it has one.
-    pub fn look(&mut self, peer: SocketAddrV4) -> Option<sys::View> {
-        let (peer, mut view) = (address_of(peer), sys::View::default());
+    pub fn look(&mut self, peer: SocketAddr) -> Option<sys::View> {
+        let (peer, mut view) = (self.address(peer), sys::View::default());
         // SAFETY: as the head of this module says.
         let status = unsafe { sys::dccp_listener_look(&mut self.handle, &peer, &mut view) };
         (status == sys::DONE).then_some(view)
     }
 
-    /// The number of the frame that the last call has left; 0 where it left none.
+    /// The number of the frame that the last call has left; 0 if it left none.
     pub fn number(&self) -> u64 {
         self.frame.number
     }
 
-    pub fn fate(&mut self, peer: SocketAddrV4, number: u64) -> Fate {
-        let peer = address_of(peer);
+    pub fn fate(&mut self, peer: SocketAddr, number: u64) -> Fate {
+        let peer = self.address(peer);
         // SAFETY: as the head of this module says.
         Fate::of(unsafe { sys::dccp_listener_fate_of(&mut self.handle, &peer, number) })
     }
 
-    pub fn longest_data(&mut self, peer: SocketAddrV4, most: usize) -> usize {
-        let peer = address_of(peer);
+    pub fn longest_data(&mut self, peer: SocketAddr, most: usize) -> usize {
+        let peer = self.address(peer);
         // SAFETY: as the head of this module says.
         unsafe { sys::dccp_listener_longest_data(&mut self.handle, &peer, most) }
     }
 
     /// What was measured of the path to a peer, if it has a flow.
-    pub fn round_trip(&mut self, peer: SocketAddrV4) -> Option<sys::RoundTripView> {
-        let (peer, mut trip) = (address_of(peer), sys::RoundTripView::default());
+    pub fn round_trip(&mut self, peer: SocketAddr) -> Option<sys::RoundTripView> {
+        let (peer, mut trip) = (self.address(peer), sys::RoundTripView::default());
         // SAFETY: as the head of this module says.
         let status = unsafe { sys::dccp_listener_look_path(&mut self.handle, &peer, &mut trip) };
         (status == sys::DONE).then_some(trip)
     }
 
     /// The peer at a place among those that have a flow.
-    pub fn peer(&mut self, place: u16) -> Option<SocketAddrV4> {
+    pub fn peer(&mut self, place: u16) -> Option<SocketAddr> {
         let mut peer = sys::PeerAddress::default();
         // SAFETY: as the head of this module says.
         let status = unsafe { sys::dccp_listener_peer(&mut self.handle, place, &mut peer) };
-        (status == sys::DONE).then(|| peer_of(&peer))
+        (status == sys::DONE).then(|| self.origin(&peer))
     }
 
-    /// Whose flow made room for the last datagram.
-    pub fn evicted(&mut self) -> Option<SocketAddrV4> {
-        let mut peer = sys::PeerAddress::default();
-        // SAFETY: as the head of this module says.
-        let status = unsafe { sys::dccp_listener_evicted(&mut self.handle, &mut peer) };
-        (status == sys::DONE).then(|| peer_of(&peer))
-    }
-
-    pub fn forget(&mut self, peer: SocketAddrV4, now: u64) -> u32 {
-        let peer = address_of(peer);
+    pub fn forget(&mut self, peer: SocketAddr, now: u64) -> u32 {
+        let peer = self.address(peer);
         // SAFETY: as the head of this module says.
         unsafe { sys::dccp_listener_forget(&mut self.handle, &peer, now) }
     }
 
-    /// The listener goes by these rules from now on.
+    /// The listener follows these rules from now on.
     pub fn rules(&mut self, rules: &sys::FlowRules) -> u32 {
         // SAFETY: as the head of this module says.
         unsafe { sys::dccp_listener_rules(&mut self.handle, rules) }
     }
 
+    /// Sets the key of Init Cookies.
+    pub fn rekey(&mut self, key: &sys::Key, now: u64) {
+        // SAFETY: as the head of this module says. There is a listener, and nothing else is refused.
+        unsafe { sys::dccp_listener_rekey(&mut self.handle, key, now) };
+    }
+
+    /// How the last datagram was treated.
+    pub fn way(&mut self) -> u32 {
+        // SAFETY: as the head of this module says.
+        unsafe { sys::dccp_listener_way(&mut self.handle) }
+    }
+
+    /// How many flows there are.
+    pub fn count(&mut self) -> u16 {
+        // SAFETY: as the head of this module says.
+        unsafe { sys::dccp_listener_flows(&mut self.handle) }
+    }
+
     /// What is known of a peer's flow beside its end, if it has one.
-    pub fn life(&mut self, peer: SocketAddrV4) -> Option<sys::FlowLife> {
-        let (peer, mut life) = (address_of(peer), sys::FlowLife::default());
+    pub fn life(&mut self, peer: SocketAddr) -> Option<sys::FlowLife> {
+        let (peer, mut life) = (self.address(peer), sys::FlowLife::default());
         // SAFETY: as the head of this module says.
         let status = unsafe { sys::dccp_listener_life(&mut self.handle, &peer, &mut life) };
         (status == sys::DONE).then_some(life)

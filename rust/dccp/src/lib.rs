@@ -1,8 +1,8 @@
 //! One end of a DCCP connection (RFC 4340) with CCID 2 (RFC 4341) and feature negotiation, over the proved library for C.
 //!
-//! It has no socket, no clock and no thread. A [`Connection`] takes datagrams and the time, and gives frames and events; an [`Endpoint`]
-//! does so for a server of many peers, and so does a [`Listener`], over IPv4 and by the listener of the library.
-//! `docs/LIBRARY.md` of the repository says what of it is proved: the library below, and nothing of this crate.
+//! It has no socket, no clock and no thread. A [`Connection`] takes datagrams and the time, and gives frames and events. An [`Endpoint`]
+//! does so for a server of many peers, and so does a [`Listener`], over the listener of the library.
+//! The library is proved, and this crate is not: `docs/LIBRARY.md` of the repository says more.
 //!
 //! ```
 //! use dccp::{Accepted, Config, Connection, Event};
@@ -13,7 +13,7 @@
 //! let mut client = Connection::new(&Config::client(here, there, 42, 1_000))?;
 //! client.open(now)?;
 //!
-//! // A server makes a connection of the Request. A real one draws the first number.
+//! // A server makes a connection from the Request. A real one draws the first number.
 //! let request = client.poll_transmit().ok_or("a Request")?;
 //! let config = Config::server(there, here, 42, 2_000);
 //! let Accepted::Connection(mut server) = Connection::accept(&config, &request.bytes, now)? else {
@@ -43,6 +43,7 @@
 
 mod config;
 mod connection;
+mod cookies;
 mod end;
 mod endpoint;
 mod fates;
@@ -50,6 +51,7 @@ mod flows;
 mod listener;
 mod names;
 pub mod net;
+mod origins;
 mod rules;
 mod statistics;
 
@@ -57,17 +59,21 @@ use dccp_sys as sys;
 
 pub use crate::config::{Config, PathRule};
 pub use crate::connection::{Accepted, Connection, Event, RoundTrip, Segments, Transmit};
+pub use crate::cookies::CookieKeys;
 pub use crate::endpoint::Endpoint;
-pub use crate::listener::{Cause, Change, Listener};
+pub use crate::listener::{Cause, Change, Listener, Way};
 pub use crate::names::{
-    AbortError, ArriveError, CloseError, Fate, Feature, FlowError, Held, ListenError, MakeError,
-    Numbers, OpenError, Phase, Place, PreferError, SendError, Timer,
+    AbortError, ArriveError, CloseError, DropCode, Fate, Feature, FlowError, Held, ListenError,
+    MakeError, Numbers, OpenError, Phase, Place, PreferError, SendError, StopError, Timer,
 };
-pub use crate::rules::FlowRules;
+pub use crate::rules::{Cookies, FlowRules};
 pub use crate::statistics::{Statistics, Traffic};
 
 /// The most data of one packet.
 pub const MOST_DATA_BYTES: usize = sys::MOST_DATA_BYTES;
+
+/// The most data of one datagram.
+pub const MOST_READ_BYTES: usize = sys::MOST_READ_BYTES;
 
 /// The longest frame, and the longest datagram that is taken.
 pub const MOST_FRAME_BYTES: usize = sys::MOST_FRAME_BYTES;

@@ -1,10 +1,10 @@
-//! The names of what crosses to the library as a number.
+//! Names for the numbers that are passed to the library and back.
 
 use crate::sys;
 use std::error::Error;
 use std::fmt;
 
-/// Where a connection stands (RFC 4340, section 8.4).
+/// The phase of a connection (RFC 4340, section 8.4).
 #[derive(Clone, Copy, Debug, PartialEq, Eq)]
 pub enum Phase {
     /// It has ended, or a client has not asked yet.
@@ -15,7 +15,7 @@ pub enum Phase {
     Request,
     /// A server has answered.
     Respond,
-    /// A client has its answer, and waits for the server to know.
+    /// A client has its answer, and waits until the server knows.
     PartOpen,
     /// Data may go out.
     Open,
@@ -23,7 +23,7 @@ pub enum Phase {
     CloseReq,
     /// An end has closed.
     Closing,
-    /// It has ended, and late packets are waited for.
+    /// It has ended, and waits for late packets.
     TimeWait,
 }
 
@@ -46,15 +46,19 @@ impl Phase {
 
 /// What became of a packet of data that was sent.
 #[derive(Clone, Copy, Debug, PartialEq, Eq)]
+#[non_exhaustive]
 pub enum Fate {
-    /// None was sent under this number; or no more is known of it: 2,048 later ones were sent, a timeout took all that was in flight
-    /// for lost, another CCID has begun, or the connection has ended while it was in flight.
+    /// None was sent under this number, or its fate is not known any more: 2,048 later ones were sent, there was a timeout, another CCID
+    /// began, or the connection ended while it was in flight.
     Unknown,
     /// It is on its way.
     InFlight,
-    /// The peer has reported that it came. Whether its owner has read the data is not known.
+    /// The peer has reported that it arrived. Whether its owner has read the data is not known.
     Delivered,
-    /// Three later ones were reported and it was not (RFC 4341, section 5). A report may still come.
+    /// It arrived, and the peer has reported that it dropped the data, or what is wrong with them. The last 2,048 of an end, or of all
+    /// flows of a listener, are known; a drop that is reported after a later packet counts as delivered.
+    Dropped(DropCode),
+    /// Three later ones were reported and it was not (RFC 4341, section 5). A report may still follow.
     Lost,
 }
 
@@ -65,17 +69,48 @@ impl Fate {
             1 => Fate::InFlight,
             2 => Fate::Delivered,
             3 => Fate::Lost,
-            _ => unreachable!("the library has four fates"),
+            dropped => Fate::Dropped(DropCode::of(dropped - sys::FATE_DROPPED)),
         }
     }
 
-    /// The same in this phase: where the connection has ended, nothing more is heard of what is in flight.
+    /// The same in this phase: once the connection has ended, nothing more is heard about what is in flight.
     pub(crate) fn once(self, phase: Phase) -> Fate {
         let has_ended = matches!(phase, Phase::Closed | Phase::TimeWait);
         if has_ended && self == Fate::InFlight {
             Fate::Unknown
         } else {
             self
+        }
+    }
+}
+
+/// Why the data of a packet that arrived were dropped (RFC 4340, section 11.7).
+#[derive(Clone, Copy, Debug, PartialEq, Eq)]
+pub enum DropCode {
+    /// The protocol does not allow data now: hold them back until it does.
+    Protocol,
+    /// No application listens any more: no further data will reach one.
+    NotListening,
+    /// The receive buffer had no room.
+    BufferFull,
+    /// They were corrupt.
+    Corrupt,
+    /// A code without a meaning yet, 4 to 6.
+    Reserved(u8),
+    /// They were corrupt, and were delivered so.
+    DeliveredCorrupt,
+}
+
+impl DropCode {
+    fn of(code: u32) -> DropCode {
+        match code {
+            0 => DropCode::Protocol,
+            1 => DropCode::NotListening,
+            2 => DropCode::BufferFull,
+            3 => DropCode::Corrupt,
+            4..=6 => DropCode::Reserved(code as u8),
+            7 => DropCode::DeliveredCorrupt,
+            _ => unreachable!("there are eight Drop Codes"),
         }
     }
 }
@@ -106,8 +141,9 @@ pub enum Feature {
 
 /// A timer of an end. [`Connection::handle_timeout`](crate::Connection::handle_timeout) keeps all six.
 #[derive(Clone, Copy, Debug, PartialEq, Eq)]
+#[non_exhaustive]
 pub enum Timer {
-    /// No answer to the Request has come.
+    /// The Request was not answered.
     Request = 0,
     /// An acknowledgement is due.
     Ack = 1,
@@ -117,7 +153,7 @@ pub enum Timer {
     Rto = 3,
     /// A Close or CloseReq is not answered.
     Close = 4,
-    /// Two lifetimes of a segment have gone by in TIMEWAIT.
+    /// Two segment lifetimes have passed in TIMEWAIT.
     TimeWait = 5,
 }
 
@@ -129,7 +165,7 @@ pub struct Numbers {
     pub first_sent: u64,
     /// GSS: the greatest that this end has sent.
     pub greatest_sent: u64,
-    /// GAR: the greatest that the peer has acknowledged. ISS before it has acknowledged any.
+    /// GAR: the greatest that the peer has acknowledged; ISS before the first.
     pub greatest_acknowledged: u64,
     /// ISR: of the first packet of the peer; 0 before it was received.
     pub first_received: u64,
@@ -158,7 +194,7 @@ impl Place {
 pub struct Held {
     /// The value that holds.
     pub value: u64,
-    /// Whether this end asks for nothing and waits for nothing. Both hold one value where this is so at both.
+    /// Whether this end asks for nothing and waits for nothing. If both ends are so, they hold one value.
     pub is_stable: bool,
 }
 
@@ -171,7 +207,7 @@ impl Held {
     }
 }
 
-/// The refusals of a call, each with its status of the library and what it says.
+/// The refusals of a call, each with its status in the library and its text.
 macro_rules! refusals {
     ($(#[$head:meta])* $name:ident { $($(#[$doc:meta])* $variant:ident = $status:ident, $said:literal;)+ }) => {
         $(#[$head])*
@@ -204,13 +240,13 @@ macro_rules! refusals {
 refusals! {
     /// Why no end was made.
     MakeError {
-        /// No memory was to be had.
+        /// There is no memory.
         NoMemory = NO_MEMORY, "no memory for an end";
         /// The first number is not below 2^48.
         FirstNumber = NO_NUMBER, "the first number is not below 2^48";
-        /// The values of a wish are none, over eight, twice the same, not permitted, or not just one where one is due.
+        /// A wish has no values, or over eight, one twice, one not permitted, or more than one where one is needed.
         BadList = BAD_LIST, "values that a feature may not have";
-        /// A wish for Sequence Window or Ack Ratio of the peer, which it alone sets.
+        /// A wish for Sequence Window or Ack Ratio of the peer, which only the peer sets.
         NotOurs = NOT_OURS, "a feature that the peer alone sets";
     }
 }
@@ -224,16 +260,18 @@ refusals! {
 }
 
 refusals! {
-    /// Why data were not sent; the first that holds.
+    /// Why data were not sent: the first cause that holds.
     SendError {
+        /// The peer has reported that no application listens any more, so data would reach nobody.
+        NotListening = NOT_LISTENING, "no application listens at the peer";
         /// The phase is neither `PartOpen` nor `Open`.
         NotOpen = NOT_OPEN, "the connection is not open";
         /// There are more than 1,024 bytes.
         TooLong = TOO_LONG, "more than 1,024 bytes of data";
-        /// The peer sends no Ack Vectors yet, which CCID 2 needs.
+        /// The peer does not yet send Ack Vectors, which CCID 2 needs.
         NotNegotiated = NOT_NEGOTIATED, "the peer sends no Ack Vectors yet";
-        /// As many packets are in flight as may be: offer the data again, or drop them.
-        WindowFull = WINDOW_FULL, "as many packets are in flight as may be";
+        /// The window is full: offer the data again, or drop them.
+        WindowFull = WINDOW_FULL, "the window is full";
     }
 }
 
@@ -242,9 +280,9 @@ refusals! {
     PreferError {
         /// The phase is neither `PartOpen` nor `Open`.
         NotOpen = NOT_OPEN, "the connection is not open";
-        /// The values are none, over eight, twice the same, not permitted, or not just one where one is due.
+        /// There are no values, or over eight, one twice, one not permitted, or more than one where one is needed.
         BadList = BAD_LIST, "values that a feature may not have";
-        /// Sequence Window or Ack Ratio of the peer, which it alone sets.
+        /// Sequence Window or Ack Ratio of the peer, which only the peer sets.
         NotOurs = NOT_OURS, "a feature that the peer alone sets";
     }
 }
@@ -268,16 +306,16 @@ refusals! {
 refusals! {
     /// Why no listener was made.
     ListenError {
-        /// No memory was to be had.
+        /// There is no memory.
         NoMemory = NO_MEMORY, "no memory for a listener";
-        /// The flows at a time are not 1 to 1,024, or the configuration is of IPv6, and so not a
-        /// [`Config::listener`](crate::Config::listener).
+        /// The flows at a time are not 1 to 1,024, or there are over 16 Service Codes or one twice, or the configuration is of IPv6, and
+        /// so not a [`Config::listener`](crate::Config::listener).
         Limit = NO_SUCH_LISTENER, "not 1 to 1,024 flows, or not the configuration of a listener";
         /// The first number is not below 2^48.
         FirstNumber = NO_NUMBER, "the first number is not below 2^48";
-        /// The values of a wish are none, over eight, twice the same, not permitted, or not just one where one is due.
+        /// A wish has no values, or over eight, one twice, one not permitted, or more than one where one is needed.
         BadList = BAD_LIST, "values that a feature may not have";
-        /// A wish for Sequence Window or Ack Ratio of the peer, which it alone sets.
+        /// A wish for Sequence Window or Ack Ratio of the peer, which only the peer sets.
         NotOurs = NOT_OURS, "a feature that the peer alone sets";
     }
 }
@@ -285,9 +323,11 @@ refusals! {
 refusals! {
     /// Why a datagram changed nothing.
     ArriveError {
-        /// As many flows stand as may, and it would open one more; a Reset that says so waits to be sent.
-        Busy = BUSY, "as many connections as may be";
-        /// No memory was to be had for a flow.
+        /// The listener is full, and it would open one more flow; a Reset that says so waits to be sent.
+        Busy = BUSY, "no room for another connection";
+        /// It would open a flow, and [`Listener::set_shut`](crate::Listener::set_shut) takes none; a Reset that says so waits to be sent.
+        Refused = REFUSED, "no new connections are taken";
+        /// There is no memory for a flow.
         NoMemory = NO_MEMORY, "no memory for a connection";
         /// The first number is not below 2^48.
         FirstNumber = NO_NUMBER, "the first number is not below 2^48";
@@ -297,8 +337,20 @@ refusals! {
 }
 
 refusals! {
-    /// Why a call of a peer's flow was refused; the first that holds. No such call takes memory
-    /// (a law of dccp_c), so none ends for want of it.
+    /// Why reading of a peer's data was not stopped.
+    StopError {
+        /// The peer has no flow.
+        NoFlow = NO_FLOW, "no connection to this peer";
+        /// No memory was to be had for what tells the peer, or unread data of connections that are over have all places.
+        NoMemory = NO_MEMORY, "no memory for what is to be told";
+        /// Data do not wait at this listener ([`Config::holding`](crate::Config::holding)).
+        NotHolding = NOTHING_DUE, "data do not wait here";
+    }
+}
+
+refusals! {
+    /// Why a call of a peer's flow was refused: the first cause that holds. No such call takes memory (a law of dccp_c), so none
+    /// fails for want of it.
     FlowError {
         /// The peer has no flow.
         NoFlow = NO_FLOW, "no connection to this peer";
@@ -308,13 +360,15 @@ refusals! {
         NotLive = NOT_LIVE, "there is no connection";
         /// There are more than 1,024 bytes.
         TooLong = TOO_LONG, "more than 1,024 bytes of data";
-        /// The peer sends no Ack Vectors yet, which CCID 2 needs.
+        /// The peer does not yet send Ack Vectors, which CCID 2 needs.
         NotNegotiated = NOT_NEGOTIATED, "the peer sends no Ack Vectors yet";
-        /// As many packets are in flight as may be: offer the data again, or drop them.
-        WindowFull = WINDOW_FULL, "as many packets are in flight as may be";
-        /// `prefer`: the values are none, over eight, twice the same, not permitted, or not just one where one is due.
+        /// The window is full: offer the data again, or drop them.
+        WindowFull = WINDOW_FULL, "the window is full";
+        /// `send`: the peer has reported that no application listens any more, so data would reach nobody.
+        NotListening = NOT_LISTENING, "no application listens at the peer";
+        /// `prefer`: there are no values, or over eight, one twice, one not permitted, or more than one where one is needed.
         BadList = BAD_LIST, "values that a feature may not have";
-        /// `prefer`: the Sequence Window or Ack Ratio of the peer, which it alone sets.
+        /// `prefer`: the Sequence Window or Ack Ratio of the peer, which only the peer sets.
         NotOurs = NOT_OURS, "a feature that the peer alone sets";
     }
 }

@@ -1,18 +1,31 @@
-//! By which rules a listener makes room, gives connections up and answers strangers.
+//! The rules by which a listener makes room, gives connections up and answers strangers.
 
 use crate::sys;
 use std::time::Duration;
+
+/// When a server answers the Request of a peer without a connection by an Init Cookie, and keeps nothing. The packet that returns the
+/// cookie opens the connection (RFC 4340, section 8.1.4). Each Request has one such answer, which is not among the answers to strangers.
+#[derive(Clone, Copy, Debug, PartialEq, Eq)]
+#[non_exhaustive]
+pub enum Cookies {
+    /// Never.
+    Never = 0,
+    /// If half-open connections have taken more than half of the places.
+    InACrowd = 1,
+    /// Always.
+    Always = 2,
+}
 
 /// By which rules a [`Listener`](crate::Listener) makes room, gives connections up and answers strangers; None is for ever, or without a
 /// limit. The default is what a listener that was just made goes by.
 #[derive(Clone, Copy, Debug, PartialEq, Eq)]
 #[non_exhaustive]
 pub struct FlowRules {
-    /// How long a connection may stand in RESPOND: four minutes (RFC 4340, section 8.1.3).
+    /// How long a connection may be in RESPOND: four minutes (RFC 4340, section 8.1.3).
     pub respond: Option<Duration>,
     /// The same where more than half of the table is in RESPOND: ten seconds (own).
     pub crowded: Option<Duration>,
-    /// How long one may stand in CLOSEREQ and in CLOSING: 64 seconds (own).
+    /// How long one may be in CLOSEREQ and in CLOSING: 64 seconds (own).
     pub closing: Option<Duration>,
     /// How long one in OPEN may take no packet: two minutes (own).
     pub idle: Option<Duration>,
@@ -20,10 +33,12 @@ pub struct FlowRules {
     pub makes_room: bool,
     /// Whether a peer that begins anew from its port ends its old connection.
     pub ends_old_flows: bool,
-    /// How many answers go in a second to peers without a connection, all together: 100 (own); 65,534 at most.
+    /// How many answers a second go to all peers without a connection together: 100 (own); 65,534 at most.
     pub answers_to_strangers: Option<u16>,
     /// How many of them are Resets to packets that belong to no connection (RFC 4340, section 8.1.3): 8 (own); 65,534 at most.
     pub resets_to_strangers: Option<u16>,
+    /// When cookies are used: in a crowd, once [`Listener::rekey`](crate::Listener::rekey) has given a key.
+    pub cookies: Cookies,
 }
 
 impl Default for FlowRules {
@@ -37,12 +52,13 @@ impl Default for FlowRules {
             ends_old_flows: true,
             answers_to_strangers: Some(100),
             resets_to_strangers: Some(8),
+            cookies: Cookies::InACrowd,
         }
     }
 }
 
 impl FlowRules {
-    /// No rule: all is left to the owner.
+    /// No rule: everything is left to the owner.
     pub fn none() -> FlowRules {
         FlowRules {
             respond: None,
@@ -53,6 +69,7 @@ impl FlowRules {
             ends_old_flows: false,
             answers_to_strangers: None,
             resets_to_strangers: None,
+            cookies: Cookies::Never,
         }
     }
 
@@ -67,11 +84,12 @@ impl FlowRules {
             resets: self.resets_to_strangers.unwrap_or(sys::UNLIMITED),
             makes_room: self.makes_room,
             ends_old_flows: self.ends_old_flows,
+            cookies: self.cookies as u8,
         }
     }
 }
 
-/// In milliseconds; a wait that is longer than those can say is for ever.
+/// In milliseconds; a wait that is too long for them is for ever.
 fn wait(given: Option<Duration>) -> u64 {
     given.map_or(sys::NEVER, |it| {
         u64::try_from(it.as_millis()).unwrap_or(sys::NEVER)

@@ -21,7 +21,7 @@ pub struct Traffic {
 }
 
 impl Traffic {
-    /// Counts a packet by its type, which stands in its ninth byte.
+    /// Counts a packet by its type, which is in its ninth byte.
     pub(crate) fn count(&mut self, packet: &[u8]) {
         match packet.get(8).map(|it| (it >> 1) & 15) {
             Some(2 | 4) => self.data += 1,
@@ -38,7 +38,13 @@ impl Traffic {
     }
 }
 
-/// What a connection has counted and measured, and where its window stands.
+/// The data of a packet. The Data Offset, its fifth byte, counts the words before them (RFC 4340, section 5.1).
+fn data_of(packet: &[u8]) -> &[u8] {
+    let place = packet.get(4).map_or(0, |words| 4 * usize::from(*words));
+    packet.get(place..).unwrap_or_default()
+}
+
+/// What a connection has counted and measured, and its window.
 #[derive(Clone, Copy, Debug, Default, PartialEq, Eq)]
 #[non_exhaustive]
 pub struct Statistics {
@@ -48,26 +54,32 @@ pub struct Statistics {
     pub received: Traffic,
     /// Datagrams that were dropped, or answered by a Sync, or by a Reset for a fault.
     pub not_taken: u64,
-    /// Packets of data that were taken for lost: three later ones were reported, or a timeout came. A late report changes nothing here.
+    /// Packets of data that count as lost: three later ones were reported, or there was a timeout. A late report changes nothing here.
     pub lost: u64,
-    /// Of a socket: Syncs and Resets that were left out, since as many as may be had gone out.
+    /// Of a socket: Syncs and Resets that were left out, since the limit was reached.
     pub answers_left_out: u64,
-    /// Of a socket: packets of data that were dropped, since as many as may be waited to be read.
+    /// Packets of data that were dropped, since too many waited to be read, or the application reads no more: of a socket, and with
+    /// [`Config::holding`](crate::Config::holding).
     pub unread_dropped: u64,
     /// How many packets of data may be in flight.
     pub window: u32,
     /// How many packets of data are in flight.
     pub in_flight: u32,
-    /// The round trip, its variance, and how long a report is waited for.
+    /// The round trip, its variance, and how long the end waits for a report.
     pub round_trip: RoundTrip,
 }
 
 impl Statistics {
-    /// Counts a datagram by what became of it.
+    /// Counts a datagram by its outcome.
     pub(crate) fn heard(&mut self, told: &sys::Told, datagram: &[u8]) {
         match told.kind {
             _ if sys::MOST_FRAME_BYTES < datagram.len() => self.not_taken += 1,
             sys::TOLD_TOOK | sys::TOLD_WAS_RESET => self.received.count(datagram),
+            sys::TOLD_WAITS | sys::TOLD_NOT_KEPT => {
+                self.received.count(datagram);
+                self.received.count_bytes(data_of(datagram));
+                self.unread_dropped += u64::from(told.kind == sys::TOLD_NOT_KEPT);
+            }
             sys::TOLD_DATA => {
                 self.received.count(datagram);
                 self.received.count_bytes(&datagram[told.first..told.past]);

@@ -1,9 +1,9 @@
 //! Four small sieges of a listener of eight places, in counted time: what strangers and restarts may do to it, and when the next client
 //! is served.
 
-use dccp::{Config, Connection, Listener, Phase};
+use dccp::{Config, Connection, Listener, Phase, Way};
 use std::error::Error;
-use std::net::SocketAddrV4;
+use std::net::{SocketAddr, SocketAddrV4};
 use std::time::{Duration, Instant};
 
 const PLACES: u16 = 8;
@@ -12,16 +12,16 @@ const STEP: Duration = Duration::from_millis(10);
 
 type Outcome = Result<(), Box<dyn Error>>;
 
-fn at(last: u8) -> SocketAddrV4 {
-    SocketAddrV4::new([192, 0, 2, last].into(), 40_000)
+fn at(last: u8) -> SocketAddr {
+    SocketAddr::new([192, 0, 2, last].into(), 40_000)
 }
 
 fn here() -> SocketAddrV4 {
     SocketAddrV4::new([192, 0, 2, 200].into(), 5_001)
 }
 
-fn client(own: SocketAddrV4, first: u64) -> Result<Connection, Box<dyn Error>> {
-    let config = Config::client(own.into(), here().into(), SERVICE, first);
+fn client(own: SocketAddr, first: u64) -> Result<Connection, Box<dyn Error>> {
+    let config = Config::client(own, here().into(), SERVICE, first);
     Ok(Connection::new(&config)?)
 }
 
@@ -42,13 +42,13 @@ impl Field {
     }
 
     /// A datagram of a peer, whether the listener takes it or not.
-    fn send(&mut self, peer: SocketAddrV4, bytes: &[u8]) {
+    fn send(&mut self, peer: SocketAddr, bytes: &[u8]) {
         self.packets += 1;
         let _ = self.server.handle_datagram(peer, 7_000, bytes, self.now);
     }
 
     /// What the listener has for the peers; that of others is lost.
-    fn answers(&mut self, peer: SocketAddrV4, to: &mut Connection) {
+    fn answers(&mut self, peer: SocketAddr, to: &mut Connection) {
         while let Some((whose, frame)) = self.server.poll_transmit() {
             if whose == peer {
                 self.packets += 1;
@@ -60,7 +60,7 @@ impl Field {
     /// A client asks until it is open, for so long at most. How long it took.
     fn connect(
         &mut self,
-        own: SocketAddrV4,
+        own: SocketAddr,
         it: &mut Connection,
         most: Duration,
     ) -> Option<Duration> {
@@ -132,6 +132,30 @@ fn half_open_flows_leave_room() -> Outcome {
 }
 
 #[test]
+fn no_flood_of_requests_keeps_a_client_out_where_there_is_a_key() -> Outcome {
+    let mut field = Field::new()?;
+    field.server.rekey([7; 32], field.now);
+    let mut answers = 0;
+    for last in 0..1_000 {
+        let own = SocketAddr::new([198, 51, 100, 7].into(), 10_000 + last);
+        let mut stranger = client(own, 9_000)?;
+        stranger.open(field.now)?;
+        let request = stranger.poll_transmit().ok_or("a Request")?;
+        field.send(own, &request.bytes);
+        while field.server.poll_transmit().is_some() {
+            answers += 1;
+        }
+    }
+    // Each Request has one Response, and connections in RESPOND are one more than half of the places.
+    assert_eq!((answers, field.server.flows()), (1_000, 5));
+    let mut next = client(at(100), 5_000)?;
+    let waited = field.connect(at(100), &mut next, Duration::from_secs(1));
+    assert_eq!(waited, Some(Duration::ZERO));
+    assert_eq!(field.server.way(), Way::Reopened);
+    Ok(())
+}
+
+#[test]
 fn strangers_are_answered_a_hundred_times_a_second() -> Outcome {
     let mut field = Field::new()?;
     half_open(&mut field)?;
@@ -140,7 +164,7 @@ fn strangers_are_answered_a_hundred_times_a_second() -> Outcome {
     for (second, count) in answers.iter_mut().enumerate() {
         field.now += Duration::from_secs(second as u64 * 2);
         for last in 0..1_000 {
-            let own = SocketAddrV4::new([198, 51, 100, 7].into(), 10_000 + last);
+            let own = SocketAddr::new([198, 51, 100, 7].into(), 10_000 + last);
             let mut stranger = client(own, 9_000)?;
             stranger.open(field.now)?;
             let request = stranger.poll_transmit().ok_or("a Request")?;

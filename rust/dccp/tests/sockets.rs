@@ -232,6 +232,36 @@ fn who_does_not_open_makes_room() -> Outcome {
     Ok(())
 }
 
+/// Where more than half of the places are taken by Requests alone, others are answered by Init Cookies.
+#[test]
+fn a_crowd_that_only_asks_keeps_nobody_out() -> Outcome {
+    let listener = Options::new()
+        .most_connections(4)
+        .bind("127.0.0.1:0", &[SERVICE])?;
+    let address = listener.local_addr()?;
+    let mut silent = Vec::new();
+    for _ in 0..10 {
+        let socket = UdpSocket::bind("127.0.0.1:0")?;
+        let config = Config::client(socket.local_addr()?, address, SERVICE, 1_000);
+        let mut asking = Connection::new(&config)?;
+        asking.open(Instant::now())?;
+        let request = asking.poll_transmit().ok_or("a Request")?;
+        socket.send_to(&request.bytes, address)?;
+        // Each is answered by a Response.
+        let mut room = [0; 2_048];
+        socket.recv(&mut room)?;
+        assert_eq!((room[8] >> 1) & 15, 1);
+        silent.push(socket);
+    }
+    let begun = Instant::now();
+    let client = Options::new().connect(address, SERVICE)?;
+    client.send(b"first")?;
+    let server = listener.accept_timeout(LONG)?;
+    assert_eq!(server.recv_timeout(LONG)?, b"first");
+    assert!(begun.elapsed() < Duration::from_secs(1));
+    Ok(())
+}
+
 /// What became of packets is told by their numbers, and no number is given twice.
 #[test]
 fn what_became_of_a_packet_is_told() -> Outcome {
@@ -301,4 +331,29 @@ fn relay(front: &UdpSocket, back: &UdpSocket, goes: &AtomicBool) {
             let _ = front.send_to(&room[..length], client);
         }
     }
+}
+
+/// The end that answers a Close last stays until the peer has repeated it twice, since that answer may be lost: after 100 ms, and 200 more.
+#[test]
+fn a_close_stays_for_what_the_peer_repeats() -> Outcome {
+    let (client, server) = pair(&Options::new(), "127.0.0.1:0")?;
+    let begun = Instant::now();
+    assert_eq!(client.close(LONG)?, End::Reset { code: 1 });
+    let first = begun.elapsed();
+    assert_eq!(server.close(LONG)?, End::Reset { code: 1 });
+    assert!(first < Duration::from_millis(300), "{first:?}");
+    assert!(Duration::from_millis(300) <= begun.elapsed());
+    Ok(())
+}
+
+/// A listener that is gone leaves its connections, and turns others away while one stands (Reset Code 7, Connection Refused: RFC 4340,
+/// section 5.6).
+#[test]
+fn a_listener_that_is_gone_refuses() -> Outcome {
+    let (client, server) = pair(&Options::new(), "127.0.0.1:0")?;
+    let other = Socket::connect(server.local_addr()?, SERVICE);
+    assert!(matches!(other, Err(Error::Ended(End::Reset { code: 7 }))));
+    server.send(b"still here")?;
+    assert_eq!(client.recv_timeout(LONG)?, b"still here");
+    Ok(())
 }

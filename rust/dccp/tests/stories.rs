@@ -1,8 +1,9 @@
 //! Connections in one process, whose time is counted on and whose frames are lost by number.
 
 use dccp::{
-    Accepted, ArriveError, Config, Connection, Endpoint, Event, Fate, Feature, FlowError,
-    ListenError, Listener, MOST_FRAME_BYTES, Phase, Place, Timer, Transmit,
+    Accepted, ArriveError, Cause, Change, Config, Connection, DropCode, Endpoint, Event, Fate,
+    Feature, FlowError, ListenError, Listener, MOST_FRAME_BYTES, Phase, Place, SendError,
+    StopError, Timer, Transmit,
 };
 use std::error::Error;
 use std::net::{SocketAddr, SocketAddrV4};
@@ -34,12 +35,16 @@ fn kind(frame: &Transmit) -> u8 {
 
 /// A client and a server that are open, and the time.
 fn open_pair() -> Result<(Connection, Connection, Instant), Box<dyn Error>> {
+    open_pair_with(&server())
+}
+
+/// The same with this server.
+fn open_pair_with(server: &Config) -> Result<(Connection, Connection, Instant), Box<dyn Error>> {
     let now = Instant::now();
     let mut one = Connection::new(&client())?;
     one.open(now)?;
     let request = one.poll_transmit().ok_or("a Request")?;
-    let Accepted::Connection(mut other) = Connection::accept(&server(), &request.bytes, now)?
-    else {
+    let Accepted::Connection(mut other) = Connection::accept(server, &request.bytes, now)? else {
         return Err("a Request is accepted".into());
     };
     while one.phase() != Phase::Open || other.phase() != Phase::Open {
@@ -135,8 +140,47 @@ fn what_became_of_packets_is_told() -> Result<(), Box<dyn Error>> {
     Ok(())
 }
 
+/// The server holds one packet, which its owner does not read. Of four that come the first is kept, and the others are dropped for want of
+/// room (RFC 4340, section 11.7): so the client's window of four is down to one (RFC 4341, section 5.2). Once the owner reads no more, the
+/// next that comes is the last that goes out.
+#[test]
+fn a_client_heeds_what_its_server_drops() -> Result<(), Box<dyn Error>> {
+    let (mut one, mut other, now) = open_pair_with(&server().holding(1))?;
+    while one.poll_transmit().is_some() {}
+    let numbers = [0; 4].map(|_| one.send(b"x", now));
+    let numbers: Vec<u64> = numbers.into_iter().collect::<Result<_, _>>()?;
+    let later = now + Duration::from_secs(1);
+    exchange(&mut one, &mut other, now);
+    let fates: Vec<Fate> = numbers.iter().map(|it| one.fate(*it)).collect();
+    assert_eq!(fates[0], Fate::Delivered);
+    assert_eq!(fates[1..], [Fate::Dropped(DropCode::BufferFull); 3]);
+    assert_eq!((one.in_flight(), one.statistics().lost), (0, 0));
+    assert_eq!(one.window(), 1);
+    let counted = other.statistics();
+    let received = (counted.received.data, counted.received.data_bytes);
+    assert_eq!((received, counted.unread_dropped), ((4, 4), 3));
+    let fifth = one.send(b"x", later)?;
+    assert_eq!(one.send(b"x", later), Err(SendError::WindowFull));
+    assert!(other.stop_reading());
+    exchange(&mut one, &mut other, later);
+    assert_eq!(one.fate(fifth), Fate::Dropped(DropCode::NotListening));
+    assert_eq!(one.send(b"x", later), Err(SendError::NotListening));
+    Ok(())
+}
+
+/// All frames of both get through, and what is not acknowledged at once is after a while.
+fn exchange(one: &mut Connection, other: &mut Connection, now: Instant) {
+    while let Some(frame) = one.poll_transmit() {
+        other.handle_datagram(&frame.bytes, now);
+    }
+    other.handle_timeout(now + Duration::from_secs(1));
+    while let Some(frame) = other.poll_transmit() {
+        one.handle_datagram(&frame.bytes, now);
+    }
+}
+
 /// Frames of one length are written one after another, and a shorter one ends them; each is taken by the other end, where its data
-/// stand in the datagram.
+/// are in the datagram.
 #[test]
 fn frames_are_written_into_a_buffer() -> Result<(), Box<dyn Error>> {
     let (mut one, mut other, now) = open_pair()?;
@@ -454,7 +498,7 @@ fn a_server_tells_the_timers_of_all_its_peers() -> Result<(), Box<dyn Error>> {
 /// Frames arrive at a listener and at a client until there are no more.
 fn settle(
     server: &mut Listener,
-    here: SocketAddrV4,
+    here: SocketAddr,
     client: &mut Connection,
     now: Instant,
 ) -> Result<(), ArriveError> {
@@ -474,12 +518,12 @@ fn settle(
 #[test]
 fn what_became_of_packets_of_a_listener_is_told() -> Result<(), Box<dyn Error>> {
     let there = SocketAddrV4::new([10, 0, 0, 2].into(), 5_001);
-    let peer = SocketAddrV4::new([10, 0, 1, 1].into(), 40_000);
+    let peer = SocketAddr::new([10, 0, 1, 1].into(), 40_000);
     let (now, mut server) = (
         Instant::now(),
         Listener::new(&Config::listener(there, SERVICE), 1)?,
     );
-    let mut client = Connection::new(&Config::client(peer.into(), there.into(), SERVICE, 1_000))?;
+    let mut client = Connection::new(&Config::client(peer, there.into(), SERVICE, 1_000))?;
     client.open(now)?;
     settle(&mut server, peer, &mut client, now)?;
     client.send(b"speaks first", now)?;
@@ -507,14 +551,96 @@ fn what_became_of_packets_of_a_listener_is_told() -> Result<(), Box<dyn Error>> 
     Ok(())
 }
 
+/// The other way round: of four packets of a listener its peer holds the first, and drops the others. So there is room for one, in place of four,
+/// and once that one is reported, the listener is told that there is room again, since its peer reads.
+#[test]
+fn a_listener_heeds_what_its_peer_drops() -> Result<(), Box<dyn Error>> {
+    let there = SocketAddrV4::new([10, 0, 0, 2].into(), 5_001);
+    let peer = SocketAddr::new([10, 0, 1, 1].into(), 40_000);
+    let (now, mut server) = (
+        Instant::now(),
+        Listener::new(&Config::listener(there, SERVICE), 1)?,
+    );
+    let config = Config::client(peer, there.into(), SERVICE, 1_000);
+    let mut client = Connection::new(&config.holding(1))?;
+    client.open(now)?;
+    settle(&mut server, peer, &mut client, now)?;
+    client.send(b"speaks first", now)?;
+    settle(&mut server, peer, &mut client, now)?;
+    let after = |server: &mut Listener, client: &mut Connection, seconds| {
+        let later = now + Duration::from_secs(seconds);
+        settle(server, peer, client, later)?;
+        // What is not acknowledged at once is after a while.
+        let later = later + Duration::from_secs(1);
+        client.handle_timeout(later);
+        settle(server, peer, client, later).map(|()| later)
+    };
+    for _ in 0..4 {
+        server.send(peer, b"x", now)?;
+    }
+    let later = after(&mut server, &mut client, 1)?;
+    assert_eq!((client.held(), client.read()), (1, Some(b"x".to_vec())));
+    assert_eq!(
+        (server.window(peer), server.in_flight(peer)),
+        (Some(1), Some(0))
+    );
+    while server.poll_change().is_some() {}
+    server.send(peer, b"y", later)?;
+    assert_eq!(server.send(peer, b"y", later), Err(FlowError::WindowFull));
+    let later = after(&mut server, &mut client, 3)?;
+    assert_eq!((client.held(), client.read()), (1, Some(b"y".to_vec())));
+    assert_eq!(server.poll_change(), Some((peer, Change::Room { user: 0 })));
+    server.send(peer, b"z", later)?;
+    assert!(client.stop_reading());
+    let later = after(&mut server, &mut client, 5)?;
+    assert_eq!(server.send(peer, b"z", later), Err(FlowError::NotListening));
+    Ok(())
+}
+
+/// A flow holds one packet. The first of two waits, and the other is dropped with the Drop Code 2; what waits is read after the connection has
+/// ended, and lost with the next one.
+#[test]
+fn what_waits_at_a_listener_outlives_its_flow() -> Result<(), Box<dyn Error>> {
+    let there = SocketAddrV4::new([10, 0, 0, 2].into(), 5_001);
+    let peer = SocketAddr::new([10, 0, 1, 1].into(), 40_000);
+    let config = Config::listener(there, SERVICE).holding(1);
+    let (now, mut server) = (Instant::now(), Listener::new(&config, 2)?);
+    assert_eq!(server.stop_reading(peer), Err(StopError::NoFlow));
+    for data in [b"a", b"b"] {
+        let mut client = Connection::new(&Config::client(peer, there.into(), SERVICE, 1_000))?;
+        client.open(now)?;
+        settle(&mut server, peer, &mut client, now)?;
+        client.send(data, now)?;
+        client.send(b"c", now)?;
+        settle(&mut server, peer, &mut client, now)?;
+        client.close(now)?;
+        settle(&mut server, peer, &mut client, now)?;
+        let changes = std::iter::from_fn(|| server.poll_change()).map(|(_, it)| it);
+        let told: Vec<Change> = changes
+            .filter(|it| !matches!(it, Change::Opened { .. } | Change::Room { .. }))
+            .collect();
+        let ended = Change::Ended {
+            cause: Cause::Peer,
+            code: 1,
+            user: 0,
+        };
+        let dropped = Change::Dropped { code: 2, user: 0 };
+        assert_eq!(told, [Change::Waits { user: 0 }, dropped, ended]);
+        assert_eq!((server.phase(peer), server.held(peer)), (None, 1));
+    }
+    assert_eq!(server.read(peer), Some(b"b".to_vec()));
+    assert_eq!((server.held(peer), server.read(peer)), (0, None));
+    Ok(())
+}
+
 #[test]
 fn a_listener_keeps_its_flows_until_they_end() -> Result<(), Box<dyn Error>> {
     let there = SocketAddrV4::new([10, 0, 0, 2].into(), 5_001);
-    let peers = [1, 2].map(|it| SocketAddrV4::new([10, 0, 1, it].into(), 40_000));
+    let peers = [1, 2].map(|it| SocketAddr::new([10, 0, 1, it].into(), 40_000));
     let mut server = Listener::new(&Config::listener(there, SERVICE), 2)?;
     let (now, mut clients) = (Instant::now(), Vec::new());
     for peer in peers {
-        let config = Config::client(peer.into(), there.into(), SERVICE, 1_000);
+        let config = Config::client(peer, there.into(), SERVICE, 1_000);
         let mut client = Connection::new(&config)?;
         client.open(now)?;
         settle(&mut server, peer, &mut client, now)?;
@@ -531,17 +657,31 @@ fn a_listener_keeps_its_flows_until_they_end() -> Result<(), Box<dyn Error>> {
     let told: Vec<_> = std::iter::from_fn(|| server.poll_transmit()).collect();
     assert_eq!(told.iter().map(|it| it.0).collect::<Vec<_>>(), peers);
     assert!(told.iter().all(|(_, frame)| kind(frame) == 3));
+    assert_eq!(server.flows(), 2);
+    while server.poll_change().is_some() {}
     // The server is asked to close, and answers by a Reset: its flow ends with that.
     clients[0].close(due)?;
     settle(&mut server, peers[0], &mut clients[0], due)?;
-    let ended = (peers[0], Event::Ended { code: 1 });
+    let ended = Change::Ended {
+        cause: Cause::Peer,
+        code: 1,
+        user: 0,
+    };
     assert_eq!(
-        (server.poll_event(), server.phase(peers[0])),
-        (Some(ended), None)
+        (server.poll_change(), server.phase(peers[0])),
+        (Some((peers[0], ended)), None)
     );
     server.abort(peers[1], due)?;
-    assert_eq!(server.peers(), []);
-    assert_eq!((server.poll_event(), server.poll_timeout()), (None, None));
+    assert_eq!((server.peers(), server.flows()), (vec![], 0));
+    let aborted = Change::Ended {
+        cause: Cause::Own,
+        code: 2,
+        user: 0,
+    };
+    assert_eq!(
+        (server.poll_change(), server.poll_timeout()),
+        (Some((peers[1], aborted)), None)
+    );
     assert_eq!(server.abort(peers[1], due), Err(FlowError::NoFlow));
     Ok(())
 }

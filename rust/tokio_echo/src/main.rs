@@ -1,9 +1,9 @@
-//! A client and a server over tokio: the types of `dccp` without sockets, driven by tasks.
+//! A client and a server with tokio: the types of `dccp` without sockets, driven by tasks.
 //!
 //!     cargo run -- server ADDRESS:PORT
 //!     cargo run -- client ADDRESS:PORT WORD
 //!
-//! The server sends back what each client sends, until it is stopped; the client prints what comes back, and the code of the end.
+//! The server sends back what each client sends, until it is stopped; the client prints the answer, and the code of the end.
 
 use dccp::{Config, Connection, Endpoint, Event, MOST_FRAME_BYTES, Transmit};
 use std::collections::hash_map::RandomState;
@@ -34,12 +34,12 @@ fn waking(due: Option<Instant>) -> tokio::time::Instant {
 /// Sends the frames of a connection.
 async fn hand_over(socket: &UdpSocket, connection: &mut Connection) {
     while let Some(frame) = connection.poll_transmit() {
-        // One that the system does not take is lost.
+        // A frame that the system does not take is lost.
         let _ = socket.send(&frame.bytes).await;
     }
 }
 
-/// Sends the frames of a connection, and waits until something has come or a timer has run out.
+/// Sends the frames of a connection, and waits until a datagram has come or a timer has run out.
 async fn step(socket: &UdpSocket, connection: &mut Connection) -> Outcome {
     let mut room = [0; MOST_FRAME_BYTES + 1];
     hand_over(socket, connection).await;
@@ -108,7 +108,7 @@ async fn server(own: SocketAddr) -> Outcome {
         while endpoint.poll_accept().is_some() {}
         while let Some((peer, event)) = endpoint.poll_event() {
             if let Event::Data(data) = event {
-                // What finds no room is dropped.
+                // Data without room are dropped.
                 let _ = endpoint.call(peer, |it| it.send(&data, Instant::now()));
             }
         }
@@ -126,7 +126,7 @@ async fn server(own: SocketAddr) -> Outcome {
         tokio::select! {
             found = socket.recv_from(&mut room) => {
                 let (length, peer) = found?;
-                // Where there is no memory for a connection, the peer asks again.
+                // If there is no memory for a connection, the peer asks again.
                 let _ = endpoint.handle_datagram(peer, &room[..length], Instant::now());
             }
             () = sleep_until(waking(endpoint.poll_timeout())) => endpoint.handle_timeout(Instant::now()),

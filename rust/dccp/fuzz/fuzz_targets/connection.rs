@@ -1,4 +1,4 @@
-//! What any bytes, and any order of calls, come to at a client, a server's end and a listener: no panic, and no data that were not sent.
+//! What any bytes, and any order of calls, do to a client, a server's end and a listener: no panic, and no data that were not sent.
 //!
 //!     cargo fuzz run connection                # with cargo-fuzz, in the folder above
 //!
@@ -7,7 +7,7 @@
 
 use dccp::{Accepted, Config, Connection, Event, Fate, Feature, Listener, MOST_FRAME_BYTES, Place};
 use libfuzzer_sys::fuzz_target;
-use std::net::{SocketAddr, SocketAddrV4};
+use std::net::SocketAddr;
 use std::time::{Duration, Instant};
 
 struct Input<'a>(&'a [u8]);
@@ -65,9 +65,18 @@ fn send(end: &mut Connection, length: usize, last: &mut Vec<u8>, now: Instant) {
     }
 }
 
+/// Reads data that wait, and what was counted: then one fewer waits.
+fn read(end: &mut Connection) {
+    let waited = end.held();
+    assert_eq!(end.read().is_some(), waited != 0);
+    assert_eq!(end.held(), waited.saturating_sub(1));
+    let counts = end.statistics();
+    assert!(counts.lost <= counts.sent.data && u64::from(counts.in_flight) <= counts.sent.data);
+}
+
 /// Does a call of an end, and takes what it leaves.
 fn call(end: &mut Connection, input: &mut Input, heard: &[u8], last: &mut Vec<u8>, now: Instant) {
-    match input.byte() % 8 {
+    match input.byte() % 10 {
         0 | 1 => end.handle_datagram(&input.datagram(heard), now),
         2 => drop(end.receive(&input.datagram(heard), now)),
         3 => send(end, input.number() % 1_026, last, now),
@@ -79,6 +88,8 @@ fn call(end: &mut Connection, input: &mut Input, heard: &[u8], last: &mut Vec<u8
         )),
         5 => drop(end.close(now)),
         6 => drop(end.abort(now)),
+        7 => read(end),
+        8 => drop(end.stop_reading()),
         _ => end.handle_timeout(now),
     }
     while let Some(frame) = end.poll_transmit() {
@@ -93,7 +104,7 @@ fn call(end: &mut Connection, input: &mut Input, heard: &[u8], last: &mut Vec<u8
 }
 
 fn call_listener(listener: &mut Listener, input: &mut Input, last: &mut Last, now: Instant) {
-    let peer = SocketAddrV4::new([10, 0, 0, 1].into(), 1 + u16::from(input.byte() % 3));
+    let peer = SocketAddr::from(([10, 0, 0, 1], 1 + u16::from(input.byte() % 3)));
     match input.byte() % 6 {
         0..=2 => drop(listener.handle_datagram(peer, 2_000, &input.datagram(&last.0[0]), now)),
         3 => drop(listener.send(peer, &vec![7; input.number() % 1_026], now)),
@@ -103,7 +114,7 @@ fn call_listener(listener: &mut Listener, input: &mut Input, last: &mut Last, no
     while let Some((_, frame)) = listener.poll_transmit() {
         last.0[2] = frame.bytes;
     }
-    while listener.poll_event().is_some() || listener.poll_accept().is_some() {}
+    while listener.poll_change().is_some() || listener.poll_accept().is_some() {}
     assert!(listener.peers().len() <= 2);
 }
 
@@ -132,9 +143,8 @@ fuzz_target!(|data: &[u8]| {
             }
             (1, none) => {
                 let datagram = input.datagram(&last.0[0]);
-                if let Ok(Accepted::Connection(it)) =
-                    Connection::accept(&Config::server(there, here, 42, 9), &datagram, now)
-                {
+                let config = Config::server(there, here, 42, 9).holding(input.number() % 5);
+                if let Ok(Accepted::Connection(it)) = Connection::accept(&config, &datagram, now) {
                     *none = Some(it);
                 }
             }

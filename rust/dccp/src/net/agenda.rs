@@ -1,16 +1,17 @@
-//! When which connection has something to do.
+//! When each connection has something to do.
 
 use super::wire::Wire;
 use std::cmp::Reverse;
 use std::collections::BinaryHeap;
+use std::mem;
 use std::net::SocketAddr;
 use std::sync::{Arc, Mutex, MutexGuard, PoisonError};
 use std::time::{Duration, Instant};
 
-/// The longest that a driver sleeps, where nothing is planned.
+/// The longest that a driver sleeps if nothing is planned.
 const LONGEST: Duration = Duration::from_secs(60);
 
-/// The deadlines of a driver's connections. One that has moved to later keeps its old place, and is asked again then.
+/// The deadlines of a driver's connections. A deadline that has moved to later keeps its old place, and is checked again then.
 pub(super) struct Agenda {
     plan: Mutex<Plan>,
     wire: Arc<Wire>,
@@ -18,7 +19,9 @@ pub(super) struct Agenda {
 
 struct Plan {
     deadlines: BinaryHeap<Reverse<(Instant, SocketAddr)>>,
-    /// Until when the driver sleeps, where it does.
+    /// Connections that leave their frames to the driver.
+    left: Vec<SocketAddr>,
+    /// Until when the driver sleeps, if it does.
     sleeps_until: Option<Instant>,
 }
 
@@ -26,6 +29,7 @@ impl Agenda {
     pub(super) fn new(wire: Arc<Wire>) -> Agenda {
         let plan = Mutex::new(Plan {
             deadlines: BinaryHeap::new(),
+            left: Vec::new(),
             sleeps_until: None,
         });
         Agenda { plan, wire }
@@ -35,7 +39,7 @@ impl Agenda {
         self.plan.lock().unwrap_or_else(PoisonError::into_inner)
     }
 
-    /// A connection has something to do then. A driver that would sleep for longer is woken.
+    /// Notes when a connection has something to do, and wakes a driver that would sleep for longer.
     pub(super) fn note(&self, at: Instant, peer: SocketAddr) {
         let mut plan = self.plan();
         plan.deadlines.push(Reverse((at, peer)));
@@ -45,16 +49,33 @@ impl Agenda {
         }
     }
 
-    /// How long the driver may sleep. It notes that it does.
+    /// A connection leaves its frames to the driver, which is woken where it sleeps.
+    pub(super) fn leave(&self, peer: SocketAddr) {
+        let mut plan = self.plan();
+        plan.left.push(peer);
+        if plan.sleeps_until.take().is_some() {
+            self.wire.ring();
+        }
+    }
+
+    /// The connections that have left their frames.
+    pub(super) fn take_left(&self) -> Vec<SocketAddr> {
+        mem::take(&mut self.plan().left)
+    }
+
+    /// How long the driver may sleep. Notes that it sleeps.
     pub(super) fn begin_sleep(&self, now: Instant) -> Duration {
         let mut plan = self.plan();
+        if !plan.left.is_empty() {
+            return Duration::ZERO;
+        }
         let first = plan.deadlines.peek().map(|Reverse((at, _))| *at);
         let until = first.map_or(now + LONGEST, |at| at.min(now + LONGEST));
         plan.sleeps_until = Some(until);
         until.saturating_duration_since(now)
     }
 
-    /// The driver is awake.
+    /// Notes that the driver is awake.
     pub(super) fn end_sleep(&self) {
         self.plan().sleeps_until = None;
     }

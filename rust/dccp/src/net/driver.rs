@@ -1,4 +1,4 @@
-//! The thread that hears for connections, and keeps their time.
+//! The thread that hears for connections, and runs their timers.
 
 use super::agenda::Agenda;
 use super::line::{Limit, Line};
@@ -8,9 +8,9 @@ use super::random::Random;
 use super::system::CAN_LOOK;
 use super::wire::{Batch, Wire};
 use super::{Error, Socket};
-use crate::endpoint::TOO_BUSY;
-use crate::{Accepted, Config, Connection, Phase};
-use std::collections::HashMap;
+use crate::endpoint::{REFUSED, TOO_BUSY};
+use crate::{Accepted, Config, Connection, CookieKeys, Phase};
+use std::collections::{HashMap, HashSet};
 use std::io;
 use std::net::{IpAddr, SocketAddr};
 use std::sync::Arc;
@@ -20,30 +20,49 @@ use std::time::{Duration, Instant};
 /// How many Resets answer datagrams of no connection in a second (RFC 4340, section 8.3.1; the number is own).
 const STRANGERS: u32 = 100;
 
-/// How long a Request may take up a place, where there is none left for another.
+/// How long a Request may occupy a place if no other is left.
 const SHORTEST_STAY: Duration = Duration::from_secs(1);
 
-/// How many wakings wait, although more has come.
+/// How long one key of Init Cookies is used (own).
+const KEY_LIFETIME: Duration = Duration::from_secs(3_600);
+
+/// How many readers may wait to be woken although more datagrams have come.
 const MOST_TO_WAKE: usize = 64;
 
-/// What of a listener its driver needs for peers without a connection.
+/// What the driver of a listener needs for peers without a connection.
 pub(super) struct Reception {
     pub(super) door: Arc<Door>,
     pub(super) options: Options,
     pub(super) services: Vec<u32>,
     pub(super) random: Random,
     pub(super) answers: Limit,
+    /// The keys of Init Cookies.
+    keys: CookieKeys,
+    rekeyed: Instant,
 }
 
 impl Reception {
     pub(super) fn new(options: &Options, services: &[u32]) -> io::Result<Reception> {
+        let (mut random, now) = (Random::new()?, Instant::now());
         Ok(Reception {
             door: Arc::new(Door::new()),
             options: options.clone(),
             services: services.to_vec(),
-            random: Random::new()?,
-            answers: Limit::new(STRANGERS, Instant::now()),
+            keys: CookieKeys::new(random.key()?, now),
+            rekeyed: now,
+            random,
+            answers: Limit::new(STRANGERS, now),
         })
+    }
+
+    /// Changes the key of Init Cookies once an hour. If the system gives no new key, the old one stays.
+    fn rekey(&mut self, now: Instant) {
+        if self.rekeyed + KEY_LIFETIME <= now
+            && let Ok(key) = self.random.key()
+        {
+            self.keys.change(key, now);
+            self.rekeyed = now;
+        }
     }
 }
 
@@ -52,12 +71,14 @@ pub(super) struct Driver {
     wire: Arc<Wire>,
     agenda: Arc<Agenda>,
     lines: HashMap<SocketAddr, Arc<Line>>,
+    /// Those that are half open.
+    half_open: HashSet<SocketAddr>,
     reception: Option<Reception>,
-    /// Connections whose readers are to be woken once no more has come.
+    /// Connections whose readers are to be woken once there are no more datagrams.
     to_wake: Vec<Arc<Line>>,
 }
 
-/// An address of IPv4 as itself, also where the system spells it as one of IPv6.
+/// An IPv4 address as such, even if the system gives it as one of IPv6.
 fn plain(address: SocketAddr) -> SocketAddr {
     SocketAddr::new(address.ip().to_canonical(), address.port())
 }
@@ -69,8 +90,16 @@ fn asked_service(datagram: &[u8]) -> Option<u32> {
     is_request.then(|| u32::from_be_bytes(bytes))
 }
 
+/// Whether a datagram is an Ack or a DataAck whose options have room for an Init Cookie, at least 34 bytes (RFC 4340, section 5.1).
+fn may_return_cookie(datagram: &[u8]) -> bool {
+    let is_ack = datagram
+        .get(8)
+        .is_some_and(|it| matches!((it >> 1) & 15, 3 | 4));
+    is_ack && datagram.get(4).is_some_and(|it| *it >= 15)
+}
+
 impl Driver {
-    /// Over a wire with the one connection of a client, or that of a listener.
+    /// A driver over a wire, with the one connection of a client, or for a listener.
     pub(super) fn new(
         wire: Arc<Wire>,
         agenda: Arc<Agenda>,
@@ -80,6 +109,7 @@ impl Driver {
             wire,
             agenda,
             lines: HashMap::new(),
+            half_open: HashSet::new(),
             reception,
             to_wake: Vec::new(),
         }
@@ -89,7 +119,7 @@ impl Driver {
         self.lines.insert(line.peer(), line);
     }
 
-    /// Begins its thread, which ends once there is no connection and no listener any more.
+    /// Starts its thread, which ends once there is neither a connection nor a listener.
     pub(super) fn start(self, name: &str) -> io::Result<()> {
         thread::Builder::new()
             .name(name.into())
@@ -107,17 +137,18 @@ impl Driver {
             }
             self.hear(&batch);
             self.fire();
+            self.hand_over();
             if batch.heard.is_empty() || !CAN_LOOK || MOST_TO_WAKE <= self.to_wake.len() {
                 self.to_wake.drain(..).for_each(|it| it.wake_readers());
             }
             if !batch.heard.is_empty() {
-                // Whoever sends or reads comes first: then more is heard at once.
+                // Senders and readers run first: then more is heard with one call.
                 thread::yield_now();
             }
         }
     }
 
-    /// Hears what has come, and waits for it where nobody is to be woken.
+    /// Hears datagrams, and waits for them if no reader is to be woken.
     fn receive(&self, batch: &mut Batch) -> io::Result<()> {
         if !self.to_wake.is_empty() {
             return self.wire.receive(batch, Duration::ZERO);
@@ -145,21 +176,27 @@ impl Driver {
         for some in datagrams.chunk_by(|one, next| one.0 == next.0) {
             let (peer, first) = some[0];
             let known = self.lines.get(&peer).map(Arc::clone);
-            // One that has ended stands in no way of a new Request.
+            // A connection that has ended does not prevent a new Request.
             match known.filter(|it| asked_service(first).is_none() || it.end().is_none()) {
-                Some(line) => self.tell(&line, some),
-                None => some.iter().for_each(|(_, it)| self.meet(peer, it)),
+                Some(line) if !self.half_open.contains(&peer) => self.tell(&line, some),
+                _ => some.iter().for_each(|(_, it)| self.meet(peer, it)),
             }
         }
     }
 
-    /// Hears a datagram of a peer without a connection that has not ended; of a client there is none other.
+    /// Hears a datagram of a peer without a connection that has opened and not ended; of a client there is none other.
     fn meet(&mut self, peer: SocketAddr, datagram: &[u8]) {
+        if may_return_cookie(datagram) && self.recall(peer, datagram) {
+            return;
+        }
         if let Some(line) = self.lines.get(&peer).filter(|it| it.end().is_none()) {
             let line = Arc::clone(line);
             return self.tell(&line, &[(peer, datagram)]);
         }
         let asked = asked_service(datagram);
+        if asked.is_some() && self.is_crowded() {
+            return self.greet(peer, asked, datagram);
+        }
         let place = self.place_for(asked.is_some());
         let Some(reception) = &mut self.reception else {
             return;
@@ -170,52 +207,110 @@ impl Driver {
         };
         let met = match place {
             Room::Free => Connection::accept(&config, datagram, Instant::now()),
-            Room::Full => Ok(Connection::refuse(&config, datagram, TOO_BUSY)
+            Room::Refusal { code } => Ok(Connection::refuse(&config, datagram, code)
                 .map_or(Accepted::Nothing, Accepted::Answer)),
-            Room::Closed => return,
+            Room::Silence => return,
         };
         if let Ok(accepted) = met {
             self.take_in(peer, accepted);
         }
     }
 
+    /// Whether half-open connections take over half of the places that others leave.
+    fn is_crowded(&self) -> bool {
+        let open = self.reception.as_ref().filter(|it| it.door.is_open());
+        let asked = self.half_open.len();
+        let others = self.lines.len() - asked;
+        open.is_some_and(|it| it.options.most_connections < 2 * asked + others)
+    }
+
+    /// Answers a Request with an Init Cookie, and keeps nothing (RFC 4340, section 8.1.4).
+    fn greet(&mut self, peer: SocketAddr, asked: Option<u32>, datagram: &[u8]) {
+        let Some(reception) = &mut self.reception else {
+            return;
+        };
+        let Ok(config) = config_for(reception, &self.wire, peer, asked) else {
+            return;
+        };
+        let now = Instant::now();
+        reception.rekey(now);
+        if let Ok(Some(frame)) = Connection::greet(&config, &reception.keys, datagram, now)
+            && (!frame.is_answer || reception.answers.may(now))
+        {
+            self.wire.send(peer, &[frame]);
+        }
+    }
+
+    /// Opens the connection for which a datagram returns an Init Cookie, from a peer without a connection or with a half-open one.
+    /// Whether it has returned one.
+    fn recall(&mut self, peer: SocketAddr, datagram: &[u8]) -> bool {
+        let Some(reception) = self.reception.as_mut().filter(|it| it.door.is_open()) else {
+            return false;
+        };
+        if self.lines.contains_key(&peer) && !self.half_open.contains(&peer) {
+            return false;
+        }
+        let Ok(config) = config_for(reception, &self.wire, peer, None) else {
+            return false;
+        };
+        let (most, now) = (reception.options.most_connections, Instant::now());
+        let recalled = Connection::recall(&config, &reception.keys, datagram, now);
+        let Some(connection) = recalled.ok().flatten() else {
+            return false;
+        };
+        self.remove(peer);
+        // A peer that returns a cookie has shown its address: half-open connections make room for it at once.
+        let has_place = self.lines.len() < most;
+        if has_place || matches!(self.make_room(now, Duration::ZERO), Room::Free) {
+            self.take_in(peer, Accepted::Connection(connection));
+        }
+        true
+    }
+
+    fn remove(&mut self, peer: SocketAddr) {
+        self.lines.remove(&peer);
+        self.half_open.remove(&peer);
+    }
+
     /// What a stranger's datagram finds. A Request where there is a place is looked at, and others as many as may be answered.
     fn place_for(&mut self, is_request: bool) -> Room {
         let now = Instant::now();
         let Some(reception) = &mut self.reception else {
-            return Room::Closed;
+            return Room::Silence;
         };
-        let has_place = self.lines.len() < reception.options.most_connections;
-        let is_looked_at = (is_request && has_place) || reception.answers.may(now);
-        if !reception.door.is_open() || !is_looked_at {
-            Room::Closed
-        } else if !is_request {
-            Room::Full
-        } else if has_place {
+        let is_open = reception.door.is_open();
+        let has_place = is_open && self.lines.len() < reception.options.most_connections;
+        if is_request && has_place {
             Room::Free
+        } else if !reception.answers.may(now) {
+            Room::Silence
+        } else if !is_open {
+            Room::Refusal { code: REFUSED }
+        } else if !is_request {
+            Room::Refusal { code: TOO_BUSY }
         } else {
-            self.make_room(now)
+            self.make_room(now, SHORTEST_STAY)
         }
     }
 
     /// Lets the connection go that has been there the longest without being open, if it has been for long enough. Where it has not, the
     /// peer had better ask again.
-    fn make_room(&mut self, now: Instant) -> Room {
+    fn make_room(&mut self, now: Instant, shortest_stay: Duration) -> Room {
         let idle = self
             .lines
             .iter()
             .filter_map(|(peer, line)| Some((line.idle_since()?, *peer)));
         match idle.min() {
-            Some((since, peer)) if since + SHORTEST_STAY <= now => {
-                self.lines.remove(&peer);
+            Some((since, peer)) if since + shortest_stay <= now => {
+                self.remove(peer);
                 Room::Free
             }
-            Some(_) => Room::Closed,
-            None => Room::Full,
+            Some(_) => Room::Silence,
+            None => Room::Refusal { code: TOO_BUSY },
         }
     }
 
-    /// Takes what a stranger's datagram has come to.
+    /// Takes what became of a stranger's datagram.
     fn take_in(&mut self, peer: SocketAddr, accepted: Accepted) {
         match accepted {
             Accepted::Connection(mut connection) if connection.phase() == Phase::Closed => {
@@ -230,7 +325,9 @@ impl Driver {
                 let options = &reception.options;
                 let line = Line::new(*connection, peer, &self.wire, &self.agenda, options);
                 line.begin();
-                self.lines.insert(peer, line);
+                self.half_open.insert(peer);
+                self.lines.insert(peer, Arc::clone(&line));
+                self.announce(&line);
             }
             Accepted::Answer(frame) => self.wire.send(peer, &[frame]),
             Accepted::Nothing => {}
@@ -244,12 +341,22 @@ impl Driver {
         self.announce(line);
     }
 
-    /// Gives a connection that is open for the first time to the listener's owner.
-    fn announce(&self, line: &Arc<Line>) {
+    /// Hands a connection that has just opened to the listener's owner.
+    fn announce(&mut self, line: &Arc<Line>) {
         if let Some(reception) = &self.reception
             && line.opens()
         {
+            self.half_open.remove(&line.peer());
             reception.door.enter(Socket::of(Arc::clone(line)));
+        }
+    }
+
+    /// Hands over the frames that other threads left to this one.
+    fn hand_over(&self) {
+        for peer in self.agenda.take_left() {
+            if let Some(line) = self.lines.get(&peer) {
+                line.hand_over_left();
+            }
         }
     }
 
@@ -261,7 +368,7 @@ impl Driver {
             };
             line.fire();
             if line.is_over() {
-                self.lines.remove(&peer);
+                self.remove(peer);
             }
         }
     }
@@ -269,12 +376,15 @@ impl Driver {
 
 /// What a stranger's datagram finds at a listener.
 enum Room {
-    /// A place, if it is a Request.
+    /// A place, for a Request.
     Free,
-    /// No place, and none will be free soon: it is turned away.
-    Full,
+    /// No place, and none will be free soon: a Request is turned away by a Reset with this code, and others as by an end without one.
+    Refusal {
+        /// The Reset Code.
+        code: u8,
+    },
     /// Nobody looks at it.
-    Closed,
+    Silence,
 }
 
 /// The configuration of a connection to this peer, which asks for this service, or for none.
@@ -285,7 +395,7 @@ fn config_for(
     asked: Option<u32>,
 ) -> Result<Config, Error> {
     let served = asked.filter(|it| reception.services.contains(it));
-    // One that is not served is told so by any end.
+    // Any end answers a Request for a service that is not served.
     let service = served.or(reception.services.first().copied()).unwrap_or(0);
     let named = plain(peer);
     let own = match plain(wire.local_addr()?) {

@@ -9,13 +9,13 @@ use std::io;
 #[derive(Clone, Copy, Debug, PartialEq, Eq)]
 #[non_exhaustive]
 pub enum End {
-    /// By a Reset with this code (RFC 4340, section 5.6): 1 is an orderly close, and so is 3 where the last Reset was lost; 2 is a peer
-    /// that gave up, 8 one that does not serve the Service Code, 9 one that is too busy.
+    /// By a Reset with this code (RFC 4340, section 5.6): 1 is an orderly close, and so is 3 if the last Reset was lost; 2 means that the
+    /// peer gave up, 8 that it does not serve the Service Code, 9 that it is too busy.
     Reset {
         /// The Reset Code.
         code: u8,
     },
-    /// Nothing was taken of the peer for [`Options::idle`](super::Options::idle), or an asking or closing was not answered.
+    /// No packet of the peer was taken for [`Options::idle`](super::Options::idle), or it did not answer the Request or the close.
     Silent,
     /// This end gave up.
     Aborted,
@@ -24,7 +24,7 @@ pub enum End {
 }
 
 impl End {
-    /// Whether both ends closed, by all that can be known.
+    /// Whether both ends closed, as far as this end can know.
     pub fn is_orderly(self) -> bool {
         matches!(self, End::Reset { code: 1 | 3 })
     }
@@ -41,7 +41,7 @@ impl fmt::Display for End {
     }
 }
 
-/// What RFC 4340, section 5.6, calls a Reset Code.
+/// The name of a Reset Code in RFC 4340, section 5.6.
 fn reset_name(code: u8) -> &'static str {
     match code {
         0 => "unspecified",
@@ -67,13 +67,15 @@ fn reset_name(code: u8) -> &'static str {
 pub enum Error {
     /// The connection has ended.
     Ended(End),
-    /// The time was over. A packet was not sent, or none came.
+    /// The time is over: no packet was sent, or none arrived.
     TimedOut,
-    /// A call that does not wait would have to: there is no room, or nothing has come.
+    /// The call would have to wait: there is no room, or nothing has arrived.
     WouldBlock,
     /// There are more than [`MOST_DATA_BYTES`](crate::MOST_DATA_BYTES) bytes.
     TooLong,
-    /// No end was made of what the options wish for.
+    /// The peer has reported that no application listens any more, so data would reach nobody.
+    NotListening,
+    /// The options were refused: no end can be made with them.
     Make(MakeError),
     /// The system refused its socket, its thread or its random numbers.
     Io(io::Error),
@@ -86,6 +88,7 @@ impl fmt::Display for Error {
             Error::TimedOut => f.write_str("the time was over"),
             Error::WouldBlock => f.write_str("no room, or nothing has come"),
             Error::TooLong => f.write_str("more bytes than a packet may have"),
+            Error::NotListening => f.write_str("no application listens at the peer"),
             Error::Make(fault) => write!(f, "no end was made: {fault}"),
             Error::Io(fault) => write!(f, "the system's socket: {fault}"),
         }
@@ -97,7 +100,11 @@ impl error::Error for Error {
         match self {
             Error::Make(fault) => Some(fault),
             Error::Io(fault) => Some(fault),
-            Error::Ended(_) | Error::TimedOut | Error::WouldBlock | Error::TooLong => None,
+            Error::Ended(_)
+            | Error::TimedOut
+            | Error::WouldBlock
+            | Error::TooLong
+            | Error::NotListening => None,
         }
     }
 }
@@ -118,6 +125,7 @@ impl From<Error> for io::Error {
     fn from(fault: Error) -> io::Error {
         let kind = match &fault {
             Error::Ended(_) => io::ErrorKind::NotConnected,
+            Error::NotListening => io::ErrorKind::BrokenPipe,
             Error::TimedOut => io::ErrorKind::TimedOut,
             Error::WouldBlock => io::ErrorKind::WouldBlock,
             Error::TooLong | Error::Make(_) => io::ErrorKind::InvalidInput,

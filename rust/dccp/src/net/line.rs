@@ -1,23 +1,35 @@
-//! One connection of a driver, which its owner and the driver's thread share.
+//! One connection of a driver, shared by its owner and the driver's thread.
 
 use super::agenda::Agenda;
 use super::options::Options;
+use super::system::CAN_LOOK;
 use super::wire::Wire;
 use super::{End, Error};
 use crate::{Connection, Event, Phase, SendError, Statistics, Transmit};
 use std::collections::VecDeque;
+use std::iter;
+use std::mem;
 use std::net::SocketAddr;
 use std::sync::{Arc, Condvar, Mutex, MutexGuard, PoisonError};
 use std::thread;
 use std::time::{Duration, Instant};
 
-/// How long a connection that has ended is kept for what is still under way, and one that was let go waits for what is in flight.
+/// How long an ended connection is kept for late packets, and a dropped one waits for what is in flight.
 const LINGER: Duration = Duration::from_secs(2);
+
+/// How long a peer with a short round trip waits before it repeats its Close, by its timer close; the next wait is twice as long.
+const REPEAT: Duration = Duration::from_millis(100);
 
 /// How many Syncs and Resets answer the packets of a connection in a second (RFC 4340, sections 7.5.4 and 8.3.1; the number is own).
 const ANSWERS: u32 = 20;
 
-/// How many packets wait to be read before a reader is woken although more come.
+/// Data that are sent within this time of others are handed to the system together, by the driver.
+const QUICK: Duration = Duration::from_micros(20);
+
+/// How many frames are left to the driver. A thread that sends more hands them over.
+const MOST_LEFT: usize = 32;
+
+/// How many packets may wait before a reader is woken although more arrive.
 const MUCH: usize = 64;
 
 /// How many of something may be done in each second.
@@ -36,7 +48,7 @@ impl Limit {
         }
     }
 
-    /// Whether one more may be done, which then counts.
+    /// Whether one more may be done; if so, it counts.
     pub(super) fn may(&mut self, now: Instant) -> bool {
         if self.second + Duration::from_secs(1) <= now {
             (self.second, self.done) = (now, 0);
@@ -46,7 +58,7 @@ impl Limit {
     }
 }
 
-/// How long a call waits for what it wants.
+/// How long a call waits.
 #[derive(Clone, Copy)]
 pub(super) enum Wait {
     Not,
@@ -62,15 +74,15 @@ impl Wait {
     }
 }
 
-/// The data that have come and wait to be read.
+/// The data that have arrived and wait to be read.
 #[derive(Default)]
-pub(super) struct Inbox {
+struct Inbox {
     packets: VecDeque<Vec<u8>>,
-    /// Rooms of packets that were read.
+    /// Buffers of packets that were read, for further ones.
     spare: Vec<Vec<u8>>,
 }
 
-/// How many rooms of packets are kept.
+/// How many buffers of packets are kept.
 const MOST_SPARE: usize = 64;
 
 impl Inbox {
@@ -82,22 +94,46 @@ impl Inbox {
     }
 
     /// The next packet.
-    pub(super) fn take(&mut self) -> Option<Vec<u8>> {
+    fn take(&mut self) -> Option<Vec<u8>> {
         self.packets.pop_front()
     }
 
-    /// Puts the next packet in place of these data, whose room is kept.
-    pub(super) fn exchange(&mut self, data: &mut Vec<u8>) -> Option<()> {
-        let read = std::mem::replace(data, self.packets.pop_front()?);
+    /// Replaces these data by the next packet, and keeps their buffer.
+    fn exchange(&mut self, data: &mut Vec<u8>) -> Option<()> {
+        let read = mem::replace(data, self.packets.pop_front()?);
         if self.spare.len() < MOST_SPARE {
             self.spare.push(read);
         }
         Some(())
     }
+}
 
-    /// All packets.
-    pub(super) fn drain(&mut self) -> impl ExactSizeIterator<Item = Vec<u8>> {
-        self.packets.drain(..)
+/// The data that wait to be read, here or in the end.
+pub(super) struct Waiting<'a> {
+    inbox: &'a mut Inbox,
+    connection: &'a mut Connection,
+}
+
+impl Waiting<'_> {
+    /// The next packet.
+    pub(super) fn take(&mut self) -> Option<Vec<u8>> {
+        self.inbox.take().or_else(|| self.connection.read())
+    }
+
+    /// Replaces these data by the next packet.
+    pub(super) fn exchange(&mut self, data: &mut Vec<u8>) -> Option<()> {
+        self.inbox.exchange(data).or_else(|| {
+            *data = self.connection.read()?;
+            Some(())
+        })
+    }
+
+    /// Appends all packets that wait to these; None if none wait.
+    pub(super) fn take_all(&mut self, packets: &mut Vec<Vec<u8>>) -> Option<usize> {
+        let before = packets.len();
+        packets.extend(self.inbox.packets.drain(..));
+        packets.extend(iter::from_fn(|| self.connection.read()));
+        Some(packets.len() - before).filter(|count| *count != 0)
     }
 }
 
@@ -105,8 +141,10 @@ struct State {
     connection: Connection,
     inbox: Inbox,
     most_waiting: usize,
+    /// Whether data wait in the end.
+    is_holding: bool,
     end: Option<(End, Instant)>,
-    /// When something was taken of the peer last, or this end began to wait for it.
+    /// When a packet of the peer was taken last, or this end began to wait for one.
     heard: Instant,
     let_go: Option<Instant>,
     patience: Duration,
@@ -114,8 +152,12 @@ struct State {
     answers: Limit,
     answers_left_out: u64,
     unread_dropped: u64,
-    /// For when this stands on the agenda.
+    /// Its time on the agenda.
     scheduled: Option<Instant>,
+    /// When data were sent last.
+    sent: Option<Instant>,
+    /// Whether frames are left to the driver.
+    are_left: bool,
     is_announced: bool,
     readers: u32,
     writers: u32,
@@ -126,7 +168,7 @@ impl State {
         matches!(self.connection.phase(), Phase::PartOpen | Phase::Open)
     }
 
-    /// Whether a writer who sleeps should be woken: for a quarter of the window, so that not each Ack wakes one.
+    /// Whether to wake a writer that sleeps: if a quarter of the window is free, so that not every Ack wakes one.
     fn has_room(&self) -> bool {
         let window = self.connection.window();
         window <= 4 * window.saturating_sub(self.connection.in_flight())
@@ -144,14 +186,26 @@ impl State {
         }
     }
 
-    /// Takes what the connection tells.
+    /// Takes the events of the connection.
     fn gather(&mut self, now: Instant) {
         while let Some(event) = self.connection.poll_event() {
             match event {
                 Event::Data(data) => self.keep(&data),
+                // They are read from the end, which counts what it drops.
+                Event::Waits | Event::Dropped { .. } => {}
                 Event::Ended { code } => self.ended(End::Reset { code }, now),
             }
         }
+    }
+
+    /// How many packets wait to be read.
+    fn waiting(&mut self) -> usize {
+        let held = if self.is_holding {
+            self.connection.held()
+        } else {
+            0
+        };
+        self.inbox.packets.len() + held
     }
 
     fn keep(&mut self, data: &[u8]) {
@@ -166,7 +220,7 @@ impl State {
         self.end.get_or_insert((end, now));
     }
 
-    /// When a silence is too long, by what is waited for.
+    /// When a silence is too long, by what the end waits for.
     fn silent_at(&self) -> Instant {
         let wait = if self.is_open() {
             self.idle
@@ -177,7 +231,7 @@ impl State {
     }
 
     fn give_up(&mut self, end: End, now: Instant) {
-        // Where it is refused, there is nothing to give up.
+        // If it is refused, there is nothing to give up.
         let _ = self.connection.abort(now);
         self.ended(end, now);
     }
@@ -188,7 +242,7 @@ impl State {
         }
     }
 
-    /// Does what the state asks for: takes what is told, gives up what is silent, and closes what was let go.
+    /// Does what the state requires: takes events, gives up a silent peer, and closes a dropped connection.
     fn settle(&mut self, now: Instant) {
         self.gather(now);
         if self.end.is_some() {
@@ -215,7 +269,7 @@ impl State {
         }
     }
 
-    /// When there is something to do; an end that has ended long enough has nothing more.
+    /// When there is something to do; nothing, once the end has been over for long enough.
     fn alarm(&self) -> Instant {
         let own = match (self.end, self.let_go) {
             (Some((_, at)), _) => at + LINGER,
@@ -229,7 +283,7 @@ impl State {
         self.end.is_some_and(|(_, at)| at + LINGER <= now)
     }
 
-    /// Puts the frames that wait in place of these, which were sent; except answers that are too many.
+    /// Replaces these frames, which were sent, by those that wait, except for answers over the limit.
     fn exchange_frames(&mut self, now: Instant, frames: &mut Vec<Transmit>) {
         self.connection.exchange_frames(frames);
         frames.retain(|it| {
@@ -240,13 +294,19 @@ impl State {
     }
 }
 
+/// The threads to be woken after a call.
+struct Wakes {
+    readers: bool,
+    writers: bool,
+}
+
 /// A connection, its peer, and the wire to it.
 pub(super) struct Line {
     peer: SocketAddr,
     wire: Arc<Wire>,
     agenda: Arc<Agenda>,
     state: Mutex<State>,
-    /// Held by the thread that hands frames to the system, so that they go out in their order. What went last stays, for its room.
+    /// Held by the thread that hands frames to the system, so that they go out in order. The last frames stay, for their buffers.
     order: Mutex<Vec<Transmit>>,
     readable: Condvar,
     writable: Condvar,
@@ -265,6 +325,7 @@ impl Line {
             connection,
             inbox: Inbox::default(),
             most_waiting: options.most_waiting,
+            is_holding: options.holding != 0,
             end: None,
             heard: now,
             let_go: None,
@@ -274,6 +335,8 @@ impl Line {
             answers_left_out: 0,
             unread_dropped: 0,
             scheduled: None,
+            sent: None,
+            are_left: false,
             is_announced: false,
             readers: 0,
             writers: 0,
@@ -301,7 +364,7 @@ impl Line {
         self.state.lock().unwrap_or_else(PoisonError::into_inner)
     }
 
-    /// Does something with the state, and what comes of it: who waits is woken, and frames go out.
+    /// Does something with the state, and what follows from it: it wakes those that wait, and sends frames.
     fn with<T>(&self, doing: impl FnOnce(&mut State, Instant) -> T) -> T {
         let (mut state, now) = (self.state(), Instant::now());
         let answer = doing(&mut state, now);
@@ -315,25 +378,17 @@ impl Line {
         }
     }
 
-    /// The same, but it answers whether readers are to be woken.
+    /// The same, but it returns whether readers are to be woken.
     fn finish_quietly(&self, mut state: MutexGuard<'_, State>, now: Instant) -> bool {
-        state.settle(now);
-        let at = state.alarm();
-        if state.scheduled.is_none_or(|planned| at < planned) {
-            state.scheduled = Some(at);
-            self.agenda.note(at, self.peer);
-        }
-        let is_over = state.end.is_some();
-        let wakes_readers = state.readers != 0 && (is_over || !state.inbox.packets.is_empty());
-        let wakes_writers = state.writers != 0 && (is_over || state.has_room());
-        let has_frames = state.connection.has_frames();
-        // Where nobody hands frames over, these are taken before the state is free for others.
+        let wakes = self.attend(&mut state, now);
+        let has_frames = state.connection.frames() != 0;
+        // If no thread hands frames over, these are taken before the state is unlocked.
         let mut order = has_frames.then(|| self.order.try_lock().ok()).flatten();
         if let Some(frames) = &mut order {
             state.exchange_frames(now, frames);
         }
         drop(state);
-        if wakes_writers {
+        if wakes.writers {
             self.writable.notify_all();
         }
         match order {
@@ -341,10 +396,53 @@ impl Line {
             None if has_frames => self.flush(now),
             None => {}
         }
-        wakes_readers
+        wakes.readers
     }
 
-    /// Wakes who waits for data.
+    /// Settles the state after a call, plans when it has something to do next, and returns who is to be woken.
+    fn attend(&self, state: &mut State, now: Instant) -> Wakes {
+        state.settle(now);
+        let at = state.alarm();
+        if state.scheduled.is_none_or(|planned| at < planned) {
+            state.scheduled = Some(at);
+            self.agenda.note(at, self.peer);
+        }
+        let is_over = state.end.is_some();
+        Wakes {
+            readers: state.readers != 0 && (is_over || state.waiting() != 0),
+            writers: state.writers != 0 && (is_over || state.has_room()),
+        }
+    }
+
+    /// Finishes sending data. In quick succession the frames are left to the driver, which hands over many at once.
+    fn finish_sending(&self, mut state: MutexGuard<'_, State>, now: Instant) {
+        let last = state.sent.replace(now);
+        let is_quick = CAN_LOOK && last.is_some_and(|last| now < last + QUICK);
+        if !is_quick || MOST_LEFT <= state.connection.frames() {
+            return self.finish(state, now);
+        }
+        let wakes = self.attend(&mut state, now);
+        let were_left = mem::replace(&mut state.are_left, true);
+        drop(state);
+        if wakes.readers {
+            self.wake_readers();
+        }
+        if wakes.writers {
+            self.writable.notify_all();
+        }
+        if !were_left {
+            self.agenda.leave(self.peer);
+        }
+    }
+
+    /// Hands over the frames that were left to the driver.
+    pub(super) fn hand_over_left(&self) {
+        let (mut state, now) = (self.state(), Instant::now());
+        state.are_left = false;
+        self.finish(state, now);
+    }
+
+    /// Wakes those that wait for data.
     pub(super) fn wake_readers(&self) {
         self.readable.notify_all();
     }
@@ -359,7 +457,7 @@ impl Line {
         self.wire.send(self.peer, &frames);
     }
 
-    /// Sleeps until another call may have changed what is waited for.
+    /// Sleeps until another call may have changed what this one waits for.
     fn sleep<'a>(
         &self,
         on: &Condvar,
@@ -382,22 +480,27 @@ impl Line {
         }
     }
 
-    /// What `take` finds among what has come, waiting for it. What came before the end is read after it too.
+    /// What `take` finds in the data that have arrived, waiting for it. Data from before the end can still be read after it.
     pub(super) fn read<T>(
         &self,
         wait: Wait,
-        mut take: impl FnMut(&mut Inbox) -> Option<T>,
+        mut take: impl FnMut(&mut Waiting<'_>) -> Option<T>,
     ) -> Result<T, Error> {
         let (mut state, mut has_yielded) = (self.state(), matches!(wait, Wait::Not));
         loop {
-            if let Some(found) = take(&mut state.inbox) {
+            let own = &mut *state;
+            let mut waiting = Waiting {
+                inbox: &mut own.inbox,
+                connection: &mut own.connection,
+            };
+            if let Some(found) = take(&mut waiting) {
                 return Ok(found);
             }
             if let Some((end, _)) = state.end {
                 return Err(Error::Ended(end));
             }
             if !has_yielded {
-                // Sleeping and waking cost more than letting the driver go first.
+                // Sleeping and waking cost more than letting the driver run first.
                 has_yielded = true;
                 drop(state);
                 thread::yield_now();
@@ -417,7 +520,7 @@ impl Line {
         }
     }
 
-    /// What `doing` comes to once it is done or refused for good, waiting for room, and for the connection to open.
+    /// The result of `doing` once it succeeds or is refused for good, waiting for room, and for the connection to open.
     pub(super) fn write<T>(
         &self,
         wait: Wait,
@@ -431,10 +534,11 @@ impl Line {
             }
             match doing(&mut |data| state.connection.send(data, now)) {
                 Ok(done) => {
-                    self.finish(state, now);
+                    self.finish_sending(state, now);
                     return Ok(done);
                 }
                 Err(SendError::TooLong) => return Err(Error::TooLong),
+                Err(SendError::NotListening) => return Err(Error::NotListening),
                 Err(SendError::NotOpen | SendError::NotNegotiated | SendError::WindowFull) => {}
             }
             state = self.wait_for_room(state, wait)?;
@@ -473,7 +577,7 @@ impl Line {
         }
     }
 
-    /// Waits until all data that were sent are reported, or lost.
+    /// Waits until all data that were sent are reported or lost.
     fn wait_reported(&self, wait: Wait) {
         let mut state = self.state();
         while state.is_open() && state.end.is_none() && state.connection.in_flight() != 0 {
@@ -494,19 +598,37 @@ impl Line {
         }
     }
 
-    /// Closes once all that was sent is reported or half of the time is over, and waits for the end.
-    pub(super) fn close(&self, wait: Duration) -> Result<End, Error> {
-        let whole = Wait::of(wait);
-        self.wait_reported(Wait::of(wait / 2));
-        self.with(State::close);
-        self.wait_ended(whole)
+    /// If this end answered the peer's Close last, waits while the peer may repeat that Close because the answer was lost: twice. A program
+    /// that ends answers nothing more.
+    fn wait_repeats(&self, deadline: Option<Instant>) {
+        let mut state = self.state();
+        let Some((End::Reset { .. }, at)) = state.end else {
+            return;
+        };
+        if state.connection.phase() == Phase::Closed {
+            let first = REPEAT.max(2 * state.connection.round_trip().smoothed);
+            let past = at + 3 * first + REPEAT;
+            drop(state);
+            let left = deadline.map_or(past, |it| it.min(past));
+            thread::sleep(left.saturating_duration_since(Instant::now()));
+        }
     }
 
-    /// Hears datagrams. It answers whether readers are to be woken, which may wait until no more has come.
+    /// Closes once all that was sent is reported or half of the time is over, waits for the end, and stays for what its peer may repeat.
+    pub(super) fn close(&self, wait: Duration) -> Result<End, Error> {
+        let (whole, deadline) = (Wait::of(wait), Instant::now().checked_add(wait));
+        self.wait_reported(Wait::of(wait / 2));
+        self.with(State::close);
+        let end = self.wait_ended(whole)?;
+        self.wait_repeats(deadline);
+        Ok(end)
+    }
+
+    /// Hears datagrams, and returns whether readers are to be woken, which may wait until there are no more datagrams.
     pub(super) fn hear(&self, datagrams: &[(SocketAddr, &[u8])]) -> bool {
         let (mut state, now) = (self.state(), Instant::now());
         state.hear(datagrams, now);
-        let is_much = MUCH <= state.inbox.packets.len();
+        let is_much = MUCH <= state.waiting();
         let wakes = self.finish_quietly(state, now);
         if wakes && is_much {
             self.wake_readers();
@@ -514,7 +636,7 @@ impl Line {
         wakes && !is_much
     }
 
-    /// Does what the time has come for, where this is what the agenda had it for.
+    /// Does what is due, if this is its time on the agenda.
     pub(super) fn fire(&self) {
         let (mut state, now) = (self.state(), Instant::now());
         if state.scheduled.is_none_or(|planned| now < planned) {
@@ -525,7 +647,7 @@ impl Line {
         self.finish(state, now);
     }
 
-    /// A client asks.
+    /// Asks for the service, for a client.
     pub(super) fn open(&self) {
         self.with(|state, now| {
             // It is fresh.
@@ -533,7 +655,7 @@ impl Line {
         });
     }
 
-    /// Sends what waits from the start: a server's answer to the Request.
+    /// Sends the first frame of a server: its answer to the Request.
     pub(super) fn begin(&self) {
         self.with(|_, _| ());
     }
@@ -555,7 +677,7 @@ impl Line {
         self.state().end.map(|(end, _)| end)
     }
 
-    /// Since when it stands here without an owner who needs it: it has ended, or has not opened. An open one is needed.
+    /// Since when no owner needs it, because it has ended or has not opened. An open connection is needed.
     pub(super) fn idle_since(&self) -> Option<Instant> {
         let state = self.state();
         let unopened = (!state.is_announced && !state.is_open()).then_some(state.heard);
@@ -566,7 +688,7 @@ impl Line {
         self.state().is_over(Instant::now())
     }
 
-    /// Whether it is open for the first time that this is asked.
+    /// Whether it is open; true only once.
     pub(super) fn opens(&self) -> bool {
         let mut state = self.state();
         let is_new = !state.is_announced && state.is_open();
@@ -576,10 +698,11 @@ impl Line {
 
     pub(super) fn statistics(&self) -> Statistics {
         let mut state = self.state();
+        let counts = state.connection.statistics();
         Statistics {
             answers_left_out: state.answers_left_out,
-            unread_dropped: state.unread_dropped,
-            ..state.connection.statistics()
+            unread_dropped: state.unread_dropped + counts.unread_dropped,
+            ..counts
         }
     }
 

@@ -1,7 +1,7 @@
 //! What Linux has for many datagrams at once: recvmmsg, sendmmsg and poll of the C library, as <sys/socket.h> and <poll.h> declare
-//! them where a pointer has 64 bits, and one call for datagrams of one length (UDP_SEGMENT, UDP_GRO of <linux/udp.h>). Declared here, and
-//! not taken from a crate: with a dependency, even an optional one, cargo asks for a registry, and this crate builds without. All unsafe
-//! code of the sockets is in this file.
+//! them for 64-bit pointers, and one call for datagrams of one length (UDP_SEGMENT, UDP_GRO of <linux/udp.h>). They are declared here,
+//! since cargo asks a registry for any dependency, even an optional one, and this crate builds without a registry. All unsafe code of the
+//! sockets is in this file.
 
 use super::wire::{Batch, is_passing};
 use crate::Transmit;
@@ -28,21 +28,21 @@ const UDP_GRO: c_int = 104;
 /// How many messages are heard or sent at once, each of which may be many datagrams of one length.
 const MOST: usize = 16;
 
-/// The bytes of a message: as many as UDP has.
+/// The bytes of a message: the most that UDP allows.
 const ROOM: usize = 1 << 16;
 
-/// The bytes of all messages that are heard at once. What is not used of it takes no memory.
+/// The bytes of all messages that are heard at once. Unused ones take no memory.
 pub(super) const ROOMS: usize = MOST * ROOM;
 
-/// Whether the system tells at once that nothing has come.
+/// Whether the system returns at once if nothing has come.
 pub(super) const CAN_LOOK: bool = true;
 
-/// How many datagrams one message has, and how many bytes, headers of IP left out.
+/// How many datagrams one message has, and how many bytes without IP headers.
 const MOST_SEGMENTS: usize = 62;
 const MOST_BYTES: usize = 65_000;
 
-/// The bytes that the system is asked to keep of what has not been heard: a whole window of CCID 2, 1,024 packets, each of which counts
-/// for some 2,300 bytes. It gives at most what the machine allows.
+/// The size of the system's receive buffer that is asked for: a whole window of CCID 2, 1,024 packets of some 2,300 bytes each, as the
+/// system counts. It gives at most what the machine allows.
 static BUFFER: c_int = 1 << 21;
 static ON: c_int = 1;
 
@@ -118,14 +118,14 @@ unsafe extern "C" {
     ) -> c_int;
 }
 
-/// What Linux has for a socket.
+/// A socket of Linux.
 pub(super) struct System {
-    /// The two ends of a bell, which wakes a driver that sleeps.
+    /// The two ends of a pipe that wakes a driver that sleeps.
     rung: UnixDatagram,
     bell: UnixDatagram,
-    /// Whether there was no room for more when datagrams were heard last.
+    /// Whether the last call for datagrams filled its room.
     was_full: AtomicBool,
-    /// Whether datagrams of one length go to the system as one message: until it refuses that.
+    /// Whether datagrams of one length go to the system as one message, which ends when it refuses one.
     has_segments: AtomicBool,
 }
 
@@ -146,7 +146,7 @@ impl System {
         })
     }
 
-    /// Hears what has come, or what comes in this time; maybe nothing.
+    /// Hears datagrams that have come, or that come in this time; maybe none.
     pub(super) fn receive(
         &self,
         socket: &UdpSocket,
@@ -154,7 +154,7 @@ impl System {
         batch: &mut Batch,
         wait: Duration,
     ) -> io::Result<()> {
-        // Where there was no room, more has come, most likely.
+        // If the room was filled, there are probably more.
         if !self.was_full.load(Ordering::Relaxed) && !wait.is_zero() {
             self::wait(socket, &self.bell, wait)?;
         }
@@ -163,7 +163,7 @@ impl System {
         Ok(())
     }
 
-    /// Sends frames, to this peer where the socket is not connected. One that the system does not take is lost.
+    /// Sends frames, to this peer if the socket is not connected. A frame that the system does not take is lost.
     pub(super) fn send(&self, socket: &UdpSocket, to: Option<SocketAddr>, frames: &[Transmit]) {
         match frames {
             [frame] => send_one(socket, to, frame),
@@ -173,15 +173,15 @@ impl System {
 
     /// Wakes a driver that sleeps.
     pub(super) fn ring(&self) {
-        // Where there is no room, it has been rung.
+        // If there is no room, it has been rung.
         let _ = self.rung.send(&[0]);
     }
 }
 
-/// Sets a number of a socket. A refusal leaves it as it is.
+/// Sets an option of a socket. If that is refused, the option stays.
 fn set(socket: &UdpSocket, level: c_int, name: c_int, value: &'static c_int) {
     let length = size_of::<c_int>() as c_uint;
-    // SAFETY: the value is a c_int, and its length is told.
+    // SAFETY: the value is a c_int, and its length is passed.
     unsafe {
         setsockopt(
             socket.as_raw_fd(),
@@ -193,7 +193,7 @@ fn set(socket: &UdpSocket, level: c_int, name: c_int, value: &'static c_int) {
     };
 }
 
-/// Waits until a datagram has come, the bell rings, or the time is over.
+/// Waits until a datagram comes, the bell rings, or the time is over.
 fn wait(socket: &UdpSocket, bell: &UnixDatagram, wait: Duration) -> io::Result<()> {
     let watched = |descriptor| Watched {
         descriptor,
@@ -201,7 +201,7 @@ fn wait(socket: &UdpSocket, bell: &UnixDatagram, wait: Duration) -> io::Result<(
         found: 0,
     };
     let mut both = [watched(socket.as_raw_fd()), watched(bell.as_raw_fd())];
-    // A millisecond more, so that what was waited for has run out.
+    // A millisecond more, so that the timer has run out then.
     let milliseconds = c_int::try_from(wait.as_millis() + 1).unwrap_or(c_int::MAX);
     // SAFETY: the array has two entries, and lives longer than the call.
     let found = unsafe { poll(both.as_mut_ptr(), 2, milliseconds) };
@@ -219,13 +219,13 @@ fn wait(socket: &UdpSocket, bell: &UnixDatagram, wait: Duration) -> io::Result<(
     Ok(())
 }
 
-/// Hears what has come, without waiting, and answers how many messages that is.
+/// Hears messages, without waiting, and returns how many.
 fn receive(socket: &UdpSocket, peer: Option<SocketAddr>, batch: &mut Batch) -> io::Result<usize> {
     batch.heard.clear();
     let mut messages = Messages::new();
     let count = messages.receive(socket, &mut batch.rooms)?;
     for place in 0..count {
-        // Of another family there is none; such a datagram is no packet of a peer.
+        // A datagram of another family is no packet of a peer.
         let nobody = SocketAddr::new(IpAddr::V4(Ipv4Addr::UNSPECIFIED), 0);
         let own = || address_of(&messages.names[place]);
         let from = peer.or_else(own).unwrap_or(nobody);
@@ -237,7 +237,7 @@ fn receive(socket: &UdpSocket, peer: Option<SocketAddr>, batch: &mut Batch) -> i
     Ok(count)
 }
 
-/// What the system tells of messages that were heard at once.
+/// What the system says about messages that were heard at once.
 struct Messages {
     names: [Name; MOST],
     controls: [Control; MOST],
@@ -253,7 +253,7 @@ impl Messages {
         }
     }
 
-    /// Hears messages into these rooms, without waiting, and answers how many have come.
+    /// Hears messages into these rooms, without waiting, and returns how many.
     fn receive(&mut self, socket: &UdpSocket, rooms: &mut [u8]) -> io::Result<usize> {
         let mut pieces: Vec<Piece> = rooms
             .chunks_exact_mut(ROOM)
@@ -295,7 +295,7 @@ impl Messages {
     }
 }
 
-/// The length of the datagrams that a message has, where it has several.
+/// The length of the datagrams of a message, if it has several.
 fn segment_of(control: &Control) -> Option<usize> {
     let is_told = control.length >= 20 && (control.level, control.kind) == (SOL_UDP, UDP_GRO);
     let bytes = control.value.first_chunk().filter(|_| is_told)?;
@@ -318,7 +318,7 @@ fn split(batch: &mut Batch, from: SocketAddr, place: Range<usize>, segment: Opti
     }
 }
 
-/// Sends frames as messages of many, while the system takes such. One that it does not take is lost.
+/// Sends frames as messages of many, while the system takes these. A frame that it does not take is lost.
 fn send_many(
     socket: &UdpSocket,
     has_segments: &AtomicBool,
@@ -338,7 +338,7 @@ fn send_many(
             // That of an earlier datagram, which it told of in place of sending.
             hand_over(socket, to, &[run]);
         } else if 1 < run.len() && !is_passing(&fault) {
-            // It, or the way to the peer, takes no such message: from now on, each frame is one.
+            // The system, or the way to the peer, does not take such messages: from now on each frame is one.
             has_segments.store(false, Ordering::Relaxed);
             continue;
         }
@@ -346,7 +346,7 @@ fn send_many(
     }
 }
 
-/// Sends a frame. One that the system does not take is lost.
+/// Sends a frame. If the system does not take it, it is lost.
 fn send_one(socket: &UdpSocket, to: Option<SocketAddr>, frame: &Transmit) {
     let send = || match to {
         Some(peer) => socket.send_to(&frame.bytes, peer),
@@ -358,7 +358,7 @@ fn send_one(socket: &UdpSocket, to: Option<SocketAddr>, frame: &Transmit) {
     }
 }
 
-/// Frames as runs of which each has one length, except that the last may be shorter.
+/// Frames as runs: those of a run have one length, except that the last may be shorter.
 struct Runs<'a> {
     left: &'a [Transmit],
     most: usize,
@@ -386,7 +386,7 @@ impl<'a> Iterator for Runs<'a> {
     }
 }
 
-/// Hands runs to the system, each as a message, and answers how many it took before it refused one.
+/// Hands runs to the system, each as a message, and returns how many it took before it refused one.
 fn hand_over(socket: &UdpSocket, to: Option<SocketAddr>, runs: &[&[Transmit]]) -> usize {
     let (mut name, name_length) = to.map_or((NOBODY, 0), name_of);
     let name = match to {
@@ -414,7 +414,7 @@ fn hand_over(socket: &UdpSocket, to: Option<SocketAddr>, runs: &[&[Transmit]]) -
     usize::try_from(sent).unwrap_or(0)
 }
 
-/// Where the bytes of frames lie. The system only reads what is sent.
+/// Where the bytes of frames are. The system only reads what is sent.
 fn pieces_of(run: &[Transmit]) -> Vec<Piece> {
     run.iter()
         .map(|frame| Piece {
@@ -424,7 +424,7 @@ fn pieces_of(run: &[Transmit]) -> Vec<Piece> {
         .collect()
 }
 
-/// What tells the system the length of a run's datagrams.
+/// The control message with the length of a run's datagrams.
 fn control_of(run: &[Transmit]) -> Control {
     let mut control = Control {
         length: 18,
@@ -451,7 +451,7 @@ const NOBODY: Name = Name {
     rest: [0; 24],
 };
 
-/// A message of these names, pieces and control messages, which are told by pointers and lengths.
+/// A message of these names, pieces and control messages, passed by pointers and lengths.
 fn message(
     name: (*mut Name, usize),
     pieces: (*mut Piece, usize),
@@ -477,7 +477,7 @@ fn message(
     Message { header, length: 0 }
 }
 
-/// The address as the system spells it, and how many bytes of it count.
+/// The address in the system's form, and how many bytes of it count.
 fn name_of(address: SocketAddr) -> (Name, usize) {
     let mut rest = [0; 24];
     let port = address.port().to_be_bytes();
@@ -509,7 +509,7 @@ fn name_of(address: SocketAddr) -> (Name, usize) {
     }
 }
 
-/// The address that the system spells so, if it is of IPv4 or IPv6.
+/// The address that has this form, if it is of IPv4 or IPv6.
 fn address_of(name: &Name) -> Option<SocketAddr> {
     let port = u16::from_be_bytes(name.port);
     let number = |at: usize| {
@@ -538,7 +538,7 @@ mod tests {
     use crate::Transmit;
     use std::net::SocketAddr;
 
-    /// As <netinet/in.h> has them: family, port in network order, address.
+    /// As in <netinet/in.h>: family, port in network order, address.
     #[test]
     fn addresses_are_spelled_as_the_system_does() {
         let v4: SocketAddr = "192.0.2.1:5001".parse().unwrap();
@@ -565,7 +565,7 @@ mod tests {
         Runs { left, most }.map(<[Transmit]>::len).collect()
     }
 
-    /// UDP_SEGMENT cuts a message into pieces of one length, of which the last may be shorter.
+    /// UDP_SEGMENT cuts a message into pieces of one length; the last may be shorter.
     #[test]
     fn a_run_has_one_length_and_a_shorter_end() {
         assert_eq!(lengths(&[9, 9, 9], 62), [3]);
@@ -573,13 +573,13 @@ mod tests {
         assert_eq!(lengths(&[4, 9, 9], 62), [1, 2]);
         assert_eq!(lengths(&[9, 9, 9, 9, 9], 2), [2, 2, 1]);
         assert_eq!(lengths(&[9, 9, 9], 1), [1, 1, 1]);
-        // No more bytes than a datagram of IP has: 65,000 hold 62 of 1,040 bytes, and 31 of 2,044.
+        // No more bytes than an IP datagram has: 65,000 hold 62 of 1,040 bytes, and 31 of 2,044.
         assert_eq!(lengths(&[1_040; 70], 62), [62, 8]);
         assert_eq!(lengths(&[2_044; 40], 62), [31, 9]);
         assert_eq!(lengths(&[], 62), []);
     }
 
-    /// UDP_GRO tells the length of all datagrams of a message except the last.
+    /// UDP_GRO gives the length of all datagrams of a message except the last.
     #[test]
     fn a_message_of_many_is_parted() {
         let told = |length, kind| {

@@ -1,4 +1,4 @@
-//! A server: it hears on one port of the system, and gives a socket for each client.
+//! A server: it hears on one UDP port, and has a socket for each client.
 
 use super::agenda::Agenda;
 use super::driver::{Driver, Reception};
@@ -53,7 +53,7 @@ impl Door {
             drop(queue);
             self.came.notify_one();
         } else {
-            // Nobody accepts it: it is let go, without the lock.
+            // Nobody accepts it: it is dropped, without the lock.
             drop(queue);
             drop(socket);
         }
@@ -64,7 +64,7 @@ impl Door {
         self.came.notify_all();
     }
 
-    /// Shuts, and gives back what nobody has accepted.
+    /// Shuts, and returns the connections that nobody has accepted.
     fn shut(&self) -> VecDeque<Socket> {
         let mut queue = self.queue();
         queue.is_open = false;
@@ -101,7 +101,8 @@ impl Door {
 
 /// A server of many clients over one UDP port. It accepts a connection once its client has shown that it hears the answers.
 ///
-/// Where it is dropped, no client finds it any more; connections that were accepted go on.
+/// Once it is dropped, no new client is served. Connections that were accepted go on, and as long as there is one, new ones are refused
+/// (Reset Code 7: RFC 4340, section 5.6).
 pub struct Listener {
     wire: Arc<Wire>,
     door: Arc<Door>,
@@ -114,11 +115,11 @@ impl fmt::Debug for Listener {
 }
 
 impl Listener {
-    /// Hears on this address for Requests of these Service Codes (RFC 4340, section 8.1.2). One that asks for another is answered by
-    /// a Reset with code 8.
+    /// Hears on this address for Requests of these Service Codes (RFC 4340, section 8.1.2). A Request for another is answered by a Reset
+    /// with code 8.
     ///
-    /// An address that is any, as `0.0.0.0`, serves where the machine answers a client from the address to which that has sent, as one
-    /// with one address for each family does.
+    /// An address such as `0.0.0.0` works if the machine answers a client from the address to which the client sent, as a machine with one
+    /// address for each family does.
     pub fn bind(address: impl ToSocketAddrs, services: &[u32]) -> Result<Listener, Error> {
         Options::new().bind(address, services)
     }
@@ -151,7 +152,7 @@ impl Listener {
         self.door.next(Wait::Not)
     }
 
-    /// The connections, one after another, until the socket fails.
+    /// The connections, in the order in which they opened, until the socket fails.
     pub fn incoming(&self) -> impl Iterator<Item = Result<Socket, Error>> + '_ {
         std::iter::repeat_with(|| self.accept())
     }

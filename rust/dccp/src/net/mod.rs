@@ -1,8 +1,8 @@
 //! Sockets: connections over the system's UDP, with clock, random first numbers, timers, limits and the loop inside.
 //!
-//! [`Socket::connect`] asks a server, and [`Listener::bind`] is one; each connection is a [`Socket`]. One thread in the background
-//! hears for a listener and all its connections, and one for a client. All of it stands on [`Connection`](crate::Connection), which
-//! has neither socket nor clock, for whoever has a loop of his own.
+//! [`Socket::connect`] connects to a server, and [`Listener::bind`] makes one; each connection is a [`Socket`]. One thread in the
+//! background hears for a listener and all its connections, and one for a client. Both use [`Connection`](crate::Connection), which has
+//! neither socket nor clock, and is for programs with their own loop.
 //!
 //! ```
 //! use dccp::net::{Listener, Socket};
@@ -25,11 +25,11 @@
 //! ```
 //!
 //! Data are packets: each arrives once and whole, or not at all, and not always in order. A packet has at most
-//! [`MOST_DATA_BYTES`](crate::MOST_DATA_BYTES) bytes. How many may be under way is the window's; [`Socket::send`] waits for room, and
+//! [`MOST_DATA_BYTES`](crate::MOST_DATA_BYTES) bytes. The window limits how many may be under way; [`Socket::send`] waits for room, and
 //! [`Socket::try_send`] does not.
 //!
-//! What comes in is kept until it is read, [`Options::most_waiting`] packets at most; more are dropped, and counted. Syncs and Resets
-//! that answer a packet go out 20 times a second at most, those to strangers 100 times.
+//! Packets are kept until they are read, [`Options::most_waiting`] at most; more are dropped, and counted. At most 20 Syncs and Resets a
+//! second answer the packets of a connection, and 100 those of strangers.
 
 #[cfg_attr(has_batches, path = "linux.rs")]
 #[cfg_attr(not(has_batches), path = "portable.rs")]

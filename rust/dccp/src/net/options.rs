@@ -1,11 +1,11 @@
-//! What a socket is made from.
+//! The options of a socket.
 
 use super::{Error, Listener, Socket};
 use crate::{Config, Feature, Place};
 use std::net::{SocketAddr, ToSocketAddrs};
 use std::time::Duration;
 
-/// What a [`Socket`] or a [`Listener`] is made from, where the usual is not what is wanted.
+/// The options of a [`Socket`] or a [`Listener`].
 ///
 /// ```no_run
 /// use dccp::net::Options;
@@ -23,6 +23,7 @@ pub struct Options {
     pub(super) patience: Duration,
     pub(super) idle: Duration,
     pub(super) most_waiting: usize,
+    pub(super) holding: usize,
     pub(super) most_connections: usize,
 }
 
@@ -33,9 +34,8 @@ impl Default for Options {
 }
 
 impl Options {
-    /// What [`Socket::connect`] and [`Listener::bind`] take: 30 seconds to connect, three minutes of silence, 4,096 packets that wait,
-    /// 1,000 connections, and no wish beside the usual ones. Each end follows the rules of its path
-    /// ([`PathRule`](crate::PathRule)).
+    /// The options of [`Socket::connect`] and [`Listener::bind`]: 30 seconds to connect, three minutes of silence, 4,096 packets that wait,
+    /// 1,000 connections, and the usual wishes. Each end follows the rules of its path ([`PathRule`](crate::PathRule)).
     pub fn new() -> Options {
         Options {
             wishes: Vec::new(),
@@ -43,47 +43,55 @@ impl Options {
             patience: Duration::from_secs(30),
             idle: Duration::from_secs(180),
             most_waiting: 4_096,
+            holding: 0,
             most_connections: 1_000,
         }
     }
 
-    /// Asks the peer for these values of a feature, best first, as [`Config::offer`]. A later wish takes an earlier one's place.
+    /// Asks the peer for these values of a feature, best first, as [`Config::offer`]. A later wish replaces an earlier one.
     pub fn offer(mut self, feature: Feature, place: Place, values: &[u64]) -> Options {
         self.wishes.retain(|it| (it.0, it.1) != (feature, place));
         self.wishes.push((feature, place, values.to_vec()));
         self
     }
 
-    /// Names for a client and its server that both have agreed on, in place of their addresses and ports, which stand in each packet
-    /// and its checksum: for where these are translated on the way. Any do, the same at both ends.
+    /// Names of the client and the server on which both have agreed, for addresses that are translated on the way. They are in each packet
+    /// and its checksum in place of addresses and ports. Any will do, if they are the same at both ends.
     pub fn names(mut self, client: SocketAddr, server: SocketAddr) -> Options {
         self.names = Some((client, server));
         self
     }
 
-    /// How long [`Options::connect`] waits for an answer, 30 seconds if not said.
+    /// How long [`Options::connect`] waits for an answer; 30 seconds by default.
     pub fn patience(mut self, wait: Duration) -> Options {
         self.patience = wait;
         self
     }
 
-    /// After how much silence a connection is given up, three minutes if not said. An end that has nothing to say sends an Ack
-    /// every 20 seconds at the latest, so less than that ends connections that only rest.
-    /// By itself an end gives a silent peer up after three minutes, so a longer time changes nothing.
+    /// After how much silence a connection is given up; three minutes by default. An idle end sends an Ack at least every 20 seconds, so
+    /// a time below that ends idle connections. An end gives up a silent peer after three minutes in any case, so a longer time changes
+    /// nothing.
     pub fn idle(mut self, wait: Duration) -> Options {
         self.idle = wait;
         self
     }
 
-    /// How many packets of data are kept for an owner who does not read them, 4,096 if not said.
+    /// How many packets of data are kept for an owner that does not read them; 4,096 by default.
     pub fn most_waiting(mut self, most: usize) -> Options {
         self.most_waiting = most;
         self
     }
 
-    /// How many connections a listener has at a time, 1,000 if not said. Each takes some 90 KB. A Request beyond them takes the place
-    /// that has been taken up the longest by one that has ended or not opened, for a second at least; else it is passed over, and its
-    /// client asks again.
+    /// Data wait in the end itself, in place of [`Options::most_waiting`], for up to this many packets, 1,024 at most. The end then reports
+    /// drops and little room to its peer, so that it sends less (RFC 4340, sections 11.6 and 11.7).
+    pub fn holding(mut self, most: usize) -> Options {
+        self.holding = most;
+        self
+    }
+
+    /// How many connections a listener has at a time; 1,000 by default. Each takes some 90 KB. One more Request takes the place of the
+    /// connection that has ended, or not opened, for the longest time, if that is at least a second. Otherwise it gets no answer, and its
+    /// client asks again; if all are open, it is answered by a Reset with code 9.
     pub fn most_connections(mut self, most: usize) -> Options {
         self.most_connections = most;
         self
@@ -99,7 +107,7 @@ impl Options {
         Listener::bind_with(self, address, services)
     }
 
-    /// A client's end between these addresses, or between those that were agreed on.
+    /// A client's end between these addresses, or those on which both have agreed.
     pub(super) fn client(
         &self,
         own: SocketAddr,
@@ -111,7 +119,7 @@ impl Options {
         self.wished(Config::client(own, peer, service, first))
     }
 
-    /// A server's end between these addresses, or between those that were agreed on.
+    /// A server's end between these addresses, or those on which both have agreed.
     pub(super) fn server(
         &self,
         own: SocketAddr,
@@ -124,10 +132,9 @@ impl Options {
     }
 
     fn wished(&self, config: Config) -> Config {
-        self.wishes
-            .iter()
-            .fold(config, |config, (feature, place, values)| {
-                config.offer(*feature, *place, values)
-            })
+        self.wishes.iter().fold(
+            config.holding(self.holding),
+            |config, (feature, place, values)| config.offer(*feature, *place, values),
+        )
     }
 }

@@ -1,4 +1,4 @@
-//! Datagrams by the standard library alone, one with each call.
+//! Datagrams by the standard library alone, one for each call.
 
 use super::wire::{Batch, is_passing};
 use crate::{MOST_FRAME_BYTES, Transmit};
@@ -6,18 +6,18 @@ use std::io;
 use std::net::{SocketAddr, UdpSocket};
 use std::time::Duration;
 
-/// A byte more than a frame may have, so that one that is too long is seen to be.
+/// A byte more than a frame may have, so that a longer datagram is noticed.
 pub(super) const ROOMS: usize = MOST_FRAME_BYTES + 1;
 
-/// Whether the system tells at once that nothing has come.
+/// Whether the system says at once that nothing has come.
 pub(super) const CAN_LOOK: bool = false;
 
-/// A read may wait for no time that is shorter.
+/// The shortest time for which a read may wait.
 const SHORTEST: Duration = Duration::from_millis(1);
-/// Nothing wakes a driver, so it sleeps for no longer.
+/// The longest time for which a driver sleeps, since nothing wakes it.
 const LONGEST: Duration = Duration::from_millis(50);
 
-/// What the standard library has.
+/// A socket of the standard library.
 pub(super) struct System;
 
 impl System {
@@ -25,7 +25,7 @@ impl System {
         Ok(System)
     }
 
-    /// Hears what comes in this time; maybe nothing.
+    /// Hears datagrams that come in this time; maybe none.
     pub(super) fn receive(
         &self,
         socket: &UdpSocket,
@@ -43,10 +43,10 @@ impl System {
         Ok(())
     }
 
-    /// Sends frames, to this peer where the socket is not connected. One that the system does not take is lost.
+    /// Sends frames, to this peer if the socket is not connected. A frame that the system does not take is lost.
     pub(super) fn send(&self, socket: &UdpSocket, to: Option<SocketAddr>, frames: &[Transmit]) {
         for frame in frames {
-            // Lost, where it is refused, as any datagram may be.
+            // If it is refused, it is lost, as any datagram may be.
             let _ = match to {
                 Some(peer) => socket.send_to(&frame.bytes, peer),
                 None => socket.send(&frame.bytes),

@@ -14,6 +14,13 @@ impl Random {
         Ok(Random { source })
     }
 
+    /// 32 bytes.
+    pub(super) fn key(&mut self) -> io::Result<[u8; 32]> {
+        let mut key = [0; 32];
+        self.source.read_exact(&mut key)?;
+        Ok(key)
+    }
+
     /// A number below 2^48.
     pub(super) fn first_number(&mut self) -> io::Result<u64> {
         let mut bytes = [0; 8];

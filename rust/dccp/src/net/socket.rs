@@ -1,8 +1,8 @@
-//! One connection, as its owner has it.
+//! A connection as its owner uses it.
 
 use super::agenda::Agenda;
 use super::driver::Driver;
-use super::line::{Inbox, Line, Wait};
+use super::line::{Line, Wait};
 use super::options::Options;
 use super::random::Random;
 use super::wire::{Wire, any_address};
@@ -14,7 +14,7 @@ use std::net::{SocketAddr, ToSocketAddrs, UdpSocket};
 use std::sync::Arc;
 use std::time::{Duration, Instant};
 
-/// A connection that is closed where its last owner is gone.
+/// A connection that is closed when its last owner is dropped.
 struct Owned {
     line: Arc<Line>,
 }
@@ -25,10 +25,10 @@ impl Drop for Owned {
     }
 }
 
-/// A connection. It may be used by several threads at a time; [`Socket::split`] gives two halves.
+/// A connection. Several threads may use it at a time; [`Socket::split`] makes two halves.
 ///
-/// Where it is dropped, and its halves, it closes in order in the background: once what was sent is reported, or after two seconds. A
-/// program that ends at once had better [`close`](Socket::close).
+/// Once it and its halves are dropped, it closes in order in the background, when all that was sent is reported, or after two seconds. A
+/// program that ends at once should call [`close`](Socket::close).
 pub struct Socket {
     owned: Arc<Owned>,
 }
@@ -44,7 +44,7 @@ pub struct Receiver {
     owned: Arc<Owned>,
 }
 
-/// Sockets say with whom they speak.
+/// The peer of a socket.
 macro_rules! shows {
     ($($name:ident)+) => {
         $(impl fmt::Debug for $name {
@@ -79,8 +79,8 @@ impl Socket {
         }
     }
 
-    /// Connects to a server for a Service Code (RFC 4340, section 8.1.2), and waits for its answer, 30 seconds at most:
-    /// [`Options::patience`] has another time. [`Error::Ended`] says that the server refused, [`Error::TimedOut`] that none answered.
+    /// Connects to a server for a Service Code (RFC 4340, section 8.1.2), and waits for its answer, for 30 seconds at most or by
+    /// [`Options::patience`]. [`Error::Ended`] means that the server refused, [`Error::TimedOut`] that none answered.
     pub fn connect(address: impl ToSocketAddrs, service: u32) -> Result<Socket, Error> {
         Options::new().connect(address, service)
     }
@@ -118,12 +118,13 @@ impl Socket {
         &self.owned.line
     }
 
-    /// Sends data, waiting for room, and answers the packet's sequence number, for [`Socket::fate`].
+    /// Sends data, waiting for room, and returns the packet's sequence number, for [`Socket::fate`]. On Linux, another thread hands packets
+    /// within 20 microseconds of each other to the system together.
     pub fn send(&self, data: &[u8]) -> Result<u64, Error> {
         send(self.line(), data, Wait::Ever)
     }
 
-    /// Sends data, waiting for room for so long at most; then [`Error::TimedOut`].
+    /// Sends data, waiting for room for this long at most; then [`Error::TimedOut`].
     pub fn send_timeout(&self, data: &[u8], wait: Duration) -> Result<u64, Error> {
         send(self.line(), data, Wait::of(wait))
     }
@@ -133,33 +134,33 @@ impl Socket {
         send(self.line(), data, Wait::Not)
     }
 
-    /// Sends the first of these packets, as many as there is room for, waiting for room for one. It answers how many.
+    /// Sends the first of these packets, as many as there is room for, waiting for room for one. Returns how many it sent.
     pub fn send_batch<T: AsRef<[u8]>>(&self, packets: &[T]) -> Result<usize, Error> {
         send_batch(self.line(), packets)
     }
 
-    /// The data of the next packet, waiting for them. [`Error::Ended`] once the connection has ended and all was read.
+    /// The data of the next packet, waiting for one. [`Error::Ended`] once the connection has ended and everything was read.
     pub fn recv(&self) -> Result<Vec<u8>, Error> {
-        self.line().read(Wait::Ever, Inbox::take)
+        self.line().read(Wait::Ever, |waiting| waiting.take())
     }
 
-    /// Puts the data of the next packet in place of these, waiting for them; the room of these is used for a later packet, so that no
-    /// memory is taken for each. [`Error::Ended`] as [`Socket::recv`], and then these stay.
+    /// Replaces these data by those of the next packet, waiting for one. Their buffer is used for a later packet, so no memory is taken for
+    /// each. [`Error::Ended`] as [`Socket::recv`]; then these data stay.
     pub fn recv_into(&self, data: &mut Vec<u8>) -> Result<(), Error> {
         recv_into(self.line(), data)
     }
 
-    /// The data of the next packet, if one comes in this time; else [`Error::TimedOut`].
+    /// The data of the next packet, if one arrives in this time; else [`Error::TimedOut`].
     pub fn recv_timeout(&self, wait: Duration) -> Result<Vec<u8>, Error> {
-        self.line().read(Wait::of(wait), Inbox::take)
+        self.line().read(Wait::of(wait), |waiting| waiting.take())
     }
 
-    /// The data of the next packet, if one has come; else [`Error::WouldBlock`].
+    /// The data of the next packet, if one has arrived; else [`Error::WouldBlock`].
     pub fn try_recv(&self) -> Result<Vec<u8>, Error> {
-        self.line().read(Wait::Not, Inbox::take)
+        self.line().read(Wait::Not, |waiting| waiting.take())
     }
 
-    /// Puts the data of all packets that have come after `packets`, waiting for one. It answers how many.
+    /// Appends the data of all packets that have arrived to `packets`, waiting for one. Returns how many.
     pub fn recv_batch(&self, packets: &mut Vec<Vec<u8>>) -> Result<usize, Error> {
         recv_batch(self.line(), packets)
     }
@@ -172,8 +173,9 @@ impl Socket {
         (sender, Receiver { owned: self.owned })
     }
 
-    /// Closes in order, once all that was sent is reported or half of the time is over, and waits for the end. It answers how the
-    /// connection ended, or [`Error::TimedOut`], as where the peer is gone; then closing goes on in the background.
+    /// Closes in order, once all that was sent is reported or half of the time is over, and waits for the end. Returns how the connection
+    /// ended, or [`Error::TimedOut`], for example if the peer is gone; then closing goes on in the background. If this end answered the
+    /// peer's Close, it waits for some 400 ms more, in which the peer may repeat that: a program that has ended answers nothing.
     pub fn close(self, wait: Duration) -> Result<End, Error> {
         self.line().close(wait)
     }
@@ -188,7 +190,7 @@ impl Socket {
         self.line().end()
     }
 
-    /// What was counted, and where the window stands.
+    /// What was counted, and the window.
     pub fn statistics(&self) -> Statistics {
         self.line().statistics()
     }
@@ -198,7 +200,7 @@ impl Socket {
         self.line().call(|it| it.fate(number))
     }
 
-    /// The longest data that fit a frame of so many bytes now, as [`Connection::longest_data`].
+    /// The longest data that fit a frame of this many bytes now, as [`Connection::longest_data`].
     pub fn longest_data(&self, most: usize) -> usize {
         self.line().call(|it| it.longest_data(most))
     }
@@ -261,7 +263,7 @@ impl Sender {
         self.owned.line.call(|it| it.fate(number))
     }
 
-    /// As [`Socket::close`], while the other half may still read what has come.
+    /// As [`Socket::close`], while the other half may still read what has arrived.
     pub fn close(&self, wait: Duration) -> Result<End, Error> {
         self.owned.line.close(wait)
     }
@@ -270,7 +272,7 @@ impl Sender {
 impl Receiver {
     /// As [`Socket::recv`].
     pub fn recv(&self) -> Result<Vec<u8>, Error> {
-        self.owned.line.read(Wait::Ever, Inbox::take)
+        self.owned.line.read(Wait::Ever, |waiting| waiting.take())
     }
 
     /// As [`Socket::recv_into`].
@@ -280,12 +282,14 @@ impl Receiver {
 
     /// As [`Socket::recv_timeout`].
     pub fn recv_timeout(&self, wait: Duration) -> Result<Vec<u8>, Error> {
-        self.owned.line.read(Wait::of(wait), Inbox::take)
+        self.owned
+            .line
+            .read(Wait::of(wait), |waiting| waiting.take())
     }
 
     /// As [`Socket::try_recv`].
     pub fn try_recv(&self) -> Result<Vec<u8>, Error> {
-        self.owned.line.read(Wait::Not, Inbox::take)
+        self.owned.line.read(Wait::Not, |waiting| waiting.take())
     }
 
     /// As [`Socket::recv_batch`].
@@ -305,7 +309,7 @@ fn send_batch<T: AsRef<[u8]>>(line: &Line, packets: &[T]) -> Result<usize, Error
                 Ok(_) => {}
                 Err(SendError::WindowFull) if count != 0 => return Ok(count),
                 Err(fault) if count == 0 => return Err(fault),
-                // What was sent counts; the next call is told.
+                // What was sent counts; the next call returns the error.
                 Err(_) => return Ok(count),
             }
         }
@@ -314,14 +318,9 @@ fn send_batch<T: AsRef<[u8]>>(line: &Line, packets: &[T]) -> Result<usize, Error
 }
 
 fn recv_into(line: &Line, data: &mut Vec<u8>) -> Result<(), Error> {
-    line.read(Wait::Ever, |inbox| inbox.exchange(data))
+    line.read(Wait::Ever, |waiting| waiting.exchange(data))
 }
 
 fn recv_batch(line: &Line, packets: &mut Vec<Vec<u8>>) -> Result<usize, Error> {
-    line.read(Wait::Ever, |inbox| {
-        let all = inbox.drain();
-        let count = all.len();
-        packets.extend(all);
-        (count != 0).then_some(count)
-    })
+    line.read(Wait::Ever, |waiting| waiting.take_all(packets))
 }

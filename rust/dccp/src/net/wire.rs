@@ -1,4 +1,4 @@
-//! Datagrams of the system's UDP, many with one call where that can be.
+//! Datagrams of the system's UDP, many with one call if possible.
 
 use super::system::{ROOMS, System};
 use crate::Transmit;
@@ -7,11 +7,11 @@ use std::net::{Ipv4Addr, Ipv6Addr, SocketAddr, UdpSocket};
 use std::ops::Range;
 use std::time::Duration;
 
-/// Datagrams that were heard at once, and from whom each came.
+/// Datagrams that were heard at once, each with its sender.
 pub(super) struct Batch {
     /// Where the system puts them.
     pub(super) rooms: Vec<u8>,
-    /// Of each whom it came from, and where it lies in the rooms.
+    /// The sender of each, and its place in the rooms.
     pub(super) heard: Vec<(SocketAddr, Range<usize>)>,
 }
 
@@ -23,7 +23,7 @@ impl Batch {
         }
     }
 
-    /// Each datagram, with whom it came from.
+    /// Each datagram, with its sender.
     pub(super) fn datagrams(&self) -> Vec<(SocketAddr, &[u8])> {
         self.heard
             .iter()
@@ -32,7 +32,7 @@ impl Batch {
     }
 }
 
-/// A socket of the system, and whom it hears: one peer, or all.
+/// A socket of the system, which hears one peer, or all.
 pub(super) struct Wire {
     socket: UdpSocket,
     peer: Option<SocketAddr>,
@@ -40,7 +40,7 @@ pub(super) struct Wire {
 }
 
 impl Wire {
-    /// Over a socket that is connected to this peer, or to none.
+    /// A wire over a socket that is connected to this peer, or to none.
     pub(super) fn new(socket: UdpSocket, peer: Option<SocketAddr>) -> io::Result<Wire> {
         let system = System::new(&socket)?;
         Ok(Wire {
@@ -54,7 +54,7 @@ impl Wire {
         self.socket.local_addr()
     }
 
-    /// The address from which this machine speaks to a peer: the socket's own, or where that is any, what the system would take.
+    /// The address from which this machine sends to a peer: the socket's, or if that is any, the one that the system would choose.
     pub(super) fn address_towards(&self, peer: SocketAddr) -> io::Result<SocketAddr> {
         let own = self.local_addr()?;
         if !own.ip().is_unspecified() {
@@ -65,12 +65,12 @@ impl Wire {
         Ok(SocketAddr::new(probe.local_addr()?.ip(), own.port()))
     }
 
-    /// Hears what has come, or what comes in this time; maybe nothing.
+    /// Hears datagrams that have come, or that come in this time; maybe none.
     pub(super) fn receive(&self, batch: &mut Batch, wait: Duration) -> io::Result<()> {
         self.system.receive(&self.socket, self.peer, batch, wait)
     }
 
-    /// Sends frames to a peer. One that the system does not take is lost.
+    /// Sends frames to a peer. A frame that the system does not take is lost.
     pub(super) fn send(&self, peer: SocketAddr, frames: &[Transmit]) {
         let to = self.peer.is_none().then_some(peer);
         self.system.send(&self.socket, to, frames);
@@ -90,7 +90,7 @@ pub(super) fn any_address(peer: SocketAddr) -> SocketAddr {
     }
 }
 
-/// Whether a fault of a datagram socket is a lost datagram, or none that has come, and no fault of the socket.
+/// Whether an error of a datagram socket means that a datagram was lost, or that none has come, and not that the socket failed.
 pub(super) fn is_passing(fault: &io::Error) -> bool {
     matches!(
         fault.kind(),
