@@ -1,4 +1,4 @@
-//! What deadlines cost a server of 1,024 flows in OPEN, beside 1,024 ends in OPEN that stand in a list: the timers of all due at one time, and
+//! What deadlines cost a server of 1,024 flows in OPEN, beside 1,024 ends in OPEN in a list: the timers of all due at one time, and
 //! the first deadline asked for after each of a million datagrams. It prints figures of processor time, each the least of some runs, and ends
 //! with 1 where the server's is over twice the ends'.
 
@@ -6,7 +6,7 @@ use dccp::{Config, Connection, Listener, Phase};
 use std::error::Error;
 use std::fs;
 use std::hint::black_box;
-use std::net::{Ipv4Addr, SocketAddrV4};
+use std::net::{Ipv4Addr, SocketAddr, SocketAddrV4};
 use std::process::ExitCode;
 use std::thread;
 use std::time::{Duration, Instant};
@@ -21,7 +21,7 @@ const ROUNDS: usize = 16;
 const RUNS: usize = 10;
 const MOST_TIMES: f64 = 2.0;
 
-/// The processor time of this program so far, which Linux tells in nanoseconds. It counts on where a thread gives its processor up.
+/// The processor time of this program so far, which Linux counts in nanoseconds. It counts on where a thread gives its processor up.
 fn processor_time() -> Result<Duration, Box<dyn Error>> {
     thread::yield_now();
     let told = fs::read_to_string("/proc/self/schedstat")?;
@@ -40,7 +40,7 @@ fn peer(place: u16) -> SocketAddrV4 {
 /// A server of 1,024 clients, each at its place.
 trait Server {
     fn hear(&mut self, place: u16, datagram: &[u8], now: Instant);
-    /// Tells all timers that have run out.
+    /// Fires all timers that have run out.
     fn tell(&mut self, now: Instant);
     /// When there is something to do for whom the last datagram came from, or for any.
     fn first_deadline(&mut self, place: u16) -> Option<Instant>;
@@ -51,9 +51,8 @@ trait Server {
 
 impl Server for Listener {
     fn hear(&mut self, place: u16, datagram: &[u8], now: Instant) {
-        self.handle_datagram(peer(place), u64::from(place) << 20, datagram, now)
+        self.handle_datagram(peer(place).into(), u64::from(place) << 20, datagram, now)
             .expect("each client has a place");
-        while self.poll_event().is_some() {}
         while self.poll_change().is_some() {}
         while self.poll_accept().is_some() {}
     }
@@ -68,12 +67,13 @@ impl Server for Listener {
 
     fn frame(&mut self) -> Option<(u16, Vec<u8>)> {
         let (to, frame) = self.poll_transmit()?;
+        let SocketAddr::V4(to) = to else { return None };
         let [_, _, high, low] = to.ip().octets();
         Some((u16::from_be_bytes([high, low]), frame.bytes))
     }
 
     fn phase(&mut self, place: u16) -> Option<Phase> {
-        Listener::phase(self, peer(place))
+        Listener::phase(self, peer(place).into())
     }
 }
 

@@ -1,16 +1,21 @@
 //! A siege in counted time: real clients of a server of 1,024 places, and beside them 20,000 hostile datagrams a second of strangers who do
 //! not see what goes between others. It prints figures, and ends with 1 where one is past its bound.
+//!
+//!     siege [CLIENTS [always]]
+//!
+//! Of itself it has 200 clients, and cookies in a crowd.
 
-use dccp::{Cause, Change, Config, Connection, FlowRules, Listener, Phase};
+use dccp::{Cause, Change, Config, Connection, Cookies, FlowRules, Listener, Phase};
 use std::collections::BTreeMap;
+use std::env;
 use std::error::Error;
 use std::fs;
-use std::net::{Ipv4Addr, SocketAddrV4};
+use std::net::{Ipv4Addr, SocketAddr, SocketAddrV4};
 use std::process::ExitCode;
 use std::time::{Duration, Instant};
 
 const PLACES: u16 = 1_024;
-const CLIENTS: usize = 200;
+const USUAL_CLIENTS: usize = 200;
 const SERVICE: u32 = 42;
 const STEP: Duration = Duration::from_millis(10);
 const LENGTH: Duration = Duration::from_secs(20);
@@ -19,10 +24,10 @@ const HOSTILE: usize = 200;
 /// When a client may begin, at the latest.
 const BEGINS_WITHIN_STEPS: u64 = 1_000;
 const CONNECTS_WITHIN: Duration = Duration::from_secs(5);
-/// How many answers a second may go to peers without a connection: those of the rules by default.
+/// How many answers a second may go to peers without a connection, beside one Response for each Request: those of the rules by default.
 const ANSWERS_A_SECOND: usize = 100;
 /// How much memory may grow in the second half, in which no client begins, in KiB: each flow keeps what it knows of its last packets.
-const GROWTH: usize = 32 * CLIENTS;
+const GROWTH_A_CLIENT: usize = 32;
 
 fn here() -> SocketAddrV4 {
     SocketAddrV4::new(Ipv4Addr::new(192, 0, 2, 200), 5_001)
@@ -98,7 +103,7 @@ fn hostile(numbers: &mut Numbers, clients: &[Client]) -> (SocketAddrV4, Vec<u8>)
         Ipv4Addr::from(0x0a00_0000 | numbers.below(1 << 24) as u32),
         1_024 + numbers.below(60_000) as u16,
     );
-    let client = clients[numbers.below(CLIENTS as u64) as usize].own;
+    let client = clients[numbers.below(clients.len() as u64) as usize].own;
     let (number, other) = (numbers.next() << 16 | numbers.below(1 << 16), numbers.next() << 16);
     let whose = if numbers.below(2) == 0 { stranger } else { client };
     let bytes = match numbers.below(5) {
@@ -120,8 +125,12 @@ struct Figures {
     slowest: Duration,
     not_connected: usize,
     lost: usize,
-    /// Those that went to peers without a connection.
+    /// Those that went to peers without a connection, and were no Response.
     to_strangers: usize,
+    /// Requests that came.
+    requests: usize,
+    /// Responses that went to peers without a connection: with Init Cookies.
+    greetings: usize,
     sent: usize,
     /// What the process holds after half of the time, and at its end, in KiB.
     memory: [usize; 2],
@@ -134,7 +143,7 @@ fn end_of(own: SocketAddrV4, numbers: &mut Numbers) -> Result<Connection, Box<dy
 }
 
 fn client_of(place: usize, numbers: &mut Numbers, now: Instant) -> Result<Client, Box<dyn Error>> {
-    let own = SocketAddrV4::new(Ipv4Addr::new(198, 51, 100, place as u8), 40_000);
+    let own = SocketAddrV4::new(Ipv4Addr::from(0xc633_6400 + place as u32), 40_000);
     let begins = now + STEP * numbers.below(BEGINS_WITHIN_STEPS) as u32;
     let end = end_of(own, numbers)?;
     Ok(Client {
@@ -155,17 +164,23 @@ fn resident() -> Result<usize, Box<dyn Error>> {
     Ok(line.trim().trim_end_matches(" kB").parse()?)
 }
 
-/// A siege of a server that goes by these rules.
-fn besiege(rules: FlowRules) -> Result<Figures, Box<dyn Error>> {
+/// The type of a packet (RFC 4340, section 5.1).
+fn kind_of(bytes: &[u8]) -> u8 {
+    bytes.get(8).map_or(15, |it| it >> 1 & 15)
+}
+
+/// A siege of a server of so many clients that goes by these rules, and has a key for Init Cookies.
+fn besiege(count: usize, rules: FlowRules) -> Result<Figures, Box<dyn Error>> {
     let begun = Instant::now();
     let mut now = begun;
     let mut numbers = Numbers(20_261_130);
     let mut server = Listener::new(&Config::listener(here(), SERVICE), PLACES)?;
+    server.rekey([7; 32], now);
     server.set_rules(rules);
-    let mut clients = (1..=CLIENTS)
+    let mut clients = (1..=count)
         .map(|place| client_of(place, &mut numbers, now))
         .collect::<Result<Vec<_>, _>>()?;
-    let places: BTreeMap<SocketAddrV4, usize> = clients.iter().enumerate().map(|(place, it)| (it.own, place)).collect();
+    let places: BTreeMap<SocketAddr, usize> = clients.iter().enumerate().map(|(place, it)| (it.own.into(), place)).collect();
     let mut figures = Figures::default();
     for step in 0_u64.. {
         if LENGTH < now - begun {
@@ -174,7 +189,8 @@ fn besiege(rules: FlowRules) -> Result<Figures, Box<dyn Error>> {
         for _ in 0..HOSTILE {
             let (whose, bytes) = hostile(&mut numbers, &clients);
             let first = numbers.next() << 8;
-            let _ = server.handle_datagram(whose, first, &bytes, now);
+            figures.requests += usize::from(kind_of(&bytes) == 0);
+            let _ = server.handle_datagram(whose.into(), first, &bytes, now);
         }
         for (place, client) in clients.iter_mut().enumerate() {
             // Who was told that the server is busy is closed, and asks again.
@@ -192,19 +208,22 @@ fn besiege(rules: FlowRules) -> Result<Figures, Box<dyn Error>> {
             client.end.handle_timeout(now);
             while let Some(frame) = client.end.poll_transmit() {
                 let first = numbers.next() << 8;
-                let _ = server.handle_datagram(client.own, first, &frame.bytes, now);
+                figures.requests += usize::from(kind_of(&frame.bytes) == 0);
+                let _ = server.handle_datagram(client.own.into(), first, &frame.bytes, now);
             }
         }
         server.handle_timeout(now);
         while let Some((whose, frame)) = server.poll_transmit() {
             figures.sent += 1;
-            figures.to_strangers += usize::from(frame.is_answer && server.phase(whose).is_none());
-            // What answers a forged Request comes to nobody before the client has asked.
+            let is_greeting = kind_of(&frame.bytes) == 1;
+            let is_strange = server.phase(whose).is_none();
+            figures.greetings += usize::from(is_greeting && is_strange);
+            figures.to_strangers += usize::from(frame.is_answer && !is_greeting && is_strange);
+            // What answers a forged Request reaches nobody before the client has asked.
             if let Some(client) = places.get(&whose).map(|place| &mut clients[*place]).filter(|it| it.is_begun) {
                 client.end.handle_datagram(&frame.bytes, now);
             }
         }
-        while server.poll_event().is_some() {}
         while server.poll_accept().is_some() {}
         while let Some((_, change)) = server.poll_change() {
             if let Change::Ended { cause: Cause::Evicted, .. } = change {
@@ -216,10 +235,10 @@ fn besiege(rules: FlowRules) -> Result<Figures, Box<dyn Error>> {
                 client.opened = Some(now);
                 figures.slowest = figures.slowest.max(now - client.begins);
             }
-            let has_gone = client.opened.is_some() && (client.end.phase() != Phase::Open || server.phase(client.own).is_none());
+            let has_gone = client.opened.is_some() && (client.end.phase() != Phase::Open || server.phase(client.own.into()).is_none());
             client.is_lost |= has_gone;
         }
-        figures.most_flows = figures.most_flows.max(server.peers().len());
+        figures.most_flows = figures.most_flows.max(usize::from(server.flows()));
         if now - begun == LENGTH / 2 {
             figures.memory[0] = resident()?;
         }
@@ -232,14 +251,15 @@ fn besiege(rules: FlowRules) -> Result<Figures, Box<dyn Error>> {
 }
 
 /// Prints what came of a siege, and whether it is within its bounds.
-fn judge(name: &str, it: &Figures) -> bool {
+fn judge(count: usize, it: &Figures) -> bool {
     println!(
-        "{name}: of {CLIENTS} clients {} not connected, {} lost, the slowest after {:?}",
+        "of {count} clients {} not connected, {} lost, the slowest after {:?}",
         it.not_connected, it.lost, it.slowest
     );
     println!(
-        "    frames {}, of them answers to strangers {}; flows at most {}, evicted {}; memory {} and {} KiB",
-        it.sent, it.to_strangers, it.most_flows, it.evicted, it.memory[0], it.memory[1]
+        "    frames {}, of them Responses with cookies {} for {} Requests, other answers to strangers {}; flows at most {}, evicted {}; \
+         memory {} and {} KiB",
+        it.sent, it.greetings, it.requests, it.to_strangers, it.most_flows, it.evicted, it.memory[0], it.memory[1]
     );
     // At first there are as many tokens as come in a second.
     let most_answers = ANSWERS_A_SECOND * (LENGTH.as_secs() as usize + 1);
@@ -248,17 +268,17 @@ fn judge(name: &str, it: &Figures) -> bool {
         && it.slowest <= CONNECTS_WITHIN
         && it.most_flows <= usize::from(PLACES)
         && it.to_strangers <= most_answers
-        && it.memory[1] <= it.memory[0] + GROWTH
+        && it.greetings <= it.requests
+        && it.memory[1] <= it.memory[0] + GROWTH_A_CLIENT * count
 }
 
 fn main() -> Result<ExitCode, Box<dyn Error>> {
-    // By default half-open flows go after ten seconds, in which forged Requests fill the table many times over: a server that strangers may
-    // flood wants less. 8,000 Requests a second come for 1,024 places: at 200 milliseconds they fill the table still. The last is judged.
+    let words: Vec<String> = env::args().skip(1).collect();
+    let count = words.first().map_or(Ok(USUAL_CLIENTS), |it| it.parse())?;
     let mut rules = FlowRules::default();
-    judge("by default", &besiege(rules)?);
-    rules.crowded = Some(Duration::from_millis(200));
-    judge("200 milliseconds for a handshake in a crowd", &besiege(rules)?);
-    rules.crowded = Some(Duration::from_millis(100));
-    let holds = judge("100 milliseconds for a handshake in a crowd", &besiege(rules)?);
+    if words.get(1).is_some_and(|it| it == "always") {
+        rules.cookies = Cookies::Always;
+    }
+    let holds = judge(count, &besiege(count, rules)?);
     Ok(ExitCode::from(u8::from(!holds)))
 }

@@ -14,7 +14,7 @@ const TOOK: u32 = 0;
 /// One that was dropped (`DCCP_TOLD_DROPPED`).
 const DROPPED: u32 = 2;
 
-/// How many calls stand between two looks at the clock. Their frames lie in the nearest cache.
+/// How many calls are between two looks at the clock. Their frames lie in the nearest cache.
 const BATCH: usize = 16;
 
 /// So many rounds let the congestion window grow over a batch.
@@ -38,7 +38,7 @@ struct Spent {
 }
 
 impl Spent {
-    /// Times so many calls, of which `doing` tells how many did what was asked.
+    /// Times so many calls, of which `doing` says how many did what was asked.
     fn time(&mut self, calls: usize, doing: impl FnOnce() -> usize) {
         let start = Instant::now();
         let done = doing();
@@ -73,7 +73,7 @@ struct Turn {
     back: Frame,
 }
 
-/// Hands an end a frame, if there is one. Tells whether it was taken; what it leaves is of no bytes where none was there.
+/// Hands an end a frame, if there is one. Returns whether it was taken; what it leaves is of no bytes where none was there.
 fn took(end: &mut End, frame: &Frame, answer: &mut Frame) -> bool {
     if frame.length == 0 {
         answer.length = 0;

@@ -2,7 +2,7 @@
 
 use std::hint::black_box;
 
-/// The yardstick: the bytes are copied once, and the checksum of the copy is taken. Tells whether that is sound.
+/// The yardstick: the bytes are copied once, and the checksum of the copy is taken. Returns whether that is sound.
 pub fn copy(from: [u8; 4], to: [u8; 4], packet: &[u8], room: &mut [u8]) -> bool {
     let copied = &mut room[..packet.len()];
     copied.copy_from_slice(packet);

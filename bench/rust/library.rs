@@ -1,5 +1,5 @@
 //! An end of the library, whose calls leave their frame where the caller says. Unlike the end of the crate for Rust it queues nothing, and takes
-//! no memory of its own. All unsafe code of this program is here.
+//! no memory itself. All unsafe code of this program is here.
 //!
 //! What the library asks of its caller holds of each call as in `rust/dccp/src/end.rs`: pointers are those of references, a slice gives its
 //! own pointer and length, and `&mut self` gives the handle to one call at a time.
@@ -53,7 +53,7 @@ impl End {
         assert_eq!(status, sys::DONE, "the end is not opened");
     }
 
-    /// Tells whether the data were sent.
+    /// Returns whether the data were sent.
     pub fn send(&mut self, data: &[u8], now: u64, frame: &mut Frame) -> bool {
         let (payload, count) = (data.as_ptr(), data.len());
         // SAFETY: as the head of this module says.
@@ -69,13 +69,13 @@ impl End {
         told
     }
 
-    /// Tells the end that this timer has run out, whether or not it has something to do.
+    /// Fires this timer of the end, whether or not it has something to do.
     pub fn timer(&mut self, timer: u32, now: u64, frame: &mut Frame) {
         // SAFETY: as the head of this module says.
         unsafe { sys::dccp_timer(&mut self.0, timer, now, frame) };
     }
 
-    /// Tells the first timer that has run out, if one has.
+    /// Fires the first timer that has run out, if one has.
     pub fn tick(&mut self, now: u64, frame: &mut Frame) -> bool {
         // SAFETY: as the head of this module says.
         unsafe { sys::dccp_tick(&mut self.0, now, frame) == sys::DONE }

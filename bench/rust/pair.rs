@@ -36,6 +36,8 @@ pub fn server_settings(peer: [u8; 4]) -> Settings {
         without_probes: true,
         without_limits: true,
         without_giving_up: true,
+        without_heed: true,
+        most_held: 0,
     }
 }
 
@@ -58,6 +60,8 @@ fn client_settings() -> Settings {
         without_probes: true,
         without_limits: true,
         without_giving_up: true,
+        without_heed: true,
+        most_held: 0,
     }
 }
 
@@ -67,7 +71,7 @@ fn padded(address: [u8; 4]) -> [u8; 16] {
     bytes
 }
 
-/// Hands an end a frame; tells whether it delivered data.
+/// Hands an end a frame; returns whether it delivered data.
 pub fn arrive(end: &mut End, frame: &[u8], now: u64, answer: &mut Frame) -> bool {
     end.receive(frame, now, answer).kind == sys::TOLD_DATA
 }

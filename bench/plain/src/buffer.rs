@@ -63,7 +63,7 @@ impl Buffer {
         4 * self.held.len() >= 3 * self.room
     }
 
-    /// The options for an acknowledgement of this number behind a header of so many bytes, with zeros up to four bytes.
+    /// The options for an acknowledgement of this number after a header of so many bytes, with zeros up to four bytes.
     pub fn options(&self, acknowledged: u64, header: usize) -> Vec<u8> {
         let mut options = self.dropped(acknowledged);
         if self.is_slow() {

@@ -112,7 +112,7 @@ impl Congestion {
             .is_none_or(|recovery| is_before(recovery, number))
     }
 
-    /// What is out with three reported after it is lost. Tells whether that is congestion.
+    /// What is out with three reported after it is lost. Returns whether that is congestion.
     fn lose(&mut self) -> bool {
         let (mut reported, mut out, mut is_congested) = (0, self.out, false);
         for at in (0..self.entries.len()).rev() {

@@ -363,7 +363,7 @@ impl Endpoint {
         Ok(())
     }
 
-    /// A timer runs out; tells whether it had something to do.
+    /// A timer runs out; returns whether it had something to do.
     pub fn timer(&mut self, timer: Timer) -> bool {
         self.frame.clear();
         let is_open = matches!(self.phase, Phase::PartOpen | Phase::Open);
@@ -402,7 +402,7 @@ impl Endpoint {
         self.heard
     }
 
-    /// Adds what a buffer tells to the frame that was left, if it is an Ack or DataAck.
+    /// Adds what a buffer reports to the frame that was left, if it is an Ack or DataAck.
     pub fn tell_buffer(&mut self, buffer: &Buffer) {
         let is_told = Packet::read(&self.frame, self.frame.len())
             .is_ok_and(|packet| matches!(packet.kind, Kind::Ack | Kind::DataAck));
@@ -706,7 +706,7 @@ impl Endpoint {
         }
     }
 
-    /// The reply that is due. Tells whether the packet was a Close, which a Reset answers.
+    /// The reply that is due. Returns whether the packet was a Close, which a Reset answers.
     fn reply(&mut self, packet: &Packet<'_>, before: Phase) -> bool {
         match (before, packet.kind) {
             (_, Kind::Close) => {
@@ -735,7 +735,7 @@ impl Endpoint {
     }
 }
 
-/// The bytes of a packet's Ack Vectors, one behind the other.
+/// The bytes of a packet's Ack Vectors, one after the other.
 fn vectors<'a>(packet: &Packet<'a>) -> impl Iterator<Item = u8> + use<'a> {
     let entries = List::of(packet.kind, packet.options).filter_map(|item| match item {
         Next::Entry(entry) if matches!(entry.kind, ACK_VECTOR | MARKED_VECTOR) => Some(entry.data),

@@ -235,7 +235,7 @@ impl Features {
         self.confirmed = 0;
     }
 
-    /// Hears an option of the packet in hand, which acknowledges this number, if any. What answers it goes behind `confirms`.
+    /// Hears an option of the packet in hand, which acknowledges this number, if any. What answers it goes after `confirms`.
     pub fn hear(
         &mut self,
         entry: &Entry<'_>,
@@ -360,7 +360,7 @@ impl Features {
         Ok(())
     }
 
-    /// The rows are asked for that are offered, but for those that the packet in hand confirms, which are offered no more.
+    /// The rows are asked for that are offered, except for those that the packet in hand confirms, which are offered no more.
     pub fn open_offers(&mut self) {
         for (at, row) in self.rows.iter_mut().enumerate() {
             if row.is_offered && self.confirmed & 1 << at == 0 {
@@ -375,7 +375,7 @@ impl Features {
         self.rows.iter().any(|row| row.stand != Stand::Stable)
     }
 
-    /// Writes the Changes of all rows that are due, for a packet with this number, but for the rows that it confirms.
+    /// Writes the Changes of all rows that are due, for a packet with this number, except for the rows that it confirms.
     pub fn write_due(&mut self, number: u64, out: &mut Vec<u8>) {
         for at in 0..self.rows.len() {
             if self.rows[at].stand != Stand::Stable && self.confirmed & 1 << at == 0 {
@@ -443,7 +443,7 @@ fn is_valid_change(feature: u8, place: Place, data: &[u8]) -> bool {
         && is_permitted(feature, Place::Here, value)
 }
 
-/// The first entry of the server's list that also stands in the client's.
+/// The first entry of the server's list that is also in the client's.
 fn reconciled(is_server: bool, own: &[u64], peers: &[u8]) -> Option<u64> {
     if is_server {
         own.iter()

@@ -121,7 +121,7 @@ fn within(word: &str, least: u64, most: u64) -> Option<u64> {
     number(word).filter(|value| (least..=most).contains(value))
 }
 
-/// The values of options that stand in any order, each once; `--plain` has none.
+/// The values of options in any order, each once; `--plain` has none.
 fn options<const N: usize>(words: &[String], names: [&str; N]) -> Option<[Option<String>; N]> {
     let mut values = [const { None }; N];
     let mut words = words.iter();

@@ -127,7 +127,7 @@ impl Marks {
         });
     }
 
-    /// Puts what lies from the floor up to, without, this place, downwards. Tells whether there was room for all.
+    /// Puts what lies from the floor up to, without, this place, downwards. Returns whether there was room for all.
     fn put_runs(&self, mut place: u64, vector: &mut Vector) -> bool {
         for run in self.runs.iter().rev() {
             if !vector.put(NOT_RECEIVED, place - run.end)
@@ -169,7 +169,7 @@ impl Vector {
         }
     }
 
-    /// Puts a run, in pieces. Tells whether there was room.
+    /// Puts a run, in pieces. Returns whether there was room.
     fn put(&mut self, state: u8, mut run: u64) -> bool {
         while run > 0 {
             if self.count == self.most {

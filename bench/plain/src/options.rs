@@ -22,7 +22,7 @@ pub struct Entry<'a> {
 #[derive(Clone, Copy, Debug)]
 pub enum Next<'a> {
     Entry(Entry<'a>),
-    /// Mandatory stands twice or before nothing.
+    /// Mandatory is there twice or before nothing.
     MandatoryFault,
 }
 

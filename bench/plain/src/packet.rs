@@ -42,7 +42,7 @@ impl Kind {
         matches!(self, Kind::Data | Kind::Ack | Kind::DataAck)
     }
 
-    /// How many bytes stand before the options.
+    /// How many bytes are before the options.
     fn fixed(self, is_long: bool) -> usize {
         match (self, is_long) {
             (Kind::Data, false) => 12,

@@ -25,7 +25,7 @@ struct Replay {
     frame: Vec<u8>,
 }
 
-/// Plays a replay. Tells whether all its lines were played.
+/// Plays a replay. Returns whether all its lines were played.
 pub fn replay(makings: Makings, input: &[u8], out: &mut Vec<u8>) -> bool {
     let (own, first) = match makings.side {
         Side::Client => ([10, 0, 0, 1], 1_000),

@@ -88,7 +88,7 @@ struct Run {
     values: Vec<u64>,
 }
 
-/// Plays a schedule. Tells whether all its lines were played.
+/// Plays a schedule. Returns whether all its lines were played.
 pub fn run(input: &[u8], out: &mut Vec<u8>) -> bool {
     let makings = Makings {
         client: (1_000, Features::new(false)),

@@ -129,7 +129,7 @@ struct Show<'a> {
     out: &'a mut Vec<u8>,
 }
 
-/// Shows a capture. Tells whether it was read to its end.
+/// Shows a capture. Returns whether it was read to its end.
 pub fn show(input: &[u8], out: &mut Vec<u8>) -> bool {
     let mut show = Show {
         flows: HashMap::new(),

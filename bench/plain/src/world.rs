@@ -51,7 +51,7 @@ pub enum Given {
     Heard(Outcome),
 }
 
-/// The frames that a side sent, one behind the other.
+/// The frames that a side sent, one after the other.
 #[derive(Clone, Debug, Default)]
 pub struct Frames {
     bytes: Vec<u8>,

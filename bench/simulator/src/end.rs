@@ -1,8 +1,8 @@
 //! One end of a path, however it is driven.
 
-use dccp::{Config, Connection, Event, Listener, Phase};
+use dccp::{Change, Config, Connection, Event, Listener, Phase};
 use std::fmt;
-use std::net::SocketAddrV4;
+use std::net::SocketAddr;
 use std::time::Instant;
 
 /// An end, and what a path asks of it.
@@ -11,7 +11,7 @@ pub trait End: fmt::Debug + Send {
     fn open(&mut self, now: Instant);
     /// A datagram has arrived.
     fn receive(&mut self, datagram: &[u8], now: Instant);
-    /// Sends data; tells whether they went.
+    /// Sends data; returns whether they went.
     fn send(&mut self, data: &[u8], now: Instant) -> bool;
     /// Closes the connection.
     fn close(&mut self, now: Instant);
@@ -23,7 +23,7 @@ pub trait End: fmt::Debug + Send {
     fn frame(&mut self) -> Option<Vec<u8>>;
     /// The next that its owner is told.
     fn event(&mut self) -> Option<Event>;
-    /// Where it stands; CLOSED where it is no more.
+    /// Its phase; CLOSED where it is no more.
     fn phase(&mut self) -> Phase;
     /// Its window, in packets.
     fn window(&mut self) -> u32;
@@ -102,14 +102,14 @@ impl End for Alone {
 #[derive(Debug)]
 pub struct Flow {
     listener: Listener,
-    peer: SocketAddrV4,
+    peer: SocketAddr,
     first_number: u64,
     timeouts: u64,
 }
 
 impl Flow {
     /// A listener for this peer.
-    pub fn new(config: &Config, peer: SocketAddrV4, first_number: u64) -> Flow {
+    pub fn new(config: &Config, peer: SocketAddr, first_number: u64) -> Flow {
         Flow {
             listener: Listener::new(config, 1).expect("a listener is made"),
             peer,
@@ -157,7 +157,13 @@ impl End for Flow {
     }
 
     fn event(&mut self) -> Option<Event> {
-        self.listener.poll_event().map(|(_, it)| it)
+        loop {
+            match self.listener.poll_change()?.1 {
+                Change::Data { data, .. } => return Some(Event::Data(data)),
+                Change::Ended { code, .. } => return Some(Event::Ended { code }),
+                _ => {}
+            }
+        }
     }
 
     fn phase(&mut self) -> Phase {

@@ -110,5 +110,5 @@ pub fn flow(manner: Manner, wishes: Wishes, first: u64) -> Box<dyn End> {
         Manner::Usual | Manner::Reference => Manner::Usual,
     };
     let config = configured(Config::listener(there, SERVICE), manner, wishes);
-    Box::new(Flow::new(&config, here, first))
+    Box::new(Flow::new(&config, here.into(), first))
 }

@@ -53,7 +53,7 @@ const NAP: Duration = Duration::from_micros(100);
 /// The bytes of a packet of data: few, so that what the system holds for a socket has room for many.
 const DATA: usize = 64;
 
-/// Measures each row for so many seconds. Tells whether all are near those in counted time.
+/// Measures each row for so many seconds. Returns whether all are near those in counted time.
 pub fn measure(seconds: u64) -> io::Result<bool> {
     let mut are_near = true;
     for path in &PATHS {
@@ -145,7 +145,7 @@ impl Relay<'_> {
         }
     }
 
-    /// Takes a datagram, if one has come. Tells whether one has.
+    /// Takes a datagram, if one has come. Returns whether one has.
     fn take(&mut self, room: &mut [u8]) -> bool {
         let Ok((length, _)) = self.from.recv_from(room) else {
             return false;
@@ -176,7 +176,7 @@ fn hand_over(end: &mut dyn End, socket: &UdpSocket) {
     }
 }
 
-/// Takes a datagram, if one has come, or the time that is due. Tells whether there was something to do.
+/// Takes a datagram, if one has come, or the time that is due. Returns whether there was something to do.
 fn hear(end: &mut dyn End, socket: &UdpSocket, room: &mut [u8]) -> bool {
     let now = Instant::now();
     if let Ok(length) = socket.recv(room) {

@@ -130,7 +130,7 @@ impl Owner {
         }
     }
 
-    /// Takes the frames and events of the connection. Tells whether data came, and whether an acknowledgement goes out.
+    /// Takes the frames and events of the connection. Returns whether data came, and whether an acknowledgement goes out.
     fn gather(&mut self) -> (bool, bool) {
         let (mut delivers, mut acknowledges) = (false, false);
         while let Some(frame) = self.connection.poll_transmit() {
@@ -148,7 +148,7 @@ impl Owner {
         matches!(self.connection.phase(), Phase::PartOpen | Phase::Open)
     }
 
-    /// Begins the timers that come to run, and ends those that run no more.
+    /// Begins the timers that run from now on, and ends those that run no more.
     fn arrange(&mut self, time: u64) {
         let phase = self.connection.phase();
         if phase != self.phase {
@@ -231,7 +231,7 @@ impl Owner {
         }
     }
 
-    /// Tells the connection of a timeout.
+    /// Reports a timeout to the connection.
     fn tell_timeout(&mut self, now: Instant, time: u64) {
         self.probe = None;
         if self.connection.handle_timer(Timer::Rto, now) {
@@ -319,8 +319,8 @@ impl Owner {
             return false;
         }
         let ahead = distance(own.greatest_received, numbers.own);
-        let behind = distance(numbers.own, own.greatest_received);
-        if ahead.min(behind) < 1 << 24 {
+        let after = distance(numbers.own, own.greatest_received);
+        if ahead.min(after) < 1 << 24 {
             !self.near.take(time)
         } else {
             !self.far.take(time)

@@ -205,7 +205,7 @@ impl Bucket {
         }
     }
 
-    /// Takes a token; tells whether there was one.
+    /// Takes a token; returns whether there was one.
     pub fn take(&mut self, now: u64) -> bool {
         let gained = (now - self.since).saturating_mul(self.rate);
         self.held = self.held.saturating_add(gained).min(1_000 * self.rate);
