@@ -22,9 +22,10 @@ sys.path.insert(0, str(TOP / "tools"))
 
 
 def answer(words, *pieces, program=LAUNCHER):
-    """What the program writes for these words and the pieces of an input; last a line with its status, where that is not 0."""
-    with tempfile.TemporaryFile() as output:
-        run = subprocess.Popen([program, *words], stdin=subprocess.PIPE, stdout=output, stderr=subprocess.DEVNULL)
+    """What the program writes for these words and the pieces of an input; after that what the second program writes on standard error of its
+    words or its input; last a line with its status, where that is not 0."""
+    with tempfile.TemporaryFile() as output, tempfile.TemporaryFile() as errors:
+        run = subprocess.Popen([program, *words], stdin=subprocess.PIPE, stdout=output, stderr=errors)
         # A program that refuses its input leaves the rest of it unread.
         with contextlib.suppress(BrokenPipeError):
             for piece in pieces:
@@ -33,13 +34,17 @@ def answer(words, *pieces, program=LAUNCHER):
             run.stdin.close()
         status = run.wait()
         output.seek(0)
+        errors.seek(0)
         said = output.read()
+        if program in (BRIDGE, BRIDGE_PROGRAM):
+            # What the launcher prints while it builds is not the program's.
+            said += b"".join(it for it in errors.readlines() if it.startswith((b"usage: ", b"line ", b"capture ", b"skipped ")))
     return said + b"status %d\n" % status if status else said
 
 
 @functools.cache
 def program():
-    """The program itself, for a check that the launcher would stand in the way of. It is built first where it has to be."""
+    """The program itself, for a check that the launcher would be in the way of. It is built first where it has to be."""
     subprocess.run([LAUNCHER, "run"], stdin=subprocess.DEVNULL, stdout=subprocess.DEVNULL, check=False)
     return PROGRAM
 
@@ -52,7 +57,7 @@ def bridge_program():
 
 
 def example(name):
-    """The file of this name in examples/, in whichever folder it stands."""
+    """The file of this name in examples/, in whichever folder it is."""
     return next(EXAMPLES.glob(f"*/{name}"))
 
 

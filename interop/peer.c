@@ -193,7 +193,7 @@ static socklen_t place(struct sockaddr_storage *at, bool is_v6, const char *addr
     return sizeof *four;
 }
 
-/* Takes all that has come. Tells whether the connection goes on. */
+/* Takes all that has come. Returns whether the connection goes on. */
 static bool hear(int end, struct counts *counts)
 {
     static uint8_t packet[MOST_PACKET], seen[MOST_INDEX / 8];

@@ -5,29 +5,29 @@ TOP = Path(__file__).resolve().parent.parent
 
 
 def lines():
-    """Yields for each line of the map its crate, what kind of crate it says that it is, mostly nothing, and what the crate stands on."""
+    """Yields for each line of the map its crate, what kind of crate it says that it is, mostly nothing, and what the crate uses."""
     for line in (TOP / "crates.txt").read_text(encoding="utf-8").splitlines():
-        front, colon, behind = line.partition("#")[0].partition(":")
+        front, colon, rest = line.partition("#")[0].partition(":")
         if colon:
             name, *kind = front.split()
-            yield name, kind, behind.split()
+            yield name, kind, rest.split()
 
 
 def libraries():
-    """Returns for each crate of the map, in its order, what it stands on: crates of the map and libraries of the toolchain."""
-    return {name: behind for name, _, behind in lines()}
+    """Returns for each crate of the map, in its order, what it uses: crates of the map and libraries of the toolchain."""
+    return {name: used for name, _, used in lines()}
 
 
 def is_static(crate):
-    """Tells whether a crate is a static library."""
+    """Returns whether a crate is a static library."""
     return any(name == crate and kind == ["staticlib"] for name, kind, _ in lines())
 
 
 def program_of(crate):
-    """Returns a crate and the crates of the map below it, each with what it stands on."""
+    """Returns a crate and the crates of the map below it, each with what it uses."""
     every = libraries()
     needed, more = set(), {crate}
     while more:
         needed |= more
         more = {it for name in more for it in every[name] if it in every} - needed
-    return {name: behind for name, behind in every.items() if name in needed}
+    return {name: used for name, used in every.items() if name in needed}

@@ -1,8 +1,29 @@
 """What is left to prove of a program, and about how long it takes."""
 import os
 import re
+import shutil
+import sys
+from pathlib import Path
 
 from crates import TOP
+
+
+def store():
+    """Returns the folder beside the toolchain in which rt keeps what it proved."""
+    rt = shutil.which("rt")
+    if not rt:
+        sys.exit("the toolchain's rt is not on the path")
+    return Path(rt).resolve().parent.parent.parent / "rattle-kept"
+
+
+def is_ours(name, crates):
+    """Returns whether a name in the store is of what was proved of one of these crates, or of its tests."""
+    return any(re.fullmatch(rf"(?:proof|tests)-{crate}-[0-9a-f]{{64}}(?:/.*)?", name) for crate in crates)
+
+
+def was_proved(crate):
+    """Returns whether rt has kept a proof of any state of a crate on this machine."""
+    return store().is_dir() and any(is_ours(it, [crate]) for it in os.listdir(store()))
 
 
 def seconds_of_crates():
@@ -19,12 +40,22 @@ def standing(needed, proved):
 
 
 def chain_of(needed, weight):
-    """Returns the heaviest chain of crates, each of which stands on the one before, and what it weighs."""
+    """Returns the heaviest chain of crates, each of which uses the one before, and what it weighs."""
     best = {}
     for crate, below in needed.items():
         under = max((best[it] for it in below if it in best), key=lambda it: it[0], default=(0, []))
         best[crate] = (under[0] + weight(crate), [*under[1], crate])
     return max(best.values(), key=lambda it: it[0], default=(0, []))
+
+
+# From how many processor seconds on a crate of the longest chain is proved with nothing beside.
+HEAVY = 300
+
+
+def heaviest_of(needed, seconds):
+    """Returns the heavy crates of the longest chain, lowest first, without the one at its end."""
+    *chain, _ = chain_of(needed, lambda crate: seconds.get(crate, 60))[1]
+    return [it for it in chain if seconds.get(it, 60) >= HEAVY]
 
 
 def minutes_left(needed, proved, seconds):

@@ -1,7 +1,7 @@
 #!/usr/bin/env python3
 """Prints what each example is about: its row in the index of examples/, or the comment with which its text begins.
 
-    tools/stories.py FOLDER..      these folders of examples/; with no name all of them
+    tools/stories.py FOLDER..      these folders of examples/; without a name all of them
 """
 import re
 import sys
@@ -13,7 +13,7 @@ WORDS = re.compile(r"# (run|ecn|(?:replay|campaign|listen) .*)$")
 
 
 def rows():
-    """Returns the examples of the index by folder and name, each with its story there, which is empty where its own text tells it."""
+    """Returns the examples of the index by folder and name, each with its story there, which is empty where its own text has it."""
     page, stories = (EXAMPLES / "INDEX.md").read_text(encoding="utf-8"), {}
     for folder, section in re.findall(r"^## (\w+)/.*\n((?:(?!## ).*\n)*)", page, flags=re.M):
         for part in re.split(r"\n(?=\n|- |\| )", section):
@@ -24,7 +24,7 @@ def rows():
 
 
 def head(path):
-    """Returns the comment with which a text begins, behind the line of its words."""
+    """Returns the comment with which a text begins, after the line of its words."""
     said = []
     for line in path.read_text(encoding="utf-8", errors="replace").splitlines():
         if not line.startswith("# "):

@@ -1,5 +1,5 @@
-"""The worked cases of docs/CASES.md that have words and an input, as the texts of crates/tests_tool/src/worked.rt. They stand in examples/,
-and the toolchain puts no file into a test. Run by itself it writes them anew; `.ci/worked` holds that they are those of examples/."""
+"""Writes the worked cases of docs/CASES.md that have words and an input from examples/ to crates/tests_tool/src/worked.rt, since the toolchain
+puts no file into a test. `.ci/worked` compares the two."""
 import re
 from pathlib import Path
 
@@ -37,7 +37,7 @@ fn worked_cases(rt: HostRuntime) -> Result<(), Fail> {
 
 
 def inputs(text):
-    """The words and the lines of each input of a file. Empty lines stand for what comes before it, as `.ci/example` has them."""
+    """The words and the lines of each input of a file. Empty lines are in place of what comes before it, as `.ci/example` has them."""
     starts = list(re.finditer(r"^# (run|ecn|(?:replay|campaign|listen) .*)$", text, re.M))
     if not starts:
         yield "run", text
@@ -65,7 +65,7 @@ def literal(text):
 
 
 def case_of(words, given, told):
-    """A case as the tests have it. Its marks stand nowhere else in it."""
+    """A case as the tests have it. Its marks are nowhere else in it."""
     assert not re.search("~ |=> ", given + told), words
     status = "Input" if re.search(r"^line ", told, re.M) else "Done"
     return f"~ {words.replace(' ', ',')}\n{given}=> {status}\n{told}"

@@ -117,7 +117,7 @@ fn run() -> Result<bool, Box<dyn Error>> {
         .iter()
         .filter(|it| names.iter().any(|name| it.name == name))
     {
-        // What an earlier case has left under way comes to rest.
+        // What an earlier case has left under way settles.
         std::thread::sleep(Duration::from_millis(300));
         let row = row(case, &mut wire, &mut kernel, captures);
         print(&row);

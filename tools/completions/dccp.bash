@@ -18,10 +18,12 @@ _dccp_words() {
     dccp:listen) settings='--most' ;;
     dccp_bridge:seed) settings='--seed --events' ;;
     dccp_bridge:frames) settings='--flow --side' ;;
-    dccp_bridge:ladder) settings='--flow' ;;
+    dccp_bridge:json) settings='--payload' ;;
+    dccp_bridge:ladder | dccp_bridge:windows) settings='--flow' ;;
   esac
   case $2:$form:$word in
-    dccp_bridge:capture:* | dccp_bridge:unwrap:* | dccp_bridge:json:* | dccp_bridge:frames:[!-]* | dccp_bridge:ladder:[!-]*)
+    dccp_bridge:capture:* | dccp_bridge:unwrap:* | dccp_bridge:json:[!-]* | dccp_bridge:frames:[!-]* | dccp_bridge:ladder:[!-]* | \
+      dccp_bridge:windows:[!-]*)
       mapfile -t COMPREPLY < <(compgen -f -- "$word") ;;
     *) mapfile -t COMPREPLY < <(compgen -W "$settings" -- "$word") ;;
   esac
@@ -29,7 +31,7 @@ _dccp_words() {
 
 _dccp() { _dccp_words 'run replay campaign show listen ecn' dccp; }
 
-_dccp_bridge() { _dccp_words 'capture unwrap seed frames json ladder --help --version' dccp_bridge; }
+_dccp_bridge() { _dccp_words 'capture unwrap seed frames json ladder windows --help --version' dccp_bridge; }
 
 complete -o filenames -F _dccp dccp
 complete -o filenames -F _dccp_bridge dccp_bridge
