@@ -27,9 +27,9 @@ def was_proved(crate):
 
 
 def seconds_of_crates():
-    """Returns the processor seconds that docs/PROOFS.md gives for a first check of each crate."""
-    rows = (TOP / "docs" / "PROOFS.md").read_text(encoding="utf-8")
-    return {crate: int(seconds) for crate, seconds in re.findall(r"\| (\w+) \| (\d+) (?=\|)", rows)}
+    """Returns the processor seconds that tools/seconds.txt gives for a first check of each crate."""
+    lines = (TOP / "tools" / "seconds.txt").read_text(encoding="utf-8")
+    return {crate: int(seconds) for crate, seconds in re.findall(r"^(\w+) (\d+)$", lines, flags=re.M)}
 
 
 def standing(needed, proved):
