@@ -1,5 +1,5 @@
 #!/usr/bin/env python3
-"""Prints what each example is about: its row in the index of examples/, or the comment with which its text begins.
+"""Prints what each example is about: what the index of examples/ says of it, or the comment with which its text begins.
 
     tools/stories.py FOLDER..      these folders of examples/; without a name all of them
 """
@@ -13,13 +13,13 @@ WORDS = re.compile(r"# (run|ecn|(?:replay|campaign|listen) .*)$")
 
 
 def rows():
-    """Returns the examples of the index by folder and name, each with its story there, which is empty where its own text has it."""
+    """Returns the stories that the index has, by folder and name."""
     page, stories = (EXAMPLES / "INDEX.md").read_text(encoding="utf-8"), {}
     for folder, section in re.findall(r"^## (\w+)/.*\n((?:(?!## ).*\n)*)", page, flags=re.M):
-        for part in re.split(r"\n(?=\n|- |\| )", section):
-            it = re.match(r"\s*(?:- |\| )?((?:`\w+`(?:,\s+)?)+)(?::| \| \w+ \|)?(.*)", part, flags=re.S)
+        for part in re.split(r"\n(?=\n|- )", section):
+            it = re.match(r"\s*- ((?:`\w+`(?:,\s+)?)+):(.*)", part, flags=re.S)
             for name in re.findall(r"\w+", it[1]) if it else ():
-                stories[f"{folder}/{name}"] = " ".join(it[2].strip(" |\n").split())
+                stories[f"{folder}/{name}"] = " ".join(it[2].split())
     return stories
 
 
@@ -35,10 +35,11 @@ def head(path):
 
 
 def main():
-    for name, story in rows().items():
-        if not sys.argv[1:] or name.partition("/")[0] in sys.argv[1:]:
-            path = next(it for it in EXAMPLES.glob(f"{name}.*") if it.suffix != ".expected")
-            print(f"{path.relative_to(EXAMPLES)}: {story or head(path)}")
+    stories = rows()
+    for path in sorted(it for it in EXAMPLES.glob("*/*") if it.suffix not in (".expected", ".json", ".capture")):
+        name = path.relative_to(EXAMPLES)
+        if not sys.argv[1:] or name.parts[0] in sys.argv[1:]:
+            print(f"{name}: {stories.get(name.with_suffix('').as_posix()) or head(path)}")
 
 
 if __name__ == "__main__":
