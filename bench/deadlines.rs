@@ -244,7 +244,7 @@ fn asking(server: &mut impl Server, clients: &mut [Connection], now: Instant) ->
     Ok(took.as_secs_f64() * 1e9 / DATAGRAMS as f64)
 }
 
-/// What both take at a server, each with clients of its own.
+/// What both take at a server, each with its own clients.
 fn figures(server: &mut impl Server) -> Result<[f64; 2], Box<dyn Error>> {
     let mut clients = clients()?;
     let mut now = Instant::now();

@@ -119,7 +119,7 @@ fn hostile(numbers: &mut Numbers, clients: &[Client]) -> (SocketAddrV4, Vec<u8>)
     (whose, bytes)
 }
 
-/// What the siege came to.
+/// How the siege ended.
 #[derive(Default)]
 struct Figures {
     slowest: Duration,

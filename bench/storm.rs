@@ -1,4 +1,4 @@
-//! A storm over loopback: real clients of an echo server that runs as a process of its own, and beside them hostile datagrams of many
+//! A storm over loopback: real clients of an echo server that runs as its own process, and beside them hostile datagrams of many
 //! sockets. It prints figures, and ends with 1 where one is past its bound: storm PORT.
 
 use dccp::{Config, Connection, Event, Phase};
@@ -47,7 +47,7 @@ fn end_of(own: SocketAddrV4, server: SocketAddrV4, numbers: &mut Numbers) -> Res
     Ok(Connection::new(&Config::client(own.into(), server.into(), SERVICE, first))?)
 }
 
-/// A socket of this machine at an address of its own.
+/// A socket of this machine at its own address.
 fn socket_at(last: u8) -> Result<(UdpSocket, SocketAddrV4), Box<dyn Error>> {
     let socket = UdpSocket::bind(SocketAddrV4::new(Ipv4Addr::new(127, 0, 0, last), 0))?;
     socket.set_nonblocking(true)?;

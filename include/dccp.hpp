@@ -362,7 +362,7 @@ class listener {
     void rekey(const dccp_key &key, uint64_t now) { check(dccp_listener_rekey(&it_, &key, now)); }
     // In which way the last datagram was met.
     dccp_way way() { return dccp_listener_way(&it_); }
-    // How many flows stand.
+    // How many flows there are.
     uint16_t flows() { return dccp_listener_flows(&it_); }
     // None: there will be nothing to do.
     std::optional<std::chrono::milliseconds> until_first(uint64_t now) {

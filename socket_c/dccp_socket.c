@@ -563,7 +563,7 @@ static int take_datagram(dccp_socket *udp, dccp_socket_event *event) {
     udp->room = udp->rooms[udp->next++];
     dccp_connection *it = udp->is_server ? find(udp, &from) : udp->newest;
     bool is_request = 9 <= length && ((udp->room[8] >> 1) & 15) == 0;
-    /* One that has ended, and was told of, stands in no way of a new Request. */
+    /* One that has ended, and was reported, does not keep a new Request out. */
     if (it != NULL && it->has_ended && it->is_told && is_request && udp->is_server) {
         part(it);
         discard(it);

@@ -349,7 +349,7 @@ static void sizes(void) {
     view.size -= 8;
     view.iss = 7;
     same("an older view", DCCP_OTHER_SIZE, dccp_look(&end, &view));
-    same("what stood in it", 7, view.iss);
+    same("what was in it", 7, view.iss);
     same("an older view of a flow", DCCP_OTHER_SIZE, dccp_listener_look(&listener, &peer, &view));
     same("what is measured", DCCP_OK, dccp_look_path(&end, &trip));
     trip.size = 0;
@@ -644,7 +644,7 @@ static void before_a_flow(void) {
     same("no Request", DCCP_NO_CONNECTION, dccp_listener_asks(&listener, &guest, bytes, 20, &service));
     same("for another service", DCCP_NO_CONNECTION, dccp_listener_asks(&listener, &guest, third.bytes, third.length, &service));
     same("2,045 bytes", DCCP_TOO_LONG, dccp_listener_asks(&listener, &guest, bytes, sizeof bytes, &service));
-    same("what stood there", 0, service);
+    same("what was there", 0, service);
     same("a Request", DCCP_OK, dccp_listener_asks(&listener, &guest, other.bytes, other.length, &service));
     same("its service", client.service + 1, service);
     same("it is refused", DCCP_OK, dccp_listener_refuse(&listener, &guest, other.bytes, other.length, 7, 0, &frame));
@@ -712,7 +712,7 @@ static void cookies(void) {
     same("which opens none", 1, dccp_listener_flows(&listener));
     dccp_listener_free(&listener);
     dccp_free(&one);
-    same("blocks behind free", 0, held);
+    same("blocks after free", 0, held);
 }
 
 /* The same of a server with an end for each peer. */
@@ -751,7 +751,7 @@ static void cookies_of_ends(void) {
     same("a client in PARTOPEN or OPEN", true, look(&one).phase == DCCP_PHASE_PARTOPEN || look(&one).phase == DCCP_PHASE_OPEN);
     dccp_free(&one);
     dccp_free(&other);
-    same("blocks behind free", 0, held);
+    same("blocks after free", 0, held);
 }
 
 static void names_of_peers(void) {
@@ -787,7 +787,7 @@ static void a_keyed_number(void) {
     same("its value", 220924168522762, number);
     listener.size--;
     same("of older settings", DCCP_OTHER_SIZE, dccp_listener_number(&listener, &key, &guest, 1000, &number));
-    same("what stood there", 220924168522762, number);
+    same("what was there", 220924168522762, number);
 }
 
 /* Each code of a listener: strangers, a flow, one too many (RFC 4340, section 5.6), and its end. */
@@ -811,7 +811,7 @@ static void a_listener(void) {
     same("the code: Bad Service Code", 8, told.code);
     same("its flow", DCCP_NO_FLOW, dccp_listener_look(&listener, &guest, &view));
     same("the first place", DCCP_NO_FLOW, dccp_listener_peer(&listener, 0, &peer));
-    same("what stood there", 1, peer.port);
+    same("what was there", 1, peer.port);
     same("data for no flow", DCCP_NO_FLOW, dccp_listener_send(&listener, &guest, bytes, 1, 0, &frame));
     same("a Request", DCCP_OK, arrives(&listener, 1, &first, &frame, &told));
     same("its Response", 1, (frame.bytes[8] >> 1) & 15);
@@ -857,7 +857,7 @@ static void features_of_a_flow(dccp_listener *listener) {
     same("a wish", DCCP_OK, dccp_listener_prefer(listener, &guest, DCCP_FEATURE_ACK_RATIO, false, &one, 1, 0, &frame));
     same("its Ack", 3, (frame.bytes[8] >> 1) & 15);
     same("its Ack Ratio", DCCP_OK, dccp_listener_feature(listener, &guest, DCCP_FEATURE_ACK_RATIO, false, &state));
-    same("where it stands", DCCP_STAND_CHANGING, state.stand);
+    same("its stand", DCCP_STAND_CHANGING, state.stand);
 }
 
 /* Packets that belong to no connection: eight Resets go out in a second (own), one in 125 milliseconds. */
@@ -928,7 +928,7 @@ static void a_flow(void) {
     same("their arrival", DCCP_OK, arrives(&listener, 1, &frame, &answer, &told));
     same("what became of them", DCCP_TOLD_DATA, told.kind);
     same("they are told once", 1, told_of(&listener, DCCP_EVENT_DATA, &event));
-    same("where they stand", told.first, event.first);
+    same("where they are", told.first, event.first);
     same("up to where", told.past, event.past);
     same("with the number", 77, event.user);
     same("the data themselves", 0, memcmp(frame.bytes + told.first, "abc", 3) != 0);
@@ -1038,13 +1038,13 @@ static void data_of_a_flow_that_wait(void) {
     refused = 1;
     same("where no memory is left for what is to wait", DCCP_OK, arrives(&listener, 1, &frame, &answer, &told));
     refused = 0;
-    same("its data stand in the datagram", DCCP_TOLD_DATA, told.kind);
+    same("its data are in the datagram", DCCP_TOLD_DATA, told.kind);
     same("and are told so", 1, told_of(&listener, DCCP_EVENT_DATA, &event));
     same("from there", told.first, event.first);
     (void)sends_to(&listener, &end, "k", &answer, DCCP_EVENT_WAITS, &event);
     dccp_free(&end);
     dccp_listener_free(&listener);
-    same("blocks behind free", 0, held);
+    same("blocks after free", 0, held);
 }
 
 /* What a flow that makes no offers refuses, whose client sends no Ack Vectors, and after that client's Reset. */

@@ -81,7 +81,7 @@ impl End {
         unsafe { sys::dccp_tick(&mut self.0, now, frame) == sys::DONE }
     }
 
-    /// Wishes a value for a feature of its own.
+    /// Wishes a value for one of its features.
     pub fn prefer(&mut self, feature: u32, value: u64, now: u64, frame: &mut Frame) {
         // SAFETY: as the head of this module says.
         let status =

@@ -6,7 +6,7 @@ use crate::wire::{ACK_RATIO, Addresses, Numbered, Passed, SEQUENCE_WINDOW};
 use dccp::{Feature, Place};
 use std::time::Duration;
 
-/// What a case came to, at both ends and on the wire.
+/// How a case ended, at both ends and on the wire.
 #[derive(Debug)]
 pub struct Outcome {
     pub own: Counts,
@@ -335,7 +335,7 @@ fn insisted_on(_: &Case, outcome: &Outcome) -> Vec<String> {
     .collect()
 }
 
-/// The kernel's old end answers each Request by a Sync, and takes no Reset of ours: it stands until it gives up.
+/// The kernel's old end answers each Request by a Sync, and takes no Reset of ours: it stays until it gives up.
 fn met_by_its_old_end(_: &Case, outcome: &Outcome) -> Vec<String> {
     [
         unless(!outcome.own.was_open, || "our end was OPEN".to_string()),
@@ -358,7 +358,7 @@ fn left(_: &Case, outcome: &Outcome) -> Vec<String> {
     .collect()
 }
 
-/// Every case. Each client of ours has a port of its own, so that no end of the case before still stands there, except where that is the case.
+/// Every case. Each client of ours has its own port, so that no end of the case before is still there, except where that is the case.
 pub fn every() -> Vec<Case> {
     let mut cases = listed();
     let keep = [

@@ -20,7 +20,7 @@ pub struct Told {
     pub received: u32,
     pub repeated: u32,
     pub strange: u32,
-    /// How the connection ended at its side: "closed", "own", "fault", "time", or why none came to be.
+    /// How the connection ended at its side: "closed", "own", "fault", "time", or why there was none.
     pub end: String,
     /// The number of the system's fault, or 0.
     pub errno: u32,

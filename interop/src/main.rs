@@ -16,7 +16,7 @@ use std::process::ExitCode;
 use std::time::{Duration, Instant};
 use wire::Wire;
 
-/// What a case came to.
+/// How a case ended.
 struct Row {
     name: &'static str,
     seconds: f64,

@@ -5,7 +5,7 @@ _dccp_words() {
     mapfile -t COMPREPLY < <(compgen -W "$1" -- "$word")
     return
   fi
-  # With a readline that parts words at `=`, that is a word of its own.
+  # With a readline that parts words at `=`, that is its own word.
   [ "$word" != = ] || word=
   [ "$before" != = ] || before=${COMP_WORDS[COMP_CWORD - 2]}
   case $before in

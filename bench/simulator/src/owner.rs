@@ -194,7 +194,7 @@ impl Owner {
         }
     }
 
-    /// Asks for a value of a feature of its own, and waits for the answer.
+    /// Asks for a value of one of its features, and waits for the answer.
     fn prefer(&mut self, feature: Feature, value: u64, now: Instant, time: u64) {
         // It may not be refused: the connection is open, and the value is permitted.
         let _ = self.connection.prefer(feature, Place::Here, &[value], now);

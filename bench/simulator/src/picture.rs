@@ -11,7 +11,7 @@ const LEFT: f64 = 56.0;
 const TOP: f64 = 40.0;
 const GAP: f64 = 44.0;
 
-/// How many parts of the run have a share of their own.
+/// How many parts of the run have their own share.
 const PARTS: u64 = 120;
 
 /// The colours of the classic manner and of an end by itself.

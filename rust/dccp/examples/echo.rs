@@ -4,7 +4,7 @@
 //!
 //! The client of `talk`, in Rust or in C, may speak to it. The listener gives up one that is silent for two minutes, and limits what strangers
 //! call forth. Where a router translates addresses and ports on the way, as `relay` does, both say `translated`: then no address and no port
-//! stands in their packets, and a client is known by where its datagrams come from. It runs until it is stopped.
+//! is in their packets, and a client is known by where its datagrams come from. It runs until it is stopped.
 
 use dccp::{ArriveError, Change, Config, Listener, MOST_FRAME_BYTES};
 use std::collections::{BTreeMap, VecDeque};

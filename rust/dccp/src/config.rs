@@ -69,7 +69,7 @@ impl Config {
         }
     }
 
-    /// The same, but for the number of its first packet.
+    /// The same, except for the number of its first packet.
     pub(crate) fn first_number(mut self, number: u64) -> Config {
         self.settings.first_number = number;
         self

@@ -94,7 +94,7 @@ impl Origins {
         }
         let origin = unmapped(origin);
         let path = self.paths.of(origin)?;
-        // Each turn has a name of its own, and there are more than peers with a name.
+        // Each turn has its own name, and there are more than peers with a name.
         let first = self.turns.hash_one(origin) as u16;
         let name = (0..=u16::MAX)
             .map(|step| first.wrapping_add(step))

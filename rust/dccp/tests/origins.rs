@@ -19,7 +19,7 @@ fn here_v6() -> Ipv6Addr {
     Ipv6Addr::new(0x2001, 0xdb8, 0, 0, 0, 0, 0, 2)
 }
 
-/// A router: each inner address has an outer port of its own.
+/// A router: each inner address has its own outer port.
 #[derive(Default)]
 struct Router {
     outer: BTreeMap<SocketAddr, SocketAddr>,

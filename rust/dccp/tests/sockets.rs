@@ -314,7 +314,7 @@ fn agreed_names_pass_a_translation_and_silence_ends() -> Outcome {
     Ok(())
 }
 
-/// Carries datagrams of one client to a server and back, under a port of its own.
+/// Carries datagrams of one client to a server and back, under its own port.
 fn relay(front: &UdpSocket, back: &UdpSocket, goes: &AtomicBool) {
     let (mut room, mut client) = ([0; 2_048], None);
     for socket in [front, back] {
@@ -346,7 +346,7 @@ fn a_close_stays_for_what_the_peer_repeats() -> Outcome {
     Ok(())
 }
 
-/// A listener that is gone leaves its connections, and turns others away while one stands (Reset Code 7, Connection Refused: RFC 4340,
+/// A listener that is gone leaves its connections, and turns others away while one is there (Reset Code 7, Connection Refused: RFC 4340,
 /// section 5.6).
 #[test]
 fn a_listener_that_is_gone_refuses() -> Outcome {

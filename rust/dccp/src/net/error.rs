@@ -1,4 +1,4 @@
-//! Why a call of a socket came to nothing.
+//! Why a call of a socket failed.
 
 use crate::MakeError;
 use std::error;
@@ -61,7 +61,7 @@ fn reset_name(code: u8) -> &'static str {
     }
 }
 
-/// Why a call of a socket came to nothing.
+/// Why a call of a socket failed.
 #[derive(Debug)]
 #[non_exhaustive]
 pub enum Error {
