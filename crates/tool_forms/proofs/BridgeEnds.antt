@@ -1,4 +1,4 @@
--- What the commands of `seed` and `frames` come to after the last word.
+-- What the commands of `seed`, `seeds` and `frames` come to after the last word.
 use Rattle.std.proofs.Common.{◌≡◌, ◌∙◌, ◌&&◌, refl, sym, ap, ap₂, ℕ, Bool, true, false, List, [], Option, Some, None, option_and_then, codes}
 use Rattle.std.specs.Prelude.{if◌then◌else◌}
 use Rattle.clap.specs.Walk.{Row, Text, finished, has_row}
@@ -6,6 +6,7 @@ use Rattle.clap.specs.Takes.{is_given}
 use Rattle.clap.specs.Faults.{defaults_fault}
 use Rattle.world_events.specs.declared.event.Side.{Side as EndSide}
 use Rattle.tool_forms.specs.declared.bridge_words.FlowSide.{FlowSide}
+use Rattle.tool_forms.specs.declared.bridge_words.SeedRange.{SeedRange}
 use Rattle.tool_forms.specs.declared.bridge_words.SeedRun.{SeedRun}
 use Rattle.tool_forms.specs.declared.settings.Table.TheVariants as table
 use Rattle.tool_forms.specs.declared.settings.Setting.{Setting}
@@ -13,9 +14,9 @@ use Rattle.tool_forms.specs.declared.settings.Setting.TheVariants.{First, Seeds,
 use Rattle.tool_forms.specs.Given as value
 use Rattle.tool_forms.specs.Given.{Assignment}
 use Rattle.tool_forms.specs.Settings.{number_among, number_for, once, preceded, side_in}
-use Rattle.tool_forms.specs.BridgeWords.{flow_side_from, seed_run_from}
+use Rattle.tool_forms.specs.BridgeWords.{flow_side_from, seed_range_from, seed_run_from}
 use Rattle.tool_forms.specs.Words.{side_given}
-use Rattle.tool_forms.specs.Commands.{flow_side_in, seed_run_in}
+use Rattle.tool_forms.specs.Commands.{figure_in, flow_side_in, seed_range_in, seed_run_in}
 use Rattle.tool_forms.proofs.Turns.{closes, holding, last-turn, passed, rests, verdict}
 use Rattle.tool_forms.proofs.Pairs.{Distinct, Pairs, first-of, has, has-row, is-given, rows, text_at}
 use Rattle.tool_forms.proofs.Onto.{assigned, found_at, gave, once-gave, onto, twice-none, value_of}
@@ -111,6 +112,112 @@ seed-ends pairs distinct owned =
     ∙ ap (λ (found : Option SeedRun). if has Seed pairs && has Events pairs then found else None) (seed-read pairs)
     ∙ seed-needed pairs (has Seed pairs) (has Events pairs) refl refl
     ∙ seed-gave pairs distinct owned
+
+-- ---- seeds
+
+abbrev pub range_means : Option (List Assignment) → Option SeedRange
+range_means all = seed_range_from (number_once First all) (number_once Seeds all) (number_once Events all)
+
+range-2 : (a e : Option ℕ) → seed_range_from a None e ≡ None
+range-2 None e = refl
+range-2 (Some n) e = refl
+
+range-3 : (a b : Option ℕ) → seed_range_from a b None ≡ None
+range-3 None b = refl
+range-3 (Some n) None = refl
+range-3 (Some n) (Some m) = refl
+
+-- one figure that is none makes the whole none
+none-of-range : (setting : Setting) (figure : Setting → Option ℕ) → owns table.Seeds setting ≡ true → figure setting ≡ None
+    → seed_range_from (figure First) (figure Seeds) (figure Events) ≡ None
+none-of-range First figure is none = rw none refl
+none-of-range Seeds figure is none = rw none (range-2 (figure First) (figure Events))
+none-of-range Events figure is none = rw none (range-3 (figure First) (figure Seeds))
+none-of-range Seed figure is none = cc is
+none-of-range Workers figure is none = cc is
+none-of-range Side figure is none = cc is
+none-of-range Plain figure is none = cc is
+none-of-range Buffer figure is none = cc is
+none-of-range Most figure is none = cc is
+none-of-range Flow figure is none = cc is
+
+pub range-once : (setting : Setting) (text : Text) (all : Option (List Assignment)) (pairs : Pairs) → owns table.Seeds setting ≡ true → has setting pairs ≡ true
+    → range_means (onto pairs (preceded (assigned setting text) all)) ≡ None
+range-once setting text all pairs is twice =
+    none-of-range setting (λ s. number_once s (onto pairs (preceded (assigned setting text) all))) is (ap number_among (twice-none setting text all pairs twice))
+
+module _ {X : Type 0} (judge : List Row → Option X) where
+  range-closes : (rs : List Row) (a b e : Bool) → has_row (codes "first") rs ≡ a → has_row (codes "seeds") rs ≡ b → has_row (codes "events") rs ≡ e
+      → is_given (codes "first") rs ≡ a → is_given (codes "seeds") rs ≡ b → is_given (codes "events") rs ≡ e
+      → passed (closes (shape table.Seeds) (holding rs None)) (judge (finished (shape table.Seeds).rules (holding rs None)))
+      ≡ (if a && (b && e) then judge rs else None)
+  unfolding defaults_fault
+  range-closes rs true true true f g h i j k = rw (f, g, h, i, j, k) refl
+  range-closes rs true true false f g h i j k = rw (f, g, h, i, j, k) refl
+  range-closes rs true false true f g h i j k = rw (f, g, h, i, j) refl
+  range-closes rs true false false f g h i j k = rw (f, g, h, i, j) refl
+  range-closes rs false true true f g h i j k = rw (f, g, h, i) refl
+  range-closes rs false true false f g h i j k = rw (f, g, h, i) refl
+  range-closes rs false false true f g h i j k = rw (f, g, h, i) refl
+  range-closes rs false false false f g h i j k = rw (f, g, h, i) refl
+
+range-at : (pairs : Pairs) → Option SeedRange
+range-at pairs = seed_range_from (number_at pairs First) (number_at pairs Seeds) (number_at pairs Events)
+
+range-owned : (setting : Setting) → owns table.Seeds setting ≡ true → (pairs : Pairs) (text : Text) → text_at setting pairs ≡ Some text
+    → value_of setting text ≡ None
+    → number_at pairs setting ≡ None
+range-owned First is pairs text at bad = ap (option_and_then (number_for First)) at ∙ unvalued First text refl bad
+range-owned Seeds is pairs text at bad = ap (option_and_then (number_for Seeds)) at ∙ unvalued Seeds text refl bad
+range-owned Events is pairs text at bad = ap (option_and_then (number_for Events)) at ∙ unvalued Events text refl bad
+range-owned Seed is pairs text at bad = cc is
+range-owned Workers is pairs text at bad = cc is
+range-owned Side is pairs text at bad = cc is
+range-owned Plain is pairs text at bad = cc is
+range-owned Buffer is pairs text at bad = cc is
+range-owned Most is pairs text at bad = cc is
+range-owned Flow is pairs text at bad = cc is
+
+range-gave : (pairs : Pairs) → Distinct pairs → Owned table.Seeds pairs → range-at pairs ≡ range_means (gave pairs)
+unfolding range-at
+range-gave pairs distinct owned = go (gave pairs) refl
+  where
+    go : (all : Option (List Assignment)) → gave pairs ≡ all → range-at pairs ≡ range_means (gave pairs)
+    go (Some all) is = sym (ap₂ (λ (a b : Option ℕ). seed_range_from a b (number_once Events (gave pairs)))
+        (number-gave First pairs all distinct is refl) (number-gave Seeds pairs all distinct is refl)
+        ∙ ap (λ (e : Option ℕ). seed_range_from (number_at pairs First) (number_at pairs Seeds) e) (number-gave Events pairs all distinct is refl))
+    go None is =
+        let found = some-bad pairs distinct is in
+        none-of-range found.setting (number_at pairs) (found.own table.Seeds owned)
+        (range-owned found.setting (found.own table.Seeds owned) pairs found.text found.at found.bad)
+        ∙ sym (ap range_means is)
+
+-- where a figure is missing there are no seeds
+range-needed : (pairs : Pairs) (a b e : Bool) → has First pairs ≡ a → has Seeds pairs ≡ b → has Events pairs ≡ e
+    → (if a && (b && e) then range-at pairs else None) ≡ range-at pairs
+unfolding range-at
+range-needed pairs true true true f g h = refl
+range-needed pairs false b e f g h = sym (none-of-range First (number_at pairs) refl (ap (option_and_then (number_for First)) (lacks-text First pairs f)))
+range-needed pairs true false e f g h = sym (none-of-range Seeds (number_at pairs) refl (ap (option_and_then (number_for Seeds)) (lacks-text Seeds pairs g)))
+range-needed pairs true true false f g h =
+    sym (none-of-range Events (number_at pairs) refl (ap (option_and_then (number_for Events)) (lacks-text Events pairs h)))
+
+range-read : (pairs : Pairs) → seed_range_in (rows pairs) ≡ range-at pairs
+unfolding range-at
+range-read pairs =
+    ap₂ (λ (a b : Option Text). seed_range_from (option_and_then (number_for First) a) (option_and_then (number_for Seeds) b) (figure_in Events (rows pairs)))
+    (first-of First pairs) (first-of Seeds pairs)
+    ∙ ap (λ (e : Option Text). seed_range_from (number_at pairs First) (number_at pairs Seeds) (option_and_then (number_for Events) e)) (first-of Events pairs)
+
+pub range-ends : (pairs : Pairs) → Distinct pairs → Owned table.Seeds pairs
+    → verdict seed_range_in (shape table.Seeds) (rests (rows pairs) None) [] ≡ range_means (gave pairs)
+range-ends pairs distinct owned =
+    last-turn seed_range_in (shape table.Seeds) (rests (rows pairs) None)
+    ∙ range-closes seed_range_in (rows pairs) (has First pairs) (has Seeds pairs) (has Events pairs) (has-row First pairs) (has-row Seeds pairs)
+    (has-row Events pairs) (is-given First pairs) (is-given Seeds pairs) (is-given Events pairs)
+    ∙ ap (λ (found : Option SeedRange). if has First pairs && (has Seeds pairs && has Events pairs) then found else None) (range-read pairs)
+    ∙ range-needed pairs (has First pairs) (has Seeds pairs) (has Events pairs) refl refl refl
+    ∙ range-gave pairs distinct owned
 
 -- ---- frames
 

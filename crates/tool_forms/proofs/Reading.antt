@@ -35,6 +35,7 @@ rules-are table.Replay = refl
 rules-are table.Campaign = refl
 rules-are table.Listen = refl
 rules-are table.Seed = refl
+rules-are table.Seeds = refl
 rules-are table.Frames = refl
 
 pub no-short : (t : Table) (x : ℕ) → arg_by_short (shape t).rules x ≡ None
@@ -42,6 +43,7 @@ no-short table.Replay x = refl
 no-short table.Campaign x = refl
 no-short table.Listen x = refl
 no-short table.Seed x = refl
+no-short table.Seeds x = refl
 no-short table.Frames x = refl
 
 pub no-index : (t : Table) → arg_by_index (shape t).rules 1 ≡ None
@@ -49,6 +51,7 @@ no-index table.Replay = refl
 no-index table.Campaign = refl
 no-index table.Listen = refl
 no-index table.Seed = refl
+no-index table.Seeds = refl
 no-index table.Frames = refl
 
 no-again : (t : Table) → (shape t).args_override_self ≡ false
@@ -56,6 +59,7 @@ no-again table.Replay = refl
 no-again table.Campaign = refl
 no-again table.Listen = refl
 no-again table.Seed = refl
+no-again table.Seeds = refl
 no-again table.Frames = refl
 
 -- ---- the arguments of settings, whichever

@@ -16,16 +16,16 @@ use Rattle.tool_forms.specs.declared.settings.Setting.{Setting}
 use Rattle.tool_forms.specs.Given.{Assignment}
 use Rattle.tool_forms.specs.Settings.{all_given, preceded, settings_of}
 use Rattle.tool_forms.specs.CampaignWords.{campaign_of}
-use Rattle.tool_forms.specs.BridgeWords.{flow_side_of, seed_run_of}
+use Rattle.tool_forms.specs.BridgeWords.{flow_side_of, seed_range_of, seed_run_of}
 use Rattle.tool_forms.specs.Words.{listen_of, replay_of}
-use Rattle.tool_forms.specs.Commands.{IsReadBy, bare_command, campaign_in, command_of, flow_side_in, has_dashes, is_dashes, listen_in, replay_in, seed_run_in, with_settings}
+use Rattle.tool_forms.specs.Commands.{IsReadBy, bare_command, campaign_in, command_of, flow_side_in, has_dashes, is_dashes, listen_in, replay_in, seed_range_in, seed_run_in, with_settings}
 use Rattle.tool_forms.proofs.Turns.{passed, rests, verdict}
 use Rattle.tool_forms.proofs.Walks.{Clear}
 use Rattle.tool_forms.proofs.Pairs.{Distinct, Pairs, has, rows}
 use Rattle.tool_forms.proofs.Named.{dashes-none}
 use Rattle.tool_forms.proofs.Onto.{assigned, onto}
 use Rattle.tool_forms.proofs.Reading.{Owned, all-agree, owns, shape}
-use Rattle.tool_forms.proofs.BridgeEnds.{flow-ends, flow-once, flow_means, seed-ends, seed-once, seed_means}
+use Rattle.tool_forms.proofs.BridgeEnds.{flow-ends, flow-once, flow_means, range-ends, range-once, range_means, seed-ends, seed-once, seed_means}
 use Rattle.tool_forms.proofs.Ends.{campaign-ends, campaign-once, campaign_means, listen-ends, listen-once, listen_means, replay-ends, replay-once, replay_means}
 
 abbrev command : Table → App
@@ -72,6 +72,7 @@ module _ {X : Type 0} (judge : List Row → Option X) where
   one-level table.Campaign words = by-level (shape table.Campaign) words
   one-level table.Listen words = by-level (shape table.Listen) words
   one-level table.Seed words = by-level (shape table.Seed) words
+  one-level table.Seeds words = by-level (shape table.Seeds) words
   one-level table.Frames words = by-level (shape table.Frames) words
 
 -- ---- what the code makes of it
@@ -111,6 +112,7 @@ simple table.Replay = refl
 simple table.Campaign = refl
 simple table.Listen = refl
 simple table.Seed = refl
+simple table.Seeds = refl
 simple table.Frames = refl
 
 pub command-simple : (t : Table) (app : App) → app ≡ command_of t → is_simple_and_free app ≡ true
@@ -167,6 +169,13 @@ seed-judged = form-judged seed_run_in table.Seed seed_means refl seed-once seed-
 
 pub seed-refused : (words : List (String Global)) → IsReadBy (command_of table.Seed) words None → None ≡ seed_run_of words
 seed-refused = form-refused seed_run_in table.Seed seed_means refl seed-once seed-ends
+
+pub range-judged : (words : List (String Global)) (m : ArgMatches) → IsReadBy (command_of table.Seeds) words (Some m)
+    → seed_range_in (rows_of (found_of m)) ≡ seed_range_of words
+range-judged = form-judged seed_range_in table.Seeds range_means refl range-once range-ends
+
+pub range-refused : (words : List (String Global)) → IsReadBy (command_of table.Seeds) words None → None ≡ seed_range_of words
+range-refused = form-refused seed_range_in table.Seeds range_means refl range-once range-ends
 
 pub flow-judged : (words : List (String Global)) (m : ArgMatches) → IsReadBy (command_of table.Frames) words (Some m)
     → flow_side_in (rows_of (found_of m)) ≡ flow_side_of words

@@ -1,11 +1,12 @@
--- What the words after the second program's `seed` and `frames` ask for (own): two settings, each given once.
-use Rattle.std.specs.Prelude.{ℕ, ◌^◌, ◌<◌, ◌≤◌, List, Option, Some, option_and_then, String}
+-- What the words after the second program's `seed`, `seeds` and `frames` ask for (own): settings, each given once.
+use Rattle.std.specs.Prelude.{ℕ, ◌+◌, ◌^◌, ◌<◌, ◌≤◌, nat_le, if◌then◌else◌, List, Option, Some, None, option_and_then, String}
 use Rattle.std.specs.declared.alloc.Global.{Global}
 use Rattle.world_events.specs.declared.event.Side.{Side as EndSide}
 use Rattle.tool_forms.specs.declared.bridge_words.FlowSide.{FlowSide}
+use Rattle.tool_forms.specs.declared.bridge_words.SeedRange.{SeedRange}
 use Rattle.tool_forms.specs.declared.bridge_words.SeedRun.{SeedRun}
 use Rattle.tool_forms.specs.declared.settings.Table.TheVariants as table
-use Rattle.tool_forms.specs.declared.settings.Setting.TheVariants.{Events, Side, Seed, Flow}
+use Rattle.tool_forms.specs.declared.settings.Setting.TheVariants.{First, Seeds, Events, Side, Seed, Flow}
 use Rattle.tool_forms.specs.Settings.{given_once, words_give}
 use Rattle.tool_forms.specs.Words.{side_given}
 
@@ -16,6 +17,21 @@ seed_run_from seed events = option_and_then (λ seed. option_and_then (λ events
 -- The run that the words after `seed` ask for.
 abbrev pub seed_run_of : List (String Global) → Option SeedRun
 seed_run_of words = seed_run_from (given_once table.Seed Seed words) (given_once table.Seed Events words)
+
+-- seeds below 2^64, and how many events the run of each has
+abbrev pub seed_range : ℕ → ℕ → ℕ → Option SeedRange
+seed_range first seeds events =
+    if nat_le (first + seeds) (2 ^ 64) then Some (record { first = first; seeds = seeds; events = events }) else None
+
+-- the same, where all three figures are there
+abbrev pub seed_range_from : Option ℕ → Option ℕ → Option ℕ → Option SeedRange
+seed_range_from first seeds events =
+    option_and_then (λ first. option_and_then (λ seeds. option_and_then (λ events. seed_range first seeds events) events) seeds) first
+
+-- The seeds that the words after `seeds` ask for.
+abbrev pub seed_range_of : List (String Global) → Option SeedRange
+seed_range_of words =
+    seed_range_from (given_once table.Seeds First words) (given_once table.Seeds Seeds words) (given_once table.Seeds Events words)
 
 -- a side of a flow, where both are there
 abbrev pub flow_side_from : Option ℕ → Option EndSide → Option FlowSide
@@ -30,6 +46,14 @@ pub record IsRunWithinBounds (run : SeedRun) : Type 0 where
   pub seed : run.seed < 2 ^ 64
   pub some : 1 ≤ run.events
   pub most : run.events ≤ 4096
+
+-- as many seeds, each with as many events, as a campaign may have, all below 2^64
+pub record IsRangeWithinBounds (range : SeedRange) : Type 0 where
+  pub some_seeds : 1 ≤ range.seeds
+  pub most_seeds : range.seeds ≤ 100000
+  pub some_events : 1 ≤ range.events
+  pub most_events : range.events ≤ 4096
+  pub last_seed : range.first + range.seeds ≤ 2 ^ 64
 
 -- flows are numbered from 1
 abbrev pub IsFlowWithinBounds : FlowSide → Type 0

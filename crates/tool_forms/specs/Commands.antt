@@ -14,6 +14,7 @@ use Rattle.clap.specs.Faults.{fault_of}
 use Rattle.clap.specs.declared.builder.action.ArgAction.TheVariants as action
 use Rattle.tool_forms.specs.declared.campaign_words.Campaign.{Campaign}
 use Rattle.tool_forms.specs.declared.bridge_words.FlowSide.{FlowSide}
+use Rattle.tool_forms.specs.declared.bridge_words.SeedRange.{SeedRange}
 use Rattle.tool_forms.specs.declared.bridge_words.SeedRun.{SeedRun}
 use Rattle.tool_forms.specs.declared.words.Form.{Form}
 use Rattle.tool_forms.specs.declared.settings.Setting.{Setting}
@@ -23,7 +24,7 @@ use Rattle.tool_forms.specs.declared.settings.Way.TheVariants as way
 use Rattle.tool_forms.specs.declared.settings.Table.{Table}
 use Rattle.tool_forms.specs.Settings.{bare_name, number_for, settings_of, side_in, way_of}
 use Rattle.tool_forms.specs.CampaignWords.{campaign_from}
-use Rattle.tool_forms.specs.BridgeWords.{flow_side_from, seed_run_from}
+use Rattle.tool_forms.specs.BridgeWords.{flow_side_from, seed_range_from, seed_run_from}
 use Rattle.tool_forms.specs.Words.{listener_for, replay_with}
 
 -- the argument of this name that is given so: with one value, which has to be given or may be left out, or as a flag
@@ -104,6 +105,10 @@ listen_in rows = listener_for (figure_in Most rows)
 -- the seed's run that matches are
 abbrev pub seed_run_in : List Row → Option SeedRun
 seed_run_in rows = seed_run_from (figure_in Seed rows) (figure_in Events rows)
+
+-- the seeds that matches are
+abbrev pub seed_range_in : List Row → Option SeedRange
+seed_range_in rows = seed_range_from (figure_in First rows) (figure_in Seeds rows) (figure_in Events rows)
 
 -- the side of a flow that matches are
 abbrev pub flow_side_in : List Row → Option FlowSide

@@ -27,6 +27,7 @@ settings_of table.Replay = Side ∷ (Buffer ∷ (Plain ∷ []))
 settings_of table.Campaign = First ∷ (Seeds ∷ (Events ∷ (Workers ∷ [])))
 settings_of table.Listen = Most ∷ []
 settings_of table.Seed = Seed ∷ (Events ∷ [])
+settings_of table.Seeds = First ∷ (Seeds ∷ (Events ∷ []))
 settings_of table.Frames = Flow ∷ (Side ∷ [])
 
 -- a setting's name, without the two hyphens

@@ -8,6 +8,8 @@ mod commands;
 mod settings;
 mod words;
 
-pub use crate::bridge_words::{FlowSide, SeedRun, flow_side_of, seed_run_of};
+pub use crate::bridge_words::{
+    FlowSide, SeedRange, SeedRun, flow_side_of, seed_range_of, seed_run_of,
+};
 pub use crate::campaign_words::Campaign;
 pub use crate::words::{Form, USAGE, form_of, is_word};

@@ -1,8 +1,8 @@
 //! The settings that words give to a form.
 //!
-//! One table has the settings of `replay`, `campaign` and `listen`, and those of the second program's `seed` and
-//! `frames`: whose each is, its name, how it is given, and the least and the most of its number. A further setting is a
-//! line in each function of the table.
+//! One table has the settings of `replay`, `campaign` and `listen`, and those of the second program's `seed`, `seeds`
+//! and `frames`: whose each is, its name, how it is given, and the least and the most of its number. A further setting
+//! is a line in each function of the table.
 ghost use Rattle.std.specs.Prelude.{◌≡◌, ◌≤◌, IfSome};
 ghost use Rattle.tool_forms.specs.Settings.{bare_name, least, most, number_for, settings_of, side_in, way_of};
 
@@ -29,6 +29,7 @@ pub(crate) enum Table {
     Campaign,
     Listen,
     Seed,
+    Seeds,
     Frames,
 }
 
@@ -73,6 +74,7 @@ impl Table {
             ],
             Table::Listen => &[Setting::Most],
             Table::Seed => &[Setting::Seed, Setting::Events],
+            Table::Seeds => &[Setting::First, Setting::Seeds, Setting::Events],
             Table::Frames => &[Setting::Flow, Setting::Side],
         }
     }
