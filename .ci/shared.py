@@ -1,4 +1,4 @@
-"""What the checks share: where things are, what the program answers, how a difference is told, and what specs/ define."""
+"""What the checks share: where things are, what the program answers, how a difference is shown, and what specs/ define."""
 import contextlib
 import difflib
 import functools

@@ -1,6 +1,6 @@
 /* A libFuzzer target over the functions of dccp.h: what any bytes, and any order of calls, lead to. An input is a list of calls, each a byte
  * that names it and what it needs; where the bytes end, the rest is 0. It stops the program where an answer is none of those that the header
- * lists, a refused call leaves bytes or changes an end, or what is told lies outside the datagram.
+ * lists, a refused call leaves bytes or changes an end, or what is reported lies outside the datagram.
  *
  * The library is compiled without coverage: what was answered in which phase counts as covered, by counters of libFuzzer's. */
 #include <stdio.h>

@@ -882,7 +882,7 @@ static void packets_of_no_flow(dccp_listener *listener, const dccp_frame *datagr
     same("a Reset a millisecond after that", 7, (frame.bytes[8] >> 1) & 15);
 }
 
-/* A client and its flow: an Ack of the flow waits for 50 milliseconds (own; RFC 4340, section 8.1.5), and data that arrive are told. */
+/* A client and its flow: an Ack of the flow waits for 50 milliseconds (own; RFC 4340, section 8.1.5), and data that arrive are reported. */
 /* What is read of the data of a flow and of its path: the last of four packets is on its way, and no round trip was measured in no time. */
 static void readings_of_a_flow(dccp_listener *listener) {
     const dccp_peer stranger = {.address = {10, 0, 0, 9}, .port = 9};

@@ -1,4 +1,4 @@
-// Sockets in C++ on this machine, a client and a server in one thread: what is told, counted and refused, a line for each that is otherwise.
+// Sockets in C++ on this machine, a client and a server in one thread: what is reported, counted and refused, a line for each that is otherwise.
 #include <arpa/inet.h>
 #include <sys/socket.h>
 #include <unistd.h>

@@ -133,7 +133,7 @@ impl<'a> Own<'a> {
         Ok(own)
     }
 
-    /// Plays until the connection has ended, or the limit has gone by. `is_over` tells whether the kernel's side is done.
+    /// Plays until the connection has ended, or the limit has gone by. `is_over` says whether the kernel's side is done.
     pub fn play(
         mut self,
         mut is_over: impl FnMut() -> bool,
@@ -158,7 +158,7 @@ impl<'a> Own<'a> {
                 it.saturating_duration_since(Instant::now())
             });
             let mut next = self.wire.receive(wait.min(Duration::from_millis(5)))?;
-            // All that has come is heard before a timer is told.
+            // All that has come is heard before a timer runs out.
             while let Some(packet) = next {
                 self.hear(&packet)?;
                 next = self.wire.receive(Duration::ZERO)?;

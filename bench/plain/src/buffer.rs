@@ -1,4 +1,4 @@
-//! A bounded receive buffer of an end, and what its acknowledgements tell of it (RFC 4340, sections 11.6 and 11.7).
+//! A bounded receive buffer of an end, and what its acknowledgements report of it (RFC 4340, sections 11.6 and 11.7).
 
 use crate::numbers::distance;
 use crate::packet::MOST_DATA;

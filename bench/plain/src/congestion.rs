@@ -64,7 +64,7 @@ impl Congestion {
         self.out += 1;
     }
 
-    /// Hears the bytes of a packet's vectors, which tell of the number that it acknowledges and those below.
+    /// Hears the bytes of a packet's vectors, which report the number that it acknowledges and those below.
     pub fn report(&mut self, acknowledged: u64, vectors: impl Iterator<Item = u8>, ratio: u64) {
         let (mut is_congested, mut news) = (false, 0);
         let mut past = self.entries.len();

@@ -1,4 +1,4 @@
-//! The numbers that an end has processed, and the Ack Vectors that tell of them (RFC 4340, section 11.4).
+//! The numbers that an end has processed, and the Ack Vectors that report them (RFC 4340, section 11.4).
 
 use crate::numbers::{ahead, distance, is_before};
 use crate::options::ACK_VECTOR;
@@ -140,7 +140,7 @@ impl Marks {
         vector.put(NOT_RECEIVED, place - self.bottom)
     }
 
-    /// The peer has an Ack or DataAck with this number; the floor rises if that told of all.
+    /// The peer has an Ack or DataAck with this number; the floor rises if that reported all.
     pub fn acknowledge(&mut self, number: u64) {
         let is_found = |it: &&Record| it.number == number && it.is_whole;
         if let Some(record) = self.records.iter().rev().find(is_found) {

@@ -287,7 +287,7 @@ impl Run {
         out.push(b' ');
         let begin = out.len();
         put(line, out);
-        // Digits are told in lower case; no other word has letters of either case.
+        // Digits are printed in lower case; no other word has letters of either case.
         out[begin..].make_ascii_lowercase();
         put(": ", out);
         let frame = match event {

@@ -1,4 +1,4 @@
-//! What is told of events and ends.
+//! The text on events and ends.
 
 use crate::endpoint::{Endpoint, Outcome};
 use crate::features::{FEATURES, Place, Stand};

@@ -115,7 +115,7 @@ fn one_listener_serves_both_families() -> Outcome {
         assert_eq!(server.phase(*own), Some(Phase::Open));
         server.set_user(*own, u64::from(own.is_ipv6()))?;
     }
-    // One closes, and is told by where it comes from, with its number.
+    // One closes, and is known by where it comes from, with its number.
     while server.poll_change().is_some() {}
     clients[0].1.close(now)?;
     exchange(&mut server, &mut clients, |it| it, now)?;

@@ -262,7 +262,7 @@ fn a_crowd_that_only_asks_keeps_nobody_out() -> Outcome {
     Ok(())
 }
 
-/// What became of packets is told by their numbers, and no number is given twice.
+/// What became of packets is found by their numbers, and no number is given twice.
 #[test]
 fn what_became_of_a_packet_is_told() -> Outcome {
     let (client, server) = pair(&Options::new(), "127.0.0.1:0")?;

@@ -335,7 +335,7 @@ fn send_many(
         let Some(run) = runs.get(sent) else { continue };
         let fault = io::Error::last_os_error();
         if fault.kind() == ErrorKind::ConnectionRefused {
-            // That of an earlier datagram, which it told of in place of sending.
+            // That of an earlier datagram, which it reported in place of sending.
             hand_over(socket, to, &[run]);
         } else if 1 < run.len() && !is_passing(&fault) {
             // The system, or the way to the peer, does not take such messages: from now on each frame is one.
@@ -353,7 +353,7 @@ fn send_one(socket: &UdpSocket, to: Option<SocketAddr>, frame: &Transmit) {
         None => socket.send(&frame.bytes),
     };
     if send().is_err_and(|it| it.kind() == ErrorKind::ConnectionRefused) {
-        // That of an earlier datagram, which it told of in place of sending.
+        // That of an earlier datagram, which it reported in place of sending.
         let _ = send();
     }
 }
