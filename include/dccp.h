@@ -8,6 +8,11 @@
  * by dccp_accept from a peer's first datagram. After that, in any order: dccp_receive for each datagram, dccp_tick once dccp_until_first
  * has passed, dccp_send, dccp_prefer, dccp_close and dccp_abort. dccp_free is the last.
  *
+ * Words: a frame is the bytes of one packet, as the payload of one datagram. A feature is located at a place: at the end itself, or at its
+ * peer. A wish is values of a feature, best first, in place of the usual ones; if it is offered, the end asks its peer for it. The stand of a
+ * feature's negotiation is stable, changing or unstable (RFC 4340, section 6). A flow is an end of a listener, with its peer. In flight are
+ * packets of data that nobody has reported yet, and the window is how many may be. dccp_told says what became of a datagram.
+ *
  * Time is `now`, a number of milliseconds from any beginning, the same for all calls of an end or a listener; it does not go back.
  *
  * After every call: if frame.length is not 0, its bytes go to the peer, whatever the call answered. A refused call has changed nothing and
