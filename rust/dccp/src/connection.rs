@@ -349,6 +349,13 @@ impl Connection {
     /// # Ok::<(), Box<dyn std::error::Error>>(())
     /// ```
     pub fn send(&mut self, data: &[u8], now: Instant) -> Result<u64, SendError> {
+        let number = self.send_unseen(data, now);
+        self.called(now);
+        number
+    }
+
+    /// As [`send`](Connection::send), but the end is looked at by [`called`](Connection::called) alone: once for many packets.
+    pub(crate) fn send_unseen(&mut self, data: &[u8], now: Instant) -> Result<u64, SendError> {
         let time = self.time(now);
         let status = queue(&mut self.outgoing, self.end.send(data, time), false);
         let number = self.end.number();
@@ -356,7 +363,6 @@ impl Connection {
             self.outgoing.in_flight.note(number);
             self.outgoing.counts.sent.count_bytes(data);
         }
-        self.called(now);
         SendError::answer(status)?;
         Ok(number)
     }
@@ -498,6 +504,28 @@ impl Connection {
         queue(&mut self.outgoing, (status, frame), is_answer(&told));
         self.called(now);
         self.hear(&told, datagram, was)
+    }
+
+    /// As [`receive`](Connection::receive) of each, but the end is looked at once, and after a Reset.
+    pub(crate) fn receive_all<'a>(
+        &mut self,
+        datagrams: impl Iterator<Item = &'a [u8]>,
+        now: Instant,
+        mut keep: impl FnMut(&'a [u8]),
+    ) {
+        let time = self.time(now);
+        for datagram in datagrams {
+            let was = self.phase();
+            let (status, frame, told) = self.end.receive(datagram, time);
+            queue(&mut self.outgoing, (status, frame), is_answer(&told));
+            if matches!(told.kind, sys::TOLD_WAS_RESET | sys::TOLD_SENT_RESET) {
+                self.called(now);
+            }
+            if let Some(data) = self.hear(&told, datagram, was) {
+                keep(data);
+            }
+        }
+        self.called(now);
     }
 
     /// Takes the data of the packet that has waited longest. None if none wait, as always without [`Config::holding`].
@@ -763,7 +791,7 @@ impl Connection {
     }
 
     /// Looks what a call has made of the end, and when its next timer runs out.
-    fn called(&mut self, now: Instant) {
+    pub(crate) fn called(&mut self, now: Instant) {
         self.view = self.end.look();
         let left = self.view.in_flight;
         self.outgoing.counts.lost += self

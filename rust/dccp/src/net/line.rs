@@ -75,9 +75,11 @@ impl Wait {
 }
 
 /// The data that have arrived and wait to be read.
-#[derive(Default)]
 struct Inbox {
     packets: VecDeque<Vec<u8>>,
+    /// How many packets may wait, and how many were dropped because so many did.
+    most: usize,
+    dropped: u64,
     /// Buffers of packets that were read, for further ones.
     spare: Vec<Vec<u8>>,
 }
@@ -86,7 +88,20 @@ struct Inbox {
 const MOST_SPARE: usize = 64;
 
 impl Inbox {
+    fn new(most: usize) -> Inbox {
+        Inbox {
+            packets: VecDeque::new(),
+            most,
+            dropped: 0,
+            spare: Vec::new(),
+        }
+    }
+
     fn keep(&mut self, data: &[u8]) {
+        if self.most <= self.packets.len() {
+            self.dropped += 1;
+            return;
+        }
         let mut room = self.spare.pop().unwrap_or_default();
         room.clear();
         room.extend_from_slice(data);
@@ -140,7 +155,6 @@ impl Waiting<'_> {
 struct State {
     connection: Connection,
     inbox: Inbox,
-    most_waiting: usize,
     /// Whether data wait in the end.
     is_holding: bool,
     end: Option<(End, Instant)>,
@@ -151,7 +165,6 @@ struct State {
     idle: Duration,
     answers: Limit,
     answers_left_out: u64,
-    unread_dropped: u64,
     /// Its time on the agenda.
     scheduled: Option<Instant>,
     /// When data were sent last.
@@ -176,11 +189,9 @@ impl State {
 
     fn hear(&mut self, datagrams: &[(SocketAddr, &[u8])], now: Instant) {
         let taken = self.connection.taken();
-        for (_, datagram) in datagrams {
-            if let Some(data) = self.connection.receive(datagram, now) {
-                self.keep(data);
-            }
-        }
+        let all = datagrams.iter().map(|(_, datagram)| *datagram);
+        let (connection, inbox) = (&mut self.connection, &mut self.inbox);
+        connection.receive_all(all, now, |data| inbox.keep(data));
         if self.connection.taken() != taken {
             self.heard = now;
         }
@@ -190,7 +201,7 @@ impl State {
     fn gather(&mut self, now: Instant) {
         while let Some(event) = self.connection.poll_event() {
             match event {
-                Event::Data(data) => self.keep(&data),
+                Event::Data(data) => self.inbox.keep(&data),
                 // They are read from the end, which counts what it drops.
                 Event::Waits | Event::Dropped { .. } => {}
                 Event::Ended { code } => self.ended(End::Reset { code }, now),
@@ -206,14 +217,6 @@ impl State {
             0
         };
         self.inbox.packets.len() + held
-    }
-
-    fn keep(&mut self, data: &[u8]) {
-        if self.inbox.packets.len() < self.most_waiting {
-            self.inbox.keep(data);
-        } else {
-            self.unread_dropped += 1;
-        }
     }
 
     fn ended(&mut self, end: End, now: Instant) {
@@ -323,8 +326,7 @@ impl Line {
         let now = Instant::now();
         let state = State {
             connection,
-            inbox: Inbox::default(),
-            most_waiting: options.most_waiting,
+            inbox: Inbox::new(options.most_waiting),
             is_holding: options.holding != 0,
             end: None,
             heard: now,
@@ -333,7 +335,6 @@ impl Line {
             idle: options.idle,
             answers: Limit::new(ANSWERS, now),
             answers_left_out: 0,
-            unread_dropped: 0,
             scheduled: None,
             sent: None,
             are_left: false,
@@ -532,7 +533,9 @@ impl Line {
             if let Some((end, _)) = state.end {
                 return Err(Error::Ended(end));
             }
-            match doing(&mut |data| state.connection.send(data, now)) {
+            let sent = doing(&mut |data| state.connection.send_unseen(data, now));
+            state.connection.called(now);
+            match sent {
                 Ok(done) => {
                     self.finish_sending(state, now);
                     return Ok(done);
@@ -701,7 +704,7 @@ impl Line {
         let counts = state.connection.statistics();
         Statistics {
             answers_left_out: state.answers_left_out,
-            unread_dropped: state.unread_dropped + counts.unread_dropped,
+            unread_dropped: state.inbox.dropped + counts.unread_dropped,
             ..counts
         }
     }
