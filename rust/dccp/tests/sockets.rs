@@ -61,14 +61,14 @@ fn batches_go_both_ways() -> Outcome {
     let (client, server) = pair(&Options::new(), "127.0.0.1:0")?;
     let packets = vec![[9_u8; MOST_DATA_BYTES]; 100];
     let mut sent = 0;
-    let mut found = Vec::new();
+    let mut found = vec![b"old".to_vec()];
     while sent < packets.len() {
         sent += client.send_batch(&packets[sent..])?;
-        server.recv_batch(&mut found)?;
+        assert_eq!(server.recv_batch(&mut found)?, found.len());
+        assert!(found.iter().all(|it| it.len() == MOST_DATA_BYTES));
     }
     server.send(b"back")?;
     assert_eq!(client.recv_timeout(LONG)?, b"back");
-    assert!(found.iter().all(|it| it.len() == MOST_DATA_BYTES));
     Ok(())
 }
 

@@ -85,7 +85,7 @@ struct Inbox {
 }
 
 /// How many buffers of packets are kept.
-const MOST_SPARE: usize = 64;
+const MOST_SPARE: usize = 128;
 
 impl Inbox {
     fn new(most: usize) -> Inbox {
@@ -121,6 +121,12 @@ impl Inbox {
         }
         Some(())
     }
+
+    /// Keeps the buffers of packets that were read, as many as there is room for.
+    fn keep_buffers(&mut self, packets: &mut Vec<Vec<u8>>) {
+        let room = MOST_SPARE - self.spare.len();
+        self.spare.extend(packets.drain(..).take(room));
+    }
 }
 
 /// The data that wait to be read, here or in the end.
@@ -143,12 +149,14 @@ impl Waiting<'_> {
         })
     }
 
-    /// Appends all packets that wait to these; None if none wait.
+    /// Replaces these by all packets that wait, and keeps their buffers; None if none wait, and then these stay.
     pub(super) fn take_all(&mut self, packets: &mut Vec<Vec<u8>>) -> Option<usize> {
-        let before = packets.len();
+        let first = self.take()?;
+        self.inbox.keep_buffers(packets);
+        packets.push(first);
         packets.extend(self.inbox.packets.drain(..));
         packets.extend(iter::from_fn(|| self.connection.read()));
-        Some(packets.len() - before).filter(|count| *count != 0)
+        Some(packets.len())
     }
 }
 

@@ -160,7 +160,8 @@ impl Socket {
         self.line().read(Wait::Not, |waiting| waiting.take())
     }
 
-    /// Appends the data of all packets that have arrived to `packets`, waiting for one. Returns how many.
+    /// Replaces `packets` by the data of all packets that have arrived, waiting for one, and uses their buffers for later ones. Returns how
+    /// many there are. If the call fails, `packets` stays.
     pub fn recv_batch(&self, packets: &mut Vec<Vec<u8>>) -> Result<usize, Error> {
         recv_batch(self.line(), packets)
     }
