@@ -1,5 +1,5 @@
 -- The data of a listener's flows that wait until their owner reads them (own).
-use Rattle.std.specs.Prelude.{◌==◌, ◌||◌, ◌&&◌, nat_le, ℕ, Bool, true, false, not, List, [], length, Option, Some, None, is_some, unwrap_or, if◌then◌else◌}
+use Rattle.std.specs.Prelude.{◌≡◌, ◌≤◌, ◌==◌, ◌||◌, ◌&&◌, nat_le, ℕ, Bool, true, false, not, List, [], length, Option, Some, None, is_some, unwrap_or, if◌then◌else◌}
 use Rattle.std.specs.BTreeMap.{insert_entry}
 use Rattle.std.specs.Map.{lookup, remove_entry, set_value}
 use Rattle.dccp_packets.specs.Outgoing.{Outgoing}
@@ -56,6 +56,10 @@ needs_no_inbox s peer = s.capacity == 0 || is_some (lookup (is_peer peer) s.entr
 abbrev pub with_place : Inboxes → Peer → Inboxes
 with_place s peer = if needs_no_inbox s peer then s else record s { entries = insert_entry peer_cmp s.entries peer (intake_of s.capacity) }
 
+-- as many inboxes stand as may, and the peer's would be a further one
+abbrev pub lacks_place : Inboxes → Peer → Bool
+lacks_place s peer = not (needs_no_inbox s peer) && nat_le s.most (length s.entries)
+
 -- the inboxes once a datagram has brought data or none, and what became of them, if they came into one
 pub record FlowDelivery : Type 0 where
   pub inboxes : Inboxes
@@ -87,6 +91,19 @@ flow_delivers_by s peer bytes _ _ = no_flow_delivery s
 -- inbox, which is made for the first that come.
 abbrev pub flow_delivers : Inboxes → Ruled → Peer → List ℕ → Option CallTold → FlowDelivery
 flow_delivers s after peer bytes told = flow_delivers_by s peer bytes (data_told told) (end_of_peer after.room.served.listening.flows peer)
+
+-- data came that are there, if any did, and the peer has a flow for them, if it has one
+abbrev pub has_data_by : List ℕ → Option (ℕ × ℕ) → Option FlowEnd → Bool
+has_data_by bytes (Some place) (Some e) = lies_within bytes place
+has_data_by bytes _ _ = false
+
+-- Data came, and no inbox of their peer can be made.
+abbrev pub finds_no_place_by : Inboxes → Peer → List ℕ → Option (ℕ × ℕ) → Option FlowEnd → Bool
+finds_no_place_by s peer bytes place flow = has_data_by bytes place flow && lacks_place s peer
+
+-- the same of what a datagram has led the server to, and was told of it
+abbrev pub finds_no_place : Inboxes → Ruled → Peer → List ℕ → Option CallTold → Bool
+finds_no_place s after peer bytes told = finds_no_place_by s peer bytes (data_told told) (end_of_peer after.room.served.listening.flows peer)
 
 -- A peer that had a flow before a datagram, or had none, has this one after it: with a new flow, what waited of the one
 -- before it is lost.
@@ -150,3 +167,19 @@ kind_kept _ kind = kind
 -- of a flow
 abbrev pub event_kept : Option Arrival → FlowEvent → FlowEvent
 event_kept kept event = record event { kind = kind_kept kept event.kind }
+
+-- at most as many inboxes stand as may
+abbrev pub AreFew : Inboxes → Type 0
+AreFew s = length s.entries ≤ s.most
+
+-- What each call leaves of few inboxes is few. Data that arrive, and an owner who stops, are refused where an inbox more
+-- than may stand would be made.
+pub record InboxesStayFew : Type 0 where
+  pub at_first : (capacity most : ℕ) → AreFew (no_inboxes capacity most)
+  pub settled : (s : Inboxes) (after : Ruled) (peer : Peer) (bytes : List ℕ) (told : Option CallTold)
+      → AreFew s → finds_no_place s after peer bytes told ≡ false → AreFew (flow_delivers s after peer bytes told).inboxes
+  pub stopped : (s : Inboxes) (peer : Peer) → AreFew s → lacks_place s peer ≡ false → AreFew (flow_stopped (with_place s peer) peer)
+  pub begun : (s : Inboxes) (peer : Peer) (had : Bool) (flow : Option FlowEnd) → AreFew s → AreFew (begun_fresh s peer had flow)
+  pub read : (s : Inboxes) (peer : Peer) → AreFew s → AreFew (flow_without_first s peer)
+  pub over : (s : Inboxes) (server : Ruled) (peer : Peer) → AreFew s → AreFew (tidied s server peer)
+  pub forgotten : (s : Inboxes) (peer : Peer) → AreFew s → AreFew (without_inbox_of s peer)

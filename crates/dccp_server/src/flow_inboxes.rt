@@ -82,7 +82,7 @@ impl FlowInboxes {
     ghost use Rattle.std.specs.Prelude.{◌≡◌, ◌≤◌, ◌==◌, None, OnErr, OnOk, IfOk, false, not, if◌then◌else◌};
     ghost use Rattle.data_dropped.specs.Buffering.{HasDataWithin};
     ghost use Rattle.dccp_listener.specs.Peers.{end_of_peer};
-    ghost use Rattle.dccp_server.specs.FlowInboxes.{begun_fresh, flow_delivers, flow_delivers_by, flow_first_read, flow_held, flow_inbox, flow_most_said, flow_read_over, flow_speaks, flow_stopped, flow_takes_in, flow_without_first, needs_no_inbox, no_inboxes, tidied, tidied_if, with_place, without_inbox_of};
+    ghost use Rattle.dccp_server.specs.FlowInboxes.{begun_fresh, flow_delivers, flow_delivers_by, flow_first_read, flow_held, flow_inbox, flow_most_said, flow_read_over, flow_speaks, flow_stopped, flow_takes_in, flow_without_first, finds_no_place, finds_no_place_by, lacks_place, needs_no_inbox, no_inboxes, tidied, tidied_if, with_place, without_inbox_of};
     ghost use Rattle.dccp_server.specs.Rooms.{told_of_arrival};
     ghost use Rattle.dccp_states.specs.declared.outcome.Outcome.TheVariants.{Took};
 
@@ -106,15 +106,23 @@ impl FlowInboxes {
         self.capacity == 0 || self.intakes.contains_key(&peer)
     }
 
-    // The peer has an inbox from now on, where flows have any. NoMemory where it finds none, or no place is free.
+    // As many inboxes stand as may, and the peer's would be a further one.
+    fn lacks_place(&self, peer: Peer) -> bool
+        ensures { result ≡ lacks_place self.now peer }
+    {
+        !self.needs_no_inbox(peer) && usize::from(self.most) <= self.intakes.len()
+    }
+
+    // The peer has an inbox from now on, where flows have any. NoMemory where it lacks a place, or finds no memory.
     fn place(&mut self, peer: Peer) -> Result<(), NoMemory>
         ensures placed { OnOk result (self.new ≡ with_place self.old peer) }
+        ensures room { OnOk result (lacks_place self.old peer ≡ false) }
         ensures unchanged { OnErr result (self.new ≡ self.old) }
     {
         if self.needs_no_inbox(peer) {
             return Ok(());
         }
-        if usize::from(self.most) <= self.intakes.len() {
+        if self.lacks_place(peer) {
             return Err(NoMemory);
         }
         let intake = Intake::new(self.alloc, self.capacity)?;
@@ -151,6 +159,7 @@ impl FlowInboxes {
         place: (usize, usize),
     ) -> Result<Option<Arrival>, NoMemory>
         ensures kept { IfOk result (λ arrival. record { inboxes = self.new; arrival = arrival } ≡ flow_delivers_by self.old peer bytes.now (Some place) (end_of_peer server.now.room.served.listening.flows peer)) }
+        ensures room { OnOk result (finds_no_place_by self.old peer bytes.now (Some place) (end_of_peer server.now.room.served.listening.flows peer) ≡ false) }
         ensures unchanged { OnErr result (self.new ≡ self.old) }
     {
         let Some(end) = server.flow(peer) else {
@@ -165,7 +174,8 @@ impl FlowInboxes {
 
     /// The server has heard a datagram of a peer, or left it out: data that it brought come into the peer's inbox, which
     /// is made for the first that come. What became of them, or None where none came into one. NoMemory where the inbox
-    /// finds none, or `most` of them stand; then nothing changes, and the data are in the datagram alone.
+    /// finds none, and always where `most` of them stand and it would be a further one; then nothing changes, and the data
+    /// are in the datagram alone.
     pub fn settle(
         &mut self,
         server: &Server,
@@ -174,6 +184,7 @@ impl FlowInboxes {
         heard: &Result<Option<Heard>, NoMemory>,
     ) -> Result<Option<Arrival>, NoMemory>
         ensures settled { IfOk result (λ arrival. record { inboxes = self.new; arrival = arrival } ≡ flow_delivers self.old server.now peer bytes.now (told_of_arrival heard.now)) }
+        ensures room { OnOk result (finds_no_place self.old server.now peer bytes.now (told_of_arrival heard.now) ≡ false) }
         ensures unchanged { OnErr result (self.new ≡ self.old) }
     {
         match data_told(heard) {
@@ -261,6 +272,7 @@ impl FlowInboxes {
     /// `settle`.
     pub fn stop(&mut self, peer: Peer) -> Result<bool, NoMemory>
         ensures stopped { OnOk result (self.new ≡ flow_stopped (with_place self.old peer) peer) }
+        ensures room { OnOk result (lacks_place self.old peer ≡ false) }
         ensures has_any { IfOk result (λ has. has ≡ not (self.old.capacity == 0)) }
         ensures unchanged { OnErr result (self.new ≡ self.old) }
     {

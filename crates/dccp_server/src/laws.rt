@@ -1,5 +1,6 @@
 //! What the definitions of the calls mean.
 ghost use Rattle.dccp_server.specs.Ending.{EachMayStay, ListenerTicksEnd, NoneIsPassedOver};
+ghost use Rattle.dccp_server.specs.FlowInboxes.{InboxesStayFew};
 ghost use Rattle.dccp_server.specs.Meeting.{MeetingsAreDeeds};
 ghost use Rattle.dccp_server.specs.Rooms.{ForgottenHaveNone, LivesChangeNothing, RulesAreDeeds};
 ghost use Rattle.dccp_server.specs.Serving.{CallsAreARun, CallsWantNoMemory, OnlyStrangersWantMemory, RefusedCallsChangeNothing, UpkeepsStandWithFlows};
@@ -60,4 +61,9 @@ pub fn meetings_are_deeds()
 /// Whatever was done before, a peer whose flow is forgotten has none, whatever phase it was in (own).
 pub fn forgotten_peers_have_no_flow()
     ensures { ForgottenHaveNone }
+{}
+
+/// No more inboxes stand than may, whatever arrives, is read, stopped or forgotten (own).
+pub fn inboxes_stay_few()
+    ensures { InboxesStayFew }
 {}

@@ -42,9 +42,9 @@ pub use crate::flow_event::{EndCause, EndReason, EventKind, FlowEvent, FlowEvent
 pub use crate::flow_inboxes::{FlowInboxes, event_kept};
 pub use crate::happening::{Happening, Hearing};
 pub use crate::laws::{
-    calls_are_a_run, flows_are_timed_ends, forgotten_peers_have_no_flow, meetings_are_deeds,
-    no_flow_is_passed_over, only_strangers_want_memory, refused_calls_change_nothing,
-    rules_are_deeds, ticks_of_a_listener_end,
+    calls_are_a_run, flows_are_timed_ends, forgotten_peers_have_no_flow, inboxes_stay_few,
+    meetings_are_deeds, no_flow_is_passed_over, only_strangers_want_memory,
+    refused_calls_change_nothing, rules_are_deeds, ticks_of_a_listener_end,
 };
 pub use crate::life::{Life, Signs};
 pub use crate::meeting::{CookieUse, Meeting, Way, append_cookie};
