@@ -228,7 +228,7 @@ typedef struct dccp_cookie_keys {
 typedef struct dccp_flow_rules {
     size_t size;         /* sizeof(dccp_flow_rules) */
     uint64_t respond;    /* how long a flow may be in DCCP_PHASE_RESPOND (RFC 4340, section 8.1.3) */
-    uint64_t crowded;    /* the same where more than half of the table is in DCCP_PHASE_RESPOND */
+    uint64_t crowded;    /* the same in a crowd: where more flows are in DCCP_PHASE_RESPOND than places are free */
     uint64_t closing;    /* how long one may be in DCCP_PHASE_CLOSEREQ and in DCCP_PHASE_CLOSING */
     uint64_t idle;       /* how long one in DCCP_PHASE_OPEN may take no packet */
     uint16_t answers;    /* how many answers go to peers without a flow in a second; DCCP_UNLIMITED: as many as there are */
@@ -246,7 +246,7 @@ typedef struct dccp_flow_rules {
  * cookie opens it (RFC 4340, section 8.1.4). Each Request has one such answer, which is not among the `answers` of the rules. */
 typedef enum dccp_cookies {
     DCCP_COOKIES_NEVER = 0,
-    DCCP_COOKIES_IN_A_CROWD = 1, /* if more than half of the table is in DCCP_PHASE_RESPOND */
+    DCCP_COOKIES_IN_A_CROWD = 1, /* if more flows are in DCCP_PHASE_RESPOND than places are free */
     DCCP_COOKIES_ALWAYS = 2      /* and any greater number */
 } dccp_cookies;
 

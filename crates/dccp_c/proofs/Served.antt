@@ -28,7 +28,7 @@ listens_soundly s given most config made is distinct least high =
 
 -- a tick, once the server has been taken out of its handle and put back
 pub ticks_so : (now : ℕ) (before after : Option Holding) (s t : Holding) (duty : Option Duty) (left : Handed) (old new : PeerAddress) (code : ℕ)
-    → before ≡ Some s → after ≡ Some t → duty ≡ duty_in now s.watched.server.rules s.watched.server.half s.watched.server.room
+    → before ≡ Some s → after ≡ Some t → duty ≡ duty_in now s.watched.server.rules s.watched.server.room
     → t ≡ holds_ticked now s duty → left ≡ duty_left t duty (duty_frame now s.watched.server.room duty)
     → new ≡ duty_address duty old → code ≡ duty_code duty → Ticks now before after left old new code
 ticks_so now before after s t duty left old new code before-is after-is same-duty ticked sent named answered =

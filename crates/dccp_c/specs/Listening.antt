@@ -310,7 +310,7 @@ DoesDuty now s after duty left old new code =
 abbrev pub Ticks : ℕ → Option Holding → Option Holding → Handed → PeerAddress → PeerAddress → ℕ → Type 0
 Ticks now None after left old new code = IsUnserved None after left × (new ≡ old) × (code ≡ 1)
 Ticks now (Some s) after left old new code =
-    DoesDuty now s after (duty_in now s.watched.server.rules s.watched.server.half s.watched.server.room) left old new code
+    DoesDuty now s after (duty_in now s.watched.server.rules s.watched.server.room) left old new code
 
 -- a peer's flow goes, and the data that wait of it
 abbrev pub holds_forgotten : ℕ → Holding → Peer → Holding
@@ -331,7 +331,7 @@ Forgets now (Some s) after peer code =
 -- how long it is until a timer of a listener runs out or a flow is given up, if any does
 abbrev pub listener_waits : ℕ → Option Ruled → ℕ
 listener_waits now None = never
-listener_waits now (Some s) = room_waits now s.rules s.half s.room
+listener_waits now (Some s) = room_waits now s.rules s.room
 
 -- what is read of the end of a peer, where there is a listener and it has one
 abbrev pub flow_in : Option Ruled → Peer → Option View

@@ -14,7 +14,7 @@ pub struct FlowRules {
     pub size: usize,
     /// How long a flow may be in RESPOND.
     pub respond: u64,
-    /// The same where more than half of the table is in RESPOND.
+    /// The same in a crowd: where more flows are in RESPOND than places are free.
     pub crowded: u64,
     /// How long a flow may be in CLOSEREQ and in CLOSING.
     pub closing: u64,

@@ -616,7 +616,7 @@ fn go_on_if(serving: &mut Serving, duty: Option<Duty>)
 
 // A tick of a server.
 fn do_duty(serving: &mut Serving, now: u64) -> Option<Duty>
-    ensures duty { result ≡ duty_in now serving.old.server.server.rules serving.old.server.server.half serving.old.server.server.room }
+    ensures duty { result ≡ duty_in now serving.old.server.server.rules serving.old.server.server.room }
     ensures after { holding_of serving.new ≡ holds_ticked now (holding_of serving.old) result }
     ensures sent { handed_of serving.new.out ≡ duty_left (holding_of serving.new) result (duty_frame now serving.old.server.server.room result) }
 {

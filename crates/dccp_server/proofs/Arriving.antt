@@ -15,7 +15,7 @@ use Rattle.dccp_server.specs.Lives.{life_of, signs_in}
 use Rattle.dccp_server.specs.Rooms.{Coming, HasArrived, HasHeard, IsJudged, IsRoomMade, IsServed, Reception, Room, Ruled, reply_spared, begun_anew, comes_by, comes_heard, comes_if, counted_room, forgets, heard_or_fault, heard_plainly, is_to_be_heard, is_to_stranger, left_out, left_without_memory, moved_on, reception_of, room_does, room_made, told_of_arrival, unless_fault, who_leaves}
 use Rattle.dccp_server.specs.Serving.{Does}
 use Rattle.dccp_server.specs.Strangers.{frame_if_goes, spared_if}
-use Rattle.dccp_server.specs.Rules.{begins_anew, has_more_half_open, makes_way}
+use Rattle.dccp_server.specs.Rules.{begins_anew}
 use Rattle.dccp_server.specs.declared.life.Life.{Life}
 use Rattle.dccp_server.specs.declared.life.Signs.{Signs}
 use Rattle.dccp_server.specs.declared.rules.Rules.{Rules}
@@ -42,7 +42,7 @@ made_if now busy mid after peer iss bytes leaving left frame (Ok it) gone does s
 )
 made_if now busy mid after peer iss bytes leaving left frame (Err fault) gone does sent told same = same ∙ gone
 
-module _ (now : ℕ) (rules : Rules) (half : ℕ) (r : Room) (peer : Peer) (iss : ℕ) (bytes : List ℕ) where
+module _ (now : ℕ) (rules : Rules) (r : Room) (peer : Peer) (iss : ℕ) (bytes : List ℕ) where
   abbrev first : Room
   first = room_does now r peer (Does (Arrives iss bytes))
 
@@ -67,23 +67,23 @@ module _ (now : ℕ) (rules : Rules) (half : ℕ) (r : Room) (peer : Peer) (iss 
       (Some (told_of (Ok it))) (Some (listens gone.served.listening peer (Arrives iss bytes)).told) (Some leaving) false is.0 is.1 (ap Some is.2)
 
   made-so : (after : Room) (frame : Option Outgoing) (result : Result Heard NoMemory) (leaving : Option Peer) → WasBusy ≡ told-first
-      → leaving ≡ who_leaves now rules half first → IsRoomMade now first after peer iss bytes leaving frame-first frame result
-      → HasHeard now rules half r after peer iss bytes frame result leaving false
+      → leaving ≡ who_leaves now rules first → IsRoomMade now first after peer iss bytes leaving frame-first frame result
+      → HasHeard now rules r after peer iss bytes frame result leaving false
   made-so after frame (Ok it) leaving busy leaves-so is =
       made-by after frame it leaving busy is
       ∙ ap (λ (x : Option Peer). room_made now first peer iss bytes x plain) leaves-so
-      ∙ ap (λ (t : CallTold). comes_by now rules half r peer iss bytes plain t) busy
+      ∙ ap (λ (t : CallTold). comes_by now rules r peer iss bytes plain t) busy
   made-so after frame (Err fault) None busy leaves-so is = cc is.2
   made-so after frame (Err fault) (Some leaving) busy leaves-so is = (is, refl)
 
   pub arrived_busy : (between after : Room) (left frame : Option Outgoing) (result : Result Heard NoMemory) (leaving : Option Peer)
       → between ≡ first → left ≡ frame-first → WasBusy ≡ told-first
-      → leaving ≡ makes_way rules (has_more_half_open half between.lives) now between.lives
+      → leaving ≡ who_leaves now rules between
       → IsRoomMade now between after peer iss bytes leaving left frame result
-      → HasHeard now rules half r after peer iss bytes frame result leaving false
+      → HasHeard now rules r after peer iss bytes frame result leaving false
   arrived_busy between after left frame result leaving does sent busy leaves-so is =
       made-so after frame result leaving busy
-      (leaves-so ∙ ap (λ (x : Room). makes_way rules (has_more_half_open half x.lives) now x.lives) does)
+      (leaves-so ∙ ap (λ (x : Room). who_leaves now rules x) does)
       (subst (λ (x : Room). IsRoomMade now x after peer iss bytes leaving frame-first frame result) does
       (subst (λ (f : Option Outgoing). IsRoomMade now between after peer iss bytes leaving f frame result) sent is))
 
@@ -100,56 +100,56 @@ module _ (now : ℕ) (rules : Rules) (half : ℕ) (r : Room) (peer : Peer) (iss 
       → between ≡ first → left ≡ frame-first → Stepped (Some (Received outcome)) ≡ told-first → life ≡ life_of r.lives peer → signs ≡ signs_in outcome
       → anew ≡ begins_anew rules life bytes signs → after ≡ (if anew then forgets now between peer else between)
       → frame ≡ (if anew then None else left)
-      → HasHeard now rules half r after peer iss bytes frame (Ok (heard.Flow outcome)) None anew
+      → HasHeard now rules r after peer iss bytes frame (Ok (heard.Flow outcome)) None anew
   arrived_flow between after left frame outcome life signs anew does sent told life-is signs-are anew-is after-is frame-is =
       anew-by after frame (Stepped (Some (Received outcome))) anew told
       (after-is ∙ ap (λ (x : Room). if anew then forgets now x peer else x) does)
       (frame-is ∙ ap (λ (f : Option Outgoing). if anew then None else f) sent)
       ∙ ap (λ (b : Bool). begun_anew now peer plain b)
       (anew-is ∙ ap (λ (x : Life). begins_anew rules x bytes signs) life-is ∙ ap (λ (x : Signs). begins_anew rules (life_of r.lives peer) bytes x) signs-are)
-      ∙ ap (λ (t : CallTold). comes_by now rules half r peer iss bytes plain t) told
+      ∙ ap (λ (t : CallTold). comes_by now rules r peer iss bytes plain t) told
 
   -- so it is with what the rules made of it
   pub arrived_so : (between after : Room) (left frame : Option Outgoing) (life : Life) (it : Heard) (result : Result Heard NoMemory) (evicted : Option Peer)
       (anew : Bool) → between ≡ first → left ≡ frame-first → told_of (Ok it) ≡ told-first → life ≡ life_of r.lives peer
-      → IsJudged now rules half life between after peer iss bytes it left frame result evicted anew
-      → HasHeard now rules half r after peer iss bytes frame result evicted anew
+      → IsJudged now rules life between after peer iss bytes it left frame result evicted anew
+      → HasHeard now rules r after peer iss bytes frame result evicted anew
   arrived_so between after left frame life heard.Busy result evicted anew does sent told life-is is =
-      subst (λ (b : Bool). HasHeard now rules half r after peer iss bytes frame result evicted b) (sym is.2)
+      subst (λ (b : Bool). HasHeard now rules r after peer iss bytes frame result evicted b) (sym is.2)
       (arrived_busy between after left frame result evicted does sent told is.0 is.1)
   arrived_so between after left frame life (heard.Flow outcome) result evicted anew does sent told life-is is =
-      subst (λ (x : Result Heard NoMemory). HasHeard now rules half r after peer iss bytes frame x evicted anew) (sym is.4)
-      (subst (λ (x : Option Peer). HasHeard now rules half r after peer iss bytes frame (Ok (heard.Flow outcome)) x anew) (sym is.3)
+      subst (λ (x : Result Heard NoMemory). HasHeard now rules r after peer iss bytes frame x evicted anew) (sym is.4)
+      (subst (λ (x : Option Peer). HasHeard now rules r after peer iss bytes frame (Ok (heard.Flow outcome)) x anew) (sym is.3)
       (arrived_flow between after left frame outcome life (signs_in outcome) anew does sent told life-is refl is.0 is.1 is.2))
 
   -- a datagram that is left out
   pub left_out_as : (after : Room) → after ≡ counted_room now rules r peer bytes → false ≡ is_to_be_heard now rules r peer bytes
-      → HasArrived now rules half r after peer iss bytes None (Ok None) None false
+      → HasArrived now rules r after peer iss bytes None (Ok None) None false
   left_out_as after is heard =
-      ap (λ (x : Room). left_out x) is ∙ ap (λ (b : Bool). comes_if now rules half (counted_room now rules r peer bytes) peer iss bytes b) heard
+      ap (λ (x : Room). left_out x) is ∙ ap (λ (b : Bool). comes_if now rules (counted_room now rules r peer bytes) peer iss bytes b) heard
 
   -- and one that is heard
   come-by : (upkeep_counted after : Room) (left : Option Outgoing) (result : Result Heard NoMemory) (evicted : Option Peer) (anew : Bool)
       → upkeep_counted ≡ counted_room now rules r peer bytes → true ≡ is_to_be_heard now rules r peer bytes
-      → HasHeard now rules half upkeep_counted after peer iss bytes left result evicted anew
-      → HasArrived now rules half r after peer iss bytes (unless_fault result left) (heard_or_fault result) evicted anew
+      → HasHeard now rules upkeep_counted after peer iss bytes left result evicted anew
+      → HasArrived now rules r after peer iss bytes (unless_fault result left) (heard_or_fault result) evicted anew
   come-by upkeep_counted after left (Ok it) evicted anew is heard has =
-      has ∙ ap (λ (x : Room). comes_heard now rules half x peer iss bytes) is
-      ∙ ap (λ (b : Bool). comes_if now rules half (counted_room now rules r peer bytes) peer iss bytes b) heard
+      has ∙ ap (λ (x : Room). comes_heard now rules x peer iss bytes) is
+      ∙ ap (λ (b : Bool). comes_if now rules (counted_room now rules r peer bytes) peer iss bytes b) heard
   come-by upkeep_counted after left (Err fault) evicted anew is heard has =
       (has.0 ∙ ap (λ (x : Room). left_without_memory now x peer iss bytes evicted) is, refl, has.1)
 
   pub come_as : (upkeep_counted after : Room) (left frame : Option Outgoing) (result : Result Heard NoMemory) (whole : Result (Option Heard) NoMemory)
       (evicted evicted' : Option Peer) (anew anew' : Bool)
       → upkeep_counted ≡ counted_room now rules r peer bytes → true ≡ is_to_be_heard now rules r peer bytes
-      → HasHeard now rules half upkeep_counted after peer iss bytes left result evicted anew
+      → HasHeard now rules upkeep_counted after peer iss bytes left result evicted anew
       → frame ≡ unless_fault result left → whole ≡ heard_or_fault result → evicted' ≡ evicted → anew' ≡ anew
-      → HasArrived now rules half r after peer iss bytes frame whole evicted' anew'
+      → HasArrived now rules r after peer iss bytes frame whole evicted' anew'
   come_as upkeep_counted after left frame result whole evicted evicted' anew anew' is heard has frame-is whole-is evicted-is anew-is =
-      subst (λ (f : Option Outgoing). HasArrived now rules half r after peer iss bytes f whole evicted' anew') (sym frame-is)
-      (subst (λ (w : Result (Option Heard) NoMemory). HasArrived now rules half r after peer iss bytes (unless_fault result left) w evicted' anew') (sym whole-is)
-      (subst (λ (e : Option Peer). HasArrived now rules half r after peer iss bytes (unless_fault result left) (heard_or_fault result) e anew') (sym evicted-is)
-      (subst (λ (b : Bool). HasArrived now rules half r after peer iss bytes (unless_fault result left) (heard_or_fault result) evicted b) (sym anew-is)
+      subst (λ (f : Option Outgoing). HasArrived now rules r after peer iss bytes f whole evicted' anew') (sym frame-is)
+      (subst (λ (w : Result (Option Heard) NoMemory). HasArrived now rules r after peer iss bytes (unless_fault result left) w evicted' anew') (sym whole-is)
+      (subst (λ (e : Option Peer). HasArrived now rules r after peer iss bytes (unless_fault result left) (heard_or_fault result) e anew') (sym evicted-is)
+      (subst (λ (b : Bool). HasArrived now rules r after peer iss bytes (unless_fault result left) (heard_or_fault result) evicted b) (sym anew-is)
       (come-by upkeep_counted after left result evicted anew is heard has))))
 
 -- nothing that does not go out is an answer to a stranger
@@ -168,7 +168,7 @@ reception server frame told evicted anew = record { server = server; frame = fra
 -- so the limits for strangers apply to what came
 pub served_as : (now : ℕ) (s after : Ruled) (mid : Room) (peer : Peer) (iss : ℕ) (bytes : List ℕ) (left frame : Option Outgoing)
     (heard : Result (Option Heard) NoMemory) (evicted : Option Peer) (anew answers : Bool)
-    → HasArrived now s.rules s.half s.room mid peer iss bytes left heard evicted anew → answers ≡ is_to_stranger s.room mid peer left
+    → HasArrived now s.rules s.room mid peer iss bytes left heard evicted anew → answers ≡ is_to_stranger s.room mid peer left
     → after ≡ moved_on s mid (spared_if now s.rules s.strangers answers (told_of_arrival heard)).strangers
     → frame ≡ frame_if_goes (spared_if now s.rules s.strangers answers (told_of_arrival heard)).goes left
     → IsServed now s after peer iss bytes frame heard evicted anew

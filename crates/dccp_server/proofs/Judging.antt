@@ -17,7 +17,7 @@ use Rattle.dccp_uses.specs.declared.rule.Rule.{Rule}
 abbrev IsByDoings : Room → Room → Type 0
 IsByDoings r after = (all : List TimedDoing) × (after ≡ does_all r all)
 
-module _ (now : ℕ) (rules : Rules) (half : ℕ) (peer : Peer) (iss : ℕ) (bytes : List ℕ) where
+module _ (now : ℕ) (rules : Rules) (peer : Peer) (iss : ℕ) (bytes : List ℕ) where
   abbrev does : Peer → Deed → TimedDoing
   does who deed = record { now = now; peer = who; doing = Does deed }
 
@@ -36,25 +36,25 @@ module _ (now : ℕ) (rules : Rules) (half : ℕ) (peer : Peer) (iss : ℕ) (byt
     by-anew true = (heard ∷ does peer (Calls Aborts) ∷ does peer (Calls (Fires timers.TimeWait)) ∷ [], refl)
     by-anew false = (heard ∷ [], refl)
 
-    by-told : (told : CallTold) → IsByDoings r (comes_by now rules half r peer iss bytes plain told).room
-    by-told WasBusy = by-leaving (who_leaves now rules half plain.room)
+    by-told : (told : CallTold) → IsByDoings r (comes_by now rules r peer iss bytes plain told).room
+    by-told WasBusy = by-leaving (who_leaves now rules plain.room)
     by-told HadNoMemory = (heard ∷ [], refl)
     by-told (Stepped it) = by-anew (begins_anew rules (life_of r.lives peer) bytes (signs_of (Stepped it)))
 
-    by-hearing : (is : Bool) → IsByDoings r (comes_if now rules half r peer iss bytes is).room
+    by-hearing : (is : Bool) → IsByDoings r (comes_if now rules r peer iss bytes is).room
     by-hearing true = by-told (listens r.served.listening peer (Arrives iss bytes)).told
     by-hearing false = ([], refl)
 
   by-counting : (r : Room) (refuses is : Bool)
-      → IsByDoings r (comes_if now rules half (if refuses then r else room_does now r peer (Spends bytes)) peer iss bytes is).room
+      → IsByDoings r (comes_if now rules (if refuses then r else room_does now r peer (Spends bytes)) peer iss bytes is).room
   by-counting r true is = by-hearing r is
   by-counting r false is =
       let rest = by-hearing (room_does now r peer (Spends bytes)) is in
       (record { now = now; peer = peer; doing = Spends bytes } ∷ rest.0, rest.1)
 
 pub rules_are_deeds : RulesAreDeeds
-rules_are_deeds now rules half r peer iss bytes =
-    by-counting now rules half peer iss bytes r (refuses_last_sync rules (life_of r.lives peer) bytes) (is_to_be_heard now rules r peer bytes)
+rules_are_deeds now rules r peer iss bytes =
+    by-counting now rules peer iss bytes r (refuses_last_sync rules (life_of r.lives peer) bytes) (is_to_be_heard now rules r peer bytes)
 
 served-same : (now : ℕ) (r : Room) (peer : Peer) (doing : Doing) → (room_does now r peer doing).served ≡ served_by now r.served peer doing
 served-same now r peer (Does deed) = refl

@@ -63,7 +63,7 @@ module _ (now : ℕ) (peer : Peer) (iss : ℕ) (bytes : List ℕ) where
       by-room s (unreceived_at now s peer iss bytes evicted) (counted-so s.room (refuses_last_sync s.rules (life_of s.room.lives peer) bytes) evicted)
 
   received : (s : Ruled) → LeavesByDoings s (received_at now s peer iss bytes).server
-  received s = by-room s (received_at now s peer iss bytes).server (rules_are_deeds now s.rules s.half s.room peer iss bytes)
+  received s = by-room s (received_at now s peer iss bytes).server (rules_are_deeds now s.rules s.room peer iss bytes)
 
 moved-along : (s mid after : Ruled) → after ≡ mid → LeavesByDoings s mid → LeavesByDoings s after
 moved-along s mid after is by = (by.0, ap (λ (x : Ruled). x.room.served) is ∙ by.1)

@@ -14,7 +14,7 @@ use Rattle.feature_lists.specs.declared.features.Place.TheVariants.{Here}
 use Rattle.dccp_uses.specs.declared.rule.Rule.TheVariants as rule
 use Rattle.dccp_server.specs.FlowDrops.{flow_drop_code, flow_recorded}
 use Rattle.dccp_server.specs.Lives.{Lives, signs_of, stands_in}
-use Rattle.dccp_server.specs.Rules.{first_given_up, has_more_half_open, is_same_number, least_left, life_left, makes_way, no_rules, refused_number, usual_rules}
+use Rattle.dccp_server.specs.Rules.{first_given_up, is_crowd, is_same_number, least_left, life_left, makes_way, no_rules, refused_number, usual_rules}
 use Rattle.dccp_server.specs.Strangers.{is_no_connection, spared, spared_if, strangers_begin}
 use Rattle.dccp_server.specs.Upkeeps.{arrived_so, call_if_held, called_so, rule_call}
 use Rattle.dccp_server.specs.declared.flow_drops.FlowDrop.{FlowDrop}
@@ -71,12 +71,15 @@ who_is_given_up :
     × (least_left usual_rules false 100000 7 half_open ≡ 7)
 who_is_given_up = (refl, refl, refl, refl, refl)
 
--- a crowd is more than half of the table
+-- A crowd has more than half of the places that the others leave. One flow here is open, so two that are half open have
+-- half of four places, two of three, and both of two.
 when_it_is_crowded :
-    (has_more_half_open 2 half_open ≡ false)
-    × (has_more_half_open 1 half_open ≡ true)
-    × (has_more_half_open 0 [] ≡ false)
-when_it_is_crowded = (refl, refl, refl)
+    (is_crowd 5 half_open ≡ false)
+    × (is_crowd 4 half_open ≡ true)
+    × (is_crowd 3 half_open ≡ true)
+    × (is_crowd 1 [] ≡ false)
+    × (is_crowd 0 [] ≡ false)
+when_it_is_crowded = (refl, refl, refl, refl, refl)
 
 -- Half-open flows come before the silent, and these before those that close; each longest first, whatever the peers.
 abbrev all_over : Lives

@@ -1,5 +1,5 @@
 -- Rows of a server's room, computed from the definitions; the values were worked out by hand.
-use Rattle.std.proofs.Common.{◌≡◌, refl, ap, map, ℕ, ◌-◌, ◌^◌, ◌/◌, true, false, List, [], ◌∷◌, Option, Some, None}
+use Rattle.std.proofs.Common.{◌≡◌, refl, map, ℕ, ◌-◌, ◌^◌, true, false, List, [], ◌∷◌, Option, Some, None}
 use Rattle.dccp_packets.specs.Outgoing.{Outgoing}
 use Rattle.dccp_listener.specs.Chain.{Aborts, Calls, Fires}
 use Rattle.dccp_listener.specs.declared.config.ListenConfig.{ListenConfig}
@@ -13,7 +13,7 @@ use Rattle.dccp_uses.specs.declared.pace.Pace.{Pace}
 use Rattle.dccp_uses.specs.declared.rule.Rule.TheVariants as rule
 use Rattle.dccp_uses.specs.declared.timed_end.Due.TheVariants as due
 use Rattle.dccp_server.specs.Lives.{Lives, life_of, no_life, no_signs, rank_of, signs_in}
-use Rattle.dccp_server.specs.Rooms.{Room, as_room, doing_for, duty_in, duty_of, is_crowded, is_to_stranger, room_begins, room_waits, ruled_begins, who_is_over, who_leaves}
+use Rattle.dccp_server.specs.Rooms.{Room, as_room, doing_for, duty_in, duty_of, is_crowded, is_to_stranger, room_begins, room_waits, who_is_over, who_leaves}
 use Rattle.dccp_server.specs.Rules.{begins_anew, longest, makes_way, no_rules, over_in, queue_of_lives, refuses_last_sync, signs_noted, usual_rules}
 use Rattle.dccp_server.specs.Serving.{Does, Follows, Served, serving_begins}
 use Rattle.dccp_server.specs.declared.duty.Duty.TheVariants.{Follow, GiveUp, Ring}
@@ -125,51 +125,61 @@ what_a_duty_does :
     × (doing_for (Follow (at 1) rule.Probe) ≡ Follows)
 what_a_duty_does = (refl, refl, refl)
 
--- a listener of so many places, whatever else it is made from
+-- a listener, whatever else it is made from
 module _ (config : ListenConfig) (pace : Pace) where
-  -- a room of these lives, of which nothing runs out
-  abbrev room_of : Lives → Room
-  room_of lives = as_room (serving_begins config pace) lives
+  -- a room of so many places with these lives, of which nothing runs out
+  abbrev room_of : ℕ → Lives → Room
+  room_of most lives = as_room (serving_begins (record config { most = most }) pace) lives
 
-  -- a crowd is more than half of the places: 512 of 1,024, and none of one
-  how_many_are_half : config.most ≡ 1024 → (ruled_begins config pace usual_rules).half ≡ 512
-  how_many_are_half is = ap (λ (most : ℕ). most / 2) is
+  abbrev three_half_open : ℕ → Room
+  three_half_open most =
+      room_of most ((at 1, standing phase.Respond 100 None) ∷ (at 2, standing phase.Respond 50 None) ∷ (at 3, standing phase.Respond 70 None) ∷ [])
 
-  none_is_half_of_one : config.most ≡ 1 → (ruled_begins config pace usual_rules).half ≡ 0
-  none_is_half_of_one is = ap (λ (most : ℕ). most / 2) is
+  abbrev beside_two_open : ℕ → Room
+  beside_two_open most =
+      room_of most
+      ((at 1, standing phase.Respond 100 None) ∷ (at 2, standing phase.Respond 50 None) ∷ (at 3, standing phase.Respond 70 None) ∷ (at 4, standing phase.Open 0 None)
+      ∷ (at 5, standing phase.Open 0 None) ∷ [])
 
-  abbrev three_half_open : Room
-  three_half_open =
-      room_of ((at 1, standing phase.Respond 100 None) ∷ (at 2, standing phase.Respond 50 None) ∷ (at 3, standing phase.Respond 70 None) ∷ [])
+  -- one half open is a crowd at a table of one, and none is none
+  what_one_is :
+      (is_crowded (room_of 1 ((at 1, standing phase.Respond 0 None) ∷ [])) ≡ true)
+      × (is_crowded (room_of 2 ((at 1, standing phase.Respond 0 None) ∷ [])) ≡ false)
+      × (is_crowded (room_of 1 ((at 1, standing phase.Open 0 None) ∷ [])) ≡ false)
+      × (is_crowded (room_of 1 []) ≡ false)
+  what_one_is = (refl, refl, refl, refl)
 
-  -- Three of six are no crowd, three of five are: then the one that stands longest makes room after ten seconds, and is
-  -- given up.
+  -- Three of six are no crowd, three of five are; nor three of the six that two others leave of eight. In a crowd the one
+  -- that stands longest makes room after ten seconds, and is given up.
   what_a_crowd_is :
-      (is_crowded 3 three_half_open ≡ false)
-      × (is_crowded 2 three_half_open ≡ true)
-      × (who_leaves 10049 usual_rules 2 three_half_open ≡ None)
-      × (who_leaves 10050 usual_rules 2 three_half_open ≡ Some (at 2))
-      × (who_leaves 10100 usual_rules 2 three_half_open ≡ Some (at 2))
-      × (who_leaves 10100 usual_rules 3 three_half_open ≡ None)
-      × (who_is_over 10069 usual_rules 2 three_half_open ≡ Some (at 2))
-      × (who_is_over 10100 usual_rules 2 three_half_open ≡ Some (at 2))
-      × (who_is_over 10100 usual_rules 3 three_half_open ≡ None)
-  what_a_crowd_is = (refl, refl, refl, refl, refl, refl, refl, refl, refl)
+      (is_crowded (three_half_open 6) ≡ false)
+      × (is_crowded (three_half_open 5) ≡ true)
+      × (is_crowded (beside_two_open 8) ≡ false)
+      × (is_crowded (beside_two_open 7) ≡ true)
+      × (who_leaves 10049 usual_rules (three_half_open 5) ≡ None)
+      × (who_leaves 10050 usual_rules (three_half_open 5) ≡ Some (at 2))
+      × (who_leaves 10100 usual_rules (three_half_open 5) ≡ Some (at 2))
+      × (who_leaves 10100 usual_rules (three_half_open 6) ≡ None)
+      × (who_leaves 10100 usual_rules (beside_two_open 7) ≡ Some (at 2))
+      × (who_is_over 10069 usual_rules (three_half_open 5) ≡ Some (at 2))
+      × (who_is_over 10100 usual_rules (three_half_open 5) ≡ Some (at 2))
+      × (who_is_over 10100 usual_rules (three_half_open 6) ≡ None)
+  what_a_crowd_is = (refl, refl, refl, refl, refl, refl, refl, refl, refl, refl, refl, refl)
 
   -- how long it is until one is given up: in a crowd ten seconds from 50 on, else four minutes; for ever without flows
   how_long_a_room_waits :
-      (room_waits 1050 usual_rules 2 three_half_open ≡ 9000)
-      × (room_waits 1050 usual_rules 3 three_half_open ≡ 239000)
-      × (room_waits 10100 usual_rules 2 three_half_open ≡ 0)
-      × (room_waits 1050 no_rules 2 three_half_open ≡ 2 ^ 64 - 1)
-      × (room_waits 1050 usual_rules 2 (room_begins config pace) ≡ 2 ^ 64 - 1)
+      (room_waits 1050 usual_rules (three_half_open 5) ≡ 9000)
+      × (room_waits 1050 usual_rules (three_half_open 6) ≡ 239000)
+      × (room_waits 10100 usual_rules (three_half_open 5) ≡ 0)
+      × (room_waits 1050 no_rules (three_half_open 5) ≡ 2 ^ 64 - 1)
+      × (room_waits 1050 usual_rules (room_begins config pace) ≡ 2 ^ 64 - 1)
   how_long_a_room_waits = (refl, refl, refl, refl, refl)
 
   -- what there is to do in a room: nothing of a flow is due, so that one is given up
   what_there_is_to_do :
-      (duty_in 10060 usual_rules 2 three_half_open ≡ Some (GiveUp (at 2)))
-      × (duty_in 10060 usual_rules 3 three_half_open ≡ None)
-      × (duty_in 10060 usual_rules 2 (room_begins config pace) ≡ None)
+      (duty_in 10060 usual_rules (three_half_open 5) ≡ Some (GiveUp (at 2)))
+      × (duty_in 10060 usual_rules (three_half_open 6) ≡ None)
+      × (duty_in 10060 usual_rules (room_begins config pace) ≡ None)
   what_there_is_to_do = (refl, refl, refl)
 
   -- a frame for a peer without a flow goes to a stranger

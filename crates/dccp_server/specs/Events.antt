@@ -188,7 +188,7 @@ rules_of_opening rules (Some o) = hurried rules
 abbrev pub leaver_life : ℕ → Ruled → Peer → List ℕ → Option Life
 leaver_life now s peer bytes =
     if is_some (end_of_peer s.room.served.listening.flows peer) || not (is_table_full s.room.served.listening) then None
-    else option_map (life_of s.room.lives) (who_leaves (time_of_opening now (returned now s peer bytes)) (rules_of_opening s.rules (returned now s peer bytes)) s.half s.room)
+    else option_map (life_of s.room.lives) (who_leaves (time_of_opening now (returned now s peer bytes)) (rules_of_opening s.rules (returned now s peer bytes)) s.room)
 
 -- whose flow has made room: for the flow that a cookie opened, or for the datagram
 abbrev pub room_maker : Option Peer → Option Peer → Option Peer

@@ -132,7 +132,7 @@ is_ever_in_use Always = true
 -- a Request of a peer with this end or none needs no flow: there is none and cookies are in use, or it is half open and
 -- the answer would be one Sync too many
 abbrev pub needs_no_flow : ℕ → Ruled → Peer → List ℕ → Option FlowEnd → Bool
-needs_no_flow now s peer bytes None = is_in_use s.cookies (is_crowded s.half s.room)
+needs_no_flow now s peer bytes None = is_in_use s.cookies (is_crowded s.room)
 needs_no_flow now s peer bytes (Some e) =
     is_ever_in_use s.cookies && (is_half_open e.state.phase && not (is_to_be_heard now s.rules s.room peer bytes))
 

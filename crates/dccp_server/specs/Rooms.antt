@@ -1,6 +1,6 @@
 -- A server in its owner's room: a listener with what is kept of its flows and their lives, and what the rules make of it
 -- (own; the flows are the listener's).
-use Rattle.std.specs.Prelude.{◌≡◌, ◌/◌, ◌&&◌, ◌||◌, ℕ, Bool, true, false, not, List, [], ◌∷◌, Option, Some, None, is_some, Result, Ok, Err, if◌then◌else◌}
+use Rattle.std.specs.Prelude.{◌≡◌, ◌&&◌, ◌||◌, ℕ, Bool, true, false, not, List, [], ◌∷◌, Option, Some, None, is_some, Result, Ok, Err, if◌then◌else◌}
 use Rattle.std.specs.Map.{keys_of}
 use Rattle.dccp_packets.specs.Outgoing.{Outgoing}
 use Rattle.dccp_listener.specs.Chain.{Deed, Arrives, Calls, Aborts, Fires}
@@ -22,7 +22,7 @@ use Rattle.dccp_server.specs.declared.meeting.CookieUse.{CookieUse}
 use Rattle.dccp_server.specs.declared.meeting.CookieUse.TheVariants.{InACrowd}
 use Rattle.init_cookies.specs.declared.cookie.CookieKeys.{CookieKeys}
 use Rattle.dccp_server.specs.Lives.{Lives, life_of, life_then, no_signs, signs_in, signs_of, user_written}
-use Rattle.dccp_server.specs.Rules.{begins_anew, first_given_up, has_more_half_open, makes_way, least_left, refuses_last_sync, signs_noted}
+use Rattle.dccp_server.specs.Rules.{begins_anew, first_given_up, is_crowd, makes_way, least_left, refuses_last_sync, signs_noted}
 use Rattle.dccp_server.specs.Serving.{Doing, Does, Follows, IsTied, Served, Spends, TimedDoing, first_due_flow, doing_frame, is_admitted, least_wait, served_by, served_through, serving_begins, upkeep_at}
 use Rattle.dccp_server.specs.Strangers.{frame_if_goes, spared_if, strangers_begin}
 use Rattle.dccp_server.specs.declared.duty.Duty.{Duty}
@@ -76,17 +76,17 @@ forgets now r peer = room_does now (room_does now r peer (Does (Calls Aborts))) 
 abbrev pub with_user : ℕ → Room → Peer → Room
 with_user user r peer = record r { lives = user_written user r.lives peer (end_of_peer r.served.listening.flows peer) }
 
--- more flows than this are half open in the room
-abbrev pub is_crowded : ℕ → Room → Bool
-is_crowded half r = has_more_half_open half r.lives
+-- more flows are half open in the room than places are free
+abbrev pub is_crowded : Room → Bool
+is_crowded r = is_crowd r.served.listening.config.most r.lives
 
 -- who makes room in it
-abbrev pub who_leaves : ℕ → Rules → ℕ → Room → Option Peer
-who_leaves now rules half r = makes_way rules (is_crowded half r) now r.lives
+abbrev pub who_leaves : ℕ → Rules → Room → Option Peer
+who_leaves now rules r = makes_way rules (is_crowded r) now r.lives
 
 -- the first flow that is given up in it
-abbrev pub who_is_over : ℕ → Rules → ℕ → Room → Option Peer
-who_is_over now rules half r = first_given_up rules (is_crowded half r) now r.lives
+abbrev pub who_is_over : ℕ → Rules → Room → Option Peer
+who_is_over now rules r = first_given_up rules (is_crowded r) now r.lives
 
 -- What comes of a datagram: the room after it, the frame that is for its peer, what was told, if it was heard, whose flow
 -- made room, and whether the peer's old flow was ended.
@@ -119,16 +119,16 @@ begun_anew now peer plain false = plain
 begun_anew now peer plain true = record plain { room = forgets now plain.room peer; frame = None; anew = true }
 
 -- what comes of a datagram that was heard, by what was told
-abbrev pub comes_by : ℕ → Rules → ℕ → Room → Peer → ℕ → List ℕ → Coming → CallTold → Coming
-comes_by now rules half r peer iss bytes plain WasBusy = room_made now plain.room peer iss bytes (who_leaves now rules half plain.room) plain
-comes_by now rules half r peer iss bytes plain HadNoMemory = plain
-comes_by now rules half r peer iss bytes plain (Stepped it) =
+abbrev pub comes_by : ℕ → Rules → Room → Peer → ℕ → List ℕ → Coming → CallTold → Coming
+comes_by now rules r peer iss bytes plain WasBusy = room_made now plain.room peer iss bytes (who_leaves now rules plain.room) plain
+comes_by now rules r peer iss bytes plain HadNoMemory = plain
+comes_by now rules r peer iss bytes plain (Stepped it) =
     begun_anew now peer plain (begins_anew rules (life_of r.lives peer) bytes (signs_of (Stepped it)))
 
 -- What comes of a datagram that is heard, where memory is found.
-abbrev pub comes_heard : ℕ → Rules → ℕ → Room → Peer → ℕ → List ℕ → Coming
-comes_heard now rules half r peer iss bytes =
-    comes_by now rules half r peer iss bytes (heard_plainly now r peer iss bytes None) (listens r.served.listening peer (Arrives iss bytes)).told
+abbrev pub comes_heard : ℕ → Rules → Room → Peer → ℕ → List ℕ → Coming
+comes_heard now rules r peer iss bytes =
+    comes_by now rules r peer iss bytes (heard_plainly now r peer iss bytes None) (listens r.served.listening peer (Arrives iss bytes)).told
 
 -- a datagram is left out: nothing is sent, and no number is used
 abbrev pub left_out : Room → Coming
@@ -143,14 +143,14 @@ abbrev pub is_to_be_heard : ℕ → Rules → Room → Peer → List ℕ → Boo
 is_to_be_heard now rules r peer bytes = refuses_last_sync rules (life_of r.lives peer) bytes || is_admitted now r.served peer bytes
 
 -- it is heard, or left out
-abbrev pub comes_if : ℕ → Rules → ℕ → Room → Peer → ℕ → List ℕ → Bool → Coming
-comes_if now rules half r peer iss bytes true = comes_heard now rules half r peer iss bytes
-comes_if now rules half r peer iss bytes false = left_out r
+abbrev pub comes_if : ℕ → Rules → Room → Peer → ℕ → List ℕ → Bool → Coming
+comes_if now rules r peer iss bytes true = comes_heard now rules r peer iss bytes
+comes_if now rules r peer iss bytes false = left_out r
 
 -- What comes of a datagram, where memory is found.
-abbrev pub comes : ℕ → Rules → ℕ → Room → Peer → ℕ → List ℕ → Coming
-comes now rules half r peer iss bytes =
-    comes_if now rules half (counted_room now rules r peer bytes) peer iss bytes (is_to_be_heard now rules r peer bytes)
+abbrev pub comes : ℕ → Rules → Room → Peer → ℕ → List ℕ → Coming
+comes now rules r peer iss bytes =
+    comes_if now rules (counted_room now rules r peer bytes) peer iss bytes (is_to_be_heard now rules r peer bytes)
 
 -- where none is found, the room is as it was, or only without the flow that made room
 abbrev pub left_without_memory : ℕ → Room → Peer → ℕ → List ℕ → Option Peer → Room
@@ -158,8 +158,8 @@ left_without_memory now r peer iss bytes None = r
 left_without_memory now r peer iss bytes (Some leaving) = forgets now (room_does now r peer (Does (Arrives iss bytes))) leaving
 
 -- how long it is until something is due of a flow or one is given up; 2^64 - 1 where there is no such time
-abbrev pub room_waits : ℕ → Rules → ℕ → Room → ℕ
-room_waits now rules half r = least_left rules (is_crowded half r) now (least_wait now r.served.upkeeps) r.lives
+abbrev pub room_waits : ℕ → Rules → Room → ℕ
+room_waits now rules r = least_left rules (is_crowded r) now (least_wait now r.served.upkeeps) r.lives
 
 -- what is due of a flow: a timer is told, or the first rule that is due is followed
 abbrev pub duty_due : ℕ → Served → Peer → Due → Duty
@@ -173,8 +173,8 @@ duty_of now s None (Some peer) = Some (GiveUp peer)
 duty_of now s None None = None
 
 -- the same of a room
-abbrev pub duty_in : ℕ → Rules → ℕ → Room → Option Duty
-duty_in now rules half r = duty_of now r.served (first_due_flow now r.served.upkeeps) (who_is_over now rules half r)
+abbrev pub duty_in : ℕ → Rules → Room → Option Duty
+duty_in now rules r = duty_of now r.served (first_due_flow now r.served.upkeeps) (who_is_over now rules r)
 
 -- whose it is
 abbrev pub duty_peer : Duty → Peer
@@ -203,19 +203,18 @@ abbrev pub does_all : Room → List TimedDoing → Room
 does_all r [] = r
 does_all r (it ∷ later) = does_all (room_does it.now r it.peer it.doing) later
 
--- a room with its rules, half of how many flows may be in it, what is left of the limits for strangers, and when
--- cookies are used, with their keys, if there are any
+-- a room with its rules, what is left of the limits for strangers, and when cookies are used, with their keys, if there
+-- are any
 pub record Ruled : Type 0 where
   pub room : Room
   pub rules : Rules
-  pub half : ℕ
   pub strangers : Strangers
   pub cookies : CookieUse
   pub keys : Option CookieKeys
 
 -- a room without flows that goes by these rules
 abbrev pub ruled_begins : ListenConfig → Pace → Rules → Ruled
-ruled_begins config pace rules = record { room = room_begins config pace; rules = rules; half = config.most / 2; strangers = strangers_begin; cookies = InACrowd; keys = None }
+ruled_begins config pace rules = record { room = room_begins config pace; rules = rules; strangers = strangers_begin; cookies = InACrowd; keys = None }
 
 -- The listener was busy with a datagram, and is this then, and a frame was left. Who leaves is forgotten, and the
 -- datagram heard once more, if memory is found.
@@ -229,19 +228,19 @@ IsRoomMade now busy after peer iss bytes (Some leaving) left frame (Err _) = aft
 
 -- The rules were applied to a datagram that was heard in this room, of a peer with this life before it, and that left a
 -- frame: where the listener was busy a flow may make way, and else the peer may have begun anew.
-abbrev pub IsJudged : ℕ → Rules → ℕ → Life → Room → Room → Peer → ℕ → List ℕ → Heard → Option Outgoing → Option Outgoing → Result Heard NoMemory → Option Peer → Bool
+abbrev pub IsJudged : ℕ → Rules → Life → Room → Room → Peer → ℕ → List ℕ → Heard → Option Outgoing → Option Outgoing → Result Heard NoMemory → Option Peer → Bool
     → Type 0
-IsJudged now rules half life before after peer iss bytes heard.Busy left frame result evicted anew =
-    (evicted ≡ who_leaves now rules half before) × IsRoomMade now before after peer iss bytes evicted left frame result × (anew ≡ false)
-IsJudged now rules half life before after peer iss bytes (heard.Flow outcome) left frame result evicted anew =
+IsJudged now rules life before after peer iss bytes heard.Busy left frame result evicted anew =
+    (evicted ≡ who_leaves now rules before) × IsRoomMade now before after peer iss bytes evicted left frame result × (anew ≡ false)
+IsJudged now rules life before after peer iss bytes (heard.Flow outcome) left frame result evicted anew =
     (anew ≡ begins_anew rules life bytes (signs_in outcome)) × (after ≡ (if anew then forgets now before peer else before))
     × (frame ≡ (if anew then None else left)) × (evicted ≡ None) × (result ≡ Ok (heard.Flow outcome))
 
 -- What hearing a datagram does, by its answer: what comes of it; or no memory was found.
-abbrev pub HasHeard : ℕ → Rules → ℕ → Room → Room → Peer → ℕ → List ℕ → Option Outgoing → Result Heard NoMemory → Option Peer → Bool → Type 0
-HasHeard now rules half before after peer iss bytes frame (Ok it) evicted anew =
-    record { room = after; frame = frame; told = Some (told_of (Ok it)); evicted = evicted; anew = anew } ≡ comes_heard now rules half before peer iss bytes
-HasHeard now rules half before after peer iss bytes frame (Err _) evicted anew =
+abbrev pub HasHeard : ℕ → Rules → Room → Room → Peer → ℕ → List ℕ → Option Outgoing → Result Heard NoMemory → Option Peer → Bool → Type 0
+HasHeard now rules before after peer iss bytes frame (Ok it) evicted anew =
+    record { room = after; frame = frame; told = Some (told_of (Ok it)); evicted = evicted; anew = anew } ≡ comes_heard now rules before peer iss bytes
+HasHeard now rules before after peer iss bytes frame (Err _) evicted anew =
     (after ≡ left_without_memory now before peer iss bytes evicted) × (anew ≡ false)
 
 -- what was told of a datagram: nothing where it was left out, or no memory was found
@@ -261,10 +260,10 @@ unless_fault (Ok it) left = left
 unless_fault (Err fault) left = None
 
 -- What a datagram does that may be left out, by its answer.
-abbrev pub HasArrived : ℕ → Rules → ℕ → Room → Room → Peer → ℕ → List ℕ → Option Outgoing → Result (Option Heard) NoMemory → Option Peer → Bool → Type 0
-HasArrived now rules half before after peer iss bytes frame (Ok it) evicted anew =
-    record { room = after; frame = frame; told = told_of_arrival (Ok it); evicted = evicted; anew = anew } ≡ comes now rules half before peer iss bytes
-HasArrived now rules half before after peer iss bytes frame (Err _) evicted anew =
+abbrev pub HasArrived : ℕ → Rules → Room → Room → Peer → ℕ → List ℕ → Option Outgoing → Result (Option Heard) NoMemory → Option Peer → Bool → Type 0
+HasArrived now rules before after peer iss bytes frame (Ok it) evicted anew =
+    record { room = after; frame = frame; told = told_of_arrival (Ok it); evicted = evicted; anew = anew } ≡ comes now rules before peer iss bytes
+HasArrived now rules before after peer iss bytes frame (Err _) evicted anew =
     (after ≡ left_without_memory now (counted_room now rules before peer bytes) peer iss bytes evicted) × (frame ≡ None) × (anew ≡ false)
 
 -- a frame goes to a stranger: its peer has no flow, and had none
@@ -303,7 +302,7 @@ reception_of now s peer coming =
 
 -- What a server makes of a datagram, where memory is found.
 abbrev pub received_at : ℕ → Ruled → Peer → ℕ → List ℕ → Reception
-received_at now s peer iss bytes = reception_of now s peer (comes now s.rules s.half s.room peer iss bytes)
+received_at now s peer iss bytes = reception_of now s peer (comes now s.rules s.room peer iss bytes)
 
 -- where none is found
 abbrev pub unreceived_at : ℕ → Ruled → Peer → ℕ → List ℕ → Option Peer → Ruled
@@ -320,8 +319,8 @@ IsServed now s after peer iss bytes frame (Err _) evicted anew =
 -- What comes of a datagram, whatever the rules, is done by a list of doings: what a listener's own owner might have done.
 abbrev pub RulesAreDeeds : Type 0
 RulesAreDeeds =
-    (now : ℕ) (rules : Rules) (half : ℕ) (r : Room) (peer : Peer) (iss : ℕ) (bytes : List ℕ)
-    → (all : List TimedDoing) × ((comes now rules half r peer iss bytes).room ≡ does_all r all)
+    (now : ℕ) (rules : Rules) (r : Room) (peer : Peer) (iss : ℕ) (bytes : List ℕ)
+    → (all : List TimedDoing) × ((comes now rules r peer iss bytes).room ≡ does_all r all)
 
 -- What is done in a room leaves the listener and what is kept of its flows as it leaves them without lives.
 abbrev pub LivesChangeNothing : Type 0

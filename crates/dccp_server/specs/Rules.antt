@@ -1,6 +1,6 @@
 -- By which rules a server's owner gives flows up and makes room (own, but where a section of RFC 4340 is named). Times
 -- are in milliseconds.
-use Rattle.std.specs.Prelude.{◌==◌, ◌&&◌, ◌-◌, nat_lt, ℕ, Bool, true, false, not, List, Option, Some, None, is_some, Result, Ok, Err, min, unwrap_or, if◌then◌else◌}
+use Rattle.std.specs.Prelude.{◌==◌, ◌&&◌, ◌-◌, nat_lt, ℕ, Bool, true, false, not, List, length, Option, Some, None, is_some, Result, Ok, Err, min, unwrap_or, if◌then◌else◌}
 use Rattle.std.specs.Option.{option_map}
 use Rattle.dccp_listener.specs.declared.peer.Peer.{Peer}
 use Rattle.dccp_packets.specs.Grammar.{Parts, decoded}
@@ -77,9 +77,14 @@ queue_of_lives lives = queue_of life_moment lives
 abbrev pub longest : Stage → Lives → Option Ticket
 longest it lives = first_in (class_of it) (queue_of_lives lives)
 
--- more than so many flows are half open
-abbrev pub has_more_half_open : ℕ → Lives → Bool
-has_more_half_open count lives = nat_lt count (count_in (class_of stage.HalfOpen) (queue_of_lives lives))
+-- how many flows are half open
+abbrev pub how_many_half_open : Lives → ℕ
+how_many_half_open lives = count_in (class_of stage.HalfOpen) (queue_of_lives lives)
+
+-- There is a crowd, where so many flows may stand: more are half open than places are free. So half-open flows have over
+-- half of the places that the others leave.
+abbrev pub is_crowd : ℕ → Lives → Bool
+is_crowd most lives = nat_lt (most - length lives) (how_many_half_open lives)
 
 -- for how long a flow may be in a stage, where there is a limit
 abbrev pub limit_in : Rules → Bool → Stage → Option ℕ

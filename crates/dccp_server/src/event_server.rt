@@ -304,7 +304,7 @@ impl EventServer {
 
     /// `Server::tick`, of which the owner is told: a connection that it ends is given up.
     pub fn tick(&mut self, now: u64, out: &mut Outbox) -> Option<Duty>
-        ensures duty { result ≡ duty_in now self.old.server.rules self.old.server.half self.old.server.room }
+        ensures duty { result ≡ duty_in now self.old.server.rules self.old.server.room }
         ensures after { self.new ≡ ticked_on self.old (record self.old.server { room = duty_done now self.old.server.room result }) result }
         ensures sent { out.new ≡ duty_frame now self.old.server.room result }
     {

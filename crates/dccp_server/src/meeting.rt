@@ -25,7 +25,7 @@ use init_cookies::{
 pub enum CookieUse {
     /// Never.
     Never,
-    /// Where more than half of the table is in RESPOND, and where its answer would be one Sync too many.
+    /// Where more flows are in RESPOND than places are free, and where its answer would be one Sync too many.
     InACrowd,
     /// Always.
     Always,

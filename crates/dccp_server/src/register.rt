@@ -39,7 +39,7 @@ impl<V: Moment> Model for Register<V> {
 }
 
 impl<V: Moment> Register<V> {
-    ghost use Rattle.std.specs.Prelude.{◌≡◌, [], None, IfOk, OnOk, OnErr, IsSome, unwrap_or, if◌then◌else◌};
+    ghost use Rattle.std.specs.Prelude.{◌≡◌, [], None, IfOk, OnOk, OnErr, IsSome, length, unwrap_or, if◌then◌else◌};
     ghost use Rattle.std.specs.BTreeMap.{insert_entry};
     ghost use Rattle.std.specs.Map.{lookup, remove_entry};
     ghost use Rattle.dccp_listener.specs.Peers.{is_peer, peer_cmp};
@@ -134,6 +134,13 @@ impl<V: Moment> Register<V> {
         if let Some(was) = self.entries.remove(&peer) {
             requeue(&mut self.tickets, peer, was.moment(), None);
         }
+    }
+
+    /// Of how many peers something is kept.
+    pub(crate) fn len(&self) -> usize
+        ensures { result ≡ length self.now }
+    {
+        self.entries.len()
     }
 
     /// The first ticket of a class.

@@ -4,16 +4,13 @@ ghost use Rattle.dccp_listener.specs.Calls.{seen_if};
 ghost use Rattle.dccp_listener.specs.Chain.{Arrives, Calls, asked};
 ghost use Rattle.dccp_listener.specs.Listens.{listens};
 ghost use Rattle.dccp_listener.specs.Runs.{Stepped, told_of};
-ghost use Rattle.dccp_server.specs.Rooms.{HasArrived, HasHeard, IsJudged, IsLiving, IsRoomMade, as_room, counted_room, forgets, heard_or_fault, is_to_be_heard, room_does, unless_fault};
-ghost use Rattle.dccp_server.specs.Rules.{has_more_half_open, makes_way};
+ghost use Rattle.dccp_server.specs.Rooms.{HasArrived, HasHeard, IsJudged, IsLiving, IsRoomMade, as_room, counted_room, forgets, heard_or_fault, is_crowded, is_to_be_heard, room_does, unless_fault, who_leaves};
 ghost use Rattle.dccp_server.specs.Serving.{Does, Follows, doing_frame};
 
 use crate::life::{Life, Signs, signs_answered, signs_heard, signs_in};
 use crate::lives::{go_on, life_of};
 use crate::register::Register;
-use crate::rules::{
-    Rules, begins_anew, has_more_half_open, makes_way, refuses_last_sync, signs_noted,
-};
+use crate::rules::{Rules, begins_anew, is_crowd, makes_way, refuses_last_sync, signs_noted};
 use crate::timed_listener::TimedListener;
 use dccp_endpoint::{NoMemory, Outbox, Seen, Seq48, Timer, UserCall};
 use dccp_listener::{Heard, NoFlow, Peer};
@@ -175,12 +172,23 @@ fn begin_anew(
     }
 }
 
-// Who makes room.
-fn who_leaves(rules: &Rules, half: u16, lives: &Register<Life>, now: u64) -> Option<Peer>
-    ensures { result ≡ makes_way rules.now (has_more_half_open half lives.now) now lives.now }
+/// Whether more flows are half open than places are free.
+pub(crate) fn is_crowded(timed: &TimedListener, lives: &Register<Life>) -> bool
+    ensures { result ≡ is_crowded (as_room timed.now lives.now) }
 {
-    let crowded = has_more_half_open(lives, half);
-    makes_way(rules, crowded, lives, now)
+    is_crowd(lives, timed.config().most)
+}
+
+/// Who makes room.
+pub(crate) fn who_leaves(
+    timed: &TimedListener,
+    lives: &Register<Life>,
+    rules: &Rules,
+    now: u64,
+) -> Option<Peer>
+    ensures { result ≡ who_leaves now rules.now (as_room timed.now lives.now) }
+{
+    makes_way(rules, is_crowded(timed, lives), lives, now)
 }
 
 // A datagram that was heard is judged by the rules.
@@ -188,7 +196,6 @@ fn judge(
     timed: &mut TimedListener,
     lives: &mut Register<Life>,
     rules: &Rules,
-    half: u16,
     life: &Life,
     heard: Heard,
     peer: Peer,
@@ -200,10 +207,10 @@ fn judge(
     requires short { length bytes.now ≤ 2044 }
     requires living { IsLiving (as_room timed.old lives.old) }
     ensures living { IsLiving (as_room timed.new lives.new) }
-    ensures judged { IsJudged now rules.now half life.now (as_room timed.old lives.old) (as_room timed.new lives.new) peer iss bytes.now heard out.old out.new result.heard result.evicted result.anew }
+    ensures judged { IsJudged now rules.now life.now (as_room timed.old lives.old) (as_room timed.new lives.new) peer iss bytes.now heard out.old out.new result.heard result.evicted result.anew }
 {
     match heard {
-        Heard::Busy => match who_leaves(rules, half, lives, now) {
+        Heard::Busy => match who_leaves(timed, lives, rules, now) {
             Some(leaving) => Judged {
                 heard: make_room(timed, lives, leaving, peer, iss, bytes, now, out),
                 evicted: Some(leaving),
@@ -232,7 +239,6 @@ fn hear_by(
     timed: &mut TimedListener,
     lives: &mut Register<Life>,
     rules: &Rules,
-    half: u16,
     peer: Peer,
     iss: Seq48,
     bytes: &[u8],
@@ -242,12 +248,12 @@ fn hear_by(
     requires short { length bytes.now ≤ 2044 }
     requires living { IsLiving (as_room timed.old lives.old) }
     ensures living { IsLiving (as_room timed.new lives.new) }
-    ensures heard { HasHeard now rules.now half (as_room timed.old lives.old) (as_room timed.new lives.new) peer iss bytes.now out.new result.heard result.evicted result.anew }
+    ensures heard { HasHeard now rules.now (as_room timed.old lives.old) (as_room timed.new lives.new) peer iss bytes.now out.new result.heard result.evicted result.anew }
 {
     let life = life_of(lives, peer);
     match hear(timed, lives, peer, iss, bytes, now, out) {
         Ok(heard) => judge(
-            timed, lives, rules, half, &life, heard, peer, iss, bytes, now, out,
+            timed, lives, rules, &life, heard, peer, iss, bytes, now, out,
         ),
         Err(fault) => Judged {
             heard: Err(fault),
@@ -303,7 +309,6 @@ pub(crate) fn arrive(
     timed: &mut TimedListener,
     lives: &mut Register<Life>,
     rules: &Rules,
-    half: u16,
     peer: Peer,
     iss: Seq48,
     bytes: &[u8],
@@ -313,7 +318,7 @@ pub(crate) fn arrive(
     requires short { length bytes.now ≤ 2044 }
     requires living { IsLiving (as_room timed.old lives.old) }
     ensures living { IsLiving (as_room timed.new lives.new) }
-    ensures arrived { HasArrived now rules.now half (as_room timed.old lives.old) (as_room timed.new lives.new) peer iss bytes.now out.new result.heard result.evicted result.anew }
+    ensures arrived { HasArrived now rules.now (as_room timed.old lives.old) (as_room timed.new lives.new) peer iss bytes.now out.new result.heard result.evicted result.anew }
 {
     if !count(timed, lives, rules, peer, bytes, now) {
         out.clear();
@@ -323,6 +328,6 @@ pub(crate) fn arrive(
             anew: false,
         };
     }
-    let judged = hear_by(timed, lives, rules, half, peer, iss, bytes, now, out);
+    let judged = hear_by(timed, lives, rules, peer, iss, bytes, now, out);
     as_arrival(&judged, out)
 }

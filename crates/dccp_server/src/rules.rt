@@ -1,7 +1,7 @@
 //! The rules by which a server gives flows up and makes room.
 ghost use Rattle.std.specs.Prelude.{◌≡◌};
 ghost use Rattle.dccp_packets.specs.Grammar.{decoded};
-ghost use Rattle.dccp_server.specs.Rules.{answers_to_strangers, begins_anew, first_given_up, has_more_half_open, holder, is_none_left, is_same_number, least_in, least_left, limit_in, longest, makes_way, over_in, refused_number, refuses_last_sync, signs_noted, stage_left, sync_refused};
+ghost use Rattle.dccp_server.specs.Rules.{answers_to_strangers, begins_anew, first_given_up, holder, is_crowd, is_none_left, is_same_number, least_in, least_left, limit_in, longest, makes_way, over_in, refused_number, refuses_last_sync, signs_noted, stage_left, sync_refused};
 
 use crate::life::{Life, Signs};
 use crate::queue::Ticket;
@@ -32,7 +32,7 @@ pub struct Rules {
     pub ends_old_flows: bool,
     /// How long a flow may be in RESPOND (RFC 4340, section 8.1.3).
     pub respond: Option<u64>,
-    /// The same where more than half of the table is in RESPOND.
+    /// The same in a crowd: where more flows are in RESPOND than places are free.
     pub crowded: Option<u64>,
     /// How long a flow may be in CLOSEREQ and in CLOSING.
     pub closing: Option<u64>,
@@ -82,11 +82,12 @@ impl Rules {
     }
 }
 
-/// Whether more than so many flows are half open.
-pub(crate) fn has_more_half_open(lives: &Register<Life>, count: u16) -> bool
-    ensures { result ≡ has_more_half_open count lives.now }
+/// Whether more flows are half open than places are free, where so many may stand.
+pub(crate) fn is_crowd(lives: &Register<Life>, most: u16) -> bool
+    ensures { result ≡ is_crowd most lives.now }
 {
-    usize::from(count) < lives.count_in(class_of(Stage::HalfOpen))
+    let free = usize::from(most).saturating_sub(lives.len());
+    free < lives.count_in(class_of(Stage::HalfOpen))
 }
 
 // The flow that stands longest in a stage.

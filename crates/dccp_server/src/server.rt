@@ -11,10 +11,8 @@ use crate::meeting::{
 };
 use crate::refusal::refuse_stranger;
 use crate::register::Register;
-use crate::room::{Arrival, arrive, ask, follow, forget};
-use crate::rules::{
-    Rules, first_given_up, has_more_half_open, least_left, makes_way, refuses_last_sync,
-};
+use crate::room::{Arrival, arrive, ask, follow, forget, is_crowded, who_leaves};
+use crate::rules::{Rules, first_given_up, least_left, refuses_last_sync};
 use crate::strangers::{Strangers, answer_spared, spare};
 use crate::timed_listener::TimedListener;
 use crate::upkeep::Upkeep;
@@ -39,7 +37,6 @@ pub struct Server {
     timed: TimedListener,
     lives: Register<Life>,
     rules: Rules,
-    half: u16,
     strangers: Strangers,
     cookies: CookieUse,
     keys: Option<CookieKeys>,
@@ -50,7 +47,7 @@ impl Model for Server {
 
     ghost Value = { Ruled };
 
-    ghost view = { λ s. record { room = as_room s.timed s.lives; rules = s.rules; half = s.half; strangers = s.strangers; cookies = s.cookies; keys = s.keys } };
+    ghost view = { λ s. record { room = as_room s.timed s.lives; rules = s.rules; strangers = s.strangers; cookies = s.cookies; keys = s.keys } };
 
     ghost invariant = { λ s. IsLiving (as_room s.timed s.lives) };
 }
@@ -80,12 +77,10 @@ impl Server {
         requires { IsListening config }
         ensures { result ≡ ruled_begins config pace rules }
     {
-        let half = config.most / 2;
         Server {
             timed: TimedListener::new(alloc, config, pace),
             lives: Register::new(alloc),
             rules,
-            half,
             strangers: Strangers::none_answered(),
             cookies: CookieUse::InACrowd,
             keys: None,
@@ -130,9 +125,8 @@ impl Server {
     // The same, except that the frame for a stranger may be one too many.
     fn come(&mut self, peer: Peer, iss: Seq48, bytes: &[u8], now: u64, out: &mut Outbox) -> Arrival
         requires { length bytes.now ≤ 2044 }
-        ensures arrived { HasArrived now self.old.rules self.old.half self.old.room self.new.room peer iss bytes.now out.new result.heard result.evicted result.anew }
+        ensures arrived { HasArrived now self.old.rules self.old.room self.new.room peer iss bytes.now out.new result.heard result.evicted result.anew }
         ensures rules { self.new.rules ≡ self.old.rules }
-        ensures half { self.new.half ≡ self.old.half }
         ensures strangers { self.new.strangers ≡ self.old.strangers }
         ensures cookies { self.new.cookies ≡ self.old.cookies }
         ensures keys { self.new.keys ≡ self.old.keys }
@@ -141,7 +135,6 @@ impl Server {
             &mut self.timed,
             &mut self.lives,
             &self.rules,
-            self.half,
             peer,
             iss,
             bytes,
@@ -192,7 +185,7 @@ impl Server {
                 is_ever_in_use(self.cookies)
                     && (is_half_open(end.phase()) && !self.would_hear(peer, bytes, now))
             }
-            None => is_in_use(self.cookies, has_more_half_open(&self.lives, self.half)),
+            None => is_in_use(self.cookies, is_crowded(&self.timed, &self.lives)),
         }
     }
 
@@ -413,9 +406,9 @@ impl Server {
 
     // Whose flow is given up first.
     fn over(&self, now: u64) -> Option<Peer>
-        ensures { result ≡ who_is_over now self.now.rules self.now.half self.now.room }
+        ensures { result ≡ who_is_over now self.now.rules self.now.room }
     {
-        let crowded = has_more_half_open(&self.lives, self.half);
+        let crowded = is_crowded(&self.timed, &self.lives);
         first_given_up(&self.rules, crowded, &self.lives, now)
     }
 
@@ -433,7 +426,7 @@ impl Server {
     /// its path. If nothing is due, a flow that has been in its phase or silent for too long is given up: the longest
     /// half open, else the longest silent, else the longest in CLOSEREQ or CLOSING.
     pub fn duty(&self, now: u64) -> Option<Duty>
-        ensures { result ≡ duty_in now self.now.rules self.now.half self.now.room }
+        ensures { result ≡ duty_in now self.now.rules self.now.room }
     {
         if let Some((peer, due)) = self.timed.due(now) {
             return Some(self.duty_due(peer, due, now));
@@ -470,7 +463,7 @@ impl Server {
 
     /// Does what there is to do first, and tells what it was, or None where there was nothing.
     pub fn tick(&mut self, now: u64, out: &mut Outbox) -> Option<Duty>
-        ensures duty { result ≡ duty_in now self.old.rules self.old.half self.old.room }
+        ensures duty { result ≡ duty_in now self.old.rules self.old.room }
         ensures after { self.new ≡ record self.old { room = duty_done now self.old.room result } }
         ensures sent { out.new ≡ duty_frame now self.old.room result }
     {
@@ -484,9 +477,9 @@ impl Server {
 
     /// How many milliseconds it is until something is due of a flow or one is given up; 2^64 - 1 where there is no such time.
     pub fn until_first(&self, now: u64) -> u64
-        ensures { result ≡ room_waits now self.now.rules self.now.half self.now.room }
+        ensures { result ≡ room_waits now self.now.rules self.now.room }
     {
-        let crowded = has_more_half_open(&self.lives, self.half);
+        let crowded = is_crowded(&self.timed, &self.lives);
         let least = self.timed.until_first(now);
         least_left(&self.rules, crowded, &self.lives, now, least)
     }
@@ -605,17 +598,16 @@ impl Server {
 
     /// The flow that makes room for a Request at a full table, if one may.
     pub fn leaver(&self, now: u64) -> Option<Peer>
-        ensures { result ≡ who_leaves now self.now.rules self.now.half self.now.room }
+        ensures { result ≡ who_leaves now self.now.rules self.now.room }
     {
         self.leaver_by(&self.rules, now)
     }
 
     /// The same by these rules.
     pub(crate) fn leaver_by(&self, rules: &Rules, now: u64) -> Option<Peer>
-        ensures { result ≡ who_leaves now rules.now self.now.half self.now.room }
+        ensures { result ≡ who_leaves now rules.now self.now.room }
     {
-        let crowded = has_more_half_open(&self.lives, self.half);
-        makes_way(rules, crowded, &self.lives, now)
+        who_leaves(&self.timed, &self.lives, rules, now)
     }
 
     /// Writes a number beside a peer's flow, which goes with it. NoFlow comes exactly where the peer has none, and then

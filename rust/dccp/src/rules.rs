@@ -10,7 +10,7 @@ use std::time::Duration;
 pub enum Cookies {
     /// Never.
     Never = 0,
-    /// If half-open connections have taken more than half of the places.
+    /// If more connections are half open than places are free.
     InACrowd = 1,
     /// Always.
     Always = 2,
@@ -23,7 +23,7 @@ pub enum Cookies {
 pub struct FlowRules {
     /// How long a connection may be in RESPOND: four minutes (RFC 4340, section 8.1.3).
     pub respond: Option<Duration>,
-    /// The same where more than half of the table is in RESPOND: ten seconds (own).
+    /// The same in a crowd, where more connections are in RESPOND than places are free: ten seconds (own).
     pub crowded: Option<Duration>,
     /// How long one may be in CLOSEREQ and in CLOSING: 64 seconds (own).
     pub closing: Option<Duration>,

@@ -12,7 +12,6 @@ returns-clause-after c =
     record {
       room = as_room c.self.inside.timed c.self.inside.lives;
       rules = c.self.inside.rules;
-      half = c.self.inside.half;
       strangers = c.self.inside.strangers;
       cookies = c.self.inside.cookies;
       keys = c.self.inside.keys;
