@@ -261,7 +261,7 @@ static void call_listener(int call, struct input *in) {
         case 6: judge(13, LISTENER, dccp_listener_close(&s.listener, &peer, s.now, &s.frame), NULL); return;
         case 7: judge(14, LISTENER, dccp_listener_abort(&s.listener, &peer, s.now, &s.frame), NULL); return;
         case 8:
-            (void)dccp_listener_peer(&s.listener, (uint16_t)draw(in, 2), &peer);
+            (void)(draw(in, 1) ? dccp_listener_next_peer(&s.listener, &peer) : dccp_listener_first_peer(&s.listener, &peer));
             (void)dccp_listener_evicted(&s.listener, &peer);
             (void)dccp_listener_timer(&s.listener, &peer, (uint32_t)draw(in, 1), s.now, &s.frame);
             (void)dccp_listener_life(&s.listener, &peer, &(dccp_flow_life)DCCP_FLOW_LIFE_INIT);

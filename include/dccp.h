@@ -741,11 +741,17 @@ uint64_t dccp_listener_until_first(dccp_listener *listener, uint64_t now);
  *     DCCP_NO_FLOW */
 dccp_status dccp_listener_look(dccp_listener *listener, const dccp_peer *peer, dccp_view *view);
 
-/* Names the peer at this place, from 0, among those that have a flow, in the order of their addresses and ports.
+/* Names the first peer that has a flow, in the order of their addresses and ports. With dccp_listener_next_peer after it, all are named.
  *     DCCP_OK
  *     DCCP_NOT_MADE  `peer` is unchanged
- *     DCCP_NO_FLOW   past the last; `peer` is unchanged */
-dccp_status dccp_listener_peer(dccp_listener *listener, uint16_t place, dccp_peer *peer);
+ *     DCCP_NO_FLOW   none has one; `peer` is unchanged */
+dccp_status dccp_listener_first_peer(dccp_listener *listener, dccp_peer *peer);
+
+/* Writes over `peer` the first one after it that has a flow; it may have none itself.
+ *     DCCP_OK
+ *     DCCP_NOT_MADE  `peer` is unchanged
+ *     DCCP_NO_FLOW   there is none after it; `peer` is unchanged */
+dccp_status dccp_listener_next_peer(dccp_listener *listener, dccp_peer *peer);
 
 /* Whose flow made room for the last datagram.
  *     DCCP_OK

@@ -391,7 +391,8 @@ class listener {
     std::vector<dccp_peer> peers() {
         std::vector<dccp_peer> found;
         dccp_peer peer;
-        for (uint16_t place = 0; dccp_listener_peer(&it_, place, &peer) == DCCP_OK; place++) found.push_back(peer);
+        for (auto status = dccp_listener_first_peer(&it_, &peer); status == DCCP_OK; status = dccp_listener_next_peer(&it_, &peer))
+            found.push_back(peer);
         return found;
     }
 

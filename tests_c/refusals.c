@@ -349,7 +349,7 @@ static void sizes(void) {
     view.size -= 8;
     view.iss = 7;
     same("an older view", DCCP_OTHER_SIZE, dccp_look(&end, &view));
-    same("what was in it", 7, view.iss);
+    same("what stood in it", 7, view.iss);
     same("an older view of a flow", DCCP_OTHER_SIZE, dccp_listener_look(&listener, &peer, &view));
     same("what is measured", DCCP_OK, dccp_look_path(&end, &trip));
     trip.size = 0;
@@ -549,7 +549,8 @@ static void without_a_listener(void) {
     same("a tick without one", DCCP_NOT_MADE, dccp_listener_tick(&none, 0, &peer, &frame));
     same("the time until then", DCCP_NEVER, dccp_listener_until_first(&none, 0));
     same("a look without one", DCCP_NOT_MADE, dccp_listener_look(&none, &guest, &view));
-    same("a peer without one", DCCP_NOT_MADE, dccp_listener_peer(&none, 0, &peer));
+    same("a peer without one", DCCP_NOT_MADE, dccp_listener_first_peer(&none, &peer));
+    same("the next without one", DCCP_NOT_MADE, dccp_listener_next_peer(&none, &peer));
     same("a wish without one", DCCP_NOT_MADE, dccp_listener_prefer(&none, &guest, DCCP_FEATURE_ACK_RATIO, false, &ratio, 1, 0, &frame));
     same("a feature without one", DCCP_NOT_MADE, dccp_listener_feature(&none, &guest, DCCP_FEATURE_ACK_RATIO, false, &state));
     same("rules without one", DCCP_NOT_MADE, dccp_listener_rules(&none, &rules));
@@ -644,7 +645,7 @@ static void before_a_flow(void) {
     same("no Request", DCCP_NO_CONNECTION, dccp_listener_asks(&listener, &guest, bytes, 20, &service));
     same("for another service", DCCP_NO_CONNECTION, dccp_listener_asks(&listener, &guest, third.bytes, third.length, &service));
     same("2,045 bytes", DCCP_TOO_LONG, dccp_listener_asks(&listener, &guest, bytes, sizeof bytes, &service));
-    same("what was there", 0, service);
+    same("what stood there", 0, service);
     same("a Request", DCCP_OK, dccp_listener_asks(&listener, &guest, other.bytes, other.length, &service));
     same("its service", client.service + 1, service);
     same("it is refused", DCCP_OK, dccp_listener_refuse(&listener, &guest, other.bytes, other.length, 7, 0, &frame));
@@ -712,7 +713,7 @@ static void cookies(void) {
     same("which opens none", 1, dccp_listener_flows(&listener));
     dccp_listener_free(&listener);
     dccp_free(&one);
-    same("blocks after free", 0, held);
+    same("blocks behind free", 0, held);
 }
 
 /* The same of a server with an end for each peer. */
@@ -751,7 +752,7 @@ static void cookies_of_ends(void) {
     same("a client in PARTOPEN or OPEN", true, look(&one).phase == DCCP_PHASE_PARTOPEN || look(&one).phase == DCCP_PHASE_OPEN);
     dccp_free(&one);
     dccp_free(&other);
-    same("blocks after free", 0, held);
+    same("blocks behind free", 0, held);
 }
 
 static void names_of_peers(void) {
@@ -787,7 +788,7 @@ static void a_keyed_number(void) {
     same("its value", 220924168522762, number);
     listener.size--;
     same("of older settings", DCCP_OTHER_SIZE, dccp_listener_number(&listener, &key, &guest, 1000, &number));
-    same("what was there", 220924168522762, number);
+    same("what stood there", 220924168522762, number);
 }
 
 /* Each code of a listener: strangers, a flow, one too many (RFC 4340, section 5.6), and its end. */
@@ -810,8 +811,9 @@ static void a_listener(void) {
     same("what became of it", DCCP_TOLD_SENT_RESET, told.kind);
     same("the code: Bad Service Code", 8, told.code);
     same("its flow", DCCP_NO_FLOW, dccp_listener_look(&listener, &guest, &view));
-    same("the first place", DCCP_NO_FLOW, dccp_listener_peer(&listener, 0, &peer));
-    same("what was there", 1, peer.port);
+    same("the first peer", DCCP_NO_FLOW, dccp_listener_first_peer(&listener, &peer));
+    same("the next", DCCP_NO_FLOW, dccp_listener_next_peer(&listener, &peer));
+    same("what stood there", 1, peer.port);
     same("data for no flow", DCCP_NO_FLOW, dccp_listener_send(&listener, &guest, bytes, 1, 0, &frame));
     same("a Request", DCCP_OK, arrives(&listener, 1, &first, &frame, &told));
     same("its Response", 1, (frame.bytes[8] >> 1) & 15);
@@ -819,8 +821,12 @@ static void a_listener(void) {
     same("its phase", DCCP_PHASE_RESPOND, view.phase);
     same("its first number", 2000, view.iss);
     same("its service", client.service, view.service);
-    same("its place", DCCP_OK, dccp_listener_peer(&listener, 0, &peer));
+    same("who has one", DCCP_OK, dccp_listener_first_peer(&listener, &peer));
     same("its port", guest.port, peer.port);
+    same("after it", DCCP_NO_FLOW, dccp_listener_next_peer(&listener, &peer));
+    peer.port--;
+    same("after its port less one", DCCP_OK, dccp_listener_next_peer(&listener, &peer));
+    same("its port again", guest.port, peer.port);
     same("data in RESPOND", DCCP_NOT_OPEN, dccp_listener_send(&listener, &guest, bytes, 1, 0, &frame));
     same("close in RESPOND", DCCP_NOT_OPEN, dccp_listener_close(&listener, &guest, 0, &frame));
     told.kind = DCCP_TOLD_TOOK;
@@ -828,12 +834,12 @@ static void a_listener(void) {
     same("its Reset", 7, (frame.bytes[8] >> 1) & 15);
     same("the code: Too Busy", 9, frame.bytes[24]);
     same("what is told", DCCP_TOLD_TOOK, told.kind);
-    same("the second place", DCCP_NO_FLOW, dccp_listener_peer(&listener, 1, &peer));
+    same("no second peer", DCCP_NO_FLOW, dccp_listener_next_peer(&listener, &peer));
     same("abort", DCCP_OK, dccp_listener_abort(&listener, &guest, 0, &frame));
     same("its Reset", 7, (frame.bytes[8] >> 1) & 15);
     same("abort again", DCCP_NO_FLOW, dccp_listener_abort(&listener, &guest, 0, &frame));
     same("room for the other", DCCP_OK, arrives(&listener, 3, &second, &frame, &told));
-    same("the first place", DCCP_OK, dccp_listener_peer(&listener, 0, &peer));
+    same("the first peer", DCCP_OK, dccp_listener_first_peer(&listener, &peer));
     same("whose it is", 3, peer.address[3]);
     dccp_listener_free(&listener);
     same("blocks after free", 0, held);
@@ -857,7 +863,7 @@ static void features_of_a_flow(dccp_listener *listener) {
     same("a wish", DCCP_OK, dccp_listener_prefer(listener, &guest, DCCP_FEATURE_ACK_RATIO, false, &one, 1, 0, &frame));
     same("its Ack", 3, (frame.bytes[8] >> 1) & 15);
     same("its Ack Ratio", DCCP_OK, dccp_listener_feature(listener, &guest, DCCP_FEATURE_ACK_RATIO, false, &state));
-    same("its stand", DCCP_STAND_CHANGING, state.stand);
+    same("where it stands", DCCP_STAND_CHANGING, state.stand);
 }
 
 /* Packets that belong to no connection: eight Resets go out in a second (own), one in 125 milliseconds. */
@@ -882,7 +888,7 @@ static void packets_of_no_flow(dccp_listener *listener, const dccp_frame *datagr
     same("a Reset a millisecond after that", 7, (frame.bytes[8] >> 1) & 15);
 }
 
-/* A client and its flow: an Ack of the flow waits for 50 milliseconds (own; RFC 4340, section 8.1.5), and data that arrive are reported. */
+/* A client and its flow: an Ack of the flow waits for 50 milliseconds (own; RFC 4340, section 8.1.5), and data that arrive are told. */
 /* What is read of the data of a flow and of its path: the last of four packets is on its way, and no round trip was measured in no time. */
 static void readings_of_a_flow(dccp_listener *listener) {
     const dccp_peer stranger = {.address = {10, 0, 0, 9}, .port = 9};
@@ -928,7 +934,7 @@ static void a_flow(void) {
     same("their arrival", DCCP_OK, arrives(&listener, 1, &frame, &answer, &told));
     same("what became of them", DCCP_TOLD_DATA, told.kind);
     same("they are told once", 1, told_of(&listener, DCCP_EVENT_DATA, &event));
-    same("where they are", told.first, event.first);
+    same("where they stand", told.first, event.first);
     same("up to where", told.past, event.past);
     same("with the number", 77, event.user);
     same("the data themselves", 0, memcmp(frame.bytes + told.first, "abc", 3) != 0);
@@ -1038,13 +1044,13 @@ static void data_of_a_flow_that_wait(void) {
     refused = 1;
     same("where no memory is left for what is to wait", DCCP_OK, arrives(&listener, 1, &frame, &answer, &told));
     refused = 0;
-    same("its data are in the datagram", DCCP_TOLD_DATA, told.kind);
+    same("its data stand in the datagram", DCCP_TOLD_DATA, told.kind);
     same("and are told so", 1, told_of(&listener, DCCP_EVENT_DATA, &event));
     same("from there", told.first, event.first);
     (void)sends_to(&listener, &end, "k", &answer, DCCP_EVENT_WAITS, &event);
     dccp_free(&end);
     dccp_listener_free(&listener);
-    same("blocks after free", 0, held);
+    same("blocks behind free", 0, held);
 }
 
 /* What a flow that makes no offers refuses, whose client sends no Ack Vectors, and after that client's Reset. */

@@ -15,6 +15,7 @@ use Rattle.dccp_server.specs.Events.{Watched, aborted_end, called_on, ends_old, 
 use Rattle.dccp_server.specs.FlowInboxes.{FlowDelivery, Inboxes, begun_fresh, flow_delivers, flow_speaks, no_flow_delivery, tidied, tidied_if, without_inbox_of}
 use Rattle.dccp_server.specs.Lives.{life_of}
 use Rattle.dccp_server.specs.Meeting.{IsMet, may_meet, rekeyed}
+use Rattle.dccp_server.specs.Places.{peer_after}
 use Rattle.dccp_server.specs.Refusals.{refused_frame}
 use Rattle.dccp_server.specs.Rooms.{Room, Ruled, duty_done, duty_frame, duty_in, duty_peer, forgets, room_does, room_waits, told_of_arrival}
 use Rattle.dccp_server.specs.Serving.{Does, flow_restraint, upkeep_at}
@@ -339,10 +340,15 @@ flow_in None peer = None
 flow_in (Some s) peer =
     option_map (seen_within (upkeep_at s.room.served.pace s.room.served.upkeeps peer).path.reader.allowance) (end_of_peer s.room.served.listening.flows peer)
 
--- the peer at a place among those that have a flow, in their order
-abbrev pub peer_in : Option Ruled → ℕ → Option PeerAddress
-peer_in None place = None
-peer_in (Some s) place = option_map address_of (slice_get (keys_of s.room.served.listening.flows) place)
+-- the first peer that has a flow
+abbrev pub first_peer_in : Option Ruled → Option PeerAddress
+first_peer_in None = None
+first_peer_in (Some s) = option_map address_of (slice_get (keys_of s.room.served.listening.flows) 0)
+
+-- the first that comes after a peer
+abbrev pub next_peer_in : Option Ruled → Peer → Option PeerAddress
+next_peer_in None peer = None
+next_peer_in (Some s) peer = option_map address_of (peer_after peer (keys_of s.room.served.listening.flows))
 
 -- the code of reading a flow, or of naming its peer: 1 where there is no listener, 15 where there is no flow
 abbrev pub flow_code : {Read : Type 0} → Option Ruled → Option Read → ℕ

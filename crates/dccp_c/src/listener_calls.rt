@@ -1,5 +1,5 @@
 //! The functions of a listener that C calls: each does one deed of a peer with the listener that its handle holds.
-ghost use Rattle.std.specs.Prelude.{◌≡◌, ◌==◌, ◌≢◌, ◌≤◌, IfOk, None, Ok, Some, OnErr, OnOk, false, if◌then◌else◌, is_some, length, slice_get, true, unwrap_or};
+ghost use Rattle.std.specs.Prelude.{◌≡◌, ◌==◌, ◌≢◌, ◌≤◌, IfOk, None, Ok, Some, OnErr, OnOk, false, if◌then◌else◌, is_some, length, true, unwrap_or};
 ghost use Rattle.dccp_listener.specs.Calls.{seen_if};
 ghost use Rattle.dccp_listener.specs.Chain.{Calls, Sends, Closes, Aborts, asked};
 ghost use Rattle.dccp_listener.specs.Listens.{listens};
@@ -8,7 +8,6 @@ ghost use Rattle.std.specs.Option.{option_map};
 ghost use Rattle.dccp_c.specs.Framing.{handed_in, handed_of};
 ghost use Rattle.dccp_c.specs.Making.{care_by};
 ghost use Rattle.dccp_c.specs.Founding.{FoundsCode, founded_of, listening_by};
-ghost use Rattle.std.specs.Map.{keys_of};
 ghost use Rattle.dccp_listener.specs.Peers.{end_of_peer};
 ghost use Rattle.dccp_packets.specs.ResetCodes.{number_of_code};
 ghost use Rattle.dccp_packets.specs.declared.reset_code.ResetCode.TheVariants as codes;
@@ -23,7 +22,7 @@ ghost use Rattle.dccp_server.specs.Rooms.{duty_done, duty_frame, duty_in, forget
 ghost use Rattle.dccp_server.specs.Serving.{Does};
 ghost use Rattle.dccp_c.specs.Seeing.{if_sized, sized_code};
 ghost use Rattle.dccp_c.specs.Codes.{timer_coded};
-ghost use Rattle.dccp_c.specs.Listening.{FiresAt, Forgets, HandsHeard, HasTakenIn, HearsDatagram, HearsIfOpen, MayDeliver, SendsUnheld, Serves, Ticks, address_of, arrival_code, arrival_told, cookies_of, counted_of, datagram_refusal, duty_address, duty_code, duty_left, evicted_in, flow_code, flow_in, flows_in, holding_in, holding_of, holds_called, holds_done, holds_forgotten, holds_on, holds_ticked, inboxes_in, known_of, life_if, life_in, listen_code, listen_told, listener_waits, made_code, peer_in, peer_named, refusal_code, rekeyed_in, restraint_in, rule_code, ruled_by, rules_of, seen_code, served_in, watched_in, way_in, way_number};
+ghost use Rattle.dccp_c.specs.Listening.{FiresAt, Forgets, HandsHeard, HasTakenIn, HearsDatagram, HearsIfOpen, MayDeliver, SendsUnheld, Serves, Ticks, address_of, arrival_code, arrival_told, cookies_of, counted_of, datagram_refusal, duty_address, duty_code, duty_left, evicted_in, first_peer_in, flow_code, flow_in, flows_in, holding_in, holding_of, holds_called, holds_done, holds_forgotten, holds_on, holds_ticked, inboxes_in, known_of, life_if, life_in, listen_code, listen_told, listener_waits, made_code, next_peer_in, peer_named, refusal_code, rekeyed_in, restraint_in, rule_code, ruled_by, rules_of, seen_code, served_in, watched_in, way_in, way_number};
 
 use crate::codes::{
     BAD_LIST, BUSY, DONE, GAVE_UP, NO_FLOW, NO_MEMORY, NO_NUMBER, NO_TIMER, NOT_FRESH, NOT_LIVE,
@@ -121,13 +120,37 @@ fn view_of(server: &Server, peer: Peer) -> Option<View>
     }
 }
 
-// The peer at this place among those that have a flow.
-fn address_at(server: &Server, place: u16) -> Option<PeerAddress>
-    ensures { result ≡ option_map address_of (slice_get (keys_of server.now.room.served.listening.flows) place) }
+// The first peer that has a flow.
+fn first_address(server: &Server) -> Option<PeerAddress>
+    ensures { result ≡ first_peer_in (Some server.now) }
 {
-    match server.peer(place) {
+    match server.first_peer() {
         Some(peer) => Some(address_of(peer)),
         None => None,
+    }
+}
+
+// The first one after this.
+fn next_address(server: &Server, peer: Peer) -> Option<PeerAddress>
+    ensures { result ≡ next_peer_in (Some server.now) peer }
+{
+    match server.peer_after(peer) {
+        Some(next) => Some(address_of(next)),
+        None => None,
+    }
+}
+
+// A peer that was found is named in this place.
+fn name_peer(found: Option<PeerAddress>, peer: &mut PeerAddress) -> u32
+    ensures peer { peer.new ≡ unwrap_or found peer.old }
+    ensures code { result ≡ (if is_some found then 0 else 15) }
+{
+    match found {
+        Some(found) => {
+            *peer = found;
+            DONE
+        }
+        None => NO_FLOW,
     }
 }
 
@@ -696,31 +719,44 @@ pub extern "C" fn dccp_listener_look(
     }
 }
 
-/// The peer at this place, from 0, among those that have a flow, in the order of their addresses and ports. Answers
-/// DONE, NOT_MADE, or NO_FLOW past the last.
+/// The first peer that has a flow, in the order of their addresses and ports. Answers DONE, NOT_MADE, or NO_FLOW where
+/// none has one; then `peer` is unchanged.
 #[unsafe(no_mangle)]
-pub extern "C" fn dccp_listener_peer(
+pub extern "C" fn dccp_listener_first_peer(
     listener: &mut ListenerHandle,
     alloc: Global,
-    place: u16,
     peer: &mut PeerAddress,
 ) -> u32
     ensures listener { listener.new.kept.value ≡ listener.old.kept.value }
-    ensures peer { peer.new ≡ unwrap_or (peer_in (served_in listener.old.kept.value) place) peer.old }
-    ensures code { result ≡ flow_code (served_in listener.old.kept.value) (peer_in (served_in listener.old.kept.value) place) }
+    ensures peer { peer.new ≡ unwrap_or (first_peer_in (served_in listener.old.kept.value)) peer.old }
+    ensures code { result ≡ flow_code (served_in listener.old.kept.value) (first_peer_in (served_in listener.old.kept.value)) }
 {
     let Some(serving) = listener.take(alloc) else {
         return NOT_MADE;
     };
-    let found = address_at(serving.server.server(), place);
+    let found = first_address(serving.server.server());
     listener.put(serving);
-    match found {
-        Some(found) => {
-            *peer = found;
-            DONE
-        }
-        None => NO_FLOW,
-    }
+    name_peer(found, peer)
+}
+
+/// In the place of a peer, with a flow or without, the first one after it that has a flow. Answers DONE, NOT_MADE, or
+/// NO_FLOW after the last; then `peer` is unchanged.
+#[unsafe(no_mangle)]
+pub extern "C" fn dccp_listener_next_peer(
+    listener: &mut ListenerHandle,
+    alloc: Global,
+    peer: &mut PeerAddress,
+) -> u32
+    ensures listener { listener.new.kept.value ≡ listener.old.kept.value }
+    ensures peer { peer.new ≡ unwrap_or (next_peer_in (served_in listener.old.kept.value) (peer_named peer.old)) peer.old }
+    ensures code { result ≡ flow_code (served_in listener.old.kept.value) (next_peer_in (served_in listener.old.kept.value) (peer_named peer.old)) }
+{
+    let Some(serving) = listener.take(alloc) else {
+        return NOT_MADE;
+    };
+    let found = next_address(serving.server.server(), peer_named(peer));
+    listener.put(serving);
+    name_peer(found, peer)
 }
 
 /// The code of a call of a flow, by whether there was one.

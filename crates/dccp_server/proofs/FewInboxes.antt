@@ -13,7 +13,7 @@ use Rattle.dccp_listener.specs.Runs.{CallTold}
 use Rattle.dccp_listener.specs.declared.peer.Peer.{Peer}
 use Rattle.dccp_states.specs.declared.outcome.Outcome.TheVariants.{Took}
 use Rattle.dccp_server.specs.Events.{data_told}
-use Rattle.dccp_server.specs.FlowInboxes.{AreFew, InboxesStayFew, Inboxes, begun_fresh, flow_delivers_by, flow_inbox, flow_takes_in, has_data_by, lacks_place, lies_within, needs_no_inbox, no_flow_delivery, tidied_by, with_flow_inbox, with_flow_inbox_by, with_place, without_inbox_of}
+use Rattle.dccp_server.specs.FlowInboxes.{HasFewInboxes, InboxesStayFew, Inboxes, begun_fresh, flow_delivers_by, flow_inbox, flow_takes_in, has_data_by, lacks_place, lies_within, needs_no_inbox, no_flow_delivery, tidied_by, with_flow_inbox, with_flow_inbox_by, with_place, without_inbox_of}
 
 few-left-by : {V : Type 0} (one : Peer × V) (es rest : List (Peer × V)) (here : Bool) → length rest ≤ length es
     → length (cond here es (one ∷ rest)) ≤ length (one ∷ es)
@@ -36,52 +36,52 @@ few-put peer v (one ∷ es) = few-put-by peer v one es (insert_entry peer_cmp es
 
 module _ (s : Inboxes) (peer : Peer) where
   -- a further one, where none lacks a place
-  placed-by : (needs-none : Bool) → AreFew s → (not needs-none && nat_le s.most (length s.entries)) ≡ false
-      → AreFew (if needs-none then s else record s { entries = insert_entry peer_cmp s.entries peer (intake_of s.capacity) })
+  placed-by : (needs-none : Bool) → HasFewInboxes s → (not needs-none && nat_le s.most (length s.entries)) ≡ false
+      → HasFewInboxes (if needs-none then s else record s { entries = insert_entry peer_cmp s.entries peer (intake_of s.capacity) })
   placed-by true few has = few
   placed-by false few has =
       omega (arith, few-put peer (intake_of s.capacity) s.entries, leb-false s.most (length s.entries) has)
 
-  few-placed : AreFew s → lacks_place s peer ≡ false → AreFew (with_place s peer)
+  few-placed : HasFewInboxes s → lacks_place s peer ≡ false → HasFewInboxes (with_place s peer)
   few-placed few has = placed-by (needs_no_inbox s peer) few has
 
   -- another one in the place of one
-  few-kept-by : (inbox : Option InboxState) (was : Option (Option InboxState)) → AreFew s → AreFew (with_flow_inbox_by s peer inbox was)
+  few-kept-by : (inbox : Option InboxState) (was : Option (Option InboxState)) → HasFewInboxes s → HasFewInboxes (with_flow_inbox_by s peer inbox was)
   few-kept-by inbox None few = few
   few-kept-by inbox (Some was) few = subst (λ (n : ℕ). n ≤ s.most) (sym (length-set_value (is_peer peer) s.entries inbox)) few
 
-  few-kept : (inbox : Option InboxState) → AreFew s → AreFew (with_flow_inbox s peer inbox)
+  few-kept : (inbox : Option InboxState) → HasFewInboxes s → HasFewInboxes (with_flow_inbox s peer inbox)
   few-kept inbox few = few-kept-by inbox (lookup (is_peer peer) s.entries) few
 
-  few-without : AreFew s → AreFew (without_inbox_of s peer)
+  few-without : HasFewInboxes s → HasFewInboxes (without_inbox_of s peer)
   few-without few = omega (arith, few, few-left peer s.entries)
 
-  few-begun : (had : Bool) (flow : Option FlowEnd) → AreFew s → AreFew (begun_fresh s peer had flow)
+  few-begun : (had : Bool) (flow : Option FlowEnd) → HasFewInboxes s → HasFewInboxes (begun_fresh s peer had flow)
   few-begun false (Some e) few = few-without few
   few-begun false None few = few
   few-begun true flow few = few
 
-  few-empty : (is : Bool) → AreFew s → AreFew (if is then without_inbox_of s peer else s)
+  few-empty : (is : Bool) → HasFewInboxes s → HasFewInboxes (if is then without_inbox_of s peer else s)
   few-empty true few = few-without few
   few-empty false few = few
 
-  few-tidied : (flow : Option FlowEnd) → AreFew s → AreFew (tidied_by s peer flow)
+  few-tidied : (flow : Option FlowEnd) → HasFewInboxes s → HasFewInboxes (tidied_by s peer flow)
   few-tidied (Some e) few = few
   few-tidied None few = few-empty (count_held (flow_inbox s peer) == 0) few
 
 module _ (s : Inboxes) (peer : Peer) (bytes : List ℕ) where
-  few-taken : (number : ℕ) (place : ℕ × ℕ) → AreFew s → lacks_place s peer ≡ false → AreFew (flow_takes_in (with_place s peer) peer number bytes place).inboxes
+  few-taken : (number : ℕ) (place : ℕ × ℕ) → HasFewInboxes s → lacks_place s peer ≡ false → HasFewInboxes (flow_takes_in (with_place s peer) peer number bytes place).inboxes
   few-taken number place few has =
       few-kept (with_place s peer) peer (came_in (flow_inbox (with_place s peer) peer) number bytes (Some (Took (Some place)))).inbox (few-placed s peer few has)
 
   -- data that are there come into one
-  few-there : (place : ℕ × ℕ) (e : FlowEnd) (there : Bool) → AreFew s → (there && lacks_place s peer) ≡ false
-      → AreFew (if there then flow_takes_in (with_place s peer) peer (last_taken e.state) bytes place else no_flow_delivery s).inboxes
+  few-there : (place : ℕ × ℕ) (e : FlowEnd) (there : Bool) → HasFewInboxes s → (there && lacks_place s peer) ≡ false
+      → HasFewInboxes (if there then flow_takes_in (with_place s peer) peer (last_taken e.state) bytes place else no_flow_delivery s).inboxes
   few-there place e true few has = few-taken (last_taken e.state) place few has
   few-there place e false few has = few
 
-  few-delivered : (place : Option (ℕ × ℕ)) (flow : Option FlowEnd) → AreFew s → (has_data_by bytes place flow && lacks_place s peer) ≡ false
-      → AreFew (flow_delivers_by s peer bytes place flow).inboxes
+  few-delivered : (place : Option (ℕ × ℕ)) (flow : Option FlowEnd) → HasFewInboxes s → (has_data_by bytes place flow && lacks_place s peer) ≡ false
+      → HasFewInboxes (flow_delivers_by s peer bytes place flow).inboxes
   few-delivered (Some place) (Some e) few has = few-there place e (lies_within bytes place) few has
   few-delivered (Some place) None few has = few
   few-delivered None flow few has = few

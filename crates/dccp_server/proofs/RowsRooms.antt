@@ -13,6 +13,7 @@ use Rattle.dccp_uses.specs.declared.pace.Pace.{Pace}
 use Rattle.dccp_uses.specs.declared.rule.Rule.TheVariants as rule
 use Rattle.dccp_uses.specs.declared.timed_end.Due.TheVariants as due
 use Rattle.dccp_server.specs.Lives.{Lives, life_of, no_life, no_signs, rank_of, signs_in}
+use Rattle.dccp_server.specs.Places.{peer_after}
 use Rattle.dccp_server.specs.Rooms.{Room, as_room, doing_for, duty_in, duty_of, is_crowded, is_to_stranger, room_begins, room_waits, who_is_over, who_leaves}
 use Rattle.dccp_server.specs.Rules.{begins_anew, longest, makes_way, no_rules, over_in, queue_of_lives, refuses_last_sync, signs_noted, usual_rules}
 use Rattle.dccp_server.specs.Serving.{Does, Follows, Served, serving_begins}
@@ -45,6 +46,17 @@ whose_life_it_is :
     × (life_of two_lives (at 3) ≡ no_life)
     × (no_life.phase ≡ phase.Closed)
 whose_life_it_is = (refl, refl, refl)
+
+-- Peers come by address and then by port; one without a flow has a place among them.
+which_peer_is_next :
+    (peer_after (at 1) (at 1 ∷ at 3 ∷ []) ≡ Some (at 3))
+    × (peer_after (at 2) (at 1 ∷ at 3 ∷ []) ≡ Some (at 3))
+    × (peer_after (at 3) (at 1 ∷ at 3 ∷ []) ≡ None)
+    × (peer_after (at 0) (at 1 ∷ at 3 ∷ []) ≡ Some (at 1))
+    × (peer_after (record { address = 10 ∷ 0 ∷ 0 ∷ 3 ∷ []; port = 39999 }) (at 1 ∷ at 3 ∷ []) ≡ Some (at 3))
+    × (peer_after (record { address = 10 ∷ 0 ∷ 0 ∷ 3 ∷ []; port = 40001 }) (at 1 ∷ at 3 ∷ []) ≡ None)
+    × (peer_after (record { address = 9 ∷ 0 ∷ 0 ∷ 9 ∷ []; port = 50000 }) (at 1 ∷ at 3 ∷ []) ≡ Some (at 1))
+which_peer_is_next = (refl, refl, refl, refl, refl, refl, refl)
 
 -- Of flows that stand equally long the first in the order of peers makes room; one in TIMEWAIT goes before any other,
 -- however long that one stands.

@@ -169,17 +169,17 @@ abbrev pub event_kept : Option Arrival → FlowEvent → FlowEvent
 event_kept kept event = record event { kind = kind_kept kept event.kind }
 
 -- at most as many inboxes stand as may
-abbrev pub AreFew : Inboxes → Type 0
-AreFew s = length s.entries ≤ s.most
+abbrev pub HasFewInboxes : Inboxes → Type 0
+HasFewInboxes s = length s.entries ≤ s.most
 
 -- What each call leaves of few inboxes is few. Data that arrive, and an owner who stops, are refused where an inbox more
 -- than may stand would be made.
 pub record InboxesStayFew : Type 0 where
-  pub at_first : (capacity most : ℕ) → AreFew (no_inboxes capacity most)
+  pub at_first : (capacity most : ℕ) → HasFewInboxes (no_inboxes capacity most)
   pub settled : (s : Inboxes) (after : Ruled) (peer : Peer) (bytes : List ℕ) (told : Option CallTold)
-      → AreFew s → finds_no_place s after peer bytes told ≡ false → AreFew (flow_delivers s after peer bytes told).inboxes
-  pub stopped : (s : Inboxes) (peer : Peer) → AreFew s → lacks_place s peer ≡ false → AreFew (flow_stopped (with_place s peer) peer)
-  pub begun : (s : Inboxes) (peer : Peer) (had : Bool) (flow : Option FlowEnd) → AreFew s → AreFew (begun_fresh s peer had flow)
-  pub read : (s : Inboxes) (peer : Peer) → AreFew s → AreFew (flow_without_first s peer)
-  pub over : (s : Inboxes) (server : Ruled) (peer : Peer) → AreFew s → AreFew (tidied s server peer)
-  pub forgotten : (s : Inboxes) (peer : Peer) → AreFew s → AreFew (without_inbox_of s peer)
+      → HasFewInboxes s → finds_no_place s after peer bytes told ≡ false → HasFewInboxes (flow_delivers s after peer bytes told).inboxes
+  pub stopped : (s : Inboxes) (peer : Peer) → HasFewInboxes s → lacks_place s peer ≡ false → HasFewInboxes (flow_stopped (with_place s peer) peer)
+  pub begun : (s : Inboxes) (peer : Peer) (had : Bool) (flow : Option FlowEnd) → HasFewInboxes s → HasFewInboxes (begun_fresh s peer had flow)
+  pub read : (s : Inboxes) (peer : Peer) → HasFewInboxes s → HasFewInboxes (flow_without_first s peer)
+  pub over : (s : Inboxes) (server : Ruled) (peer : Peer) → HasFewInboxes s → HasFewInboxes (tidied s server peer)
+  pub forgotten : (s : Inboxes) (peer : Peer) → HasFewInboxes s → HasFewInboxes (without_inbox_of s peer)

@@ -1,7 +1,8 @@
 -- What is kept of each peer that has a flow, in the order of the peers (own).
-use Rattle.std.specs.Prelude.{◌≡◌, Bool, true, false, List, Option, Some, None, IsSome}
+use Rattle.std.specs.Prelude.{◌≡◌, Bool, true, false, List, [], ◌∷◌, Option, Some, None, IsSome, if◌then◌else◌}
 use Rattle.std.specs.BTreeMap.{insert_entry}
 use Rattle.std.specs.Map.{lookup, remove_entry}
+use Rattle.std.specs.Ordering.{is_lt}
 use Rattle.dccp_listener.specs.Peers.{FlowEnd, is_peer, peer_cmp}
 use Rattle.dccp_listener.specs.declared.peer.Peer.{Peer}
 
@@ -14,6 +15,11 @@ kept_then kept peer value (Some e) = insert_entry peer_cmp kept peer (value e)
 abbrev pub IsPlaced : {V : Type 0} → V → Bool → List (Peer × V) → List (Peer × V) → Peer → Type 0
 IsPlaced fresh true before after peer = IsSome (lookup (is_peer peer) before) × (after ≡ before)
 IsPlaced fresh false before after peer = (lookup (is_peer peer) before ≡ None) × (after ≡ insert_entry peer_cmp before peer fresh)
+
+-- the first of these peers that comes after one, in their order
+abbrev pub peer_after : Peer → List Peer → Option Peer
+peer_after peer [] = None
+peer_after peer (one ∷ rest) = if is_lt (peer_cmp peer one) then Some one else peer_after peer rest
 
 -- a peer that has an end has a place
 abbrev pub HasPlaceIf : {V : Type 0} → Option FlowEnd → List (Peer × V) → Peer → Type 0

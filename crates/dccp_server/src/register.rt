@@ -7,6 +7,7 @@ use dccp_listener::Peer;
 use std::alloc::Global;
 use std::collections::BTreeMap;
 use std::marker::Model;
+use std::ops::Bound;
 
 /// What is kept of a peer wants something at a moment, a time of a class, or at none.
 pub trait Moment: Copy {
@@ -39,11 +40,11 @@ impl<V: Moment> Model for Register<V> {
 }
 
 impl<V: Moment> Register<V> {
-    ghost use Rattle.std.specs.Prelude.{◌≡◌, [], None, IfOk, OnOk, OnErr, IsSome, length, unwrap_or, if◌then◌else◌};
+    ghost use Rattle.std.specs.Prelude.{◌≡◌, [], None, IfOk, OnOk, OnErr, IsSome, length, slice_get, unwrap_or, if◌then◌else◌};
     ghost use Rattle.std.specs.BTreeMap.{insert_entry};
-    ghost use Rattle.std.specs.Map.{lookup, remove_entry};
+    ghost use Rattle.std.specs.Map.{keys_of, lookup, remove_entry};
     ghost use Rattle.dccp_listener.specs.Peers.{is_peer, peer_cmp};
-    ghost use Rattle.dccp_server.specs.Places.{IsPlaced};
+    ghost use Rattle.dccp_server.specs.Places.{IsPlaced, peer_after};
     ghost use Rattle.dccp_server.specs.Queues.{count_in, first_in, queue_of};
 
     /// Nothing is kept. It takes no memory.
@@ -133,6 +134,27 @@ impl<V: Moment> Register<V> {
     {
         if let Some(was) = self.entries.remove(&peer) {
             requeue(&mut self.tickets, peer, was.moment(), None);
+        }
+    }
+
+    /// The first peer of which something is kept.
+    pub(crate) fn first_peer(&self) -> Option<Peer>
+        ensures { result ≡ slice_get (keys_of self.now) 0 }
+    {
+        match self.entries.first_key_value() {
+            Some((peer, _)) => Some(*peer),
+            None => None,
+        }
+    }
+
+    /// The first one after this.
+    pub(crate) fn peer_after(&self, peer: Peer) -> Option<Peer>
+        ensures { result ≡ peer_after peer (keys_of self.now) }
+    {
+        let later = (Bound::Excluded(peer), Bound::Unbounded);
+        match self.entries.range(later).next() {
+            Some((next, _)) => Some(*next),
+            None => None,
         }
     }
 

@@ -67,6 +67,7 @@ impl Server {
     ghost use Rattle.dccp_packets.specs.Grammar.{decoded};
     ghost use Rattle.dccp_server.specs.Lives.{life_of};
     ghost use Rattle.dccp_server.specs.Meeting.{IsMet, cleared, entry_met, entry_without, flow_at, heard_again, hurrying, is_unproved, maker_of, may_meet, needs_no_flow, received_hurrying, rekeyed, reopened, request_at, returned, unreceived_hurrying, unreopened, user_kept};
+    ghost use Rattle.dccp_server.specs.Places.{peer_after};
     ghost use Rattle.dccp_server.specs.Refusals.{flow_asked, refused_frame, refused_server, reset_for};
     ghost use Rattle.dccp_server.specs.Rooms.{HasArrived, IsServed, forgets, is_to_be_heard, received_at, duty_done, duty_due, duty_frame, duty_in, room_does, room_waits, ruled_begins, who_is_over, who_leaves, with_user};
     ghost use Rattle.dccp_server.specs.Serving.{Does, Follows, doing_frame, flow_restraint, upkeep_at};
@@ -498,11 +499,19 @@ impl Server {
         self.timed.flows()
     }
 
-    /// The peer at this place, from 0, among those that have a flow, in their order.
-    pub fn peer(&self, place: u16) -> Option<Peer>
-        ensures { result ≡ slice_get (keys_of self.now.room.served.listening.flows) place }
+    /// The first peer that has a flow, by address and then by port.
+    pub fn first_peer(&self) -> Option<Peer>
+        ensures { result ≡ slice_get (keys_of self.now.room.served.listening.flows) 0 }
     {
-        self.timed.peer(place)
+        self.lives.first_peer()
+    }
+
+    /// The first peer that has a flow and comes after this one, which may have none. From `first_peer` on it leads to each
+    /// peer once, and no call goes through the flows.
+    pub fn peer_after(&self, peer: Peer) -> Option<Peer>
+        ensures { result ≡ peer_after peer (keys_of self.now.room.served.listening.flows) }
+    {
+        self.lives.peer_after(peer)
     }
 
     /// What is kept of a peer's flow: its timers and its path; where it has none, what is kept of one that begins.

@@ -35,8 +35,7 @@ impl Model for TimedListener {
 }
 
 impl TimedListener {
-    ghost use Rattle.std.specs.Prelude.{◌≡◌, ◌≤◌, Ok, IfOk, OnOk, OnErr, MatchOption, None, Some, length, slice_get};
-    ghost use Rattle.std.specs.Map.{keys_of};
+    ghost use Rattle.std.specs.Prelude.{◌≡◌, ◌≤◌, Ok, IfOk, OnOk, OnErr, MatchOption, None, Some, length};
     ghost use Rattle.dccp_listener.specs.Calls.{seen_if};
     ghost use Rattle.dccp_listener.specs.Chain.{Arrives, Calls, asked};
     ghost use Rattle.dccp_listener.specs.Greeting.{greets};
@@ -216,12 +215,5 @@ impl TimedListener {
         ensures { result ≡ length self.now.listening.flows }
     {
         self.listener.flows()
-    }
-
-    /// The peer at this place, from 0, among those that have a flow, in their order.
-    pub fn peer(&self, place: u16) -> Option<Peer>
-        ensures { result ≡ slice_get (keys_of self.now.listening.flows) place }
-    {
-        self.listener.peer(place)
     }
 }

@@ -490,11 +490,8 @@ unsafe extern "C" {
         peer: *const PeerAddress,
         most: usize,
     ) -> usize;
-    pub fn dccp_listener_peer(
-        listener: *mut ListenerHandle,
-        place: u16,
-        peer: *mut PeerAddress,
-    ) -> u32;
+    pub fn dccp_listener_first_peer(listener: *mut ListenerHandle, peer: *mut PeerAddress) -> u32;
+    pub fn dccp_listener_next_peer(listener: *mut ListenerHandle, peer: *mut PeerAddress) -> u32;
     pub fn dccp_listener_forget(
         listener: *mut ListenerHandle,
         peer: *const PeerAddress,

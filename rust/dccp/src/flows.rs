@@ -325,12 +325,18 @@ impl Flows {
         (status == sys::DONE).then_some(trip)
     }
 
-    /// The peer at a place among those that have a flow.
-    pub fn peer(&mut self, place: u16) -> Option<SocketAddr> {
+    /// The peers that have a flow, in the order of their names.
+    pub fn peers(&mut self) -> Vec<SocketAddr> {
         let mut peer = sys::PeerAddress::default();
         // SAFETY: as the head of this module says.
-        let status = unsafe { sys::dccp_listener_peer(&mut self.handle, place, &mut peer) };
-        (status == sys::DONE).then(|| self.origin(&peer))
+        let mut status = unsafe { sys::dccp_listener_first_peer(&mut self.handle, &mut peer) };
+        let mut peers = Vec::new();
+        while status == sys::DONE {
+            peers.push(self.origin(&peer));
+            // SAFETY: as the head of this module says.
+            status = unsafe { sys::dccp_listener_next_peer(&mut self.handle, &mut peer) };
+        }
+        peers
     }
 
     pub fn forget(&mut self, peer: SocketAddr, now: u64) -> u32 {

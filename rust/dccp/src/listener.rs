@@ -615,7 +615,7 @@ impl Listener {
 
     /// The peers that have a connection, in the order of their addresses and ports.
     pub fn peers(&mut self) -> Vec<SocketAddr> {
-        (0..).map_while(|place| self.flows.peer(place)).collect()
+        self.flows.peers()
     }
 
     /// The next change of a connection, with its data, and its peer.
