@@ -1,7 +1,7 @@
 /* A client and a server over UDP on this machine. Each sends 200 packets of data, the client first, and one of them closes.
  *
  *     talk server PORT [closes]        serves one client on 127.0.0.1, and ends
- *     talk client PORT [closes]        talks to it
+ *     talk client PORT [closes [v6]]   talks to it, or by IPv6 to the server of names.c
  *
  * Neither has wishes at first; the one that closes asks for a Sequence Window of 20,000 while data flow. One frame in twenty is lost on
  * purpose. The last line says how many packets arrived, the Sequence Windows of this end and of its peer, and the code with which the
@@ -27,7 +27,7 @@ struct talk {
     dccp_end end;
     uint64_t heard, second; /* when data arrived last; the second in which answers are counted */
     unsigned handed, answers, sent, got;
-    bool closes, waits, has_ended;
+    bool closes, waits, has_ended, is_v6;
     unsigned code;
     uint64_t ended;
 };
@@ -134,16 +134,20 @@ static void say(struct talk *talk) {
     }
 }
 
-static dccp_settings settings_of(unsigned own_port, unsigned peer_port) {
-    return (dccp_settings){
+/* Both ends are on this machine. */
+static dccp_settings settings_of(bool is_v6, unsigned own_port, unsigned peer_port) {
+    dccp_settings settings = {
         .size = sizeof(dccp_settings),
-        .own_address = {127, 0, 0, 1},
-        .peer_address = {127, 0, 0, 1},
         .first_number = first_number(),
         .service = SERVICE,
         .own_port = (uint16_t)own_port,
         .peer_port = (uint16_t)peer_port,
+        .is_v6 = is_v6,
     };
+    const struct in_addr own = {htonl(INADDR_LOOPBACK)};
+    memcpy(settings.own_address, is_v6 ? (const void *)&in6addr_loopback : &own, is_v6 ? sizeof in6addr_loopback : sizeof own);
+    memcpy(settings.peer_address, settings.own_address, sizeof settings.own_address);
+    return settings;
 }
 
 static struct sockaddr_in here(unsigned port) {
@@ -152,8 +156,8 @@ static struct sockaddr_in here(unsigned port) {
     return address;
 }
 
-static void connect_to(int socket, const struct sockaddr_in *address) {
-    if (connect(socket, (const struct sockaddr *)address, sizeof *address) != 0) fail("connect");
+static void connect_to(int socket, const void *address, socklen_t size) {
+    if (connect(socket, address, size) != 0) fail("connect");
 }
 
 /* Waits for a client whose first datagram opens a connection. Any other datagram is only answered. */
@@ -165,12 +169,12 @@ static void serve(struct talk *talk, unsigned port) {
         socklen_t size = sizeof peer;
         ssize_t length = recvfrom(talk->socket, datagram, sizeof datagram, 0, (struct sockaddr *)&peer, &size);
         if (length < 0) fail("recvfrom");
-        dccp_settings settings = settings_of(port, ntohs(peer.sin_port));
+        dccp_settings settings = settings_of(false, port, ntohs(peer.sin_port));
         dccp_frame frame;
         dccp_told told;
         uint32_t status = dccp_accept(&talk->end, &settings, NULL, 0, datagram, (size_t)length, now(), &frame, &told);
         if (status == DCCP_OK) {
-            connect_to(talk->socket, &peer);
+            connect_to(talk->socket, &peer, sizeof peer);
             take(talk, &told, &frame);
             return;
         }
@@ -180,11 +184,14 @@ static void serve(struct talk *talk, unsigned port) {
 }
 
 static void ask(struct talk *talk, unsigned port) {
-    struct sockaddr_in peer = here(port), own;
+    struct sockaddr_in peer = here(port);
+    struct sockaddr_in6 peer_v6 = {.sin6_family = AF_INET6, .sin6_port = htons((uint16_t)port), .sin6_addr = in6addr_loopback};
+    struct sockaddr_storage own;
     socklen_t size = sizeof own;
-    connect_to(talk->socket, &peer);
+    connect_to(talk->socket, talk->is_v6 ? (void *)&peer_v6 : &peer, talk->is_v6 ? sizeof peer_v6 : sizeof peer);
     if (getsockname(talk->socket, (struct sockaddr *)&own, &size) != 0) fail("getsockname");
-    dccp_settings settings = settings_of(ntohs(own.sin_port), port);
+    uint16_t own_port = talk->is_v6 ? ((struct sockaddr_in6 *)&own)->sin6_port : ((struct sockaddr_in *)&own)->sin_port;
+    dccp_settings settings = settings_of(talk->is_v6, ntohs(own_port), port);
     dccp_frame frame;
     if (dccp_make(&talk->end, &settings, NULL, 0) != DCCP_OK) fail("make");
     if (dccp_open(&talk->end, now(), &frame) != DCCP_OK) fail("open");
@@ -207,10 +214,12 @@ static void close_if_done(struct talk *talk) {
 }
 
 int main(int count, char **words) {
-    bool is_server = 3 <= count && strcmp(words[1], "server") == 0, closes = count == 4 && strcmp(words[3], "closes") == 0;
-    bool is_client = 3 <= count && strcmp(words[1], "client") == 0;
-    if ((count != 3 && !closes) || (!is_server && !is_client)) fail("talk server PORT [closes], or talk client PORT [closes]");
-    struct talk talk = {.socket = socket(AF_INET, SOCK_DGRAM, 0), .end = DCCP_NONE, .heard = now(), .closes = closes, .waits = is_server};
+    bool is_server = 3 <= count && strcmp(words[1], "server") == 0, closes = 4 <= count && strcmp(words[3], "closes") == 0;
+    bool is_client = 3 <= count && strcmp(words[1], "client") == 0, is_v6 = count == 5 && strcmp(words[4], "v6") == 0;
+    bool is_well = (is_server || is_client) && (count == 3 || (closes && (count == 4 || (is_v6 && is_client))));
+    if (!is_well) fail("talk server PORT [closes], or talk client PORT [closes [v6]]");
+    struct talk talk = {.end = DCCP_NONE, .heard = now(), .closes = closes, .waits = is_server, .is_v6 = is_v6};
+    talk.socket = socket(is_v6 ? AF_INET6 : AF_INET, SOCK_DGRAM, 0);
     if (talk.socket < 0) fail("socket");
     if (is_server)
         serve(&talk, (unsigned)atoi(words[2]));
