@@ -256,11 +256,14 @@ pub const FATE_DROPPED: u32 = 4;
 
 pub const TOLD_TOOK: u32 = 0;
 pub const TOLD_DATA: u32 = 1;
+pub const TOLD_DROPPED: u32 = 2;
 pub const TOLD_SYNCED: u32 = 3;
 pub const TOLD_WAS_RESET: u32 = 4;
 pub const TOLD_SENT_RESET: u32 = 5;
 pub const TOLD_WAITS: u32 = 6;
 pub const TOLD_NOT_KEPT: u32 = 7;
+
+pub const CAUSE_LIMIT: u32 = 12;
 
 const _: () = assert!(size_of::<End>() == 16 && std::mem::offset_of!(End, is_made) == 8);
 const _: () = assert!(size_of::<ListenerHandle>() == 16);

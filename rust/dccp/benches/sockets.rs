@@ -112,7 +112,7 @@ fn in_batches() -> Answer<f64> {
             let packets = [[7; MOST_DATA_BYTES]; BATCH];
             let mut left = PACKETS as usize;
             while left != 0 {
-                left -= client.send_batch(&packets[..left.min(BATCH)])?;
+                left -= client.send_batch(&packets[..left.min(BATCH)])?.count;
             }
             Ok(())
         },
@@ -140,7 +140,7 @@ fn at_ten_thousand() -> Answer<Option<f64>> {
     for turn in 1..=300 {
         let mut sent = 0;
         while sent < packets.len() {
-            sent += client.send_batch(&packets[sent..])?;
+            sent += client.send_batch(&packets[sent..])?.count;
         }
         thread::sleep(
             (begun + Duration::from_millis(10) * turn).saturating_duration_since(Instant::now()),

@@ -1,5 +1,6 @@
 //! A connection: an end, the frames that wait to be sent, and the events for its owner.
 
+use crate::anew::LastSync;
 use crate::end::End;
 use crate::fates::InFlight;
 use crate::{
@@ -74,6 +75,9 @@ pub enum Event {
         /// The Reset Code.
         code: u8,
     },
+    /// The client has begun anew from its port, so this connection is over, and the client's next Request opens another. Only a server's
+    /// connection has this event, in place of [`Event::Ended`] (own; RFC 4340, section 8.5, step 4).
+    Anew,
 }
 
 /// A server's answer to a datagram from a peer that it does not know.
@@ -116,6 +120,8 @@ pub struct Connection {
     outgoing: Outgoing,
     events: VecDeque<Event>,
     has_ended: bool,
+    /// Of a server's end.
+    last_sync: Option<LastSync>,
 }
 
 /// The frames that wait for the peer, the packets of data in flight, and the counts.
@@ -162,10 +168,10 @@ impl Connection {
     pub fn new(config: &Config) -> Result<Connection, MakeError> {
         let mut end = End::none();
         MakeError::answer(end.make(config.settings(), config.wishes()))?;
-        Ok(Connection::of(end))
+        Ok(Connection::of(end, config.settings().is_server))
     }
 
-    fn of(mut end: End) -> Connection {
+    fn of(mut end: End, is_server: bool) -> Connection {
         let view = end.look();
         Connection {
             end,
@@ -175,6 +181,7 @@ impl Connection {
             outgoing: Outgoing::default(),
             events: VecDeque::new(),
             has_ended: false,
+            last_sync: is_server.then(LastSync::default),
         }
     }
 
@@ -207,7 +214,7 @@ impl Connection {
                 .map_or(Accepted::Nothing, Accepted::Answer)),
             _ => {
                 MakeError::answer(status)?;
-                let mut connection = Connection::of(end);
+                let mut connection = Connection::of(end, true);
                 connection.outgoing = outgoing;
                 // The data of a Request are not delivered.
                 let _ = connection.hear(&told, datagram, Phase::Listen);
@@ -500,8 +507,7 @@ impl Connection {
     /// ```
     pub fn receive<'a>(&mut self, datagram: &'a [u8], now: Instant) -> Option<&'a [u8]> {
         let (was, time) = (self.phase(), self.time(now));
-        let (status, frame, told) = self.end.receive(datagram, time);
-        queue(&mut self.outgoing, (status, frame), is_answer(&told));
+        let told = self.take(datagram, time);
         self.called(now);
         self.hear(&told, datagram, was)
     }
@@ -516,8 +522,7 @@ impl Connection {
         let time = self.time(now);
         for datagram in datagrams {
             let was = self.phase();
-            let (status, frame, told) = self.end.receive(datagram, time);
-            queue(&mut self.outgoing, (status, frame), is_answer(&told));
+            let told = self.take(datagram, time);
             if matches!(told.kind, sys::TOLD_WAS_RESET | sys::TOLD_SENT_RESET) {
                 self.called(now);
             }
@@ -708,6 +713,11 @@ impl Connection {
         Phase::of(self.view.phase)
     }
 
+    /// The Service Code for which a client asked, or for which it asked this server's end (RFC 4340, section 8.1.2).
+    pub fn service(&self) -> u32 {
+        self.view.service
+    }
+
     /// How many data packets may be in flight: the window, or what the application that reads them leaves of it.
     pub fn window(&self) -> u32 {
         self.view.window
@@ -768,6 +778,29 @@ impl Connection {
         now.saturating_duration_since(begun).as_millis() as u64
     }
 
+    /// The end receives a datagram, and its answer goes out. If the client begins anew, the end is over, and says nothing to it.
+    fn take(&mut self, datagram: &[u8], time: u64) -> sys::Told {
+        if self.last_sync.as_ref().is_some_and(LastSync::was_refused) {
+            return sys::Told {
+                kind: sys::TOLD_DROPPED,
+                ..sys::Told::default()
+            };
+        }
+        let (status, frame, told) = self.end.receive(datagram, time);
+        let last_sync = self.last_sync.as_mut();
+        if last_sync.is_some_and(|it| it.is_refused(&told, datagram)) {
+            let _ = self.end.abort(time);
+            self.outgoing.frames.clear();
+            self.over(Event::Anew);
+            return told;
+        }
+        queue(&mut self.outgoing, (status, frame), is_answer(&told));
+        if let Some(last_sync) = &mut self.last_sync {
+            last_sync.note(&told, datagram, self.end.number());
+        }
+        told
+    }
+
     /// Tells the owner what became of a datagram, by the phase before it, and answers the data.
     fn hear<'a>(&mut self, told: &sys::Told, datagram: &'a [u8], was: Phase) -> Option<&'a [u8]> {
         self.outgoing.counts.heard(told, datagram);
@@ -776,17 +809,18 @@ impl Connection {
             sys::TOLD_DATA => return Some(&datagram[told.first..told.past]),
             sys::TOLD_WAITS => self.events.push_back(Event::Waits),
             sys::TOLD_NOT_KEPT => self.events.push_back(Event::Dropped { code: told.code }),
-            sys::TOLD_WAS_RESET => self.ended(told.code),
-            sys::TOLD_SENT_RESET if has_closed => self.ended(told.code),
+            sys::TOLD_WAS_RESET => self.over(Event::Ended { code: told.code }),
+            sys::TOLD_SENT_RESET if has_closed => self.over(Event::Ended { code: told.code }),
             _ => {}
         }
         None
     }
 
-    fn ended(&mut self, code: u8) {
+    /// The last event of the connection.
+    fn over(&mut self, event: Event) {
         if !self.has_ended {
             self.has_ended = true;
-            self.events.push_back(Event::Ended { code });
+            self.events.push_back(event);
         }
     }
 

@@ -19,8 +19,8 @@ type Configure = Box<dyn FnMut(SocketAddr) -> Config + Send>;
 ///
 /// After each call, ask [`poll_accept`](Endpoint::poll_accept), [`poll_transmit`](Endpoint::poll_transmit) and
 /// [`poll_event`](Endpoint::poll_event) until they have nothing more: what waits there has no bound. Call
-/// [`handle_timeout`](Endpoint::handle_timeout) once [`poll_timeout`](Endpoint::poll_timeout) has passed. A closed connection is dropped. A
-/// silent peer keeps its place until the owner aborts its connection.
+/// [`handle_timeout`](Endpoint::handle_timeout) once [`poll_timeout`](Endpoint::poll_timeout) has passed. A closed connection is dropped,
+/// and so is that of a client that begins anew from its port. A silent peer keeps its place until the owner aborts its connection.
 ///
 /// ```
 /// use dccp::{Config, Connection, Endpoint, Event};

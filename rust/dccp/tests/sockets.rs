@@ -1,7 +1,9 @@
 //! Sockets over the system's UDP on this machine: what a client and a server see, and how connections end.
 
 use dccp::net::{End, Error, Listener, Options, Sender, Socket};
-use dccp::{Config, Connection, Fate, Feature, MOST_DATA_BYTES, Place};
+use dccp::{
+    Accepted, Config, Connection, DropCode, Event, Fate, Feature, MOST_DATA_BYTES, Phase, Place,
+};
 use std::net::{SocketAddr, UdpSocket};
 use std::sync::Arc;
 use std::sync::atomic::{AtomicBool, Ordering};
@@ -22,6 +24,53 @@ fn pair(options: &Options, address: &str) -> Result<(Socket, Socket), Error> {
     let server = listener.accept_timeout(LONG)?;
     assert_eq!(server.recv_timeout(LONG)?, b"first");
     Ok((client, server))
+}
+
+/// A client of this address without a socket of the crate, so that it can be gone without a word.
+struct Bare {
+    udp: UdpSocket,
+    connection: Connection,
+}
+
+impl Bare {
+    /// It asks for the service by a packet with this number.
+    fn ask(udp: UdpSocket, first: u64) -> Result<Bare, Box<dyn std::error::Error>> {
+        udp.set_read_timeout(Some(Duration::from_millis(5)))?;
+        let config = Config::client(udp.local_addr()?, udp.peer_addr()?, SERVICE, first);
+        let mut connection = Connection::new(&config)?;
+        connection.open(Instant::now())?;
+        Ok(Bare { udp, connection })
+    }
+
+    /// Sends what is due, and hears what has come.
+    fn turn(&mut self) {
+        self.connection.handle_timeout(Instant::now());
+        while let Some(frame) = self.connection.poll_transmit() {
+            let _ = self.udp.send(&frame.bytes);
+        }
+        let mut room = [0; 2_048];
+        if let Ok(length) = self.udp.recv(&mut room) {
+            self.connection
+                .handle_datagram(&room[..length], Instant::now());
+        }
+    }
+
+    /// Sends data, once it is open.
+    fn speak(&mut self, data: &[u8]) {
+        let begun = Instant::now();
+        while self.connection.send(data, Instant::now()).is_err() {
+            assert!(begun.elapsed() < LONG, "{:?}", self.connection.poll_event());
+            self.turn();
+        }
+        self.turn();
+    }
+}
+
+/// The socket of the system of a client at this address.
+fn bare_socket(own: &str, listener: &Listener) -> Result<UdpSocket, Box<dyn std::error::Error>> {
+    let udp = UdpSocket::bind(own)?;
+    udp.connect(listener.local_addr()?)?;
+    Ok(udp)
 }
 
 #[test]
@@ -60,13 +109,22 @@ fn packets_come_whole_and_once() -> Outcome {
 fn batches_go_both_ways() -> Outcome {
     let (client, server) = pair(&Options::new(), "127.0.0.1:0")?;
     let packets = vec![[9_u8; MOST_DATA_BYTES]; 100];
-    let mut sent = 0;
+    let mut numbers = Vec::new();
     let mut found = vec![b"old".to_vec()];
-    while sent < packets.len() {
-        sent += client.send_batch(&packets[sent..])?;
+    while numbers.len() < packets.len() {
+        let sent = client.send_batch(&packets[numbers.len()..])?;
+        numbers.extend(sent.numbers());
         assert_eq!(server.recv_batch(&mut found)?, found.len());
         assert!(found.iter().all(|it| it.len() == MOST_DATA_BYTES));
     }
+    assert!(client.send_batch::<[u8; 1]>(&[])?.numbers().eq([]));
+    // Each packet came, so the fate of each number is that.
+    let begun = Instant::now();
+    while client.statistics().in_flight != 0 && begun.elapsed() < LONG {
+        thread::sleep(Duration::from_millis(5));
+    }
+    assert!(numbers.iter().all(|it| client.fate(*it) == Fate::Delivered));
+    assert_eq!(client.statistics().sent.data, 101);
     server.send(b"back")?;
     assert_eq!(client.recv_timeout(LONG)?, b"back");
     Ok(())
@@ -355,5 +413,187 @@ fn a_listener_that_is_gone_refuses() -> Outcome {
     assert!(matches!(other, Err(Error::Ended(End::Reset { code: 7 }))));
     server.send(b"still here")?;
     assert_eq!(client.recv_timeout(LONG)?, b"still here");
+    Ok(())
+}
+
+/// A client is killed, and comes back from its port, while the server still sends to it. By RFC 4340, section 8.5, it answers the Sync of its
+/// old connection's end with a Reset, whereupon that end is over, and its next Request, after a second, opens another.
+#[test]
+fn a_client_comes_back_from_its_port() -> Outcome {
+    let listener = Listener::bind("127.0.0.1:0", &[SERVICE])?;
+    let udp = bare_socket("127.0.0.1:0", &listener)?;
+    let mut client = Bare::ask(udp.try_clone()?, 1_000)?;
+    client.speak(b"first");
+    let old = listener.accept_timeout(LONG)?;
+    assert_eq!(old.recv_timeout(LONG)?, b"first");
+    drop(client);
+    old.send(b"to nobody")?;
+    let begun = Instant::now();
+    let mut client = Bare::ask(udp, 1 << 40)?;
+    client.speak(b"again");
+    assert!(
+        begun.elapsed() < Duration::from_secs(8),
+        "{:?}",
+        begun.elapsed()
+    );
+    let new = listener.accept_timeout(LONG)?;
+    assert_eq!(new.recv_timeout(LONG)?, b"again");
+    assert_eq!(new.peer_addr(), old.peer_addr());
+    let over = old.recv_timeout(LONG);
+    assert!(matches!(over, Err(Error::Ended(End::Anew))), "{over:?}");
+    assert!(matches!(old.send(b"late"), Err(Error::Ended(End::Anew))));
+    drop(old);
+    new.send(b"answer")?;
+    let begun = Instant::now();
+    while client.connection.poll_event() != Some(Event::Data(b"answer".to_vec())) {
+        assert!(begun.elapsed() < LONG);
+        client.turn();
+    }
+    Ok(())
+}
+
+/// The same of a server that has one place.
+#[test]
+fn a_client_comes_back_to_the_one_place() -> Outcome {
+    let listener = Options::new()
+        .most_connections(1)
+        .bind("127.0.0.1:0", &[SERVICE])?;
+    let udp = bare_socket("127.0.0.1:0", &listener)?;
+    Bare::ask(udp.try_clone()?, 1_000)?.speak(b"first");
+    let old = listener.accept_timeout(LONG)?;
+    Bare::ask(udp, 1 << 40)?.speak(b"again");
+    let new = listener.accept_timeout(LONG)?;
+    assert_eq!(new.recv_timeout(LONG)?, b"again");
+    assert_eq!(old.recv_timeout(LONG)?, b"first");
+    assert!(matches!(old.recv(), Err(Error::Ended(End::Anew))));
+    Ok(())
+}
+
+/// A server that was started again knows nothing of its clients, and says so by a Reset with code 3 (RFC 4340, section 5.6). That is
+/// orderly only for an end that had closed.
+#[test]
+fn a_server_that_was_started_again_has_forgotten() -> Outcome {
+    for closes in [false, true] {
+        let udp = UdpSocket::bind("127.0.0.1:0")?;
+        let address = udp.local_addr()?;
+        let serving = thread::spawn(move || {
+            let mut room = [0; 2_048];
+            let (length, peer) = udp.recv_from(&mut room).unwrap();
+            let config = Config::server(address, peer, SERVICE, 2_000);
+            let accepted = Connection::accept(&config, &room[..length], Instant::now());
+            let Ok(Accepted::Connection(mut connection)) = accepted else {
+                panic!("{accepted:?}");
+            };
+            while let Some(frame) = connection.poll_transmit() {
+                udp.send_to(&frame.bytes, peer).unwrap();
+            }
+        });
+        let client = Socket::connect(address, SERVICE)?;
+        serving.join().unwrap();
+        let _listener = Listener::bind(address, &[SERVICE])?;
+        if closes {
+            let end = client.close(LONG)?;
+            assert_eq!((end, end.is_orderly()), (End::Reset { code: 3 }, true));
+        } else {
+            client.send(b"are you there?")?;
+            let over = client.recv_timeout(LONG);
+            assert!(
+                matches!(over, Err(Error::Ended(End::Forgotten))),
+                "{over:?}"
+            );
+            assert!(!End::Forgotten.is_orderly());
+        }
+    }
+    Ok(())
+}
+
+/// One host may have one connection, and another host has its own. 9 is Too Busy (RFC 4340, section 5.6).
+#[test]
+fn a_host_has_its_share() -> Outcome {
+    let options = Options::new().most_per_host(1);
+    let listener = options.bind("127.0.0.1:0", &[7, SERVICE])?;
+    let address = listener.local_addr()?;
+    let first = Socket::connect(address, 7)?;
+    first.send(b"first")?;
+    let held = listener.accept_timeout(LONG)?;
+    assert_eq!((held.service(), first.service()), (7, 7));
+    let second = Socket::connect(address, SERVICE);
+    assert!(
+        matches!(second, Err(Error::Ended(End::Reset { code: 9 }))),
+        "{second:?}"
+    );
+    Bare::ask(bare_socket("127.0.0.2:0", &listener)?, 1_000)?.speak(b"other");
+    let other = listener.accept_timeout(LONG)?;
+    assert_eq!(
+        (other.service(), other.recv_timeout(LONG)?),
+        (SERVICE, b"other".to_vec())
+    );
+    assert!(first.close(LONG)?.is_orderly());
+    // Its place is free as soon as the connection has ended.
+    let third = Socket::connect(address, SERVICE)?;
+    third.send(b"third")?;
+    assert_eq!(listener.accept_timeout(LONG)?.recv_timeout(LONG)?, b"third");
+    Ok(())
+}
+
+/// Of two clients of a host that ask at a time, one has its share when the other opens: that one is aborted (Reset Code 2).
+#[test]
+fn a_host_has_its_share_although_it_asks_twice_at_a_time() -> Outcome {
+    let options = Options::new().most_per_host(1);
+    let listener = options.bind("127.0.0.1:0", &[SERVICE])?;
+    let address = listener.local_addr()?;
+    // Both are half open: a client that says nothing after the Response has not shown that it hears.
+    let mut clients = [
+        Bare::ask(bare_socket("127.0.0.1:0", &listener)?, 1_000)?,
+        Bare::ask(bare_socket("127.0.0.1:0", &listener)?, 1_000)?,
+    ];
+    let mut responses = Vec::new();
+    for client in &mut clients {
+        while let Some(frame) = client.connection.poll_transmit() {
+            client.udp.send(&frame.bytes)?;
+        }
+        client.udp.set_read_timeout(Some(LONG))?;
+        let mut room = [0; 2_048];
+        let length = client.udp.recv(&mut room)?;
+        responses.push(room[..length].to_vec());
+        client
+            .udp
+            .set_read_timeout(Some(Duration::from_millis(5)))?;
+    }
+    for (client, response) in clients.iter_mut().zip(responses) {
+        client.connection.handle_datagram(&response, Instant::now());
+        client.turn();
+    }
+    let _held = listener.accept_timeout(LONG)?;
+    let begun = Instant::now();
+    while clients[1].connection.poll_event() != Some(Event::Ended { code: 2 }) {
+        assert!(begun.elapsed() < LONG);
+        clients.iter_mut().for_each(Bare::turn);
+    }
+    assert!(matches!(listener.try_accept(), Err(Error::WouldBlock)));
+    assert_eq!(clients[0].connection.phase(), Phase::Open);
+    assert_eq!(listener.local_addr()?, address);
+    Ok(())
+}
+
+/// Of six packets to a socket that keeps two for its owner, and is not read, four are dropped, and the sender is told of each: so RFC 4340,
+/// section 11.7, has Drop Code 2.
+#[test]
+fn a_sender_is_told_what_a_full_socket_drops() -> Outcome {
+    let (client, server) = pair(&Options::new().holding(2), "127.0.0.1:0")?;
+    let numbers = [0; 6].map(|_| client.send(b"x"));
+    let fates = || numbers.iter().flatten().map(|it| client.fate(*it));
+    let begun = Instant::now();
+    while fates().any(|it| it == Fate::InFlight) && begun.elapsed() < LONG {
+        thread::sleep(Duration::from_millis(5));
+    }
+    let dropped = fates().filter(|it| *it == Fate::Dropped(DropCode::BufferFull));
+    assert_eq!(dropped.count(), 4);
+    assert_eq!(server.statistics().unread_dropped, 4);
+    assert_eq!(
+        (server.try_recv()?, server.try_recv()?),
+        (b"x".to_vec(), b"x".to_vec())
+    );
+    assert!(matches!(server.try_recv(), Err(Error::WouldBlock)));
     Ok(())
 }

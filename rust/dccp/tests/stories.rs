@@ -448,6 +448,30 @@ fn a_server_has_a_connection_for_each_peer_and_no_more_than_it_may() -> Result<(
     Ok(())
 }
 
+/// A client that was killed asks anew from its port. By RFC 4340, section 8.5, its old connection's end answers with a Sync, which the client,
+/// in REQUEST, answers with a Reset. That end is over then, and the next Request, after a second, opens another.
+#[test]
+fn a_client_begins_anew_from_its_port() -> Result<(), Box<dyn Error>> {
+    let mut many = Many::new(1)?;
+    many.exchange()?;
+    let peer = many.clients[0].0;
+    let again = Config::client(peer, addresses().1, SERVICE, 1 << 40);
+    many.clients[0].1 = Connection::new(&again)?;
+    many.clients[0].1.open(many.now)?;
+    many.exchange()?;
+    assert_eq!(many.server.poll_event(), Some((peer, Event::Anew)));
+    assert_eq!(many.server.connections().count(), 0);
+    assert_eq!(many.phases(), [Phase::Request]);
+    many.now += Duration::from_secs(1);
+    many.clients[0].1.handle_timeout(many.now);
+    many.exchange()?;
+    assert_eq!(many.phases(), [Phase::Open]);
+    let opened = [(); 3].map(|()| many.server.poll_accept());
+    assert_eq!(opened, [Some(peer), Some(peer), None]);
+    assert_eq!(many.server.poll_event(), None);
+    Ok(())
+}
+
 #[test]
 fn a_request_with_a_fault_in_its_options_takes_no_place() -> Result<(), Box<dyn Error>> {
     let mut many = Many::new(1)?;

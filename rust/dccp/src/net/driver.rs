@@ -12,7 +12,7 @@ use crate::endpoint::{REFUSED, TOO_BUSY};
 use crate::{Accepted, Config, Connection, CookieKeys, Phase};
 use std::collections::{HashMap, HashSet};
 use std::io;
-use std::net::{IpAddr, SocketAddr};
+use std::net::{IpAddr, Ipv6Addr, SocketAddr};
 use std::sync::Arc;
 use std::thread;
 use std::time::{Duration, Instant};
@@ -81,6 +81,14 @@ pub(super) struct Driver {
 /// An IPv4 address as such, even if the system gives it as one of IPv6.
 fn plain(address: SocketAddr) -> SocketAddr {
     SocketAddr::new(address.ip().to_canonical(), address.port())
+}
+
+/// What counts as one host: an address of IPv4, or the first 64 bits of one of IPv6, which one machine may have to itself (own).
+fn host_of(peer: SocketAddr) -> IpAddr {
+    match peer.ip().to_canonical() {
+        IpAddr::V4(address) => IpAddr::V4(address),
+        IpAddr::V6(address) => IpAddr::V6(Ipv6Addr::from_bits(address.to_bits() >> 64 << 64)),
+    }
 }
 
 /// The Service Code that a Request asks for (RFC 4340, section 5.1): after the generic header with its long number.
@@ -194,10 +202,15 @@ impl Driver {
             return self.tell(&line, &[(peer, datagram)]);
         }
         let asked = asked_service(datagram);
-        if asked.is_some() && self.is_crowded() {
+        let has_share = asked.is_some() && self.has_its_share(peer);
+        if asked.is_some() && !has_share && self.is_crowded() {
             return self.greet(peer, asked, datagram);
         }
-        let place = self.place_for(asked.is_some());
+        let place = if has_share {
+            self.refusal()
+        } else {
+            self.place_for(peer, asked.is_some())
+        };
         let Some(reception) = &mut self.reception else {
             return;
         };
@@ -222,6 +235,29 @@ impl Driver {
         let asked = self.half_open.len();
         let others = self.lines.len() - asked;
         open.is_some_and(|it| it.options.most_connections < 2 * asked + others)
+    }
+
+    /// Whether the host of this peer has as many other connections open as one may have.
+    fn has_its_share(&self, peer: SocketAddr) -> bool {
+        let Some(reception) = self.reception.as_ref().filter(|it| it.door.is_open()) else {
+            return false;
+        };
+        let (most, host) = (reception.options.most_per_host, host_of(peer));
+        let others = || {
+            let lines = self.lines.iter().filter(|(it, _)| **it != peer);
+            lines.filter(|(it, line)| host_of(**it) == host && line.is_open())
+        };
+        most < usize::MAX && most <= others().count()
+    }
+
+    /// A Request is turned away, if strangers may be answered.
+    fn refusal(&mut self) -> Room {
+        let reception = self.reception.as_mut();
+        if reception.is_some_and(|it| it.answers.may(Instant::now())) {
+            Room::Refusal { code: TOO_BUSY }
+        } else {
+            Room::Silence
+        }
     }
 
     /// Answers a Request with an Init Cookie, and keeps nothing (RFC 4340, section 8.1.4).
@@ -272,14 +308,16 @@ impl Driver {
         self.half_open.remove(&peer);
     }
 
-    /// What a stranger's datagram finds. A Request where there is a place is looked at, and others as many as may be answered.
-    fn place_for(&mut self, is_request: bool) -> Room {
-        let now = Instant::now();
+    /// What a stranger's datagram finds. A Request where there is a place is looked at, and others as many as may be answered. A peer
+    /// whose connection has ended has the place of that.
+    fn place_for(&mut self, peer: SocketAddr, is_request: bool) -> Room {
+        let (now, had_place) = (Instant::now(), self.lines.contains_key(&peer));
         let Some(reception) = &mut self.reception else {
             return Room::Silence;
         };
         let is_open = reception.door.is_open();
-        let has_place = is_open && self.lines.len() < reception.options.most_connections;
+        let is_free = had_place || self.lines.len() < reception.options.most_connections;
+        let has_place = is_open && is_free;
         if is_request && has_place {
             Room::Free
         } else if !reception.answers.may(now) {
@@ -343,10 +381,14 @@ impl Driver {
 
     /// Hands a connection that has just opened to the listener's owner.
     fn announce(&mut self, line: &Arc<Line>) {
-        if let Some(reception) = &self.reception
-            && line.opens()
-        {
-            self.half_open.remove(&line.peer());
+        if self.reception.is_none() || !line.opens() {
+            return;
+        }
+        self.half_open.remove(&line.peer());
+        if self.has_its_share(line.peer()) {
+            // Others of its host have opened since its Request.
+            line.abort();
+        } else if let Some(reception) = &self.reception {
             reception.door.enter(Socket::of(Arc::clone(line)));
         }
     }

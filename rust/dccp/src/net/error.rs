@@ -9,12 +9,17 @@ use std::io;
 #[derive(Clone, Copy, Debug, PartialEq, Eq)]
 #[non_exhaustive]
 pub enum End {
-    /// By a Reset with this code (RFC 4340, section 5.6): 1 is an orderly close, and so is 3 if the last Reset was lost; 2 means that the
-    /// peer gave up, 8 that it does not serve the Service Code, 9 that it is too busy.
+    /// By a Reset with this code (RFC 4340, section 5.6): 1 is an orderly close, and so is 3, which comes after this end's own close if the
+    /// last Reset was lost; 2 means that the peer gave up, 8 that it does not serve the Service Code, 9 that it is too busy.
     Reset {
         /// The Reset Code.
         code: u8,
     },
+    /// The peer does not know the connection (Reset Code 3), which this end had not closed: it was started again, or a router has given
+    /// this end another port. Connect again.
+    Forgotten,
+    /// The client has begun anew from its port: its next connection is another socket of the listener.
+    Anew,
     /// No packet of the peer was taken for [`Options::idle`](super::Options::idle), or it did not answer the Request or the close.
     Silent,
     /// This end gave up.
@@ -34,6 +39,8 @@ impl fmt::Display for End {
     fn fmt(&self, f: &mut fmt::Formatter<'_>) -> fmt::Result {
         match self {
             End::Reset { code } => write!(f, "{} (Reset Code {code})", reset_name(*code)),
+            End::Forgotten => f.write_str("the peer does not know the connection (Reset Code 3)"),
+            End::Anew => f.write_str("the client has begun anew"),
             End::Silent => f.write_str("the peer is silent"),
             End::Aborted => f.write_str("given up"),
             End::Failed => f.write_str("the socket failed"),

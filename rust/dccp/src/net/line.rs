@@ -23,6 +23,9 @@ const REPEAT: Duration = Duration::from_millis(100);
 /// How many Syncs and Resets answer the packets of a connection in a second (RFC 4340, sections 7.5.4 and 8.3.1; the number is own).
 const ANSWERS: u32 = 20;
 
+/// The Reset Code of a peer that does not know the connection (RFC 4340, section 5.6).
+const NO_CONNECTION: u8 = 3;
+
 /// Data that are sent within this time of others are handed to the system together, by the driver.
 const QUICK: Duration = Duration::from_micros(20);
 
@@ -166,6 +169,8 @@ struct State {
     /// Whether data wait in the end.
     is_holding: bool,
     end: Option<(End, Instant)>,
+    /// Whether this end was closing before the last datagrams came.
+    was_closing: bool,
     /// When a packet of the peer was taken last, or this end began to wait for one.
     heard: Instant,
     let_go: Option<Instant>,
@@ -196,6 +201,8 @@ impl State {
     }
 
     fn hear(&mut self, datagrams: &[(SocketAddr, &[u8])], now: Instant) {
+        let phase = self.connection.phase();
+        self.was_closing = matches!(phase, Phase::CloseReq | Phase::Closing);
         let taken = self.connection.taken();
         let all = datagrams.iter().map(|(_, datagram)| *datagram);
         let (connection, inbox) = (&mut self.connection, &mut self.inbox);
@@ -212,7 +219,11 @@ impl State {
                 Event::Data(data) => self.inbox.keep(&data),
                 // They are read from the end, which counts what it drops.
                 Event::Waits | Event::Dropped { .. } => {}
+                Event::Ended {
+                    code: NO_CONNECTION,
+                } if !self.was_closing => self.ended(End::Forgotten, now),
                 Event::Ended { code } => self.ended(End::Reset { code }, now),
+                Event::Anew => self.ended(End::Anew, now),
             }
         }
     }
@@ -337,6 +348,7 @@ impl Line {
             inbox: Inbox::new(options.most_waiting),
             is_holding: options.holding != 0,
             end: None,
+            was_closing: false,
             heard: now,
             let_go: None,
             patience: options.patience,
@@ -693,6 +705,12 @@ impl Line {
         let state = self.state();
         let unopened = (!state.is_announced && !state.is_open()).then_some(state.heard);
         state.end.map(|(_, at)| at).or(unopened)
+    }
+
+    /// Whether it has opened and not ended.
+    pub(super) fn is_open(&self) -> bool {
+        let state = self.state();
+        state.is_announced && state.end.is_none()
     }
 
     pub(super) fn is_over(&self) -> bool {

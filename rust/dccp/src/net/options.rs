@@ -25,6 +25,7 @@ pub struct Options {
     pub(super) most_waiting: usize,
     pub(super) holding: usize,
     pub(super) most_connections: usize,
+    pub(super) most_per_host: usize,
 }
 
 impl Default for Options {
@@ -35,7 +36,7 @@ impl Default for Options {
 
 impl Options {
     /// The options of [`Socket::connect`] and [`Listener::bind`]: 30 seconds to connect, three minutes of silence, 4,096 packets that wait,
-    /// 1,000 connections, and the usual wishes. Each end follows the rules of its path ([`PathRule`](crate::PathRule)).
+    /// 1,000 connections, any number of them from one host, and the usual wishes. Each end follows the rules of its path ([`PathRule`](crate::PathRule)).
     pub fn new() -> Options {
         Options {
             wishes: Vec::new(),
@@ -45,6 +46,7 @@ impl Options {
             most_waiting: 4_096,
             holding: 0,
             most_connections: 1_000,
+            most_per_host: usize::MAX,
         }
     }
 
@@ -76,14 +78,17 @@ impl Options {
         self
     }
 
-    /// How many packets of data are kept for an owner that does not read them; 4,096 by default.
+    /// How many packets of data are kept for an owner that does not read them; 4,096 by default. Further ones are dropped, and counted as
+    /// [`Statistics::unread_dropped`](crate::Statistics::unread_dropped), but the peer does not hear of it: for that, see
+    /// [`Options::holding`].
     pub fn most_waiting(mut self, most: usize) -> Options {
         self.most_waiting = most;
         self
     }
 
-    /// Data wait in the end itself, in place of [`Options::most_waiting`], for up to this many packets, 1,024 at most. The end then reports
-    /// drops and little room to its peer, so that it sends less (RFC 4340, sections 11.6 and 11.7).
+    /// Data wait in the end itself, in place of [`Options::most_waiting`], for up to this many packets, 1,024 at most. Each takes 2 KB, from
+    /// the beginning. The end then reports drops and little room to its peer, which sends less, down to one packet in a round trip (RFC
+    /// 4340, sections 11.6 and 11.7), and has [`Fate::Dropped`](crate::Fate::Dropped) of what was dropped.
     pub fn holding(mut self, most: usize) -> Options {
         self.holding = most;
         self
@@ -94,6 +99,14 @@ impl Options {
     /// client asks again; if all are open, it is answered by a Reset with code 9.
     pub fn most_connections(mut self, most: usize) -> Options {
         self.most_connections = most;
+        self
+    }
+
+    /// How many connections of a listener may be open for one host at a time; by default as many as there are. More Requests of the host
+    /// are answered by a Reset with code 9, and a connection that opens beyond it is aborted. A host is an address of IPv4, or the first 64
+    /// bits of one of IPv6. Clients beyond one router count as one host.
+    pub fn most_per_host(mut self, most: usize) -> Options {
+        self.most_per_host = most;
         self
     }
 

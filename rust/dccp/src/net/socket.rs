@@ -7,7 +7,7 @@ use super::options::Options;
 use super::random::Random;
 use super::wire::{Wire, any_address};
 use super::{End, Error};
-use crate::{Connection, Fate, Feature, Held, Place, PreferError, SendError, Statistics};
+use crate::{Connection, Fate, Feature, Held, Place, PreferError, Statistics};
 use std::fmt;
 use std::io;
 use std::net::{SocketAddr, ToSocketAddrs, UdpSocket};
@@ -31,6 +31,23 @@ impl Drop for Owned {
 /// program that ends at once should call [`close`](Socket::close).
 pub struct Socket {
     owned: Arc<Owned>,
+}
+
+/// What [`Socket::send_batch`] has sent: packets under successive numbers, with no other packet of this end between them.
+#[derive(Clone, Copy, Debug, PartialEq, Eq)]
+#[non_exhaustive]
+pub struct Sent {
+    /// The sequence number of the first packet, for [`Socket::fate`]; 0 if there was none.
+    pub first: u64,
+    /// How many packets were sent.
+    pub count: usize,
+}
+
+impl Sent {
+    /// Their sequence numbers, in order, each below 2^48 (RFC 4340, section 5.1).
+    pub fn numbers(self) -> impl Iterator<Item = u64> {
+        (0..self.count as u64).map(move |place| (self.first + place) % (1 << 48))
+    }
 }
 
 /// The half of a connection that sends. It may be cloned.
@@ -134,8 +151,9 @@ impl Socket {
         send(self.line(), data, Wait::Not)
     }
 
-    /// Sends the first of these packets, as many as there is room for, waiting for room for one. Returns how many it sent.
-    pub fn send_batch<T: AsRef<[u8]>>(&self, packets: &[T]) -> Result<usize, Error> {
+    /// Sends the first of these packets, as many as there is room for, waiting for room for one. Returns how many it sent, and under which
+    /// numbers.
+    pub fn send_batch<T: AsRef<[u8]>>(&self, packets: &[T]) -> Result<Sent, Error> {
         send_batch(self.line(), packets)
     }
 
@@ -222,6 +240,11 @@ impl Socket {
         self.line().call(|it| it.feature(feature, place))
     }
 
+    /// The Service Code for which the client of this connection asked (RFC 4340, section 8.1.2).
+    pub fn service(&self) -> u32 {
+        self.line().call(|it| it.service())
+    }
+
     /// The address of the peer.
     pub fn peer_addr(&self) -> SocketAddr {
         self.line().peer()
@@ -250,7 +273,7 @@ impl Sender {
     }
 
     /// As [`Socket::send_batch`].
-    pub fn send_batch<T: AsRef<[u8]>>(&self, packets: &[T]) -> Result<usize, Error> {
+    pub fn send_batch<T: AsRef<[u8]>>(&self, packets: &[T]) -> Result<Sent, Error> {
         send_batch(&self.owned.line, packets)
     }
 
@@ -303,18 +326,24 @@ fn send(line: &Line, data: &[u8], wait: Wait) -> Result<u64, Error> {
     line.write(wait, |send| send(data))
 }
 
-fn send_batch<T: AsRef<[u8]>>(line: &Line, packets: &[T]) -> Result<usize, Error> {
+fn send_batch<T: AsRef<[u8]>>(line: &Line, packets: &[T]) -> Result<Sent, Error> {
     line.write(Wait::Ever, |send| {
-        for (count, packet) in packets.iter().enumerate() {
+        let mut sent = Sent { first: 0, count: 0 };
+        for packet in packets {
             match send(packet.as_ref()) {
-                Ok(_) => {}
-                Err(SendError::WindowFull) if count != 0 => return Ok(count),
-                Err(fault) if count == 0 => return Err(fault),
-                // What was sent counts; the next call returns the error.
-                Err(_) => return Ok(count),
+                Ok(number) if sent.count == 0 => {
+                    sent = Sent {
+                        first: number,
+                        count: 1,
+                    }
+                }
+                Ok(_) => sent.count += 1,
+                Err(fault) if sent.count == 0 => return Err(fault),
+                // What was sent counts; the next call waits for room, or returns the error.
+                Err(_) => break,
             }
         }
-        Ok(packets.len())
+        Ok(sent)
     })
 }
 
