@@ -131,6 +131,20 @@ class connection {
     // The longest data that fit a frame of so many bytes now.
     std::size_t longest_data(std::size_t most) const { return dccp_connection_longest_data(it_, most); }
 
+    // The data that have waited longest, where the options have `holding`; none: none wait.
+    std::optional<dccp_data> read() const {
+        dccp_data data;
+        if (dccp_connection_read(it_, &data) != DCCP_OK) return std::nullopt;
+        return data;
+    }
+    std::size_t held() const { return dccp_connection_held(it_); }
+    // Data that arrive later are dropped, and the peer is told so.
+    void stop_reading() const { check(dccp_connection_stop_reading(it_)); }
+
+    // The address from which the peer's datagrams arrive, and the Service Code for which the client asked.
+    dccp_address peer() const { return dccp_connection_peer(it_); }
+    uint32_t service() const { return look().service; }
+
     template <typename T>
     T *user() const {
         return static_cast<T *>(dccp_connection_user(it_));
@@ -164,6 +178,7 @@ struct options {
     std::string client_name = {}, server_name = {};
     uint32_t most = 0;
     std::chrono::milliseconds patience{0}, idle{0};
+    uint32_t most_per_host = 0, holding = 0;
 };
 
 // A client, or a server of many, over the system's UDP.
@@ -215,6 +230,8 @@ class socket {
         given.most = with.most;
         given.patience = static_cast<uint32_t>(with.patience.count());
         given.idle = static_cast<uint32_t>(with.idle.count());
+        given.most_per_host = with.most_per_host;
+        given.holding = with.holding;
         return given;
     }
     std::optional<event> poll_for(int milliseconds) {

@@ -32,15 +32,28 @@ typedef struct dccp_socket dccp_socket;
 typedef struct dccp_connection dccp_connection;
 
 typedef enum dccp_end_cause {
-    DCCP_END_RESET = 0,  /* by a Reset with `code` (RFC 4340, section 5.6): 1 is orderly, and so is 3 if the last Reset was lost */
-    DCCP_END_SILENT = 1, /* the peer was silent for too long, or never answered */
-    DCCP_END_ABORTED = 2 /* by dccp_connection_abort */
+    DCCP_END_RESET = 0,     /* by a Reset with `code` (RFC 4340, section 5.6): 1 is orderly, and so is 3, which comes after an own close if the last
+                               Reset was lost */
+    DCCP_END_SILENT = 1,    /* the peer was silent for too long, or never answered */
+    DCCP_END_ABORTED = 2,   /* by dccp_connection_abort */
+    DCCP_END_FORGOTTEN = 3, /* by a Reset with code 3 to an end that had not closed: the peer does not know the connection. It was started again, or
+                               a router has given this end another port: connect again */
+    DCCP_END_ANEW = 4       /* the client has begun anew from its port: it opens another connection, which has events of its own */
 } dccp_end_cause;
+
+/* The address of a peer. */
+typedef struct dccp_address {
+    uint8_t bytes[16]; /* in network order; of IPv4 the first four */
+    uint16_t port;     /* in the byte order of the machine */
+    bool is_v6;
+} dccp_address;
 
 /* An event of a connection; `kind` is a dccp_event_kind of dccp.h. DCCP_EVENT_OPENED: data may be sent; a server's client has shown that it hears
  * the answers. DCCP_EVENT_DATA: `length` bytes at `data`, maybe none, which stay until the next call of dccp_socket_poll. DCCP_EVENT_ROOM: the
  * window has room again, after dccp_connection_send answered DCCP_WINDOW_FULL or DCCP_NOT_NEGOTIATED. DCCP_EVENT_ENDED: it has ended, for `cause`.
- * A server's connection that never opened has no event. */
+ * If the options have `holding`, there are in place of DCCP_EVENT_DATA: DCCP_EVENT_WAITS, the data of a packet wait for dccp_connection_read; and
+ * DCCP_EVENT_DROPPED, they were dropped, with the Drop Code `code` (RFC 4340, section 11.7). A server's connection that never opened has no
+ * event. */
 typedef struct dccp_socket_event {
     dccp_connection *connection;
     const uint8_t *data;
@@ -68,9 +81,10 @@ typedef struct dccp_statistics {
     uint64_t not_taken;        /* datagrams that were dropped, or answered by a Sync, or by a Reset for a fault */
     uint64_t answers_left_out; /* Syncs and Resets that were left out, since the limit was reached */
     uint64_t lost;             /* packets of data that count as lost: three later ones were reported, or there was a timeout */
+    uint64_t unread_dropped;   /* packets of data that were dropped, since too many waited to be read, or the application reads no more */
 } dccp_statistics;
 
-#define DCCP_STATISTICS_INIT {sizeof(dccp_statistics), {0, 0, 0, 0, 0, 0}, {0, 0, 0, 0, 0, 0}, 0, 0, 0}
+#define DCCP_STATISTICS_INIT {sizeof(dccp_statistics), {0, 0, 0, 0, 0, 0}, {0, 0, 0, 0, 0, 0}, 0, 0, 0, 0}
 
 /* What a socket is made from. Begin with DCCP_SOCKET_OPTIONS_INIT. A number of 0 is the usual one. */
 typedef struct dccp_socket_options {
@@ -82,10 +96,15 @@ typedef struct dccp_socket_options {
     uint32_t most;           /* connections of a server at a time: 1,000. One more Request takes the place of one that has ended or not opened for
                                 a second; if all are open, a Reset with code 9, Too Busy, answers it */
     uint32_t patience;       /* milliseconds in which a connection has to open, and a close to be answered: 30,000 */
-    uint32_t idle;           /* milliseconds of silence after which a connection is given up: 180,000, after which an end gives up by itself */
+    uint32_t idle;           /* milliseconds of silence after which a connection is given up: 180,000, after which an end gives up by itself. An
+                                idle end sends an Ack at least every 20 seconds, so less than that ends idle connections */
+    uint32_t most_per_host;  /* connections of a server that may be open for one host: as many as there are. More Requests of the host are answered by
+                                a Reset with code 9. A host is an address of IPv4, or the first 64 bits of one of IPv6 */
+    uint32_t holding;        /* how many packets' data wait at an end for dccp_connection_read, 1,024 at most, each of which takes 2 KB from the
+                                beginning. The peer is told of drops and of little room: 0, which is none */
 } dccp_socket_options;
 
-#define DCCP_SOCKET_OPTIONS_INIT {sizeof(dccp_socket_options), NULL, 0, NULL, NULL, 0, 0, 0}
+#define DCCP_SOCKET_OPTIONS_INIT {sizeof(dccp_socket_options), NULL, 0, NULL, NULL, 0, 0, 0, 0, 0}
 
 /* A client of the server at this host and port, which asks for this Service Code. `options` may be NULL. Returns NULL if none was made, and errno
  * says why: EINVAL for bad wishes or names, ENOENT for a host without an address, ENOMEM, or an error of a system call. */
@@ -123,7 +142,7 @@ dccp_status dccp_connection_close(dccp_connection *connection);
 /* Ends at once; DCCP_EVENT_ENDED follows. DCCP_OK; DCCP_NOT_LIVE, DCCP_NOT_MADE. */
 dccp_status dccp_connection_abort(dccp_connection *connection);
 
-/* As dccp_prefer, dccp_feature, dccp_look and dccp_look_path. */
+/* As dccp_prefer, dccp_feature, dccp_look and dccp_look_path. `service` of a dccp_view is the Service Code for which the client asked. */
 dccp_status dccp_connection_prefer(dccp_connection *connection, dccp_feature_kind feature, bool at_peer, const uint64_t *values, size_t count);
 dccp_status dccp_connection_feature(dccp_connection *connection, dccp_feature_kind feature, bool at_peer, dccp_feature_state *state);
 dccp_status dccp_connection_look(dccp_connection *connection, dccp_view *view);
@@ -134,6 +153,15 @@ dccp_status dccp_connection_look_path(dccp_connection *connection, dccp_round_tr
 uint64_t dccp_connection_last_sent(const dccp_connection *connection);
 dccp_fate dccp_connection_fate(dccp_connection *connection, uint64_t number);
 size_t dccp_connection_longest_data(dccp_connection *connection, size_t most);
+
+/* As dccp_read, dccp_held and dccp_stop_reading, if the options have `holding`. What waits can be read until the call of dccp_socket_poll after
+ * the last event. */
+dccp_status dccp_connection_read(dccp_connection *connection, dccp_data *data);
+size_t dccp_connection_held(dccp_connection *connection);
+dccp_status dccp_connection_stop_reading(dccp_connection *connection);
+
+/* The address from which the peer's datagrams arrive. */
+dccp_address dccp_connection_peer(const dccp_connection *connection);
 
 /* What was counted. If the struct is of an earlier version, its fields are written. */
 void dccp_connection_statistics(const dccp_connection *connection, dccp_statistics *statistics);

@@ -25,7 +25,10 @@
  * which one that has not opened may make room, and after which timers are looked at although datagrams come; places of the table; the buffer
  * asked of the system; milliseconds for which Init Cookies are written by one key. */
 enum { ANSWERS = 20, STRANGERS = 100, LINGER = 2000, STAY = 1000, TICK = 5, PLACES = 512, BUFFER = 1 << 21, KEY_LIFETIME = 3600000 };
-enum { MOST_WISHES = 16, MOST_SERVICES = 16, MOST_IN_FLIGHT = 1024, TOO_BUSY = 9 };
+enum { MOST_WISHES = 16, MOST_SERVICES = 16, MOST_IN_FLIGHT = 1024 };
+
+/* Reset Codes (RFC 4340, section 5.6). */
+enum { NO_CONNECTION = 3, PACKET_ERROR = 4, TOO_BUSY = 9 };
 
 /* How many datagrams one system call takes. */
 #if defined(__linux__)
@@ -64,6 +67,9 @@ struct dccp_connection {
     uint64_t unsettled[MOST_IN_FLIGHT]; /* a ring of the numbers of packets of data that are in flight, the oldest at `oldest` */
     uint32_t oldest, unsettled_count;
     uint64_t last_sent; /* the number of the last of them */
+    uint64_t last_sync; /* the number of a server's last Sync, except to a Reset that refused one */
+    bool has_synced;
+    bool was_closing; /* before the present datagram */
     bool has_ended, is_opened, wants_room;
     bool is_half_open; /* it has answered a Request and heard nothing since */
     bool is_told; /* that it has ended, or that this is told to nobody */
@@ -72,7 +78,7 @@ struct dccp_connection {
 struct dccp_socket {
     int descriptor, random;
     bool is_server, has_names;
-    uint32_t most, count, half_open, patience, idle;
+    uint32_t most, count, half_open, patience, idle, most_per_host, holding;
     uint32_t services[MOST_SERVICES];
     size_t service_count;
     dccp_wish wishes[MOST_WISHES];
@@ -171,6 +177,14 @@ static address plain(const address *it) {
     return found;
 }
 
+/* Whether two peers are of one host: an address of IPv4, or the first 64 bits of one of IPv6, which one machine may have to itself (own). */
+static bool is_same_host(const address *one, const address *other) {
+    const address here = plain(one), there = plain(other);
+    if (here.any.sa_family != there.any.sa_family) return false;
+    if (here.any.sa_family == AF_INET) return here.v4.sin_addr.s_addr == there.v4.sin_addr.s_addr;
+    return memcmp(&here.v6.sin6_addr, &there.v6.sin6_addr, 8) == 0;
+}
+
 /* The address from which the machine sends to a peer: the socket's, or if that is any, the one that the system would choose. */
 static bool own_towards(const dccp_socket *udp, const address *peer, address *own) {
     *own = udp->own;
@@ -215,6 +229,7 @@ static bool settle(const dccp_socket *udp, const address *peer, uint32_t service
     settings->own_port = port_of(&own);
     settings->peer_port = port_of(&other);
     settings->service = service;
+    settings->most_held = udp->holding;
     return draw(udp, &settings->first_number);
 }
 
@@ -241,6 +256,20 @@ static dccp_connection *add(dccp_socket *udp, const address *peer) {
     return it;
 }
 
+/* Whether the host of a peer has as many other connections open as one may have. */
+static bool has_its_share(const dccp_socket *udp, const address *peer) {
+    uint32_t others = 0;
+    if (udp->most_per_host == 0) return false;
+    for (const dccp_connection *it = udp->newest; it != NULL; it = it->older)
+        others += it->is_opened && !it->has_ended && !is_same(&it->peer, peer) && is_same_host(&it->peer, peer);
+    return udp->most_per_host <= others;
+}
+
+static void leave_half_open(dccp_connection *it) {
+    if (it->is_half_open) it->udp->half_open--;
+    it->is_half_open = false;
+}
+
 /* Takes a connection out of the table and the list. */
 static void part(dccp_connection *it) {
     dccp_socket *udp = it->udp;
@@ -252,7 +281,7 @@ static void part(dccp_connection *it) {
     else
         udp->newest = it->older;
     if (it->older != NULL) it->older->newer = it->newer;
-    if (it->is_half_open) udp->half_open--;
+    leave_half_open(it);
     udp->count--;
 }
 
@@ -316,6 +345,8 @@ static void settle_fates(dccp_connection *it, uint32_t in_flight) {
     it->unsettled_count -= seen_of - left;
 }
 
+static bool is_closing(const dccp_view *view) { return view->phase == DCCP_PHASE_CLOSEREQ || view->phase == DCCP_PHASE_CLOSING; }
+
 static bool is_open(const dccp_view *view) { return view->phase == DCCP_PHASE_PARTOPEN || view->phase == DCCP_PHASE_OPEN; }
 
 static void finish(dccp_connection *it, dccp_end_cause cause, uint8_t code) {
@@ -359,10 +390,8 @@ static void take(dccp_connection *it, const dccp_told *told, const dccp_frame *f
     bool is_answer = told->kind == DCCP_TOLD_SYNCED || told->kind == DCCP_TOLD_SENT_RESET;
     dccp_view view = seen(it);
     settle_fates(it, view.in_flight);
-    if (it->is_half_open && view.phase != DCCP_PHASE_RESPOND) {
-        it->is_half_open = false;
-        it->udp->half_open--;
-    }
+    bool is_opening = it->is_half_open && is_open(&view);
+    if (view.phase != DCCP_PHASE_RESPOND) leave_half_open(it);
     if (!is_answer || may(&it->answers, ANSWERS))
         send_frame(it, frame);
     else
@@ -370,18 +399,57 @@ static void take(dccp_connection *it, const dccp_told *told, const dccp_frame *f
     if (view.marked != it->marked) it->heard = now();
     it->marked = view.marked;
     bool is_over = told->kind == DCCP_TOLD_WAS_RESET || (told->kind == DCCP_TOLD_SENT_RESET && view.phase == DCCP_PHASE_CLOSED);
-    if (is_over) finish(it, DCCP_END_RESET, told->code);
+    if (is_over) finish(it, told->code == NO_CONNECTION && !it->was_closing ? DCCP_END_FORGOTTEN : DCCP_END_RESET, told->code);
+    it->was_closing = is_closing(&view);
+    /* Others of its host may have opened since its Request. */
+    if (is_opening && has_its_share(it->udp, &it->peer)) (void)dccp_connection_abort(it);
 }
 
 /* Counts a datagram by its outcome; a Close that ends the connection in order counts as taken. */
 static void note(dccp_connection *it, const dccp_told *told, size_t length) {
     bool is_close = told->kind == DCCP_TOLD_SENT_RESET && told->code == 1;
     bool is_taken = told->kind == DCCP_TOLD_TOOK || told->kind == DCCP_TOLD_DATA || told->kind == DCCP_TOLD_WAS_RESET || is_close;
-    if (is_taken)
+    bool is_for_inbox = told->kind == DCCP_TOLD_WAITS || told->kind == DCCP_TOLD_NOT_KEPT;
+    if (is_taken || is_for_inbox)
         count(&it->statistics.received, it->udp->room, length);
     else
         it->statistics.not_taken++;
-    it->statistics.received.data_bytes += told->past - told->first;
+    /* The fifth byte counts the words before the data (RFC 4340, section 5.1). */
+    it->statistics.received.data_bytes += is_for_inbox ? length - 4u * it->udp->room[4] : told->past - told->first;
+    it->statistics.unread_dropped += told->kind == DCCP_TOLD_NOT_KEPT;
+}
+
+/* Whether the present datagram is a Reset with code 4, by which a client in REQUEST answers what is no Response (RFC 4340, section 8.5, step 4),
+ * and the number that it acknowledges (section 5.6). */
+static bool is_refusal(const dccp_socket *udp, size_t length, uint64_t *number) {
+    *number = 0;
+    if (length < 28 || ((udp->room[8] >> 1) & 15) != 7 || udp->room[24] != PACKET_ERROR) return false;
+    for (size_t at = 18; at < 24; at++) *number = *number << 8 | udp->room[at];
+    return true;
+}
+
+/* Whether the client begins anew: its Request was answered with a Sync, and it refuses this last Sync, whose number only who gets it knows. The
+ * Reset's numbers are not valid here, so it was answered with another Sync, or left out since too many were. Else notes a Sync's number, except one
+ * that answers such a Reset: so two exchanges at a time do not hide each other's numbers (own). */
+static bool begins_anew(dccp_connection *it, const dccp_told *told, const dccp_frame *frame, size_t length) {
+    uint64_t number;
+    bool is_left_out = told->kind == DCCP_TOLD_DROPPED && told->cause == DCCP_CAUSE_LIMIT;
+    if (!it->udp->is_server || (told->kind != DCCP_TOLD_SYNCED && !is_left_out)) return false;
+    if (is_refusal(it->udp, length, &number)) return it->has_synced && number == it->last_sync;
+    if (is_left_out) return false;
+    it->has_synced = true;
+    it->last_sync = frame->number;
+    return false;
+}
+
+/* The event of data that a datagram brought, if it did. */
+static bool is_data_event(const dccp_told *told, dccp_event_kind *kind) {
+    switch (told->kind) {
+        case DCCP_TOLD_DATA: *kind = DCCP_EVENT_DATA; return true;
+        case DCCP_TOLD_WAITS: *kind = DCCP_EVENT_WAITS; return true;
+        case DCCP_TOLD_NOT_KEPT: *kind = DCCP_EVENT_DROPPED; return true;
+        default: return false;
+    }
 }
 
 /* Hears a datagram of a connection, and returns the event, if there is one. */
@@ -391,11 +459,19 @@ static int hear(dccp_connection *it, size_t length, dccp_socket_event *event) {
     dccp_told told;
     if (dccp_receive(&it->end, udp->room, length, now(), &frame, &told) != DCCP_OK) return 0;
     note(it, &told, length);
+    if (begins_anew(it, &told, &frame, length)) {
+        (void)dccp_abort(&it->end, now(), &frame); /* Its Reset would tell the client nothing. */
+        leave_half_open(it);
+        finish(it, DCCP_END_ANEW, 0);
+        return next_event(it, event);
+    }
     take(it, &told, &frame);
-    if (told.kind != DCCP_TOLD_DATA || it->has_ended) return next_event(it, event);
-    (void)tell(it, DCCP_EVENT_DATA, &udp->data);
-    udp->data.data = udp->room + told.first;
+    dccp_event_kind kind;
+    if (!is_data_event(&told, &kind) || it->has_ended) return next_event(it, event);
+    (void)tell(it, kind, &udp->data);
+    udp->data.data = kind == DCCP_EVENT_DATA ? udp->room + told.first : NULL;
     udp->data.length = told.past - told.first;
+    udp->data.code = kind == DCCP_EVENT_DROPPED ? told.code : 0;
     udp->has_data = true;
     return next_event(it, event);
 }
@@ -473,6 +549,7 @@ static dccp_connection *recall(dccp_socket *udp, const address *peer, dccp_conne
     dccp_told told;
     if (!may_return_cookie(udp, length) || !settle(udp, peer, udp->services[0], &settings)) return it;
     if (dccp_recall(&settings, &udp->keys, udp->room, length, now(), &request) != DCCP_OK) return it;
+    if (has_its_share(udp, peer)) return it;
     /* The peer has shown its address: a half-open connection makes room at once. */
     if (it == NULL && udp->most <= udp->count && (it = longest_idle(udp)) == NULL) return NULL;
     if (it != NULL) {
@@ -490,14 +567,15 @@ static dccp_connection *recall(dccp_socket *udp, const address *peer, dccp_conne
 }
 
 /* Hears a datagram of a peer without a connection. It may open one, which has no event yet. Requests that find a place are always heard, and so are
- * Requests in a crowd, where half-open connections take over half of the places that others leave; all other datagrams only as often as strangers
- * may be answered. A Request that finds no place takes that of a connection that has not been open for a second. If there may soon be such a
- * connection, the peer asks again; otherwise it is answered that there is no place. */
+ * Requests in a crowd, where half-open connections take over half of the places that others leave; all other datagrams, and Requests of a host that
+ * has its share, only as often as strangers may be answered. A Request that finds no place takes that of a connection that has not been open for a
+ * second. If there may soon be such a connection, the peer asks again; otherwise it is answered that there is no place. */
 static void meet(dccp_socket *udp, const address *peer, size_t length) {
     bool is_request, has_place = udp->count < udp->most, is_crowded = udp->most < udp->half_open + udp->count;
     uint32_t service = asked_service(udp, length, &is_request);
-    if (!(is_request && (has_place || is_crowded)) && !may(&udp->strangers, STRANGERS)) return;
-    dccp_connection *idle = is_request && !has_place && !is_crowded ? longest_idle(udp) : NULL;
+    bool is_heard = is_request && !has_its_share(udp, peer);
+    if (!(is_heard && (has_place || is_crowded)) && !may(&udp->strangers, STRANGERS)) return;
+    dccp_connection *idle = is_heard && !has_place && !is_crowded ? longest_idle(udp) : NULL;
     if (idle != NULL && now() < idle_since(idle) + STAY) return;
     if (idle != NULL) {
         part(idle);
@@ -505,9 +583,9 @@ static void meet(dccp_socket *udp, const address *peer, size_t length) {
     }
     dccp_settings settings;
     if (!settle(udp, peer, service, &settings)) return; /* It asks again. */
-    if (is_request && is_crowded)
+    if (is_heard && is_crowded)
         greet(udp, peer, &settings, length);
-    else if (is_request && (has_place || idle != NULL))
+    else if (is_heard && (has_place || idle != NULL))
         take_in(udp, peer, &settings, length);
     else
         turn_away(udp, peer, &settings, length);
@@ -711,6 +789,8 @@ static bool arrange(dccp_socket *udp, const dccp_socket_options *given) {
     udp->most = usual(options.most, 1000);
     udp->patience = usual(options.patience, 30000);
     udp->idle = usual(options.idle, 180000);
+    udp->most_per_host = options.most_per_host;
+    udp->holding = options.holding;
     udp->wish_count = options.wish_count;
     if (MOST_WISHES < udp->wish_count) return false;
     if (options.wish_count != 0) memcpy(udp->wishes, options.wishes, options.wish_count * sizeof *options.wishes);
@@ -823,7 +903,10 @@ dccp_status dccp_connection_close(dccp_connection *it) {
     if (it->has_ended) return DCCP_NOT_MADE;
     dccp_status status = dccp_close(&it->end, now(), &frame);
     send_frame(it, &frame);
-    if (status == DCCP_OK) it->heard = now();
+    if (status == DCCP_OK) {
+        it->heard = now();
+        it->was_closing = true;
+    }
     return status;
 }
 
@@ -860,6 +943,19 @@ dccp_fate dccp_connection_fate(dccp_connection *it, uint64_t number) {
 }
 
 size_t dccp_connection_longest_data(dccp_connection *it, size_t most) { return dccp_longest_data(&it->end, most); }
+
+dccp_status dccp_connection_read(dccp_connection *it, dccp_data *data) { return dccp_read(&it->end, data); }
+
+size_t dccp_connection_held(dccp_connection *it) { return dccp_held(&it->end); }
+
+dccp_status dccp_connection_stop_reading(dccp_connection *it) { return dccp_stop_reading(&it->end); }
+
+dccp_address dccp_connection_peer(const dccp_connection *it) {
+    const address peer = plain(&it->peer);
+    dccp_address found = {{0}, port_of(&peer), peer.any.sa_family == AF_INET6};
+    spell(&peer, found.is_v6, found.bytes);
+    return found;
+}
 
 void dccp_connection_statistics(const dccp_connection *it, dccp_statistics *statistics) {
     const size_t size = statistics->size;

@@ -140,6 +140,226 @@ static void a_socket_that_goes() {
     same("the second opens", DCCP_EVENT_OPENED, both.of_client.back().kind);
 }
 
+// The address of a port of this machine, whose last byte is 1 if it is not another.
+static sockaddr_in loopback(uint16_t port, uint8_t last = 1) {
+    sockaddr_in it{};
+    it.sin_family = AF_INET;
+    it.sin_port = htons(port);
+    it.sin_addr.s_addr = htonl(0x7f000000u | last);
+    return it;
+}
+
+// A socket of the system at a port of this machine, or at any.
+static int bare_socket(uint16_t port = 0, uint8_t last = 1) {
+    const sockaddr_in here = loopback(port, last);
+    const int made = ::socket(AF_INET, SOCK_DGRAM, 0);
+    same("a bare socket", 0, ::bind(made, reinterpret_cast<const sockaddr *>(&here), sizeof here));
+    return made;
+}
+
+static uint16_t port_of(int made) {
+    sockaddr_in here{};
+    socklen_t size = sizeof here;
+    same("its name", 0, ::getsockname(made, reinterpret_cast<sockaddr *>(&here), &size));
+    return ntohs(here.sin_port);
+}
+
+static uint64_t milliseconds() {
+    using namespace std::chrono;
+    return static_cast<uint64_t>(duration_cast<std::chrono::milliseconds>(steady_clock::now().time_since_epoch()).count());
+}
+
+// An end over such a socket, without a dccp::socket, so that it can be gone without a word: a client, or a server of the first that asks.
+class bare_end {
+  public:
+    bare_end(int made, uint16_t peer, uint64_t first, uint8_t last = 1) : made_(made), there_(loopback(peer)) {
+        settings_.own_address[0] = settings_.peer_address[0] = 127;
+        settings_.own_address[3] = last;
+        settings_.peer_address[3] = 1;
+        settings_.own_port = port_of(made);
+        settings_.peer_port = peer;
+        settings_.first_number = first;
+        settings_.service = 7;
+        if (peer == 0) return;
+        it = dccp::end(settings_);
+        same("its open", DCCP_OK, it.open(milliseconds()));
+        hand_over();
+    }
+
+    // Hears what has come, and does what is due.
+    void turn() {
+        uint8_t room[2048];
+        dccp_told told{};
+        socklen_t size = sizeof there_;
+        ssize_t length;
+        while (0 < (length = ::recvfrom(made_, room, sizeof room, MSG_DONTWAIT, reinterpret_cast<sockaddr *>(&there_), &size))) {
+            const dccp::bytes datagram(room, static_cast<size_t>(length));
+            settings_.peer_port = ntohs(there_.sin_port);
+            if (it)
+                it.receive(datagram, milliseconds(), told);
+            else
+                it.accept(settings_, {}, datagram, milliseconds(), told);
+            hand_over();
+        }
+        while (it && it.tick(milliseconds()) == DCCP_OK) hand_over();
+    }
+
+    dccp_status send(dccp::bytes data) {
+        const dccp_status status = it.send(data, milliseconds());
+        hand_over();
+        return status;
+    }
+
+    dccp::end it;
+
+  private:
+    void hand_over() {
+        const auto frame = it.frame();
+        if (!frame.empty()) (void)!::sendto(made_, frame.data(), frame.size(), 0, reinterpret_cast<sockaddr *>(&there_), sizeof there_);
+    }
+
+    int made_;
+    sockaddr_in there_;
+    dccp_settings settings_ DCCP_SETTINGS_INIT;
+};
+
+// The events of a server while a bare client sends data, which it does as soon as it may, and until they came.
+static std::vector<dccp::event> events_until(dccp::socket &server, bare_end &client, const char *data) {
+    std::vector<dccp::event> all;
+    const auto last = std::chrono::steady_clock::now() + 20s;
+    for (bool is_sent = false, came = false; !came && std::chrono::steady_clock::now() < last;) {
+        client.turn();
+        is_sent = is_sent || client.send(data) == DCCP_OK;
+        while (auto event = server.poll(2ms)) {
+            came = came || (event->kind == DCCP_EVENT_DATA && event->data.text() == data);
+            all.push_back(*event);
+        }
+    }
+    return all;
+}
+
+static void kinds(const char *what, const std::vector<dccp_event_kind> &wanted, const std::vector<dccp::event> &found) {
+    same(what, static_cast<long long>(wanted.size()), static_cast<long long>(found.size()));
+    for (size_t at = 0; at < wanted.size() && at < found.size(); at++) same(what, wanted[at], found[at].kind);
+}
+
+// A client is killed, and comes back from its port, while the server still sends to it. By RFC 4340, section 8.5, it answers the Sync of its old
+// connection's end with a Reset, whereupon that is over, and its next Request opens another connection.
+static void a_client_that_comes_back() {
+    dccp::options one;
+    one.most = 1;
+    auto server = dccp::socket::listen("127.0.0.1", "0", {42, 7}, one);
+    const int made = bare_socket();
+    auto first = std::make_unique<bare_end>(made, server.port(), 1000);
+    const auto opened = events_until(server, *first, "first");
+    kinds("the first", {DCCP_EVENT_OPENED, DCCP_EVENT_DATA}, opened);
+    const auto old = opened.at(0).connection;
+    same("for which service", 7, old.service());
+    const dccp_address peer = old.peer();
+    same("from where", true, peer.bytes[0] == 127 && peer.bytes[3] == 1 && !peer.is_v6 && peer.port == port_of(made));
+    first.reset();
+    same("data for nobody", DCCP_OK, old.send("x"));
+    bare_end again(made, server.port(), uint64_t{1} << 40);
+    const auto anew = events_until(server, again, "again");
+    kinds("the second", {DCCP_EVENT_ENDED, DCCP_EVENT_OPENED, DCCP_EVENT_DATA}, anew);
+    same("the old one", true, anew.at(0).connection == old && anew.at(0).cause == DCCP_END_ANEW && !anew.at(0).is_orderly());
+    ::close(made);
+}
+
+// A server that was started again knows nothing of its clients, and says so by a Reset with code 3 (RFC 4340, section 5.6). That is orderly only
+// for an end that had closed.
+static void a_server_that_was_started_again(bool closes) {
+    const int made = bare_socket();
+    const uint16_t port = port_of(made);
+    auto server = std::make_unique<bare_end>(made, 0, 2000);
+    auto client = dccp::socket::connect("127.0.0.1", std::to_string(port), 7);
+    std::optional<dccp::event> told;
+    for (int turn = 0; turn < 100 && !told; turn++) {
+        server->turn();
+        told = client.poll(20ms);
+    }
+    same("its opening", true, told && told->kind == DCCP_EVENT_OPENED);
+    server.reset();
+    ::close(made);
+    pair both{dccp::socket::listen("127.0.0.1", std::to_string(port), {7}), std::move(client)};
+    if (closes)
+        both.client.connection()->close();
+    else
+        same("a word", DCCP_OK, both.client.connection()->send("x"));
+    both.settle();
+    const auto &end = both.of_client.back();
+    same("the end", DCCP_EVENT_ENDED, end.kind);
+    same("its code: No Connection", 3, end.code);
+    same("its cause", closes ? DCCP_END_RESET : DCCP_END_FORGOTTEN, end.cause);
+    same("orderly", closes, end.is_orderly());
+}
+
+// One host may have one connection, and another host has its own. 9 is Too Busy (RFC 4340, section 5.6).
+static void a_share_for_each_host() {
+    dccp::options fair;
+    fair.most_per_host = 1;
+    auto server = dccp::socket::listen("127.0.0.1", "0", {7}, fair);
+    const int one = bare_socket(), other = bare_socket(0, 2);
+    const std::string port = std::to_string(server.port());
+    // Both ask before either has shown that it hears: the second to open is aborted.
+    bare_end first(one, server.port(), 1000);
+    const int third = bare_socket();
+    bare_end late(third, server.port(), 1000);
+    same("nothing is told yet", false, server.poll(50ms).has_value());
+    kinds("the first", {DCCP_EVENT_OPENED, DCCP_EVENT_DATA}, events_until(server, first, "first"));
+    for (int turn = 0; turn < 100 && late.it.look().phase != DCCP_PHASE_TIMEWAIT; turn++) {
+        late.turn();
+        (void)late.send("late");
+        same("no news of the late one", false, server.poll(5ms).has_value());
+    }
+    same("the late one was reset", DCCP_PHASE_TIMEWAIT, late.it.look().phase);
+    pair both{std::move(server), dccp::socket::connect("127.0.0.1", port, 7)};
+    both.settle();
+    same("one more of the host", 9, both.of_client.back().code);
+    bare_end away(other, both.server.port(), 1000, 2);
+    const auto opened = events_until(both.server, away, "away");
+    kinds("another host", {DCCP_EVENT_OPENED, DCCP_EVENT_DATA}, opened);
+    same("its address", 2, opened.at(0).connection.peer().bytes[3]);
+    for (int it : {one, other, third}) ::close(it);
+}
+
+// Of six packets to a connection that holds two for its owner, and is not read, four are dropped, and the sender is told of each: Drop Code 2 (RFC
+// 4340, section 11.7).
+static void data_that_wait() {
+    dccp::options holds;
+    holds.wishes = {dccp::offer(DCCP_FEATURE_CCID, {248}), dccp::offer(DCCP_FEATURE_CCID, {248}, true)};
+    holds.holding = 2;
+    pair both = open_pair(holds);
+    auto client = *both.client.connection();
+    std::vector<uint64_t> numbers;
+    for (const char *word : {"one", "two", "x", "x", "x", "x"}) {
+        same("one of six", DCCP_OK, client.send(word));
+        numbers.push_back(client.last_sent());
+    }
+    both.settle();
+    std::vector<dccp_event_kind> wanted{DCCP_EVENT_OPENED, DCCP_EVENT_WAITS, DCCP_EVENT_WAITS};
+    wanted.insert(wanted.end(), 4, DCCP_EVENT_DROPPED);
+    kinds("what the server is told", wanted, both.of_server);
+    same("the Drop Code", 2, both.of_server.back().code);
+    int dropped = 0;
+    for (uint64_t number : numbers) dropped += client.fate(number) == DCCP_FATE_DROPPED_FULL;
+    same("what the client is told", 4, dropped);
+    auto server = both.of_server.at(0).connection;
+    same("dropped", 4, static_cast<long long>(server.statistics().unread_dropped));
+    same("received", 6, static_cast<long long>(server.statistics().received.data));
+    same("bytes", 10, static_cast<long long>(server.statistics().received.data_bytes));
+    same("held", 2, static_cast<long long>(server.held()));
+    const auto first = server.read();
+    same("the first", true, first && dccp::bytes(first->bytes, first->length).text() == "one" && first->number == numbers[0]);
+    same("the second", true, server.read().has_value());
+    same("no third", false, server.read().has_value());
+    server.stop_reading();
+    same("one more", DCCP_OK, client.send("x"));
+    both.settle();
+    same("it is dropped", 1, both.of_server.back().code);
+    same("and so no more", DCCP_NOT_LISTENING, client.send("x"));
+}
+
 // A relay between a client and a server of this process, which loses every fifth packet of data that goes to the server.
 class relay {
   public:
@@ -177,14 +397,6 @@ class relay {
     int lost = 0;
 
   private:
-    static sockaddr_in loopback(uint16_t port) {
-        sockaddr_in it{};
-        it.sin_family = AF_INET;
-        it.sin_port = htons(port);
-        it.sin_addr.s_addr = htonl(INADDR_LOOPBACK);
-        return it;
-    }
-
     int front_, back_, data_ = 0;
     sockaddr_in client_{};
 };
@@ -330,6 +542,11 @@ int main() {
     a_full_window();
     a_full_server();
     a_socket_that_goes();
+    a_client_that_comes_back();
+    a_server_that_was_started_again(false);
+    a_server_that_was_started_again(true);
+    a_share_for_each_host();
+    data_that_wait();
     losses();
     refusals();
     a_silent_client();
