@@ -94,7 +94,7 @@ impl Options {
         self
     }
 
-    /// How many connections a listener has at a time; 1,000 by default. Each takes some 90 KB. One more Request takes the place of the
+    /// How many connections a listener has at a time; 1,000 by default. Each takes 123 KB. One more Request takes the place of the
     /// connection that has ended, or not opened, for the longest time, if that is at least a second. Otherwise it gets no answer, and its
     /// client asks again; if all are open, it is answered by a Reset with code 9.
     pub fn most_connections(mut self, most: usize) -> Options {
