@@ -1,4 +1,5 @@
 """Reads crates.txt, the map of crates/."""
+import shutil
 from pathlib import Path
 
 TOP = Path(__file__).resolve().parent.parent
@@ -31,3 +32,12 @@ def program_of(crate):
         needed |= more
         more = {it for name in more for it in every[name] if it in every} - needed
     return {name: used for name, used in every.items() if name in needed}
+
+
+def copy_to(room, needed):
+    """Makes a repository of these crates, without their must-fail edits."""
+    for crate in needed:
+        shutil.copytree(TOP / "crates" / crate, room / "crates" / crate, ignore=shutil.ignore_patterns("out", "must-fail"))
+    lines = [" ".join([f"{crate}:", *used]) + "\n" for crate, used in needed.items()]
+    (room / "crates.txt").write_text("".join(lines), encoding="utf-8")
+    shutil.copyfile(TOP / "HANDLES", room / "HANDLES")
