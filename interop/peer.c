@@ -8,7 +8,7 @@
  * Words of both ends, each with a value:
  *   service N  send N  size N  gap MILLISECONDS   what is sent: N packets of that size, each with its number in the first four bytes
  *   receive N      is done once so many came            wait SECONDS   gives up then
- *   first peer     sends nothing before something came   ccid 3,2       asks for these, best first
+ *   after N        sends nothing before so many came     ccid 3,2       asks for these, best first
  *   close own      closes once done; close peer waits for the other end's close; close abort resets
  *   quiet MILLISECONDS   how long it waits before it closes      family 6       over IPv6      port N        a client's own port
  */
@@ -37,8 +37,8 @@
 enum { MOST_PACKET = 65535, MOST_INDEX = 1 << 20 };
 
 struct plan {
-    uint32_t service, send, size, gap, receive, wait, quiet, port;
-    bool peer_first, is_v6;
+    uint32_t service, send, size, gap, receive, after, wait, quiet, port;
+    bool is_v6;
     enum { OWN, PEER, ABORT } close;
     uint8_t ccids[4];
     uint32_t ccid_count;
@@ -144,8 +144,8 @@ static struct plan planned(char **words)
             plan.quiet = number;
         else if (!strcmp(word, "port"))
             plan.port = number;
-        else if (!strcmp(word, "first"))
-            plan.peer_first = !strcmp(value, "peer");
+        else if (!strcmp(word, "after"))
+            plan.after = number;
         else if (!strcmp(word, "family"))
             plan.is_v6 = number == 6;
         else if (!strcmp(word, "close"))
@@ -247,7 +247,7 @@ static void play(int end, const struct plan *plan)
     while (milliseconds() < limit) {
         if (!hear(end, &counts))
             break;
-        bool may_speak = !plan->peer_first || counts.received > 0;
+        bool may_speak = counts.received >= plan->after;
         if (may_speak && counts.sent < plan->send && milliseconds() >= next) {
             uint32_t before = counts.sent;
             speak(end, plan, &counts);

@@ -2,7 +2,7 @@
 
 use crate::kernel::Told;
 use crate::own::{Counts, End, Plan, Role};
-use crate::wire::{ACK_RATIO, Addresses, Numbered, Passed, SEQUENCE_WINDOW};
+use crate::wire::{ACK_RATIO, Addresses, Numbered, Passed, Path, SEQUENCE_WINDOW, Speaker};
 use dccp::{Feature, Place};
 use std::time::Duration;
 
@@ -15,13 +15,13 @@ pub struct Outcome {
     pub sent: Passed,
     /// What the kernel's end sent.
     pub came: Passed,
+    /// Which end sent the first packet with data, and which the last.
+    pub speakers: Option<(Speaker, Speaker)>,
 }
 
 pub struct Case {
     pub name: &'static str,
-    pub addresses: Addresses,
-    /// Per cent of the packets, each way.
-    pub loss: u64,
+    pub path: Path,
     pub plan: Plan,
     /// The words of the helper, if the kernel has an end.
     pub kernel: Option<String>,
@@ -53,8 +53,9 @@ fn plan(role: Role) -> Plan {
         send: 2_000,
         size: 100,
         expect: 2_000,
-        peer_first: false,
+        after: 0,
         end: End::Closes,
+        serves_again: false,
         offers: offers(role),
         prefers: Vec::new(),
         reads: Vec::new(),
@@ -84,8 +85,11 @@ fn transfer(
     let wait: u64 = if loss < 20 { 58 } else { 500 };
     Case {
         name,
-        addresses,
-        loss,
+        path: Path {
+            addresses,
+            loss,
+            lost_reset: None,
+        },
         plan: Plan {
             size,
             send: packets,
@@ -130,6 +134,13 @@ fn brief(name: &'static str, role: Role, words: &str) -> Case {
     case
 }
 
+fn reads_what_the_kernel_asks(plan: &mut Plan) {
+    plan.reads = vec![
+        (Feature::SequenceWindow, Place::There),
+        (Feature::AckRatio, Place::There),
+    ];
+}
+
 fn unless(holds: bool, fault: impl FnOnce() -> String) -> Option<String> {
     (!holds).then(fault)
 }
@@ -141,6 +152,7 @@ fn all_was_taken(outcome: &Outcome) -> Vec<String> {
         kernel,
         sent,
         came,
+        speakers: _,
     } = outcome;
     let ours = sent.data - sent.lost_data;
     let theirs = came.data - came.lost_data;
@@ -174,7 +186,7 @@ fn carried(case: &Case, outcome: &Outcome) -> Vec<String> {
     faults.extend(unless(outcome.kernel.sent == case.plan.expect, || {
         format!("the kernel sent {}", outcome.kernel.sent)
     }));
-    if case.loss == 0 {
+    if case.path.loss == 0 {
         faults.extend(unless(outcome.own.ended == Some(1), || {
             format!("our end ended by {:?}", outcome.own.ended)
         }));
@@ -184,6 +196,23 @@ fn carried(case: &Case, outcome: &Outcome) -> Vec<String> {
         ));
     }
     faults
+}
+
+/// The data went one way first, and then the other.
+fn spoke(case: &Case, outcome: &Outcome, first: Speaker, last: Speaker) -> Vec<String> {
+    let mut faults = carried(case, outcome);
+    faults.extend(unless(outcome.speakers == Some((first, last)), || {
+        format!("first and last spoke {:?}", outcome.speakers)
+    }));
+    faults
+}
+
+fn we_spoke_first(case: &Case, outcome: &Outcome) -> Vec<String> {
+    spoke(case, outcome, Speaker::Own, Speaker::Kernel)
+}
+
+fn the_kernel_spoke_first(case: &Case, outcome: &Outcome) -> Vec<String> {
+    spoke(case, outcome, Speaker::Kernel, Speaker::Own)
 }
 
 /// The first wish of our end is settled at this value.
@@ -349,6 +378,51 @@ fn met_by_its_old_end(_: &Case, outcome: &Outcome) -> Vec<String> {
     .collect()
 }
 
+/// Our end forgot its connection, and answers the kernel's next packet by a Reset of code 3, which ends the kernel's.
+fn forgotten_by_us(_: &Case, outcome: &Outcome) -> Vec<String> {
+    [
+        unless(outcome.own.was_open, || {
+            "our end was never OPEN".to_string()
+        }),
+        unless(outcome.sent.reset == Some(3), || {
+            format!("our Reset is {:?}", outcome.sent.reset)
+        }),
+        unless(
+            matches!(outcome.kernel.end.as_str(), "fault" | "closed"),
+            || format!("the kernel's end: {}", outcome.kernel.end),
+        ),
+    ]
+    .into_iter()
+    .flatten()
+    .collect()
+}
+
+/// The kernel forgot its connection, and answers our next packet by a Reset of code 3, which ends ours.
+fn forgotten_by_the_kernel(_: &Case, outcome: &Outcome) -> Vec<String> {
+    let ended = outcome.own.ended;
+    unless(outcome.own.was_open && ended == Some(3), || {
+        format!("our end ended by {ended:?}")
+    })
+    .into_iter()
+    .collect()
+}
+
+/// Our old end answers the Request of the new connection by Syncs, until the kernel's Reset ends it (RFC 4340, section 7.5.5); all data of both
+/// connections were taken.
+fn met_by_our_old_end(_: &Case, outcome: &Outcome) -> Vec<String> {
+    let mut faults = all_was_taken(outcome);
+    faults.extend(unless(
+        outcome.sent.syncs > 0 && outcome.came.reset == Some(4) && outcome.own.ended == Some(1),
+        || {
+            format!(
+                "{} Syncs of ours, the kernel's Reset {:?}, our end ended by {:?}",
+                outcome.sent.syncs, outcome.came.reset, outcome.own.ended
+            )
+        },
+    ));
+    faults
+}
+
 /// Our end vanished; what of its successor's connection came is asked by the next case.
 fn left(_: &Case, outcome: &Outcome) -> Vec<String> {
     unless(outcome.own.was_open, || {
@@ -397,11 +471,26 @@ fn listed() -> Vec<Case> {
         transfer("client-ipv6", Client, V6, 0, 100, 500),
         transfer("server-ipv6", Server, V6, 0, 100, 500),
         transfer("client-ipv6-5%", Client, V6, 5, 100, 500),
-        clean("kernel-speaks-last", Client, 200, "first peer", |_| {}),
-        clean("we-speak-last", Server, 200, "", |plan| {
-            plan.peer_first = true
-        }),
-        clean("we-speak-first", Client, 200, "first peer", |_| {}),
+        Case {
+            verdict: we_spoke_first,
+            ..clean("we-speak-first-as-client", Client, 200, "after 200", |_| {})
+        },
+        Case {
+            verdict: we_spoke_first,
+            ..clean("we-speak-first-as-server", Server, 200, "after 200", |_| {})
+        },
+        Case {
+            verdict: the_kernel_spoke_first,
+            ..clean("kernel-speaks-first-as-client", Server, 200, "", |plan| {
+                plan.after = 200
+            })
+        },
+        Case {
+            verdict: the_kernel_spoke_first,
+            ..clean("kernel-speaks-first-as-server", Client, 200, "", |plan| {
+                plan.after = 200
+            })
+        },
         clean(
             "kernel-closes-as-client",
             Server,
@@ -469,11 +558,29 @@ fn listed() -> Vec<Case> {
         },
         Case {
             verdict: kernel_asked,
-            ..clean("kernel-asks-while-open", Server, 2_000, "", |plan| {
-                plan.reads = vec![
-                    (Feature::SequenceWindow, Place::There),
-                    (Feature::AckRatio, Place::There),
-                ]
+            ..clean(
+                "kernel-asks-while-open-as-client",
+                Server,
+                2_000,
+                "",
+                reads_what_the_kernel_asks,
+            )
+        },
+        Case {
+            verdict: kernel_asked,
+            ..clean(
+                "kernel-asks-while-open-as-server",
+                Client,
+                2_000,
+                "",
+                reads_what_the_kernel_asks,
+            )
+        },
+        Case {
+            verdict: carried_and_wished,
+            ..clean("ack-ratio-as-server", Server, 500, "", |plan| {
+                plan.prefers = vec![(Feature::AckRatio, Place::Here, vec![4])];
+                plan.keeps_ack_ratio = true;
             })
         },
         Case {
@@ -597,17 +704,48 @@ fn listed() -> Vec<Case> {
         },
         clean("we-come-again", Client, 200, "", |_| {}),
         Case {
-            verdict: left,
+            verdict: forgotten_by_us,
             ..clean(
-                "the-kernel-restarts",
+                "we-restart-as-server",
                 Server,
-                50,
-                "wait 3 close abort",
-                |plan| plan.limit = Duration::from_secs(10),
+                20,
+                "send 200 gap 20 wait 10",
+                |plan| (plan.end, plan.limit) = (End::Restarts, Duration::from_secs(10)),
             )
         },
-        clean("the-kernel-comes-again", Server, 200, "", |plan| {
-            plan.first = 1 << 44
-        }),
+        forgetting("the-kernel-restarts-as-server", Client),
+        forgetting("the-kernel-restarts-as-client", Server),
+        coming_again(),
     ]
+}
+
+/// The kernel's end is gone without a word, as after a new start of the machine: the Reset of its abort is lost.
+fn forgetting(name: &'static str, role: Role) -> Case {
+    let mut case = clean(
+        name,
+        role,
+        200,
+        "send 50 receive 50 close abort quiet 10",
+        |plan| plan.limit = Duration::from_secs(20),
+    );
+    case.path.lost_reset = Some(2);
+    case.verdict = forgotten_by_the_kernel;
+    case
+}
+
+/// The same, and a new end of the kernel's comes from the port of the old one, to our server that still has that connection.
+fn coming_again() -> Case {
+    let first = "client 10.9.0.1 5001 port 40600 send 50 wait 20 close abort quiet 300";
+    let second = "client 10.9.0.1 5001 port 40600 send 200 wait 30 close peer";
+    let mut case = clean(
+        "the-kernel-comes-again-from-that-port",
+        Role::Server,
+        250,
+        "",
+        |plan| (plan.send, plan.serves_again) = (0, true),
+    );
+    case.kernel = Some(format!("{first} > /tmp/first; /peer {second}"));
+    case.path.lost_reset = Some(2);
+    case.verdict = met_by_our_old_end;
+    case
 }

@@ -31,7 +31,7 @@ fn played(
     captures: &Path,
 ) -> Result<Outcome, Box<dyn Error>> {
     let capture = captures.join(format!("{}.pcap", case.name));
-    wire.begin(&capture, case.addresses, case.loss)?;
+    wire.begin(&capture, case.path)?;
     let mut told = None;
     if let Some(words) = &case.kernel {
         kernel.start(words)?;
@@ -58,6 +58,7 @@ fn played(
         kernel: kernel_told,
         sent: wire.sent.clone(),
         came: wire.came.clone(),
+        speakers: wire.speakers,
     })
 }
 

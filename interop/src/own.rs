@@ -26,6 +26,8 @@ pub enum End {
     Waits,
     /// Falls silent without a word once all has gone both ways.
     Vanishes,
+    /// Forgets its connection without a word once all has gone both ways, and goes on as a server that has none.
+    Restarts,
 }
 
 /// What our end does.
@@ -41,9 +43,11 @@ pub struct Plan {
     pub size: usize,
     /// How many packets with data the kernel's end will send.
     pub expect: u32,
-    /// Sends nothing before something came.
-    pub peer_first: bool,
+    /// Sends nothing before so many packets with data came.
+    pub after: u32,
     pub end: End,
+    /// Once a connection of our server has ended, it waits for another one.
+    pub serves_again: bool,
     /// Offers in the handshake.
     pub offers: Vec<(Feature, Place, Vec<u64>)>,
     /// What it asks for after the first packets.
@@ -53,6 +57,22 @@ pub struct Plan {
     /// Whether the owner's rules leave the Ack Ratio to this plan.
     pub keeps_ack_ratio: bool,
     pub limit: Duration,
+}
+
+impl Plan {
+    /// An end's configuration with what the plan offers, and the rules that it leaves to the owner.
+    fn configured(&self, config: Config) -> Config {
+        let offers = self.offers.iter();
+        let config = offers.fold(config, |config, (feature, place, values)| {
+            config.offer(*feature, *place, values)
+        });
+        if self.keeps_ack_ratio {
+            // A probe, too, is a wish for the Ack Ratio.
+            config.without(PathRule::AckRatio).without(PathRule::Probes)
+        } else {
+            config
+        }
+    }
 }
 
 /// What our end has counted.
@@ -103,18 +123,7 @@ impl<'a> Own<'a> {
                 plan.first,
             ),
         };
-        let config = plan
-            .offers
-            .iter()
-            .fold(config, |config, (feature, place, values)| {
-                config.offer(*feature, *place, values)
-            });
-        let config = if plan.keeps_ack_ratio {
-            // A probe, too, is a wish for the Ack Ratio.
-            config.without(PathRule::AckRatio).without(PathRule::Probes)
-        } else {
-            config
-        };
+        let config = plan.configured(config);
         let mut own = Own {
             plan,
             wire,
@@ -222,6 +231,11 @@ impl<'a> Own<'a> {
             }
         }
         self.counts.was_open |= connection.phase() == Phase::Open;
+        if self.plan.serves_again && matches!(connection.phase(), Phase::Closed | Phase::TimeWait) {
+            self.flush()?;
+            self.connection = None;
+            self.seen.clear();
+        }
         Ok(())
     }
 
@@ -251,13 +265,7 @@ impl<'a> Own<'a> {
             self.plan.service,
             self.plan.first,
         );
-        self.config = self
-            .plan
-            .offers
-            .iter()
-            .fold(config, |config, (feature, place, values)| {
-                config.offer(*feature, *place, values)
-            });
+        self.config = self.plan.configured(config);
         match Connection::accept(&self.config, packet, now)? {
             Accepted::Connection(connection) if connection.phase() != Phase::Closed => {
                 self.connection = Some(*connection);
@@ -284,7 +292,7 @@ impl<'a> Own<'a> {
                 let _ = connection.prefer(*feature, *place, values, now);
             }
         }
-        if !self.plan.peer_first || self.counts.received > 0 {
+        if self.counts.received >= self.plan.after {
             while self.counts.sent < self.plan.send
                 && connection
                     .send(&payload(self.counts.sent, self.plan.size), now)
@@ -294,17 +302,21 @@ impl<'a> Own<'a> {
                 self.moved = now;
             }
         }
+        let all_went = self.counts.sent == self.plan.send && all_came;
+        if all_went && self.plan.end == End::Restarts {
+            self.connection = None;
+            return;
+        }
         let is_quiet = self.moved.elapsed()
             > Duration::from_secs(if connection.in_flight() == 0 { 1 } else { 4 });
-        let is_done = self.counts.sent == self.plan.send && all_came && is_quiet;
-        if !is_done || connection.phase() != Phase::Open {
+        if !(all_went && is_quiet) || connection.phase() != Phase::Open {
             return;
         }
         match self.plan.end {
             End::Closes => drop(connection.close(now)),
             End::Aborts => drop(connection.abort(now)),
             End::Vanishes => self.connection = None,
-            End::Waits => {}
+            End::Waits | End::Restarts => {}
         }
     }
 

@@ -4,7 +4,6 @@ use std::fs::File;
 use std::io::{self, BufWriter, Read, Write};
 use std::net::{IpAddr, Ipv4Addr, Ipv6Addr};
 use std::os::unix::net::UnixStream;
-use std::path::Path;
 use std::sync::mpsc::{Receiver, RecvTimeoutError, channel};
 use std::thread;
 use std::time::{Duration, SystemTime, UNIX_EPOCH};
@@ -35,6 +34,23 @@ impl Addresses {
             Addresses::V6 => Ipv6Addr::new(0xfd00, 9, 0, 0, 0, 0, 0, 2).into(),
         }
     }
+}
+
+/// What the wire is in a case.
+#[derive(Clone, Copy)]
+pub struct Path {
+    pub addresses: Addresses,
+    /// Per cent of the packets that are lost, each way.
+    pub loss: u64,
+    /// Resets of the kernel with this code are lost, too.
+    pub lost_reset: Option<u8>,
+}
+
+/// An end that sends data.
+#[derive(Clone, Copy, Debug, PartialEq, Eq)]
+pub enum Speaker {
+    Own,
+    Kernel,
 }
 
 /// A feature whose value is a number, as an option names it (RFC 4340, section 6.4), and that number.
@@ -85,16 +101,16 @@ pub struct Wire {
     to_kernel: UnixStream,
     from_kernel: Receiver<Vec<u8>>,
     capture: Option<BufWriter<File>>,
-    addresses: Addresses,
-    /// Per cent of the packets each way.
-    loss: u64,
+    path: Path,
     dice: Dice,
     pub sent: Passed,
     pub came: Passed,
+    /// Which end sent the first packet with data, and which the last.
+    pub speakers: Option<(Speaker, Speaker)>,
 }
 
 impl Wire {
-    pub fn over(socket: &Path) -> io::Result<Wire> {
+    pub fn over(socket: &std::path::Path) -> io::Result<Wire> {
         let to_kernel = UnixStream::connect(socket)?;
         let mut stream = to_kernel.try_clone()?;
         let (sender, from_kernel) = channel();
@@ -113,24 +129,28 @@ impl Wire {
             to_kernel,
             from_kernel,
             capture: None,
-            addresses: Addresses::V4,
-            loss: 0,
+            path: Path {
+                addresses: Addresses::V4,
+                loss: 0,
+                lost_reset: None,
+            },
             dice: Dice(1),
             sent: Passed::default(),
             came: Passed::default(),
+            speakers: None,
         })
     }
 
     /// Begins a case: what is still under way is let go, and a new capture begun.
-    pub fn begin(&mut self, capture: &Path, addresses: Addresses, loss: u64) -> io::Result<()> {
+    pub fn begin(&mut self, capture: &std::path::Path, path: Path) -> io::Result<()> {
         while self.from_kernel.try_recv().is_ok() {}
         let mut file = BufWriter::new(File::create(capture)?);
         file.write_all(&[0xd4, 0xc3, 0xb2, 0xa1, 2, 0, 4, 0, 0, 0, 0, 0, 0, 0, 0, 0])?;
         file.write_all(&65_535u32.to_le_bytes())?;
         file.write_all(&LINK.to_le_bytes())?;
         self.capture = Some(file);
-        (self.addresses, self.loss, self.dice) = (addresses, loss, Dice(0x9e37_79b9_7f4a_7c15));
-        (self.sent, self.came) = (Passed::default(), Passed::default());
+        (self.path, self.dice) = (path, Dice(0x9e37_79b9_7f4a_7c15));
+        (self.sent, self.came, self.speakers) = (Passed::default(), Passed::default(), None);
         Ok(())
     }
 
@@ -139,14 +159,14 @@ impl Wire {
     }
 
     pub fn addresses(&self) -> Addresses {
-        self.addresses
+        self.path.addresses
     }
 
     /// Sends a DCCP packet to the kernel, unless it is lost.
     pub fn send(&mut self, packet: &[u8]) -> io::Result<()> {
-        let is_lost = self.dice.percent() < self.loss;
-        count(&mut self.sent, packet, is_lost);
-        let datagram = match self.addresses {
+        let is_lost = self.dice.percent() < self.path.loss;
+        self.hear(Speaker::Own, packet, is_lost);
+        let datagram = match self.path.addresses {
             Addresses::V4 => in_ipv4(packet),
             Addresses::V6 => in_ipv6(packet),
         };
@@ -169,11 +189,26 @@ impl Wire {
         let Some(packet) = dccp_of(&datagram) else {
             return Ok(None);
         };
-        let is_lost = self.dice.percent() < self.loss;
-        count(&mut self.came, packet, is_lost);
+        let is_cut = reset_code(packet).is_some_and(|code| self.path.lost_reset == Some(code));
+        let is_lost = self.dice.percent() < self.path.loss || is_cut;
         let packet = packet.to_vec();
+        self.hear(Speaker::Kernel, &packet, is_lost);
         self.keep(&datagram)?;
         Ok((!is_lost).then_some(packet))
+    }
+
+    /// Counts a packet of an end.
+    fn hear(&mut self, end: Speaker, packet: &[u8], is_lost: bool) {
+        let passed = match end {
+            Speaker::Own => &mut self.sent,
+            Speaker::Kernel => &mut self.came,
+        };
+        let before = passed.data;
+        count(passed, packet, is_lost);
+        if before < passed.data {
+            let first = self.speakers.map_or(end, |(first, _)| first);
+            self.speakers = Some((first, end));
+        }
     }
 
     fn keep(&mut self, datagram: &[u8]) -> io::Result<()> {
@@ -194,6 +229,11 @@ impl Wire {
 /// The type of a DCCP packet (RFC 4340, section 5.1).
 fn kind(packet: &[u8]) -> Option<u8> {
     packet.get(8).map(|it| it >> 1 & 15)
+}
+
+/// The code of a Reset, which follows two numbers of eight bytes (RFC 4340, section 5.6).
+fn reset_code(packet: &[u8]) -> Option<u8> {
+    (kind(packet) == Some(7)).then(|| packet.get(24).copied())?
 }
 
 /// The options of a packet of an open connection: Data, Ack, DataAck, Sync and SyncAck, with numbers of six bytes (RFC 4340, section 5).
@@ -240,8 +280,7 @@ fn count(passed: &mut Passed, packet: &[u8], is_lost: bool) {
             passed.lost_data += u32::from(is_lost);
         }
         Some(8 | 9) => passed.syncs += 1,
-        // Its code follows two numbers of eight bytes.
-        Some(7) => passed.reset = packet.get(24).copied(),
+        Some(7) => passed.reset = reset_code(packet),
         _ => {}
     }
 }
