@@ -407,7 +407,7 @@ fn forgotten_by_the_kernel(_: &Case, outcome: &Outcome) -> Vec<String> {
     .collect()
 }
 
-/// Our old end answers the Request of the new connection by Syncs, until the kernel's Reset ends it (RFC 4340, section 7.5.5); all data of both
+/// Our old end answers the Request of the new connection by Syncs, until the kernel's Reset ends it (RFC 4340, section 7.5.6); all data of both
 /// connections were taken.
 fn met_by_our_old_end(_: &Case, outcome: &Outcome) -> Vec<String> {
     let mut faults = all_was_taken(outcome);
@@ -464,8 +464,8 @@ fn listed() -> Vec<Case> {
         transfer("server-5%", Server, V4, 5, 100, 2_000),
         transfer("client-20%", Client, V4, 20, 100, 2_000),
         transfer("server-20%", Server, V4, 20, 100, 2_000),
-        transfer("client-large", Client, V4, 0, 1_024, 500),
-        transfer("server-large", Server, V4, 0, 1_024, 500),
+        transfer("client-large", Client, V4, 0, 1_400, 500),
+        transfer("server-large", Server, V4, 0, 1_400, 500),
         transfer("client-small", Client, V4, 0, 4, 500),
         transfer("server-small", Server, V4, 0, 4, 500),
         transfer("client-ipv6", Client, V6, 0, 100, 500),
@@ -539,13 +539,13 @@ fn listed() -> Vec<Case> {
         },
         Case {
             verdict: carried_and_wished,
-            ..clean("sequence-window-while-open", Client, 500, "", |plan| {
+            ..clean("sequence-window-as-client", Client, 500, "", |plan| {
                 plan.prefers = vec![(Feature::SequenceWindow, Place::Here, vec![5_000])]
             })
         },
         Case {
             verdict: carried_and_wished,
-            ..clean("ack-ratio-while-open", Client, 500, "", |plan| {
+            ..clean("ack-ratio-as-client", Client, 500, "", |plan| {
                 plan.prefers = vec![(Feature::AckRatio, Place::Here, vec![4])];
                 plan.keeps_ack_ratio = true;
             })
