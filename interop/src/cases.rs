@@ -744,7 +744,7 @@ fn coming_again() -> Case {
         "",
         |plan| (plan.send, plan.serves_again) = (0, true),
     );
-    case.kernel = Some(format!("{first} > /tmp/first; /peer {second}"));
+    case.kernel = Some(format!("{first} > /dev/null; /peer {second}"));
     case.path.lost_reset = Some(2);
     case.verdict = met_by_our_old_end;
     case
