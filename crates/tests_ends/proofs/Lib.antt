@@ -20,6 +20,7 @@ pub mod RowsNegotiations
 pub mod RowsNumbers
 pub mod RowsOffers
 pub mod RowsOptions
+pub mod RowsOwners
 pub mod RowsPairs
 pub mod RowsPaths
 pub mod RowsPrefers
