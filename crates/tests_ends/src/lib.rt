@@ -16,8 +16,6 @@ mod every_call;
 #[cfg(test)]
 mod features;
 #[cfg(test)]
-mod greetings;
-#[cfg(test)]
 mod inboxes;
 #[cfg(test)]
 mod listeners;

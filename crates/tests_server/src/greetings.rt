@@ -71,18 +71,31 @@ fn met(server: &mut Server, last: u8, bytes: &[u8], now: u64, out: &mut Outbox) 
     Some(server.meet(peer(last), first, bytes, now, out).way)
 }
 
-// A client's Request, the client, and its Ack with the cookie of the Response that this server gives.
-fn acked(alloc: Global, server: &mut Server, out: &mut Outbox) -> Option<Frame> {
+fn client(alloc: Global) -> Option<Endpoint<Kinds>> {
     let congestion = Kinds::new(alloc).ok()?;
-    let mut client = Endpoint::new(alloc, Config::usual(Role::Client), congestion).ok()?;
+    Endpoint::new(alloc, Config::usual(Role::Client), congestion).ok()
+}
+
+fn request(client: &mut Endpoint<Kinds>, out: &mut Outbox) -> Option<Frame> {
     client.open(out).ok()?;
-    let request = frame_in(out)?;
-    if met(server, 1, request.bytes(), 100, out)? != Way::Greeted || server.flows() != 0 {
+    frame_in(out)
+}
+
+// The Response of a server that makes no flow for this Request.
+fn greeting(server: &mut Server, request: &[u8], out: &mut Outbox) -> Option<Frame> {
+    if met(server, 1, request, 100, out)? != Way::Greeted || server.flows() != 0 {
         return None;
     }
-    let response = frame_in(out)?;
-    let _ = client.receive(response.bytes(), out);
-    let cookie = cookie_of(response.bytes());
+    frame_in(out)
+}
+
+// The client's Ack with the cookie of this Response.
+fn returned(client: &mut Endpoint<Kinds>, response: &[u8], out: &mut Outbox) -> Option<Frame> {
+    if 2044 < response.len() {
+        return None;
+    }
+    let _ = client.receive(response, out);
+    let cookie = cookie_of(response);
     if 255 < cookie.len() {
         return None;
     }
@@ -90,23 +103,41 @@ fn acked(alloc: Global, server: &mut Server, out: &mut Outbox) -> Option<Frame> 
     frame_in(out)
 }
 
-// The Request makes no flow, a stranger gains nothing by the cookie, and the client's Ack opens one.
-fn opens(alloc: Global) -> Option<bool> {
-    let mut server = server(alloc, CookieUse::Always)?;
-    let mut out = Outbox::new();
-    let ack = acked(alloc, &mut server, &mut out)?;
-    let stolen = met(&mut server, 3, ack.bytes(), 150, &mut out)?;
-    let late = met(&mut server, 1, ack.bytes(), 120_101, &mut out)?;
-    let opened = met(&mut server, 1, ack.bytes(), 150, &mut out)?;
-    let heard = met(&mut server, 1, ack.bytes(), 160, &mut out)?;
+fn exchanged(client: &mut Endpoint<Kinds>, server: &mut Server, out: &mut Outbox) -> Option<Frame> {
+    let request = request(client, out)?;
+    let response = greeting(server, request.bytes(), out)?;
+    returned(client, response.bytes(), out)
+}
+
+// A client's Ack with the cookie that this server gives.
+fn acked(alloc: Global, server: &mut Server, out: &mut Outbox) -> Option<Frame> {
+    exchanged(&mut client(alloc)?, server, out)
+}
+
+// A stranger gains nothing by the cookie, nor does who comes late, and the Ack opens a flow.
+fn opens_by(server: &mut Server, ack: &[u8], out: &mut Outbox) -> Option<bool> {
+    let stolen = met(server, 3, ack, 150, out)?;
+    let late = met(server, 1, ack, 120_101, out)?;
+    let opened = met(server, 1, ack, 150, out)?;
+    let heard = met(server, 1, ack, 160, out)?;
     Some(
         stolen == Way::Plain
             && late == Way::Plain
             && opened == Way::Reopened
             && heard == Way::Plain
             && server.flows() == 1
-            && is_open(&server, peer(1)),
+            && is_open(server, peer(1)),
     )
+}
+
+fn opens_at(alloc: Global, server: &mut Server) -> Option<bool> {
+    let mut out = Outbox::new();
+    let ack = acked(alloc, server, &mut out)?;
+    opens_by(server, ack.bytes(), &mut out)
+}
+
+fn opens(alloc: Global) -> Option<bool> {
+    opens_at(alloc, &mut server(alloc, CookieUse::Always)?)
 }
 
 // A Request from port 40000 to 5001 with number 1000 and service 42, from 10.0.0.1, 10.0.0.3 and 10.0.0.4.
@@ -123,34 +154,48 @@ const REQUESTS: [[u8; 20]; 3] = [
 ];
 
 // Of a table of two one may be half open without a crowd: the third stranger is greeted.
-fn greets_in_a_crowd(alloc: Global) -> Option<bool> {
-    let mut server = server(alloc, CookieUse::InACrowd)?;
+fn greets_third(server: &mut Server) -> Option<bool> {
     let mut out = Outbox::new();
-    let first = met(&mut server, 1, &REQUESTS[0], 100, &mut out)?;
-    let second = met(&mut server, 3, &REQUESTS[1], 100, &mut out)?;
-    let third = met(&mut server, 4, &REQUESTS[2], 100, &mut out)?;
+    let first = met(server, 1, &REQUESTS[0], 100, &mut out)?;
+    let second = met(server, 3, &REQUESTS[1], 100, &mut out)?;
+    let third = met(server, 4, &REQUESTS[2], 100, &mut out)?;
     Some(
         first == Way::Plain && second == Way::Plain && third == Way::Greeted && server.flows() == 2,
     )
 }
 
+fn greets_in_a_crowd(alloc: Global) -> Option<bool> {
+    greets_third(&mut server(alloc, CookieUse::InACrowd)?)
+}
+
+// An Ack with a cookie of a server of the same key.
+fn foreign_ack(alloc: Global) -> Option<Frame> {
+    acked(
+        alloc,
+        &mut server(alloc, CookieUse::Always)?,
+        &mut Outbox::new(),
+    )
+}
+
 // Whoever returns a cookie takes the place of the flow that has been half open for longest.
-fn takes_a_place(alloc: Global) -> Option<bool> {
-    let mut giver = server(alloc, CookieUse::Always)?;
+fn makes_way(server: &mut Server, ack: &[u8]) -> Option<bool> {
     let mut out = Outbox::new();
-    let ack = acked(alloc, &mut giver, &mut out)?;
-    let mut server = server(alloc, CookieUse::InACrowd)?;
-    let first = met(&mut server, 3, &REQUESTS[1], 50, &mut out)?;
-    let second = met(&mut server, 4, &REQUESTS[2], 60, &mut out)?;
-    let opened = met(&mut server, 1, ack.bytes(), 150, &mut out)?;
+    let first = met(server, 3, &REQUESTS[1], 50, &mut out)?;
+    let second = met(server, 4, &REQUESTS[2], 60, &mut out)?;
+    let opened = met(server, 1, ack, 150, &mut out)?;
     Some(
         first == Way::Plain
             && second == Way::Plain
             && opened == Way::Reopened
             && server.flow(peer(3)).is_none()
             && server.flow(peer(4)).is_some()
-            && is_open(&server, peer(1)),
+            && is_open(server, peer(1)),
     )
+}
+
+fn takes_a_place(alloc: Global) -> Option<bool> {
+    let ack = foreign_ack(alloc)?;
+    makes_way(&mut server(alloc, CookieUse::InACrowd)?, ack.bytes())
 }
 
 // How a datagram of the first peer is met, and what is told first.
@@ -169,24 +214,31 @@ fn told(
     }
 }
 
-// A server of the same key opens a flow for the Ack, too, and tells its owner; not where it takes no new flows.
-fn tells(alloc: Global) -> Option<bool> {
-    let mut giver = server(alloc, CookieUse::Always)?;
+// A server opens a flow for the Ack, and tells its owner; not where it takes no new flows.
+fn tells_of(server: &mut EventServer, ack: &[u8]) -> Option<bool> {
     let mut out = Outbox::new();
-    let ack = acked(alloc, &mut giver, &mut out)?;
-    let mut server = EventServer::new(alloc, config()?, Pace::usual(), Rules::usual());
-    server.rekey([7; 32], 0);
     server.set_shut(true);
-    let shut = told(&mut server, ack.bytes(), &mut out)?;
+    let shut = told(server, ack, &mut out)?;
     let kept = server.server().flows();
     server.set_shut(false);
-    let opened = told(&mut server, ack.bytes(), &mut out)?;
+    let opened = told(server, ack, &mut out)?;
     let event = FlowEvent {
         peer: peer(1),
         user: 0,
         kind: EventKind::Opened,
     };
     Some(shut == (Way::Plain, None) && kept == 0 && opened == (Way::Reopened, Some(event)))
+}
+
+fn event_server(alloc: Global) -> Option<EventServer> {
+    let mut server = EventServer::new(alloc, config()?, Pace::usual(), Rules::usual());
+    server.rekey([7; 32], 0);
+    Some(server)
+}
+
+fn tells(alloc: Global) -> Option<bool> {
+    let ack = foreign_ack(alloc)?;
+    tells_of(&mut event_server(alloc)?, ack.bytes())
 }
 
 #[test]
