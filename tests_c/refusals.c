@@ -713,7 +713,7 @@ static void cookies(void) {
     same("which opens none", 1, dccp_listener_flows(&listener));
     dccp_listener_free(&listener);
     dccp_free(&one);
-    same("blocks behind free", 0, held);
+    same("blocks after free", 0, held);
 }
 
 /* The same of a server with an end for each peer. */
@@ -752,7 +752,7 @@ static void cookies_of_ends(void) {
     same("a client in PARTOPEN or OPEN", true, look(&one).phase == DCCP_PHASE_PARTOPEN || look(&one).phase == DCCP_PHASE_OPEN);
     dccp_free(&one);
     dccp_free(&other);
-    same("blocks behind free", 0, held);
+    same("blocks after free", 0, held);
 }
 
 static void names_of_peers(void) {
@@ -1050,7 +1050,7 @@ static void data_of_a_flow_that_wait(void) {
     (void)sends_to(&listener, &end, "k", &answer, DCCP_EVENT_WAITS, &event);
     dccp_free(&end);
     dccp_listener_free(&listener);
-    same("blocks behind free", 0, held);
+    same("blocks after free", 0, held);
 }
 
 /* What a flow that makes no offers refuses, whose client sends no Ack Vectors, and after that client's Reset. */
