@@ -142,9 +142,23 @@ plain\nversion 2\n\
 => Input\n\
 line 2 column 1: HeaderLate\n";
 
+// A check without a report, and a report of one packet, which came unmarked.
+const NONCES: &str = "\
+~ ecn\n\
+check 0\n\
+=> Input\n\
+line 1 column 7: NoSuchFrame\n\
+~ ecn\n\
+send 1\ndeliver 0\nreport\n\
+=> Done\n\
+1 send 1: ok\n\
+2 deliver 0: new\n\
+3 report: vector 39 00\n\
+sent 1 reports 1\n";
+
 #[test]
 fn calls_in_pieces(rt: HostRuntime) -> Result<(), Fail> {
-    for cases in &[HANDSHAKES, DATA, TURNS, PEERS, CAPTURES, VERSIONS] {
+    for cases in &[HANDSHAKES, DATA, TURNS, PEERS, CAPTURES, VERSIONS, NONCES] {
         cases_come(&rt, rt.alloc(), (Tool::Dccp, Way::InPieces), *cases)?;
     }
     Ok(())
