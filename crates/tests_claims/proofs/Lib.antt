@@ -3,3 +3,5 @@ pub mod Going
 pub mod Saying
 pub mod Ending
 pub mod Received
+pub mod CookieRead
+pub mod Inboxed

@@ -2,7 +2,9 @@
 //! the calls and the laws that it names, and would no longer be proved where a clause of these said less. Nothing runs.
 #![tactic(auto)]
 
+pub mod cookies;
 pub mod ends;
+pub mod inboxes;
 pub mod paths;
 pub mod tables;
 pub mod tool;

@@ -1,0 +1,90 @@
+//! What a caller has of an inbox, and of two ends with inboxes.
+ghost use Rattle.std.specs.Prelude.{◌≡◌, ◌<◌, ◌≤◌, ◌^◌, ℕ, List, IsTrue, None, Ok, Some, Contains, drop, length, slice_get, take};
+ghost use Rattle.data_dropped.specs.Drops.{HaveCodes, code_at, drop_bytes, drop_code, tells_all};
+ghost use Rattle.data_dropped.specs.History.{InboxCall, history_after_all, no_history};
+ghost use Rattle.data_dropped.specs.Inbox.{InboxState};
+ghost use Rattle.data_dropped.specs.Telling.{TellsItsDrops, options_in_packet, report_in_packet};
+ghost use Rattle.data_dropped.specs.declared.drops.DropEntry.{DropEntry};
+ghost use Rattle.dccp_endpoint.specs.End.{EndState};
+ghost use Rattle.dccp_endpoint.specs.Receiving.{receives};
+ghost use Rattle.dccp_options.specs.Vectors.{Report, report_of, state_at};
+ghost use Rattle.dccp_packets.specs.Grammar.{Parts, decoded};
+ghost use Rattle.dccp_packets.specs.Outgoing.{Outgoing};
+ghost use Rattle.seq_circle.specs.Circle.{distance};
+ghost use Rattle.tests_claims.specs.Inboxed.{ReachedWithInboxes};
+ghost use Rattle.two_ends.specs.Reported.{processed_by};
+ghost use Rattle.two_ends.specs.Safe.{Safe};
+ghost use Rattle.two_ends.specs.World.{half_of};
+ghost use Rattle.two_ends.specs.declared.frames.SentFrame.{SentFrame};
+ghost use Rattle.two_inboxes.specs.Apart.{data_numbers};
+ghost use Rattle.two_inboxes.specs.Inboxes.{InboxPair, inbox_at};
+ghost use Rattle.world_events.specs.declared.event.Side.{Side};
+
+use congestion_trait::Congestion;
+use data_dropped::{a_report_of_drops_reads_back, what_is_kept_is_taken};
+use two_ends::every_run_is_safe;
+use two_inboxes::{
+    ends_with_inboxes_run_as_alone, frames_tell_of_what_was_taken, longer_frames_are_taken_alike,
+};
+
+/// Whatever is asked of an inbox, what was taken are the first data that were kept, and what it holds are the others
+/// (`taken`, `held`). It never holds more than it may (`within`).
+pub fn an_inbox_hands_over_what_it_kept()
+    ensures taken { (capacity : ℕ) (calls : List InboxCall) → take (length (history_after_all (no_history capacity) calls).taken)
+        (history_after_all (no_history capacity) calls).kept ≡ (history_after_all (no_history capacity) calls).taken }
+    ensures held { (capacity : ℕ) (calls : List InboxCall) → drop (length (history_after_all (no_history capacity) calls).taken)
+        (history_after_all (no_history capacity) calls).kept ≡ (history_after_all (no_history capacity) calls).held.items }
+    ensures within { (capacity : ℕ) (calls : List InboxCall) → capacity < length (history_after_all (no_history capacity) calls).held.items → ⊥ }
+{
+    what_is_kept_is_taken();
+}
+
+/// Of a report of drops a number has a code only where its data were dropped with it (`only`). Where the report is whole,
+/// each drop among the 2,048 numbers from its acknowledgement number down is in it (`all`). It fits one option (`fits`).
+pub fn a_report_tells_the_drops()
+    ensures only { (drops : List DropEntry) (ack n code : ℕ) → HaveCodes drops → ack < 2 ^ 48 → n < 2 ^ 48 → drop_code drops n ≡ None
+        → code_at ack (drop_bytes drops ack) n ≡ Some code → ⊥ }
+    ensures all { (drops : List DropEntry) (ack n code : ℕ) → HaveCodes drops → ack < 2 ^ 48 → n < 2 ^ 48 → IsTrue (tells_all drops ack)
+        → distance n ack ≤ 2047 → drop_code drops n ≡ Some code → code_at ack (drop_bytes drops ack) n ≡ Some code }
+    ensures fits { (drops : List DropEntry) (ack : ℕ) → 253 < length (drop_bytes drops ack) → ⊥ }
+{
+    a_report_of_drops_reads_back();
+}
+
+/// An end that takes a frame that an inbox has lengthened is the end that takes the frame as it was, and answers with the
+/// same frame (`alike`, `answered`).
+pub fn longer_frames_are_taken_as_shorter_ones()
+    ensures alike { (e : EndState) (held : InboxState) (own frame : Outgoing) → TellsItsDrops e.config.pseudo_in held own frame
+        → (receives e frame.bytes).after ≡ (receives e own.bytes).after }
+    ensures answered { (e : EndState) (held : InboxState) (own frame : Outgoing) → TellsItsDrops e.config.pseudo_in held own frame
+        → (receives e frame.bytes).frame ≡ (receives e own.bytes).frame }
+{
+    longer_frames_are_taken_alike();
+}
+
+/// After every schedule two ends with inboxes are safe, as two ends alone are.
+pub fn ends_with_inboxes_are_safe<C: Congestion>()
+    ensures { (w : InboxPair C) → ReachedWithInboxes C.control w → Safe C.control w.ends }
+{
+    every_run_is_safe::<C>();
+    ends_with_inboxes_run_as_alone::<C>();
+}
+
+/// What an application took was processed (`processed`). No frame calls it dropped, whenever that went out (`dropped`),
+/// and none that went out after it was processed says that it is missing (`missing`).
+pub fn frames_are_true_of_what_was_taken<C: Congestion>()
+    ensures processed { (w : InboxPair C) → ReachedWithInboxes C.control w → (side : Side) (n : ℕ)
+        → Contains (data_numbers (inbox_at w side).past.taken) n → Contains (half_of w.ends.world side).processed n }
+    ensures dropped { (w : InboxPair C) → ReachedWithInboxes C.control w → (side : Side) (index ack n code : ℕ) (frame : SentFrame) (bytes : List ℕ)
+        (packet : Parts) (report : Report) → slice_get (half_of w.ends.world side).frames index ≡ Some frame → slice_get (inbox_at w side).said index ≡ Some bytes
+        → decoded bytes ≡ Ok packet → frame.ack ≡ Some ack → ack < 2 ^ 48 → report_in_packet ack packet ≡ Some report → n < 2 ^ 48
+        → code_at report.ack report.bytes n ≡ Some code → Contains (data_numbers (inbox_at w side).past.taken) n → ⊥ }
+    ensures missing { (w : InboxPair C) → ReachedWithInboxes C.control w → (side : Side) (index ack n : ℕ) (frame : SentFrame) (bytes : List ℕ)
+        (packet : Parts) (report : Report) → slice_get (half_of w.ends.world side).frames index ≡ Some frame → slice_get (inbox_at w side).said index ≡ Some bytes
+        → decoded bytes ≡ Ok packet → frame.ack ≡ Some ack → ack < 2 ^ 48 → report_of ack (options_in_packet packet) ≡ Some report
+        → frame.floor < 2 ^ 48 → n < 2 ^ 48 → Contains (data_numbers (inbox_at w side).past.taken) n
+        → Contains (processed_by (half_of w.ends.world side) frame) n → state_at report.ack report.bytes n ≡ Some 3 → ⊥ }
+{
+    every_run_is_safe::<C>();
+    frames_tell_of_what_was_taken::<C>();
+}
