@@ -34,6 +34,11 @@ def program_of(crate):
     return {name: used for name, used in every.items() if name in needed}
 
 
+def newest_source(crate):
+    """Returns when a source of a crate or of one below it was last changed, as seconds of the system."""
+    return max(it.stat().st_mtime for name in program_of(crate) for it in (TOP / "crates" / name / "src").rglob("*.rt"))
+
+
 def copy_to(room, needed):
     """Makes a repository of these crates, without their must-fail edits."""
     for crate in needed:
