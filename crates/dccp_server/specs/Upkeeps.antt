@@ -12,11 +12,11 @@ use Rattle.dccp_states.specs.declared.calls.Timer.TheVariants as timers
 use Rattle.feature_lists.specs.declared.features.Feature.TheVariants.{AckRatio}
 use Rattle.feature_lists.specs.declared.features.Place.TheVariants.{Here}
 use Rattle.dccp_states.specs.declared.seen.Seen.TheVariants.{Received}
-use Rattle.dccp_uses.specs.Alarms.{alarm_of, has_run_out, no_alarms, rung_by}
-use Rattle.dccp_uses.specs.Path.{handshake_timed, path_begins, path_heard, path_waits, sight_of, told_timer}
+use Rattle.dccp_uses.specs.Alarms.{alarm_of, arranged_by, has_run_out, no_alarms, rung_by, starting_wait_by}
+use Rattle.dccp_uses.specs.Path.{arranged_path, handshake_timed, path_begins, path_heard, path_waits, sight_of, told_timer}
 use Rattle.dccp_uses.specs.Rules.{alarms_by_rule, path_by_rule}
 use Rattle.dccp_uses.specs.Session.{is_delivery}
-use Rattle.dccp_uses.specs.Timed.{TimedState, alarms_heard, every_due, is_taken, path_sent, timers_go_on}
+use Rattle.dccp_uses.specs.Timed.{TimedState, alarms_heard, every_due, is_taken, path_sent, ruled_condition, timers_go_on}
 use Rattle.dccp_uses.specs.declared.alarms.Alarm.{Alarm}
 use Rattle.dccp_uses.specs.declared.alarms.Alarms.{Alarms}
 use Rattle.dccp_uses.specs.declared.pace.Pace.{Pace}
@@ -43,7 +43,15 @@ upkeep_of s = record { alarms = s.alarms; path = s.path }
 abbrev pub upkeep_begins : Pace → Upkeep
 upkeep_begins pace = record { alarms = no_alarms; path = path_begins pace }
 
--- the timers and the rules go on for this end, from these alarms and this path on
+-- the timers and the rules go on for an end of which this is to be seen, from these alarms and this path on
+abbrev pub kept_seen : ℕ → ℕ → Alarms → Path → Sight → Upkeep
+kept_seen now least alarms path sight =
+    record {
+      alarms = arranged_by (path_waits path) alarms (ruled_condition path sight) now;
+      path = arranged_path path (starting_wait_by (path_waits path) alarms timers.Rto) sight least now;
+    }
+
+-- for this end
 abbrev pub kept_on : ℕ → ℕ → Alarms → Path → FlowEnd → Upkeep
 kept_on now least alarms path e = upkeep_of (timers_go_on kinds_control now least alarms path e)
 

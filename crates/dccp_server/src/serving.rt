@@ -15,7 +15,7 @@ ghost use Rattle.dccp_server.specs.Upkeeps.{call_for_rule, ratio_held, rule_call
 use crate::happening::{Happening, arrived_so, called_so};
 use crate::queue::Ticket;
 use crate::register::Register;
-use crate::upkeep::{Upkeep, next_upkeep};
+use crate::upkeep::Upkeep;
 use ccid_two::Kinds;
 use dccp_endpoint::{Endpoint, Feature, NoMemory, Outbox, Place, Seen, Seq48, Timer, UserCall};
 use dccp_listener::{Heard, Listener, NoFlow, Peer};
@@ -65,7 +65,8 @@ fn arrange(
 {
     match listener.flow(peer) {
         Some(end) => {
-            let next = next_upkeep(upkeep, happening, end, pace, now);
+            let mut next = *upkeep;
+            next.note(happening, end, pace, now);
             upkeeps.put(peer, next);
         }
         None => {
@@ -155,11 +156,10 @@ fn count(
     ensures counted { upkeeps.new ≡ insert_entry peer_cmp upkeeps.old peer (upkeep_counted now bytes.now (upkeep_at pace upkeeps.old peer) end.now) }
     ensures heard { result ≡ (admitted end.now.state (upkeep_at pace upkeeps.old peer).path bytes.now now).heard }
 {
-    let upkeep = upkeep_at(upkeeps, pace, peer);
-    let admission = admit(end, &upkeep.path, bytes, now);
-    let next = upkeep.on(&admission.path);
-    upkeeps.put(peer, next);
-    admission.heard
+    let mut upkeep = upkeep_at(upkeeps, pace, peer);
+    let heard = admit(end, &mut upkeep.path, bytes, now);
+    upkeeps.put(peer, upkeep);
+    heard
 }
 
 /// A datagram of a peer, of which something is kept where it has a flow, takes a token where its numbers would have it

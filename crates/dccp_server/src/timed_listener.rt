@@ -79,7 +79,10 @@ impl TimedListener {
         ensures { result ≡ is_admitted now self.now peer bytes.now }
     {
         match self.listener.flow(peer) {
-            Some(end) => admit(end, &self.upkeep(peer).path, bytes, now).heard,
+            Some(end) => {
+                let mut path = self.upkeep(peer).path;
+                admit(end, &mut path, bytes, now)
+            }
             None => true,
         }
     }

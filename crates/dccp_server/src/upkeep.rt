@@ -2,16 +2,15 @@
 ghost use Rattle.std.specs.Prelude.{◌≡◌};
 ghost use Rattle.dccp_uses.specs.Alarms.{has_run_out};
 ghost use Rattle.dccp_uses.specs.Timed.{every_due};
-ghost use Rattle.dccp_server.specs.Upkeeps.{first_due, kept_with_path, kept_alarm, kept_closed, kept_heard, kept_on, kept_opened, kept_preferred, kept_ruled, kept_rung, kept_sent, next_upkeep, upkeep_begins, upkeep_moment, earlier, alarm_end, first_end};
+ghost use Rattle.dccp_server.specs.Upkeeps.{first_due, kept_alarm, kept_closed, kept_heard, kept_on, kept_opened, kept_preferred, kept_ruled, kept_rung, kept_seen, kept_sent, next_upkeep, upkeep_begins, upkeep_moment, earlier, alarm_end, first_end};
 
 use crate::happening::{Happening, Hearing};
 use crate::register::Moment;
 use ccid_two::Kinds;
 use dccp_endpoint::{Endpoint, Timer};
 use dccp_uses::{
-    Alarm, Alarms, Due, Pace, Path, Rule, Sight, ack_hurried_by, acks_now, alarms_by_rule,
-    arranged_by, arranged_path, data_timed, handshake_timed, has_run_out, is_hole, path_by_rule,
-    path_heard, progressed_by, ruled_condition, rung_by, starting_wait, told_timer, with_flight,
+    Alarm, Alarms, Due, Pace, Path, Rule, Sight, has_run_out, is_hole, ruled_condition,
+    starting_wait,
 };
 
 /// What an owner keeps of a flow's end for its sake (own): its timers, and what is known of its path.
@@ -31,16 +30,6 @@ impl Upkeep {
         Upkeep {
             alarms: Alarms::none(),
             path: Path::new(pace),
-        }
-    }
-
-    /// The same on this path.
-    pub(crate) fn on(&self, path: &Path) -> Upkeep
-        ensures { result ≡ record self.now { path = path.now } }
-    {
-        Upkeep {
-            alarms: self.alarms,
-            path: *path,
         }
     }
 
@@ -137,113 +126,111 @@ fn earlier(time: Option<u64>, other: Option<u64>) -> Option<u64>
     }
 }
 
-// The timers and the rules go on from these for an end, no rule before `least` milliseconds have gone by.
-fn kept_on(end: &Endpoint<Kinds>, alarms: &Alarms, path: &Path, least: u64, now: u64) -> Upkeep
-    ensures { result ≡ kept_on now least alarms.now path.now end.now }
-{
-    let sight = Sight::of(end);
-    let waits = path.waits();
-    let wait = starting_wait(&waits, alarms, Timer::Rto);
-    let condition = ruled_condition(path, &sight);
-    Upkeep {
-        alarms: arranged_by(&waits, alarms, &condition, now),
-        path: arranged_path(path, wait, &sight, least, now),
+impl Upkeep {
+    // The timers and the rules go on for an end of which this is to be seen, no rule before `least` milliseconds have gone
+    // by.
+    fn go_on_seen(&mut self, sight: &Sight, least: u64, now: u64)
+        ensures { self.new ≡ kept_seen now least self.old.alarms self.old.path sight.now }
+    {
+        let waits = self.path.waits();
+        let wait = starting_wait(&waits, &self.alarms, Timer::Rto);
+        let condition = ruled_condition(&self.path, sight);
+        self.alarms.arrange(&waits, &condition, now);
+        self.path.arrange(wait, sight, least, now);
     }
-}
 
-fn kept_opened(end: &Endpoint<Kinds>, pace: Pace, now: u64) -> Upkeep
-    ensures { result ≡ kept_opened now pace end.now }
-{
-    let path = handshake_timed(&Path::new(pace), end.marks().gss, now);
-    kept_on(end, &Alarms::none(), &path, 0, now)
-}
+    // The timers and the rules go on for this end.
+    fn go_on(&mut self, end: &Endpoint<Kinds>, now: u64)
+        ensures { self.new ≡ kept_on now 0 self.old.alarms self.old.path end.now }
+    {
+        let sight = Sight::of(end);
+        self.go_on_seen(&sight, 0, now);
+    }
 
-fn kept_with_path(
-    upkeep: &Upkeep,
-    hearing: &Hearing,
-    path: &Path,
-    end: &Endpoint<Kinds>,
-    now: u64,
-) -> Upkeep
-    ensures { result ≡ kept_with_path now upkeep.now hearing.now path.now end.now }
-{
-    let is = Sight::of(end);
-    let waits = path.waits();
-    let was = &hearing.was;
-    let hole = is_hole(&upkeep.path, was, &is, hearing.delivered, hearing.silent);
-    let alarms = progressed_by(&waits, &upkeep.alarms, is.in_flight < was.in_flight);
-    let alarms = ack_hurried_by(&waits, &alarms, hearing.delivered);
-    let alarms = acks_now(&alarms, hole, now);
-    kept_on(end, &alarms, path, 0, now)
-}
+    fn open(&mut self, end: &Endpoint<Kinds>, pace: Pace, now: u64)
+        ensures { self.new ≡ kept_opened now pace end.now }
+    {
+        self.alarms = Alarms::none();
+        self.path = Path::new(pace);
+        self.path.time_handshake(end.marks().gss, now);
+        self.go_on(end, now);
+    }
 
-fn kept_heard(upkeep: &Upkeep, hearing: &Hearing, end: &Endpoint<Kinds>, now: u64) -> Upkeep
-    ensures { result ≡ kept_heard now upkeep.now hearing.now end.now }
-{
-    let is = Sight::of(end);
-    let path = path_heard(&upkeep.path, &hearing.was, &is, hearing.taken, now);
-    kept_with_path(upkeep, hearing, &path, end, now)
-}
+    fn hear(&mut self, hearing: &Hearing, end: &Endpoint<Kinds>, now: u64)
+        ensures { self.new ≡ kept_heard now self.old hearing.now end.now }
+    {
+        let is = Sight::of(end);
+        let was = &hearing.was;
+        let hole = is_hole(&self.path, was, &is, hearing.delivered, hearing.silent);
+        self.path.hear(was, &is, hearing.taken, now);
+        let waits = self.path.waits();
+        let progress = is.in_flight < was.in_flight;
+        self.alarms
+            .note_packet(&waits, progress, hearing.delivered, hole, now);
+        self.go_on_seen(&is, 0, now);
+    }
 
-fn kept_sent(upkeep: &Upkeep, end: &Endpoint<Kinds>, now: u64) -> Upkeep
-    ensures { result ≡ kept_sent now upkeep.now end.now }
-{
-    let path = data_timed(&upkeep.path, end.marks().gss, now);
-    let path = with_flight(&path, end.in_flight(), now);
-    kept_on(end, &upkeep.alarms, &path, 0, now)
-}
+    fn send(&mut self, end: &Endpoint<Kinds>, now: u64)
+        ensures { self.new ≡ kept_sent now self.old end.now }
+    {
+        self.path.time_data(end.marks().gss, now);
+        self.path.note_flight(end.in_flight(), now);
+        self.go_on(end, now);
+    }
 
-fn kept_rung(upkeep: &Upkeep, timer: Timer, end: &Endpoint<Kinds>, now: u64) -> Upkeep
-    ensures { result ≡ kept_rung now upkeep.now timer end.now }
-{
-    let alarms = rung_by(&upkeep.path.waits(), &upkeep.alarms, timer, now);
-    let path = told_timer(&upkeep.path, timer, &Sight::of(end), now);
-    kept_on(end, &alarms, &path, 0, now)
-}
+    fn ring(&mut self, timer: Timer, end: &Endpoint<Kinds>, now: u64)
+        ensures { self.new ≡ kept_rung now self.old timer end.now }
+    {
+        let waits = self.path.waits();
+        self.alarms.ring(&waits, timer, now);
+        self.path.note_timer(timer, &Sight::of(end), now);
+        self.go_on(end, now);
+    }
 
-fn kept_ruled(upkeep: &Upkeep, rule: Rule, end: &Endpoint<Kinds>, now: u64) -> Upkeep
-    ensures { result ≡ kept_ruled now upkeep.now rule end.now }
-{
-    let alarms = alarms_by_rule(&upkeep.path.waits(), &upkeep.alarms, rule, now);
-    let path = path_by_rule(&upkeep.path, rule, &Sight::of(end), now);
-    kept_on(end, &alarms, &path, 1, now)
-}
+    fn follow(&mut self, rule: Rule, end: &Endpoint<Kinds>, now: u64)
+        ensures { self.new ≡ kept_ruled now self.old rule end.now }
+    {
+        let waits = self.path.waits();
+        let sight = Sight::of(end);
+        self.alarms.note_rule(&waits, rule, now);
+        self.path.note_rule(rule, &sight, now);
+        self.go_on_seen(&sight, 1, now);
+    }
 
-fn kept_closed(upkeep: &Upkeep, end: &Endpoint<Kinds>, now: u64) -> Upkeep
-    ensures { result ≡ kept_closed now upkeep.now end.now }
-{
-    let mut path = upkeep.path;
-    path.give_up = None;
-    kept_on(end, &upkeep.alarms, &path, 0, now)
-}
+    fn close(&mut self, end: &Endpoint<Kinds>, now: u64)
+        ensures { self.new ≡ kept_closed now self.old end.now }
+    {
+        self.path.give_up = None;
+        self.go_on(end, now);
+    }
 
-fn kept_preferred(upkeep: &Upkeep, end: &Endpoint<Kinds>, now: u64) -> Upkeep
-    ensures { result ≡ kept_preferred now upkeep.now end.now }
-{
-    let mut alarms = upkeep.alarms;
-    alarms.negotiate = None;
-    kept_on(end, &alarms, &upkeep.path, 0, now)
-}
+    fn prefer(&mut self, end: &Endpoint<Kinds>, now: u64)
+        ensures { self.new ≡ kept_preferred now self.old end.now }
+    {
+        self.alarms.negotiate = None;
+        self.go_on(end, now);
+    }
 
-/// What is kept once something happened to a flow, whose end is this then.
-pub(crate) fn next_upkeep(
-    upkeep: &Upkeep,
-    happening: &Happening,
-    end: &Endpoint<Kinds>,
-    pace: Pace,
-    now: u64,
-) -> Upkeep
-    ensures { result ≡ next_upkeep now pace upkeep.now happening.now end.now }
-{
-    match happening {
-        Happening::Opened => kept_opened(end, pace, now),
-        Happening::Heard(hearing) => kept_heard(upkeep, hearing, end, now),
-        Happening::Sent => kept_sent(upkeep, end, now),
-        Happening::Rang(timer) => kept_rung(upkeep, *timer, end, now),
-        Happening::Closed => kept_closed(upkeep, end, now),
-        Happening::Called => kept_on(end, &upkeep.alarms, &upkeep.path, 0, now),
-        Happening::Preferred => kept_preferred(upkeep, end, now),
-        Happening::Refused => *upkeep,
-        Happening::Ruled(rule) => kept_ruled(upkeep, *rule, end, now),
+    /// Something happened to a flow, whose end is this then.
+    pub(crate) fn note(
+        &mut self,
+        happening: &Happening,
+        end: &Endpoint<Kinds>,
+        pace: Pace,
+        now: u64,
+    )
+        ensures { self.new ≡ next_upkeep now pace self.old happening.now end.now }
+    {
+        match happening {
+            Happening::Opened => self.open(end, pace, now),
+            Happening::Heard(hearing) => self.hear(hearing, end, now),
+            Happening::Sent => self.send(end, now),
+            Happening::Rang(timer) => self.ring(*timer, end, now),
+            Happening::Closed => self.close(end, now),
+            Happening::Called => self.go_on(end, now),
+            Happening::Preferred => self.prefer(end, now),
+            Happening::Refused => {}
+            Happening::Ruled(rule) => self.follow(*rule, end, now),
+        }
     }
 }

@@ -13,7 +13,7 @@ use Rattle.dccp_options.specs.Kinds.{slow_receiver}
 use Rattle.dccp_options.specs.Vectors.{Report}
 use Rattle.dccp_options.specs.declared.option.OptFault.{OptFault}
 use Rattle.dccp_packets.specs.Forms.{ack_near}
-use Rattle.dccp_packets.specs.Grammar.{Parts, decoded, packet_type}
+use Rattle.dccp_packets.specs.Grammar.{Parts, packet_type}
 use Rattle.dccp_packets.specs.Kinds.{is_data}
 use Rattle.dccp_packets.specs.declared.header.Kind.{Kind}
 use Rattle.dccp_packets.specs.declared.reading.Malformed.{Malformed}
@@ -120,7 +120,3 @@ notice_read e reader (Ok packet) =
     notice_of reader (report_base e.marks packet.header.kind (whole_number e packet.header.number))
     (options_of packet.options (is_data (packet_type packet.header.kind)))
 notice_read e reader (Err fault) = no_notice
-
--- what a datagram tells
-abbrev pub notice_in : EndState → Reader → List ℕ → Notice
-notice_in e reader bytes = notice_read e reader (decoded bytes)

@@ -1,6 +1,6 @@
 -- What is known of the application that reads an end's data, and what that leaves of the window (RFC 4340, sections 11.6, 11.7
 -- and 11.7.2; RFC 4341, section 5.2; own).
-use Rattle.std.specs.Prelude.{ℕ, ◌-◌, nat_lt, nat_le, Bool, true, false, not, ◌||◌, Option, Some, None, if◌then◌else◌}
+use Rattle.std.specs.Prelude.{ℕ, ◌-◌, nat_lt, nat_le, Bool, false, ◌||◌, Option, Some, None, if◌then◌else◌}
 use Rattle.path_rules.specs.Allowance.{allowed_after_acks, allowed_after_congestion, allowed_after_drops, allowed_after_timeout, is_within_round_trip}
 use Rattle.path_rules.specs.declared.allowance.Allowance.{Allowance}
 use Rattle.path_rules.specs.declared.round_trip.RoundTrip.{RoundTrip}

@@ -1,5 +1,5 @@
 -- Which datagrams an end does not hear, since it has sent too many Syncs (RFC 4340, section 7.5.4; own).
-use Rattle.std.specs.Prelude.{ℕ, Bool, true, false, not, ◌&&◌, ◌||◌, List, Option, Some, None, Result, Ok, Err, if◌then◌else◌}
+use Rattle.std.specs.Prelude.{ℕ, Bool, true, false, List, Option, Some, None, Result, Ok, Err, if◌then◌else◌}
 use Rattle.dccp_packets.specs.Forms.{ack_near}
 use Rattle.dccp_packets.specs.Grammar.{Parts, decoded, packet_type}
 use Rattle.dccp_packets.specs.declared.header.Kind.{Kind}
@@ -13,10 +13,11 @@ use Rattle.dccp_states.specs.declared.phase.Phase.{Phase}
 use Rattle.dccp_states.specs.declared.phase.Phase.TheVariants as phases
 use Rattle.path_rules.specs.Limits.{far_syncs, is_near_greatest, near_syncs, token_taken}
 use Rattle.path_rules.specs.declared.limits.Taking.{Taking}
-use Rattle.dccp_uses.specs.Notice.{no_notice, notice_in}
+use Rattle.dccp_uses.specs.Notice.{no_notice, notice_read}
 use Rattle.dccp_uses.specs.Numbers.{whole_number}
+use Rattle.dccp_uses.specs.declared.notice.Notice.{Notice}
 use Rattle.dccp_uses.specs.declared.path.Path.{Path}
-use Rattle.dccp_uses.specs.declared.syncs.Admission.{Admission}
+use Rattle.dccp_uses.specs.declared.reader.Reader.{Reader}
 
 -- the windows judge what arrives (section 8.5, steps 5 and 6)
 abbrev pub has_windows : Phase → Bool
@@ -50,9 +51,18 @@ abbrev pub number_unanswered : EndState → Result Parts Malformed → Option �
 number_unanswered e (Ok packet) = unanswered e.marks packet.header.kind (whole_number e packet.header.number)
 number_unanswered e (Err fault) = None
 
--- of a datagram
-abbrev pub wanted_number : EndState → List ℕ → Option ℕ
-wanted_number e bytes = number_unanswered e (decoded bytes)
+-- of a datagram, where the windows judge it
+abbrev pub number_judged : EndState → List ℕ → Option ℕ
+number_judged e bytes = if has_windows e.phase then number_unanswered e (decoded bytes) else None
+
+-- what it tells of the peer's application, where they do
+abbrev pub notice_judged : EndState → Reader → List ℕ → Notice
+notice_judged e reader bytes = if has_windows e.phase then notice_read e reader (decoded bytes) else no_notice
+
+-- whether a datagram is heard, and what is kept of the path then
+pub record Admission : Type 0 where
+  pub heard : Bool
+  pub path : Path
 
 -- one with the token that was taken
 abbrev pub near_taken : Path → Taking → Admission
@@ -73,21 +83,20 @@ admitted_by path None gsr now = record { heard = true; path = path }
 admitted_by path (Some number) gsr now = sync_bucketed path (is_near_greatest number gsr) now
 
 -- so is each where the rule is not followed
-abbrev pub admitted_within : EndState → Path → List ℕ → ℕ → Admission
-admitted_within e path bytes now =
-    if not path.pace.limits_syncs || not (has_windows e.phase) then record { heard = true; path = path }
-    else admitted_by path (wanted_number e bytes) e.marks.gsr now
+abbrev pub admitted_within : Path → Option ℕ → ℕ → ℕ → Admission
+admitted_within path number gsr now =
+    if path.pace.limits_syncs then admitted_by path number gsr now else record { heard = true; path = path }
 
 -- what a datagram that is heard tells of the peer's application is in the path until its end has heard it
-abbrev pub noticed : EndState → List ℕ → Admission → Admission
-noticed e bytes it =
-    record it { path = record it.path { notice = if it.heard && has_windows e.phase then notice_in e it.path.reader bytes else no_notice } }
+abbrev pub noticed : Notice → Admission → Admission
+noticed notice it = record it { path = record it.path { notice = if it.heard then notice else no_notice } }
 
 -- where that rule is followed
-abbrev pub noticed_if : Bool → EndState → List ℕ → Admission → Admission
-noticed_if true e bytes it = noticed e bytes it
-noticed_if false e bytes it = it
+abbrev pub noticed_if : Bool → Notice → Admission → Admission
+noticed_if true notice it = noticed notice it
+noticed_if false notice it = it
 
 -- whether a datagram is heard, and what is kept then
 abbrev pub admitted : EndState → Path → List ℕ → ℕ → Admission
-admitted e path bytes now = noticed_if path.pace.heeds e bytes (admitted_within e path bytes now)
+admitted e path bytes now =
+    noticed_if path.pace.heeds (notice_judged e path.reader bytes) (admitted_within path (number_judged e bytes) e.marks.gsr now)

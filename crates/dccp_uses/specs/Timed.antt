@@ -59,15 +59,19 @@ timed_begins control config congestion pace = record { end = begins control conf
 abbrev pub ruled_condition : Path → Sight → Condition
 ruled_condition path sight = record { phase = sight.phase; in_flight = nat_lt 0 sight.in_flight && not (is_probing path sight) }
 
--- The timers and the rules go on for this end, from these alarms and this path on; no rule is due before `least`
--- milliseconds have gone by.
-abbrev pub timers_go_on : {C : Type 0} → Control C → ℕ → ℕ → Alarms → Path → End C → TimedState C
-timers_go_on control now least alarms path end =
+-- The timers and the rules go on for this end, of which this is to be seen, from these alarms and this path on; no rule is
+-- due before `least` milliseconds have gone by.
+abbrev pub timers_go_on_seen : {C : Type 0} → ℕ → ℕ → Alarms → Path → Sight → End C → TimedState C
+timers_go_on_seen now least alarms path sight end =
     record {
       end = end;
-      alarms = arranged_by (path_waits path) alarms (ruled_condition path (sight_of control end)) now;
-      path = arranged_path path (starting_wait_by (path_waits path) alarms timers.Rto) (sight_of control end) least now;
+      alarms = arranged_by (path_waits path) alarms (ruled_condition path sight) now;
+      path = arranged_path path (starting_wait_by (path_waits path) alarms timers.Rto) sight least now;
     }
+
+-- by what is to be seen of it now
+abbrev pub timers_go_on : {C : Type 0} → Control C → ℕ → ℕ → Alarms → Path → End C → TimedState C
+timers_go_on control now least alarms path end = timers_go_on_seen now least alarms path (sight_of control end) end
 
 -- so they do after a step of the end
 abbrev pub timers_go_on_after : {C Answer : Type 0} → Control C → ℕ → ℕ → Alarms → Path → EndStep C Answer → TimedStep C Answer

@@ -1,6 +1,7 @@
 //! When each timer of an end runs out. The times are those of whoever owns the end, in milliseconds from any beginning.
 ghost use Rattle.std.specs.Prelude.{◌≡◌};
-ghost use Rattle.dccp_uses.specs.Alarms.{alarm_after, alarm_of, arranged, arranged_by, arranged_alarm_by, ack_hurried_by, first_again, has_run_out, time_left, next_wait, no_alarms, progressed_by, rung, rung_by, runs_in, set_back, sooner, starting_wait_by, with_delivery, with_progress};
+ghost use Rattle.dccp_uses.specs.Alarms.{alarm_after, alarm_of, arranged_by, arranged_alarm_by, ack_hurried_by, first_again, has_run_out, time_left, next_wait, no_alarms, progressed_by, rung_by, runs_in, set_back, sooner, starting_wait_by};
+ghost use Rattle.dccp_uses.specs.Timed.{acks_now};
 
 use crate::Waits;
 use dccp_endpoint::{Congestion, Endpoint, Phase, Timer, applies_in};
@@ -174,44 +175,11 @@ pub(crate) fn alarm_after(runs: bool, old: Option<Alarm>, wait: u64, now: u64) -
     Some(old.unwrap_or(Alarm { since: now, wait }))
 }
 
-fn arranged_alarm(
-    waits: &Waits,
-    alarms: &Alarms,
-    timer: Timer,
-    condition: &Condition,
-    now: u64,
-) -> Option<Alarm>
-    ensures { result ≡ arranged_alarm_by waits.now alarms.now timer condition.now now }
+// An alarm that runs for so many milliseconds from `now` on.
+pub(crate) fn alarm_for(wait: u64, now: u64) -> Option<Alarm>
+    ensures { result ≡ Some (record { since = now; wait = wait }) }
 {
-    alarm_after(
-        runs_in(timer, condition),
-        alarms.of(timer),
-        starting_wait(waits, alarms, timer),
-        now,
-    )
-}
-
-/// The timers as they run from `now` on for an end in this condition (own), with these waits: after each call of the
-/// end, and after `rung_by`, `progressed_by` and `delivered_by` where one of these has its place.
-pub fn arranged_by(waits: &Waits, alarms: &Alarms, condition: &Condition, now: u64) -> Alarms
-    ensures { result ≡ arranged_by waits.now alarms.now condition.now now }
-{
-    Alarms {
-        request: arranged_alarm(waits, alarms, Timer::Request, condition, now),
-        ack: arranged_alarm(waits, alarms, Timer::Ack, condition, now),
-        negotiate: arranged_alarm(waits, alarms, Timer::Negotiate, condition, now),
-        rto: arranged_alarm(waits, alarms, Timer::Rto, condition, now),
-        close: arranged_alarm(waits, alarms, Timer::Close, condition, now),
-        time_wait: arranged_alarm(waits, alarms, Timer::TimeWait, condition, now),
-        rto_wait: alarms.rto_wait,
-    }
-}
-
-/// The same with the waits of `Waits::classic`.
-pub fn arranged(alarms: &Alarms, condition: &Condition, now: u64) -> Alarms
-    ensures { result ≡ arranged alarms.now condition.now now }
-{
-    arranged_by(&Waits::classic(), alarms, condition, now)
+    Some(Alarm { since: now, wait })
 }
 
 // The alarm of a timer that has run out: it waits longer the next time.
@@ -227,34 +195,6 @@ fn set_back(kind: &Wait, alarm: Option<Alarm>, now: u64) -> Option<Alarm>
     }
 }
 
-/// The timers once this one has run out at `now`, in milliseconds, and its call was made of the end (own): it waits
-/// twice as long the next time, up to its longest wait. The timer rto also begins with a longer wait from then on.
-pub fn rung_by(waits: &Waits, alarms: &Alarms, timer: Timer, now: u64) -> Alarms
-    ensures { result ≡ rung_by waits.now alarms.now timer now }
-{
-    let again = set_back(&waits.of(timer), alarms.of(timer), now);
-    let mut alarms = *alarms;
-    match timer {
-        Timer::Request => alarms.request = again,
-        Timer::Ack => alarms.ack = again,
-        Timer::Negotiate => alarms.negotiate = again,
-        Timer::Rto => {
-            alarms.rto = again;
-            alarms.rto_wait = next_wait(&waits.rto, alarms.rto_wait);
-        }
-        Timer::Close => alarms.close = again,
-        Timer::TimeWait => alarms.time_wait = again,
-    }
-    alarms
-}
-
-/// The same with the waits of `Waits::classic`.
-pub fn rung(alarms: &Alarms, timer: Timer, now: u64) -> Alarms
-    ensures { result ≡ rung alarms.now timer now }
-{
-    rung_by(&Waits::classic(), alarms, timer, now)
-}
-
 // The alarm, if it waits no longer than its first wait.
 fn first_again(alarm: Option<Alarm>, wait: u64) -> Option<Alarm>
     ensures { result ≡ first_again alarm wait }
@@ -265,40 +205,97 @@ fn first_again(alarm: Option<Alarm>, wait: u64) -> Option<Alarm>
     }
 }
 
-/// The timers where a packet that arrived took something out of flight, or not (own): the timer rto begins anew, with
-/// its first wait.
-pub fn progressed_by(waits: &Waits, alarms: &Alarms, progress: bool) -> Alarms
-    ensures { result ≡ progressed_by waits.now alarms.now progress }
-{
-    let mut alarms = *alarms;
-    if progress {
-        alarms.rto = None;
-        alarms.rto_wait = waits.rto.first;
+impl Alarms {
+    // The timer runs as it does from `now` on.
+    fn arranged(
+        &self,
+        waits: &Waits,
+        timer: Timer,
+        condition: &Condition,
+        now: u64,
+    ) -> Option<Alarm>
+        ensures { result ≡ arranged_alarm_by waits.now self.now timer condition.now now }
+    {
+        let runs = runs_in(timer, condition);
+        let wait = starting_wait(waits, self, timer);
+        alarm_after(runs, self.of(timer), wait, now)
     }
-    alarms
-}
 
-/// The same with the waits of `Waits::classic`.
-pub fn with_progress(alarms: &Alarms, progress: bool) -> Alarms
-    ensures { result ≡ with_progress alarms.now progress }
-{
-    progressed_by(&Waits::classic(), alarms, progress)
-}
-
-/// The timers where data were delivered, or not (own): an Ack goes out no later than after its timer's first wait.
-pub fn ack_hurried_by(waits: &Waits, alarms: &Alarms, delivered: bool) -> Alarms
-    ensures { result ≡ ack_hurried_by waits.now alarms.now delivered }
-{
-    let mut alarms = *alarms;
-    if delivered {
-        alarms.ack = first_again(alarms.ack, waits.ack.first);
+    /// The timers run as they do from `now` on for an end in this condition (own), with these waits: after each call of
+    /// the end, and after `ring`, `note_packet` and `note_rule` where one of these has its place.
+    pub fn arrange(&mut self, waits: &Waits, condition: &Condition, now: u64)
+        ensures { self.new ≡ arranged_by waits.now self.old condition.now now }
+    {
+        self.request = self.arranged(waits, Timer::Request, condition, now);
+        self.ack = self.arranged(waits, Timer::Ack, condition, now);
+        self.negotiate = self.arranged(waits, Timer::Negotiate, condition, now);
+        self.rto = self.arranged(waits, Timer::Rto, condition, now);
+        self.close = self.arranged(waits, Timer::Close, condition, now);
+        self.time_wait = self.arranged(waits, Timer::TimeWait, condition, now);
     }
-    alarms
-}
 
-/// The same with the waits of `Waits::classic`.
-pub fn with_delivery(alarms: &Alarms, delivered: bool) -> Alarms
-    ensures { result ≡ with_delivery alarms.now delivered }
-{
-    ack_hurried_by(&Waits::classic(), alarms, delivered)
+    /// This timer has run out at `now`, in milliseconds, and its call was made of the end (own): it waits twice as long
+    /// the next time, up to its longest wait. The timer rto also begins with a longer wait from then on.
+    pub fn ring(&mut self, waits: &Waits, timer: Timer, now: u64)
+        ensures { self.new ≡ rung_by waits.now self.old timer now }
+    {
+        let again = set_back(&waits.of(timer), self.of(timer), now);
+        match timer {
+            Timer::Request => self.request = again,
+            Timer::Ack => self.ack = again,
+            Timer::Negotiate => self.negotiate = again,
+            Timer::Rto => {
+                self.rto = again;
+                self.rto_wait = next_wait(&waits.rto, self.rto_wait);
+            }
+            Timer::Close => self.close = again,
+            Timer::TimeWait => self.time_wait = again,
+        }
+    }
+
+    // A packet that arrived took something out of flight, or not: the timer rto begins anew, with its first wait.
+    fn progress(&mut self, waits: &Waits, progress: bool)
+        ensures { self.new ≡ progressed_by waits.now self.old progress }
+    {
+        if progress {
+            self.rto = None;
+            self.rto_wait = waits.rto.first;
+        }
+    }
+
+    // Data were delivered, or not: an Ack goes out no later than after its timer's first wait.
+    fn hurry_ack(&mut self, waits: &Waits, delivered: bool)
+        ensures { self.new ≡ ack_hurried_by waits.now self.old delivered }
+    {
+        if delivered {
+            self.ack = first_again(self.ack, waits.ack.first);
+        }
+    }
+
+    // There is a hole, or not: an Ack goes out at once.
+    fn ack_at_once(&mut self, hole: bool, now: u64)
+        ensures { self.new ≡ acks_now self.old hole now }
+    {
+        if hole {
+            self.ack = alarm_for(0, now);
+        }
+    }
+
+    /// The end has heard a packet at `now` (own), and what it took out of flight begins the timer rto anew. Where it
+    /// delivered data, an Ack goes out no later than after its timer's first wait, and at once where there is a hole
+    /// before them.
+    pub fn note_packet(
+        &mut self,
+        waits: &Waits,
+        progress: bool,
+        delivered: bool,
+        hole: bool,
+        now: u64,
+    )
+        ensures { self.new ≡ acks_now (ack_hurried_by waits.now (progressed_by waits.now self.old progress) delivered) hole now }
+    {
+        self.progress(waits, progress);
+        self.hurry_ack(waits, delivered);
+        self.ack_at_once(hole, now);
+    }
 }

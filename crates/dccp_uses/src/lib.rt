@@ -19,6 +19,7 @@ mod additive_window;
 mod alarms;
 mod drop_record;
 mod holding;
+mod judgement;
 mod laws;
 mod listening;
 mod network;
@@ -37,30 +38,22 @@ mod timed_end;
 mod waits;
 
 pub use crate::additive_window::AdditiveWindow;
-pub use crate::alarms::{
-    Alarm, Alarms, Condition, ack_hurried_by, arranged, arranged_by, has_run_out, progressed_by,
-    rung, rung_by, sooner, starting_wait, with_delivery, with_progress,
-};
+pub use crate::alarms::{Alarm, Alarms, Condition, has_run_out, sooner, starting_wait};
 pub use crate::drop_record::DropRecord;
 pub use crate::holding::{Reading, settle_heard, speak};
 pub use crate::laws::{classic_is_the_session, rules_are_inputs};
 pub use crate::listening::accept;
 pub use crate::network::Network;
 pub use crate::news::{News, is_delivery, is_taken};
-pub use crate::notice::{Drops, Notice, new_reach, notice_in};
+pub use crate::notice::{Drops, Notice, new_reach};
 pub use crate::offers::widened;
 pub use crate::one_at_a_time::OneAtATime;
 pub use crate::pace::Pace;
-pub use crate::path::{
-    Path, Timed, aimed, arranged_path, data_timed, handshake_timed, is_probing, path_heard,
-    told_timer, with_flight,
-};
-pub use crate::reader::{
-    Reader, Restraint, SendRefusal, reader_heard, reader_timed_out, restraint_of,
-};
-pub use crate::rule::{Rule, alarms_by_rule, due_rule, obey, path_by_rule};
+pub use crate::path::{Path, Timed};
+pub use crate::reader::{Reader, Restraint, SendRefusal, restraint_of};
+pub use crate::rule::{Rule, due_rule, obey};
 pub use crate::session::Session;
 pub use crate::sight::Sight;
-pub use crate::syncs::{Admission, admit};
-pub use crate::timed_end::{Due, TimedEnd, acks_now, is_hole, ruled_condition};
+pub use crate::syncs::admit;
+pub use crate::timed_end::{Due, TimedEnd, is_hole, ruled_condition};
 pub use crate::waits::Waits;

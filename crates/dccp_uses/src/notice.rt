@@ -2,21 +2,13 @@
 ghost use Rattle.std.specs.Prelude.{◌≡◌, ◌<◌, ◌≤◌};
 ghost use Rattle.std.specs.List.{list_any};
 ghost use Rattle.congestion_trait.specs.Flight.{is_past};
-ghost use Rattle.dccp_endpoint.specs.Congesting.{reported_from};
-ghost use Rattle.dccp_packets.specs.Forms.{ack_near};
-ghost use Rattle.dccp_packets.specs.Grammar.{packet_type};
-ghost use Rattle.validity_windows.specs.Verdict.{verdict};
-ghost use Rattle.validity_windows.specs.Windows.{InRange};
-ghost use Rattle.dccp_uses.specs.Notice.{drops_told, is_as_marked, is_code, is_slow_option, is_valid_verdict, new_reach, no_drops, no_notice, notice_in, notice_of, report_base, drops_with_code};
+ghost use Rattle.dccp_uses.specs.Notice.{drops_told, is_as_marked, is_code, is_slow_option, new_reach, no_drops, no_notice, notice_of, drops_with_code};
 
 use crate::Reader;
-use crate::syncs::whole_number;
 use data_dropped::DropReport;
-use dccp_endpoint::{Congestion, Endpoint, Marks, Seq48};
+use dccp_endpoint::Seq48;
+use dccp_options::OptList;
 use dccp_options::kinds::SLOW_RECEIVER;
-use dccp_options::{OptList, options};
-use dccp_packets::{Kind, PacketType, decode};
-use validity_windows::Verdict;
 
 /// How many numbers a first report of drops is read for, from its acknowledgement number down (own).
 const MOST_NUMBERS: u64 = 2048;
@@ -165,54 +157,8 @@ fn is_slow(options: &mut OptList<'_>) -> bool
     false
 }
 
-fn is_valid(verdict: &Verdict) -> bool
-    ensures { result ≡ is_valid_verdict verdict.now }
-{
-    match verdict {
-        Verdict::Valid => true,
-        Verdict::SyncFor(_) | Verdict::Drop => false,
-    }
-}
-
-// Whether a packet of this type has numbers that the peer may use now.
-fn is_within(marks: &Marks, kind: &Kind, number: Seq48) -> bool
-    requires { InRange marks.now }
-    ensures { result ≡ is_valid_verdict (verdict marks.now (packet_type kind.now) number (ack_near marks.now.gss kind.now)) }
-{
-    is_valid(&marks.check(kind.packet_type(), number, kind.ack_near(marks.gss)))
-}
-
-// The number that a packet of this type reports from, if its type reports.
-fn reported_from(marks: &Marks, kind: &Kind) -> Option<Seq48>
-    ensures { result ≡ reported_from (packet_type kind.now) (ack_near marks.now.gss kind.now) }
-{
-    match kind.packet_type() {
-        PacketType::Sync => None,
-        PacketType::Request
-        | PacketType::Response
-        | PacketType::Data
-        | PacketType::Ack
-        | PacketType::DataAck
-        | PacketType::CloseReq
-        | PacketType::Close
-        | PacketType::Reset
-        | PacketType::SyncAck => kind.ack_near(marks.gss),
-    }
-}
-
-// The number from which a packet reports, by its own in full.
-fn report_base(marks: &Marks, kind: &Kind, number: Option<Seq48>) -> Option<Seq48>
-    requires { InRange marks.now }
-    ensures { result ≡ report_base marks.now kind.now number }
-{
-    match number {
-        Some(number) if is_within(marks, kind, number) => reported_from(marks, kind),
-        Some(_) | None => None,
-    }
-}
-
-// What these options tell, where they report from this number downwards.
-fn notice_of(reader: &Reader, base: Option<Seq48>, options: OptList<'_>) -> Notice
+/// What these options tell, where they report from this number downwards.
+pub(crate) fn notice_of(reader: &Reader, base: Option<Seq48>, options: OptList<'_>) -> Notice
     ensures { result ≡ notice_of reader.now base options.entry }
 {
     let slow = is_slow(&mut options.again());
@@ -234,22 +180,5 @@ fn notice_of(reader: &Reader, base: Option<Seq48>, options: OptList<'_>) -> Noti
             drops: Drops::none(),
             ack: None,
         },
-    }
-}
-
-/// What a datagram tells of the application that reads this end's data (RFC 4340, sections 11.6 and 11.7). It counts once
-/// its packet was taken.
-pub fn notice_in<C: Congestion>(end: &Endpoint<C>, reader: &Reader, datagram: &[u8]) -> Notice
-    ensures { result ≡ notice_in end.now.state reader.now datagram.now }
-{
-    match decode(datagram) {
-        Ok(packet) => {
-            let kind = packet.header.kind;
-            let marks = end.marks();
-            let base = report_base(&marks, &kind, whole_number(end, packet.header.number));
-            let list = options(packet.options, kind.packet_type().is_data());
-            notice_of(reader, base, list)
-        }
-        Err(_) => Notice::none(),
     }
 }

@@ -1,9 +1,8 @@
 //! What the owner of an end keeps of its path, and how the rules change it.
 ghost use Rattle.std.specs.Prelude.{◌≡◌};
-ghost use Rattle.dccp_uses.specs.Path.{acked_sample, aim_of, aimed, answered_probe, arranged_path, arranged_rules, by_rule, data_timed, either_of, fell, first_sent, flown, handshake_over, handshake_timed, heard_from, notice_heeded, is_answered, is_probing, kept_if, measured, path_begins, path_heard, path_waits, patience, patient_alarm, reader_if, rules_alarm, rules_left, ruled_patience, sampled_if, sent_unless, since_sent, timed_out_path, told_timer, none_timed, used_window, wants_aim, window_left, with_flight, with_rules};
+ghost use Rattle.dccp_uses.specs.Path.{acked_sample, aim_of, aimed, answered_probe, arranged_path, arranged_rules, by_rule, data_timed, either_of, fell, first_sent, flown, handshake_over, handshake_timed, heard_from, notice_heeded, is_answered, is_probing, kept_if, measured, path_begins, path_heard, path_waits, patience, patient_alarm, rules_alarm, rules_left, ruled_patience, sampled_if, sent_unless, since_sent, timed_out_path, told_timer, none_timed, used_window, wants_aim, window_left, with_flight};
 
-use crate::alarms::{Alarm, alarm_after, sooner};
-use crate::reader::{reader_heard, reader_timed_out};
+use crate::alarms::{Alarm, alarm_after, alarm_for, sooner};
 use crate::sight::{is_handshake, is_open_phase, is_stand_stable};
 use crate::{Notice, Pace, Reader, Sight, Waits};
 use dccp_endpoint::{Phase, Seq48, Timer};
@@ -132,34 +131,6 @@ fn first_sent(old: Option<Timed>, sent: Timed) -> Option<Timed>
     }
 }
 
-/// What is kept once a packet of the handshake with this number was sent at `now`: of these the first and the last are
-/// timed (own).
-pub fn handshake_timed(path: &Path, number: Seq48, now: u64) -> Path
-    ensures { result ≡ handshake_timed path.now number now }
-{
-    if !path.pace.measures {
-        return *path;
-    }
-    let first = first_sent(path.first, Timed { number, at: now });
-    let mut path = *path;
-    path.first = first;
-    path.timed = Some(Timed { number, at: now });
-    path
-}
-
-/// What is kept once data with this number were sent at `now`: one packet at a time is timed (RFC 6298, section 3).
-pub fn data_timed(path: &Path, number: Seq48, now: u64) -> Path
-    ensures { result ≡ data_timed path.now number now }
-{
-    if !path.pace.measures {
-        return *path;
-    }
-    let timed = first_sent(path.timed, Timed { number, at: now });
-    let mut path = *path;
-    path.timed = timed;
-    path
-}
-
 // How long ago this packet was sent, where it is the one that is acknowledged.
 fn since_sent(timed: Option<Timed>, gar: Seq48, now: u64) -> Option<u64>
     ensures { result ≡ since_sent timed gar now }
@@ -179,162 +150,160 @@ fn either_of(one: Option<u64>, other: Option<u64>) -> Option<u64>
     }
 }
 
-fn none_timed(path: &Path) -> Path
-    ensures { result ≡ none_timed path.now }
-{
-    let mut path = *path;
-    path.first = None;
-    path.timed = None;
-    path
-}
-
-fn sampled_if(path: &Path, sample: Option<u64>) -> Path
-    ensures { result ≡ sampled_if path.now sample }
-{
-    let Some(sample) = sample else {
-        return *path;
-    };
-    let round_trip = with_sample(path.round_trip, sample);
-    let mut path = *path;
-    path.round_trip = Some(round_trip);
-    path
-}
-
-fn handshake_over(path: &Path, gar: Seq48, now: u64) -> Path
-    ensures { result ≡ handshake_over path.now gar now }
-{
-    let first = since_sent(path.first, gar, now);
-    let last = since_sent(path.timed, gar, now);
-    sampled_if(&none_timed(path), either_of(first, last))
-}
-
-fn acked_sample(path: &Path, timed: Option<Timed>, gar: Seq48, now: u64) -> Path
-    ensures { result ≡ acked_sample path.now timed gar now }
-{
-    match timed {
-        Some(timed) if gar.is_from(timed.number) => {
-            sampled_if(&none_timed(path), Some(now.saturating_sub(timed.at)))
-        }
-        Some(_) | None => *path,
-    }
-}
-
-fn sent_unless(none: bool, path: &Path, number: Seq48, now: u64) -> Path
-    ensures { result ≡ sent_unless none path.now number now }
-{
-    if none {
-        return *path;
-    }
-    handshake_timed(path, number, now)
-}
-
-// What a packet that was heard tells of the round trip.
-fn measured(path: &Path, old: &Sight, new: &Sight, now: u64) -> Path
-    ensures { result ≡ measured path.now old.now new.now now }
-{
-    if !path.pace.measures {
-        return *path;
-    }
-    if is_handshake(new.phase) {
-        return sent_unless(old.gss == new.gss, path, new.gss, now);
-    }
-    if is_handshake(old.phase) {
-        return handshake_over(path, new.gar, now);
-    }
-    acked_sample(path, path.timed, new.gar, now)
-}
-
-fn flown(path: &Path, in_flight: u32, now: u64) -> Path
-    ensures { result ≡ flown path.now in_flight now }
-{
-    let mut path = *path;
-    if period(path.round_trip) <= now.saturating_sub(path.period) {
-        path.before = path.most;
-        path.most = in_flight;
-        path.period = now;
-    } else {
-        path.most = path.most.max(in_flight);
-    }
-    path
-}
-
-/// What is kept where so many data packets are in flight at `now` (own): the most of a period, of a round trip at least.
-pub fn with_flight(path: &Path, in_flight: u32, now: u64) -> Path
-    ensures { result ≡ with_flight path.now in_flight now }
-{
-    if !path.pace.moves_ratio {
-        return *path;
-    }
-    flown(path, in_flight, now)
-}
-
-// What the sender uses of its window.
-fn used_window(path: &Path, window: u32) -> u32
-    ensures { result ≡ used_window path.now window }
-{
-    let most = u64::from(path.most.max(path.before));
-    u64::from(window).min(2 * most) as u32
-}
-
-// The window of the sender: what the application that reads its data leaves of that of the congestion control.
-fn window_left(path: &Path, sight: &Sight) -> u32
-    ensures { result ≡ window_left path.now sight.now }
-{
-    window_within(path.reader.allowance, sight.window)
-}
-
-fn aim_of(path: &Path, sight: &Sight) -> u64
-    ensures { result ≡ aim_of path.now sight.now }
-{
-    let window = window_left(path, sight);
-    let used = used_window(path, window);
-    ack_ratio_aim(window, used, sight.width.min(1 << 40))
-}
-
-fn wants_aim(path: &Path, sight: &Sight, now: u64) -> bool
-    ensures { result ≡ wants_aim path.now sight.now now }
-{
-    if !path.pace.moves_ratio
-        || sight.ccid != 2
-        || !is_open_phase(sight.phase)
-        || !is_stand_stable(sight.ratio.stand)
+// What the round trip is measured by.
+impl Path {
+    /// A packet of the handshake with this number was sent at `now`: of these the first and the last are timed (own).
+    pub fn time_handshake(&mut self, number: Seq48, now: u64)
+        ensures { self.new ≡ handshake_timed self.old number now }
     {
-        return false;
+        if !self.pace.measures {
+            return;
+        }
+        self.first = first_sent(self.first, Timed { number, at: now });
+        self.timed = Some(Timed { number, at: now });
     }
-    let ratio = AckRatio {
-        held: sight.ratio.value,
-        asked: path.asked,
-    };
-    let aim = aim_of(path, sight);
-    let window = window_left(path, sight);
-    wants_ack_ratio(&ratio, aim, window, period(path.round_trip), now)
+
+    /// Data with this number were sent at `now`: one packet at a time is timed (RFC 6298, section 3).
+    pub fn time_data(&mut self, number: Seq48, now: u64)
+        ensures { self.new ≡ data_timed self.old number now }
+    {
+        if self.pace.measures {
+            self.timed = first_sent(self.timed, Timed { number, at: now });
+        }
+    }
+
+    // No packet is timed any more, and this sample counts, if there is one.
+    fn take_sample(&mut self, sample: Option<u64>)
+        ensures { self.new ≡ sampled_if (none_timed self.old) sample }
+    {
+        self.first = None;
+        self.timed = None;
+        if let Some(sample) = sample {
+            self.round_trip = Some(with_sample(self.round_trip, sample));
+        }
+    }
+
+    fn end_handshake(&mut self, gar: Seq48, now: u64)
+        ensures { self.new ≡ handshake_over self.old gar now }
+    {
+        let first = since_sent(self.first, gar, now);
+        let last = since_sent(self.timed, gar, now);
+        self.take_sample(either_of(first, last));
+    }
+
+    fn take_acknowledged(&mut self, gar: Seq48, now: u64)
+        ensures { self.new ≡ acked_sample self.old self.old.timed gar now }
+    {
+        match self.timed {
+            Some(timed) if gar.is_from(timed.number) => {
+                self.take_sample(Some(now.saturating_sub(timed.at)));
+            }
+            Some(_) | None => {}
+        }
+    }
+
+    fn time_handshake_unless(&mut self, none: bool, number: Seq48, now: u64)
+        ensures { self.new ≡ sent_unless none self.old number now }
+    {
+        if !none {
+            self.time_handshake(number, now);
+        }
+    }
+
+    // What a packet that was heard tells of the round trip.
+    fn measure(&mut self, old: &Sight, new: &Sight, now: u64)
+        ensures { self.new ≡ measured self.old old.now new.now now }
+    {
+        if !self.pace.measures {
+            return;
+        }
+        if is_handshake(new.phase) {
+            self.time_handshake_unless(old.gss == new.gss, new.gss, now);
+        } else if is_handshake(old.phase) {
+            self.end_handshake(new.gar, now);
+        } else {
+            self.take_acknowledged(new.gar, now);
+        }
+    }
 }
 
-// An alarm that has run out already.
-fn at_once(now: u64) -> Option<Alarm>
-    ensures { result ≡ Some (record { since = now; wait = 0 }) }
-{
-    Some(Alarm {
-        since: now,
-        wait: 0,
-    })
-}
-
-/// The Ack Ratio is asked for at once, where the one that is wanted differs enough from the one held (RFC 4341, section
-/// 6.1.2; own).
-pub fn aimed(path: &Path, sight: &Sight, now: u64) -> Path
-    ensures { result ≡ aimed path.now sight.now now }
-{
-    let wants = wants_aim(path, sight, now);
-    let aim = aim_of(path, sight);
-    let mut path = *path;
-    if wants {
-        path.aim = aim;
-        path.ratio = at_once(now);
-    } else {
-        path.ratio = None;
+// What was in flight, and the Ack Ratio that is wanted for it.
+impl Path {
+    fn count_flight(&mut self, in_flight: u32, now: u64)
+        ensures { self.new ≡ flown self.old in_flight now }
+    {
+        if period(self.round_trip) <= now.saturating_sub(self.period) {
+            self.before = self.most;
+            self.most = in_flight;
+            self.period = now;
+        } else {
+            self.most = self.most.max(in_flight);
+        }
     }
-    path
+
+    /// So many data packets are in flight at `now` (own): the most of a period, of a round trip at least, is kept.
+    pub fn note_flight(&mut self, in_flight: u32, now: u64)
+        ensures { self.new ≡ with_flight self.old in_flight now }
+    {
+        if self.pace.moves_ratio {
+            self.count_flight(in_flight, now);
+        }
+    }
+
+    // What the sender uses of its window.
+    fn used_window(&self, window: u32) -> u32
+        ensures { result ≡ used_window self.now window }
+    {
+        let most = u64::from(self.most.max(self.before));
+        u64::from(window).min(2 * most) as u32
+    }
+
+    // The window of the sender: what the application that reads its data leaves of that of the congestion control.
+    fn window_left(&self, sight: &Sight) -> u32
+        ensures { result ≡ window_left self.now sight.now }
+    {
+        window_within(self.reader.allowance, sight.window)
+    }
+
+    fn aim_of(&self, sight: &Sight) -> u64
+        ensures { result ≡ aim_of self.now sight.now }
+    {
+        let window = self.window_left(sight);
+        let used = self.used_window(window);
+        ack_ratio_aim(window, used, sight.width.min(1 << 40))
+    }
+
+    fn wants_aim(&self, sight: &Sight, now: u64) -> bool
+        ensures { result ≡ wants_aim self.now sight.now now }
+    {
+        if !self.pace.moves_ratio
+            || sight.ccid != 2
+            || !is_open_phase(sight.phase)
+            || !is_stand_stable(sight.ratio.stand)
+        {
+            return false;
+        }
+        let ratio = AckRatio {
+            held: sight.ratio.value,
+            asked: self.asked,
+        };
+        let aim = self.aim_of(sight);
+        let window = self.window_left(sight);
+        wants_ack_ratio(&ratio, aim, window, period(self.round_trip), now)
+    }
+
+    /// The Ack Ratio is asked for at once, where the one that is wanted differs enough from the one held (RFC 4341, section
+    /// 6.1.2; own).
+    pub fn aim_ratio(&mut self, sight: &Sight, now: u64)
+        ensures { self.new ≡ aimed self.old sight.now now }
+    {
+        if self.wants_aim(sight, now) {
+            self.aim = self.aim_of(sight);
+            self.ratio = alarm_for(0, now);
+        } else {
+            self.ratio = None;
+        }
+    }
 }
 
 fn is_answered(probe: Option<Seq48>, gar: Seq48) -> bool
@@ -346,109 +315,60 @@ fn is_answered(probe: Option<Seq48>, gar: Seq48) -> bool
     }
 }
 
-fn answered_probe(path: &Path, gar: Seq48, now: u64) -> Path
-    ensures { result ≡ answered_probe path.now gar now }
-{
-    let answered = is_answered(path.probe, gar);
-    let mut path = *path;
-    if answered {
-        path.probing = at_once(now);
+// What a packet tells that the end has heard.
+impl Path {
+    fn answer_probe(&mut self, gar: Seq48, now: u64)
+        ensures { self.new ≡ answered_probe self.old gar now }
+    {
+        if is_answered(self.probe, gar) {
+            self.probing = alarm_for(0, now);
+        }
     }
-    path
-}
 
-fn heard_from(path: &Path, taken: bool) -> Path
-    ensures { result ≡ heard_from path.now taken }
-{
-    let mut path = *path;
-    if taken {
-        path.silence = None;
-        path.give_up = None;
+    fn note_taken(&mut self, taken: bool)
+        ensures { self.new ≡ heard_from self.old taken }
+    {
+        if taken {
+            self.silence = None;
+            self.give_up = None;
+        }
     }
-    path
-}
 
-fn fell(path: &Path, progress: bool) -> Path
-    ensures { result ≡ fell path.now progress }
-{
-    let mut path = *path;
-    if progress && path.probe.is_none() {
-        path.probing = None;
+    fn note_progress(&mut self, progress: bool)
+        ensures { self.new ≡ fell self.old progress }
+    {
+        if progress && self.probe.is_none() {
+            self.probing = None;
+        }
     }
-    path
-}
 
-fn reader_if(path: &Path, old: &Sight, new: &Sight, taken: bool, now: u64) -> Reader
-    ensures { result ≡ reader_if path.now old.now new.now taken now }
-{
-    if !taken {
-        return path.reader;
+    // What the packet tells of the application that reads the end's data counts.
+    fn heed_notice(&mut self, old: &Sight, new: &Sight, taken: bool, now: u64)
+        ensures { self.new ≡ notice_heeded self.old old.now new.now taken now }
+    {
+        if !self.pace.heeds {
+            return;
+        }
+        if taken {
+            self.reader
+                .hear(self.round_trip, &self.notice, old, new, now);
+        }
+        self.notice = Notice::none();
     }
-    reader_heard(path.round_trip, &path.reader, &path.notice, old, new, now)
-}
 
-// What the packet tells of the application that reads the end's data counts.
-fn notice_heeded(path: &Path, old: &Sight, new: &Sight, taken: bool, now: u64) -> Path
-    ensures { result ≡ notice_heeded path.now old.now new.now taken now }
-{
-    if !path.pace.heeds {
-        return *path;
+    /// The end has heard a packet at `now` (own). `old` and `new` are what there was to see of the end before it and is
+    /// now; `taken` says whether the packet was taken.
+    pub fn hear(&mut self, old: &Sight, new: &Sight, taken: bool, now: u64)
+        ensures { self.new ≡ path_heard self.old old.now new.now taken now }
+    {
+        self.heed_notice(old, new, taken, now);
+        self.measure(old, new, now);
+        self.note_taken(taken);
+        self.note_progress(new.in_flight < old.in_flight);
+        self.note_flight(new.in_flight, now);
+        self.aim_ratio(new, now);
+        self.answer_probe(new.gar, now);
     }
-    let reader = reader_if(path, old, new, taken, now);
-    let mut path = *path;
-    path.reader = reader;
-    path.notice = Notice::none();
-    path
-}
-
-/// What is kept once the end has heard a packet at `now` (own). `old` and `new` are what there was to see of the end
-/// before it and is now; `taken` says whether the packet was taken.
-pub fn path_heard(path: &Path, old: &Sight, new: &Sight, taken: bool, now: u64) -> Path
-    ensures { result ≡ path_heard path.now old.now new.now taken now }
-{
-    let path = notice_heeded(path, old, new, taken, now);
-    let path = measured(&path, old, new, now);
-    let path = heard_from(&path, taken);
-    let path = fell(&path, new.in_flight < old.in_flight);
-    let path = with_flight(&path, new.in_flight, now);
-    let path = aimed(&path, new, now);
-    answered_probe(&path, new.gar, now)
-}
-
-// What is kept after a timeout, at this GSS.
-pub(crate) fn timed_out_path(path: &Path, gss: Seq48) -> Path
-    ensures { result ≡ timed_out_path path.now gss }
-{
-    let reader = reader_timed_out(&path.reader, gss);
-    let mut path = *path;
-    path.timed = None;
-    if path.pace.heeds {
-        path.reader = reader;
-    }
-    path
-}
-
-/// What is kept once the end was told at `now` that a timer has run out, where this is to be seen of it afterwards (own):
-/// after a timeout no packet is timed.
-pub fn told_timer(path: &Path, timer: Timer, sight: &Sight, now: u64) -> Path
-    ensures { result ≡ told_timer path.now timer sight.now now }
-{
-    match timer {
-        Timer::Request => handshake_timed(path, sight.gss, now),
-        Timer::Rto => aimed(&timed_out_path(path, sight.gss), sight, now),
-        Timer::Ack | Timer::Negotiate | Timer::Close | Timer::TimeWait => *path,
-    }
-}
-
-/// Whether the peer is asked for a sign of life before what is in flight is taken for lost, or was asked (own). The timer
-/// rto stands still as long.
-pub fn is_probing(path: &Path, sight: &Sight) -> bool
-    ensures { result ≡ is_probing path.now sight.now }
-{
-    path.pace.probes
-        && is_open_phase(sight.phase)
-        && 0 < sight.in_flight
-        && (probes_first(sight.window) || path.probe.is_some())
 }
 
 // How long an end waits for its peer in this phase before it is given up.
@@ -485,34 +405,6 @@ fn kept_if(keeps: bool, probe: Option<Seq48>) -> Option<Seq48>
     if keeps { probe } else { None }
 }
 
-fn arranged_rules(path: &Path, wait: u64, sight: &Sight, now: u64) -> Path
-    ensures { result ≡ arranged_rules path.now wait sight.now now }
-{
-    let probing = is_probing(path, sight);
-    let silent = path.pace.gives_up && is_open_phase(sight.phase);
-    let patience = ruled_patience(&path.pace, sight.phase);
-    let probe = kept_if(probing, path.probe);
-    let question = alarm_after(probing, path.probing, wait, now);
-    let silence = alarm_after(silent, path.silence, 60_000, now);
-    let give_up = patient_alarm(patience, path.give_up, now);
-    let mut path = *path;
-    path.probe = probe;
-    path.probing = question;
-    path.silence = silence;
-    path.give_up = give_up;
-    path
-}
-
-// How long it is until a rule has something to do.
-fn rules_left(path: &Path, now: u64) -> Option<u64>
-    ensures { result ≡ rules_left path.now now }
-{
-    let left = sooner(None, path.give_up, now);
-    let left = sooner(left, path.probing, now);
-    let left = sooner(left, path.silence, now);
-    sooner(left, path.ratio, now)
-}
-
 fn rules_alarm(left: Option<u64>, least: u64, now: u64) -> Option<Alarm>
     ensures { result ≡ rules_alarm left least now }
 {
@@ -525,20 +417,73 @@ fn rules_alarm(left: Option<u64>, least: u64, now: u64) -> Option<Alarm>
     }
 }
 
-fn with_rules(path: &Path, least: u64, now: u64) -> Path
-    ensures { result ≡ with_rules path.now least now }
-{
-    let left = rules_left(path, now);
-    let mut path = *path;
-    path.rules = rules_alarm(left, least, now);
-    path
-}
+// Timers that were told, and how the rules go on.
+impl Path {
+    // After a timeout, at this GSS.
+    pub(crate) fn time_out(&mut self, gss: Seq48)
+        ensures { self.new ≡ timed_out_path self.old gss }
+    {
+        self.timed = None;
+        if self.pace.heeds {
+            self.reader.time_out(gss);
+        }
+    }
 
-/// The rules as they go on from `now` for an end of which this is to be seen (own). The timer rto would begin with a
-/// wait of `wait` milliseconds, and no rule is due before `least` milliseconds have gone by: 1 after a rule had the end
-/// do something, else 0.
-pub fn arranged_path(path: &Path, wait: u64, sight: &Sight, least: u64, now: u64) -> Path
-    ensures { result ≡ arranged_path path.now wait sight.now least now }
-{
-    with_rules(&arranged_rules(path, wait, sight, now), least, now)
+    /// The end was told at `now` that a timer has run out, where this is to be seen of it afterwards (own): after a timeout
+    /// no packet is timed.
+    pub fn note_timer(&mut self, timer: Timer, sight: &Sight, now: u64)
+        ensures { self.new ≡ told_timer self.old timer sight.now now }
+    {
+        match timer {
+            Timer::Request => self.time_handshake(sight.gss, now),
+            Timer::Rto => {
+                self.time_out(sight.gss);
+                self.aim_ratio(sight, now);
+            }
+            Timer::Ack | Timer::Negotiate | Timer::Close | Timer::TimeWait => {}
+        }
+    }
+
+    /// Whether the peer is asked for a sign of life before what is in flight is taken for lost, or was asked (own). The
+    /// timer rto stands still as long.
+    pub fn is_probing(&self, sight: &Sight) -> bool
+        ensures { result ≡ is_probing self.now sight.now }
+    {
+        self.pace.probes
+            && is_open_phase(sight.phase)
+            && 0 < sight.in_flight
+            && (probes_first(sight.window) || self.probe.is_some())
+    }
+
+    fn arrange_rules(&mut self, wait: u64, sight: &Sight, now: u64)
+        ensures { self.new ≡ arranged_rules self.old wait sight.now now }
+    {
+        let probing = self.is_probing(sight);
+        let silent = self.pace.gives_up && is_open_phase(sight.phase);
+        let patience = ruled_patience(&self.pace, sight.phase);
+        self.probe = kept_if(probing, self.probe);
+        self.probing = alarm_after(probing, self.probing, wait, now);
+        self.silence = alarm_after(silent, self.silence, 60_000, now);
+        self.give_up = patient_alarm(patience, self.give_up, now);
+    }
+
+    // How long it is until a rule has something to do.
+    fn rules_left(&self, now: u64) -> Option<u64>
+        ensures { result ≡ rules_left self.now now }
+    {
+        let left = sooner(None, self.give_up, now);
+        let left = sooner(left, self.probing, now);
+        let left = sooner(left, self.silence, now);
+        sooner(left, self.ratio, now)
+    }
+
+    /// The rules go on from `now` for an end of which this is to be seen (own). The timer rto would begin with a wait of
+    /// `wait` milliseconds, and no rule is due before `least` milliseconds have gone by: 1 after a rule had the end do
+    /// something, else 0.
+    pub fn arrange(&mut self, wait: u64, sight: &Sight, least: u64, now: u64)
+        ensures { self.new ≡ arranged_path self.old wait sight.now least now }
+    {
+        self.arrange_rules(wait, sight, now);
+        self.rules = rules_alarm(self.rules_left(now), least, now);
+    }
 }

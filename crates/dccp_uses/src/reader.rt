@@ -84,33 +84,6 @@ fn halved_if_any(allowance: Option<Allowance>, window: u32) -> Option<Allowance>
     }
 }
 
-fn congested(reader: &Reader, notice: &Notice, old: &Sight, new: &Sight) -> Reader
-    ensures { result ≡ reader_congested reader.now notice.now old.now new.now }
-{
-    let mut reader = *reader;
-    if narrows(old, new) {
-        reader.allowance = halved_if_any(reader.allowance, old.window);
-        reader.mark = Some(new.gss);
-    } else if notice.drops.marked {
-        reader.allowance = Some(allowed_after_congestion(reader.allowance, old.window));
-        reader.mark = Some(new.gss);
-    }
-    reader
-}
-
-fn slowed(reader: &Reader, notice: &Notice, old: &Sight, new: &Sight, now: u64) -> Reader
-    ensures { result ≡ reader_slowed reader.now notice.now old.now new.now now }
-{
-    let allowance = allowed_after_drops(reader.allowance, old.window, notice.drops.full);
-    let mut reader = *reader;
-    reader.allowance = Some(allowance);
-    reader.hold = Some(Timed {
-        number: new.gss,
-        at: now,
-    });
-    reader
-}
-
 fn is_held(trip: Option<RoundTrip>, hold: Option<Timed>, gar: Seq48, now: u64) -> bool
     ensures { result ≡ is_held trip hold gar now }
 {
@@ -131,47 +104,6 @@ fn opened_if_any(allowance: Option<Allowance>, window: u32, acked: u32) -> Optio
     }
 }
 
-fn opened(reader: &Reader, still: bool, old: &Sight, new: &Sight) -> Reader
-    ensures { result ≡ reader_opened reader.now still old.now new.now }
-{
-    let mut reader = *reader;
-    if !still {
-        let acked = old.in_flight.saturating_sub(new.in_flight);
-        reader.allowance = opened_if_any(reader.allowance, new.window, acked);
-    }
-    reader
-}
-
-fn moved(
-    trip: Option<RoundTrip>,
-    reader: &Reader,
-    notice: &Notice,
-    old: &Sight,
-    new: &Sight,
-    now: u64,
-) -> Reader
-    ensures { result ≡ reader_moved trip reader.now notice.now old.now new.now now }
-{
-    let after = congested(reader, notice, old, new);
-    if asks_slower(notice) {
-        return slowed(&after, notice, old, new, now);
-    }
-    let still = narrows(old, new)
-        || notice.drops.marked
-        || is_held(trip, reader.hold, new.gar, now);
-    opened(&after, still, old, new)
-}
-
-fn told(reader: &Reader, notice: &Notice) -> Reader
-    ensures { result ≡ reader_told reader.now notice.now }
-{
-    let mut reader = *reader;
-    reader.counted = counted_after(reader.counted, notice.ack);
-    reader.refused = reader.refused || notice.drops.refused;
-    reader.stopped = reader.stopped || notice.drops.stopped;
-    reader
-}
-
 impl Reader {
     /// Nothing is known of it.
     pub fn begins() -> Reader
@@ -188,22 +120,6 @@ impl Reader {
     }
 }
 
-/// What is known of the application once a packet with this notice was taken at `now` (RFC 4340, sections 11.6, 11.7.1 and
-/// 11.7.2; RFC 4341, section 5.2). `trip` is what the round trip was measured to take; `old` and `new` are what there was
-/// to see of the end before the packet and is now.
-pub fn reader_heard(
-    trip: Option<RoundTrip>,
-    reader: &Reader,
-    notice: &Notice,
-    old: &Sight,
-    new: &Sight,
-    now: u64,
-) -> Reader
-    ensures { result ≡ reader_heard trip reader.now notice.now old.now new.now now }
-{
-    told(&moved(trip, reader, notice, old, new, now), notice)
-}
-
 fn shrunk_if_any(allowance: Option<Allowance>) -> Option<Allowance>
     ensures { result ≡ shrunk_if_any allowance }
 {
@@ -213,15 +129,90 @@ fn shrunk_if_any(allowance: Option<Allowance>) -> Option<Allowance>
     }
 }
 
-/// What is known of it after a timeout, at this GSS (RFC 4341, section 5).
-pub fn reader_timed_out(reader: &Reader, gss: Seq48) -> Reader
-    ensures { result ≡ reader_timed_out reader.now gss }
-{
-    let allowance = shrunk_if_any(reader.allowance);
-    let mut reader = *reader;
-    reader.allowance = allowance;
-    reader.mark = Some(gss);
-    reader
+impl Reader {
+    fn note_congestion(&mut self, notice: &Notice, old: &Sight, new: &Sight)
+        ensures { self.new ≡ reader_congested self.old notice.now old.now new.now }
+    {
+        if narrows(old, new) {
+            self.allowance = halved_if_any(self.allowance, old.window);
+            self.mark = Some(new.gss);
+        } else if notice.drops.marked {
+            self.allowance = Some(allowed_after_congestion(self.allowance, old.window));
+            self.mark = Some(new.gss);
+        }
+    }
+
+    fn slow_down(&mut self, notice: &Notice, old: &Sight, new: &Sight, now: u64)
+        ensures { self.new ≡ reader_slowed self.old notice.now old.now new.now now }
+    {
+        let allowance = allowed_after_drops(self.allowance, old.window, notice.drops.full);
+        self.allowance = Some(allowance);
+        self.hold = Some(Timed {
+            number: new.gss,
+            at: now,
+        });
+    }
+
+    fn open_up(&mut self, still: bool, old: &Sight, new: &Sight)
+        ensures { self.new ≡ reader_opened self.old still old.now new.now }
+    {
+        if !still {
+            let acked = old.in_flight.saturating_sub(new.in_flight);
+            self.allowance = opened_if_any(self.allowance, new.window, acked);
+        }
+    }
+
+    fn move_allowance(
+        &mut self,
+        trip: Option<RoundTrip>,
+        notice: &Notice,
+        old: &Sight,
+        new: &Sight,
+        now: u64,
+    )
+        ensures { self.new ≡ reader_moved trip self.old notice.now old.now new.now now }
+    {
+        let held = is_held(trip, self.hold, new.gar, now);
+        self.note_congestion(notice, old, new);
+        if asks_slower(notice) {
+            self.slow_down(notice, old, new, now);
+        } else {
+            self.open_up(narrows(old, new) || notice.drops.marked || held, old, new);
+        }
+    }
+
+    fn note_told(&mut self, notice: &Notice)
+        ensures { self.new ≡ reader_told self.old notice.now }
+    {
+        self.counted = counted_after(self.counted, notice.ack);
+        self.refused = self.refused || notice.drops.refused;
+        self.stopped = self.stopped || notice.drops.stopped;
+    }
+
+    /// A packet with this notice was taken at `now` (RFC 4340, sections 11.6, 11.7.1 and 11.7.2; RFC 4341, section 5.2).
+    /// `trip` is what the round trip was measured to take; `old` and `new` are what there was to see of the end before
+    /// the packet and is now.
+    pub fn hear(
+        &mut self,
+        trip: Option<RoundTrip>,
+        notice: &Notice,
+        old: &Sight,
+        new: &Sight,
+        now: u64,
+    )
+        ensures { self.new ≡ reader_heard trip self.old notice.now old.now new.now now }
+    {
+        self.move_allowance(trip, notice, old, new, now);
+        self.note_told(notice);
+    }
+
+    /// After a timeout, at this GSS (RFC 4341, section 5).
+    pub fn time_out(&mut self, gss: Seq48)
+        ensures { self.new ≡ reader_timed_out self.old gss }
+    {
+        self.allowance = shrunk_if_any(self.allowance);
+        self.mark = Some(gss);
+    }
 }
 
 fn is_used_up(allowance: Option<Allowance>, in_flight: u32) -> bool

@@ -2,8 +2,7 @@
 ghost use Rattle.std.specs.Prelude.{◌≡◌};
 ghost use Rattle.dccp_uses.specs.Rules.{alarms_by_rule, asks_ratio, due_rule, path_by_rule, probe_rule, rule_does};
 
-use crate::alarms::{Alarm, Alarms, has_run_out, rung_by};
-use crate::path::{aimed, timed_out_path};
+use crate::alarms::{Alarms, alarm_for, has_run_out};
 use crate::{Path, Sight, Waits};
 use dccp_endpoint::{Congestion, Endpoint, Feature, Outbox, Place, Seq48, Timer};
 
@@ -81,52 +80,42 @@ pub fn obey<C: Congestion>(end: &mut Endpoint<C>, rule: Rule, aim: u64, out: &mu
     }
 }
 
-/// The timers after a rule had its end do something at `now` (own): negotiate begins anew with a wish.
-pub fn alarms_by_rule(waits: &Waits, alarms: &Alarms, rule: Rule, now: u64) -> Alarms
-    ensures { result ≡ alarms_by_rule waits.now alarms.now rule now }
-{
-    match rule {
-        Rule::Nothing | Rule::GiveUp => *alarms,
-        Rule::TimeOut => rung_by(waits, alarms, Timer::Rto, now),
-        Rule::Probe | Rule::Ask | Rule::Ratio => {
-            let mut alarms = *alarms;
-            alarms.negotiate = None;
-            alarms
+impl Alarms {
+    /// A rule had the end do something at `now` (own): negotiate begins anew with a wish.
+    pub fn note_rule(&mut self, waits: &Waits, rule: Rule, now: u64)
+        ensures { self.new ≡ alarms_by_rule waits.now self.old rule now }
+    {
+        match rule {
+            Rule::Nothing | Rule::GiveUp => {}
+            Rule::TimeOut => self.ring(waits, Timer::Rto, now),
+            Rule::Probe | Rule::Ask | Rule::Ratio => self.negotiate = None,
         }
     }
 }
 
-/// What is kept of the path after a rule had its end do something at `now`, where this is to be seen of it afterwards
-/// (own).
-pub fn path_by_rule(path: &Path, rule: Rule, sight: &Sight, now: u64) -> Path
-    ensures { result ≡ path_by_rule path.now rule sight.now now }
-{
-    let mut path = *path;
-    match rule {
-        Rule::Nothing => {}
-        Rule::GiveUp => path.give_up = None,
-        Rule::TimeOut => {
-            path.probe = None;
-            path.probing = None;
-            path = aimed(&timed_out_path(&path, sight.gss), sight, now);
-        }
-        Rule::Probe => {
-            path.probe = Some(sight.gss);
-            path.probing = Some(Alarm {
-                since: now,
-                wait: 60_000,
-            });
-        }
-        Rule::Ask => {
-            path.silence = Some(Alarm {
-                since: now,
-                wait: 10_000,
-            });
-        }
-        Rule::Ratio => {
-            path.ratio = None;
-            path.asked = Some(now);
+impl Path {
+    /// A rule had the end do something at `now`, where this is to be seen of it afterwards (own).
+    pub fn note_rule(&mut self, rule: Rule, sight: &Sight, now: u64)
+        ensures { self.new ≡ path_by_rule self.old rule sight.now now }
+    {
+        match rule {
+            Rule::Nothing => {}
+            Rule::GiveUp => self.give_up = None,
+            Rule::TimeOut => {
+                self.probe = None;
+                self.probing = None;
+                self.time_out(sight.gss);
+                self.aim_ratio(sight, now);
+            }
+            Rule::Probe => {
+                self.probe = Some(sight.gss);
+                self.probing = alarm_for(60_000, now);
+            }
+            Rule::Ask => self.silence = alarm_for(10_000, now),
+            Rule::Ratio => {
+                self.ratio = None;
+                self.asked = Some(now);
+            }
         }
     }
-    path
 }

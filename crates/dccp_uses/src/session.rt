@@ -92,15 +92,15 @@ impl<C: Congestion> Session<C> {
     }
 
     /// The timers that run.
-    pub fn alarms(&self) -> Alarms
-        ensures { result ≡ self.now.timed.alarms }
+    pub fn alarms(&self) -> &Alarms
+        ensures { result.now ≡ self.now.timed.alarms }
     {
         self.timed.alarms()
     }
 
     /// What is kept of its path.
-    pub fn path(&self) -> Path
-        ensures { result ≡ self.now.timed.path }
+    pub fn path(&self) -> &Path
+        ensures { result.now ≡ self.now.timed.path }
     {
         self.timed.path()
     }

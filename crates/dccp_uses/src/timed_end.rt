@@ -1,17 +1,11 @@
 //! An end with its timers and the rules of its path, for an owner that carries its frames.
 ghost use Rattle.std.specs.Prelude.{◌≡◌, not, is_some};
-ghost use Rattle.dccp_uses.specs.Timed.{acks_now, is_hole, ruled_condition};
+ghost use Rattle.dccp_uses.specs.Timed.{is_hole, ruled_condition};
 
-use crate::alarms::{
-    Alarm, Alarms, Condition, ack_hurried_by, arranged_by, has_run_out, progressed_by, rung_by,
-    sooner, starting_wait,
-};
+use crate::alarms::{Alarm, Alarms, Condition, has_run_out, sooner, starting_wait};
 use crate::news::{is_delivery, is_taken};
-use crate::path::{
-    arranged_path, data_timed, handshake_timed, is_probing, path_heard, told_timer, with_flight,
-};
 use crate::reader::restraint_of;
-use crate::rule::{alarms_by_rule, due_rule, obey, path_by_rule};
+use crate::rule::{due_rule, obey};
 use crate::syncs::admit;
 use crate::{Pace, Path, Restraint, Rule, SendRefusal, Sight};
 use dccp_endpoint::{
@@ -54,7 +48,7 @@ pub fn ruled_condition(path: &Path, sight: &Sight) -> Condition
 {
     Condition {
         phase: sight.phase,
-        in_flight: 0 < sight.in_flight && !is_probing(path, sight),
+        in_flight: 0 < sight.in_flight && !path.is_probing(sight),
     }
 }
 
@@ -64,20 +58,6 @@ pub fn is_hole(path: &Path, old: &Sight, new: &Sight, delivered: bool, silent: b
     ensures { result ≡ is_hole path.now old.now new.now delivered silent }
 {
     path.pace.acks_soon && delivered && silent && 1 < old.gsr.distance(new.gsr)
-}
-
-/// The timers with an Ack that goes out at once, where there is a hole (own).
-pub fn acks_now(alarms: &Alarms, hole: bool, now: u64) -> Alarms
-    ensures { result ≡ acks_now alarms.now hole now }
-{
-    let mut alarms = *alarms;
-    if hole {
-        alarms.ack = Some(Alarm {
-            since: now,
-            wait: 0,
-        });
-    }
-    alarms
 }
 
 fn is_silent(out: &Outbox) -> bool
@@ -117,7 +97,7 @@ impl<C: Congestion> TimedEnd<C> {
     ghost use Rattle.dccp_uses.specs.Alarms.{has_run_out, starting_wait_by};
     ghost use Rattle.dccp_uses.specs.Path.{path_waits};
     ghost use Rattle.dccp_uses.specs.Reader.{restraint_of};
-    ghost use Rattle.dccp_uses.specs.Timed.{due_alarm, due_told, every_due, first_due_of, first_wait_left, timers_go_on, obeys, timed_aborts, timed_closes, timed_fires, timed_hands, timed_hears, timed_opens, timed_prefers, timed_sends, timed_takes, tells_rules};
+    ghost use Rattle.dccp_uses.specs.Timed.{due_alarm, due_told, every_due, first_due_of, first_wait_left, timers_go_on, timers_go_on_seen, obeys, timed_aborts, timed_closes, timed_fires, timed_hands, timed_hears, timed_opens, timed_prefers, timed_sends, timed_takes, tells_rules};
 
     /// The end, to be read.
     pub fn end(&self) -> &Endpoint<C>
@@ -127,17 +107,17 @@ impl<C: Congestion> TimedEnd<C> {
     }
 
     /// The timers that run.
-    pub fn alarms(&self) -> Alarms
-        ensures { result ≡ self.now.alarms }
+    pub fn alarms(&self) -> &Alarms
+        ensures { result.now ≡ self.now.alarms }
     {
-        self.alarms
+        &self.alarms
     }
 
     /// What is kept of its path.
-    pub fn path(&self) -> Path
-        ensures { result ≡ self.now.path }
+    pub fn path(&self) -> &Path
+        ensures { result.now ≡ self.now.path }
     {
-        self.path
+        &self.path
     }
 
     /// How long a report is waited for from now on, in milliseconds (RFC 6298).
@@ -147,16 +127,23 @@ impl<C: Congestion> TimedEnd<C> {
         starting_wait(&self.path.waits(), &self.alarms, Timer::Rto)
     }
 
-    // The timers and the rules go on from these, no rule before `least` milliseconds have gone by.
-    fn go_on(&mut self, alarms: &Alarms, path: &Path, least: u64, now: u64)
-        ensures { self.new ≡ timers_go_on C.control now least alarms.now path.now self.old.end }
+    // The timers and the rules go on, by what there is to see of the end, no rule before `least` milliseconds have gone by.
+    fn go_on_seen(&mut self, sight: &Sight, least: u64, now: u64)
+        ensures { self.new ≡ timers_go_on_seen now least self.old.alarms self.old.path sight.now self.old.end }
+    {
+        let waits = self.path.waits();
+        let wait = starting_wait(&waits, &self.alarms, Timer::Rto);
+        let condition = ruled_condition(&self.path, sight);
+        self.alarms.arrange(&waits, &condition, now);
+        self.path.arrange(wait, sight, least, now);
+    }
+
+    // The timers and the rules go on.
+    fn go_on(&mut self, now: u64)
+        ensures { self.new ≡ timers_go_on C.control now 0 self.old.alarms self.old.path self.old.end }
     {
         let sight = Sight::of(&self.end);
-        let waits = path.waits();
-        let wait = starting_wait(&waits, alarms, Timer::Rto);
-        self.path = arranged_path(path, wait, &sight, least, now);
-        let condition = ruled_condition(path, &sight);
-        self.alarms = arranged_by(&waits, alarms, &condition, now);
+        self.go_on_seen(&sight, 0, now);
     }
 
     /// A client asks for its service, once. Refused as `Endpoint::open` is; then nothing has changed and there is no
@@ -167,9 +154,9 @@ impl<C: Congestion> TimedEnd<C> {
         ensures sends_nothing { OnErr result (out.new ≡ None) }
     {
         self.end.open(out)?;
-        let path = handshake_timed(&self.path, self.end.marks().gss, now);
-        let alarms = self.alarms;
-        self.go_on(&alarms, &path, 0, now);
+        let gss = self.end.marks().gss;
+        self.path.time_handshake(gss, now);
+        self.go_on(now);
         Ok(())
     }
 
@@ -206,10 +193,11 @@ impl<C: Congestion> TimedEnd<C> {
         ensures sends_nothing { OnErr result (out.new ≡ None) }
     {
         self.end.send_soon(payload, out)?;
-        let path = data_timed(&self.path, self.end.marks().gss, now);
-        let path = with_flight(&path, self.end.in_flight(), now);
-        let alarms = self.alarms;
-        self.go_on(&alarms, &path, 0, now);
+        let gss = self.end.marks().gss;
+        self.path.time_data(gss, now);
+        let in_flight = self.end.in_flight();
+        self.path.note_flight(in_flight, now);
+        self.go_on(now);
         Ok(())
     }
 
@@ -228,10 +216,8 @@ impl<C: Congestion> TimedEnd<C> {
         ensures sends_nothing { OnErr result (out.new ≡ None) }
     {
         self.end.prefer(feature, place, values, out)?;
-        let path = self.path;
-        let mut alarms = self.alarms;
-        alarms.negotiate = None;
-        self.go_on(&alarms, &path, 0, now);
+        self.alarms.negotiate = None;
+        self.go_on(now);
         Ok(())
     }
 
@@ -242,10 +228,8 @@ impl<C: Congestion> TimedEnd<C> {
         ensures sends_nothing { OnErr result (out.new ≡ None) }
     {
         self.end.close(out)?;
-        let mut path = self.path;
-        path.give_up = None;
-        let alarms = self.alarms;
-        self.go_on(&alarms, &path, 0, now);
+        self.path.give_up = None;
+        self.go_on(now);
         Ok(())
     }
 
@@ -256,9 +240,7 @@ impl<C: Congestion> TimedEnd<C> {
         ensures sends_nothing { OnErr result (out.new ≡ None) }
     {
         self.end.abort(out)?;
-        let path = self.path;
-        let alarms = self.alarms;
-        self.go_on(&alarms, &path, 0, now);
+        self.go_on(now);
         Ok(())
     }
 
@@ -269,9 +251,8 @@ impl<C: Congestion> TimedEnd<C> {
         ensures step { record { timed = self.new; frame = out.new; answer = result } ≡ timed_takes C.control now self.old datagram.now }
         ensures cause { IfSome result (λ outcome. HasCause self.old.end.state datagram.now outcome) }
     {
-        let admission = admit(&self.end, &self.path, datagram, now);
-        self.path = admission.path;
-        if !admission.heard {
+        let heard = admit(&self.end, &mut self.path, datagram, now);
+        if !heard {
             out.clear();
             return None;
         }
@@ -289,12 +270,12 @@ impl<C: Congestion> TimedEnd<C> {
         let new = Sight::of(&self.end);
         let delivered = is_delivery(&outcome);
         let hole = is_hole(&self.path, &old, &new, delivered, is_silent(out));
-        let path = path_heard(&self.path, &old, &new, is_taken(&outcome), now);
-        let waits = path.waits();
-        let alarms = progressed_by(&waits, &self.alarms, new.in_flight < old.in_flight);
-        let alarms = ack_hurried_by(&waits, &alarms, delivered);
-        let alarms = acks_now(&alarms, hole, now);
-        self.go_on(&alarms, &path, 0, now);
+        self.path.hear(&old, &new, is_taken(&outcome), now);
+        let waits = self.path.waits();
+        let progress = new.in_flight < old.in_flight;
+        self.alarms
+            .note_packet(&waits, progress, delivered, hole, now);
+        self.go_on_seen(&new, 0, now);
         outcome
     }
 
@@ -303,10 +284,11 @@ impl<C: Congestion> TimedEnd<C> {
         ensures { record { timed = self.new; frame = out.new; answer = result } ≡ timed_fires C.control now self.old timer }
     {
         let waits = self.path.waits();
-        let alarms = rung_by(&waits, &self.alarms, timer, now);
+        self.alarms.ring(&waits, timer, now);
         let applies = self.end.timer(timer, out);
-        let path = told_timer(&self.path, timer, &Sight::of(&self.end), now);
-        self.go_on(&alarms, &path, 0, now);
+        let sight = Sight::of(&self.end);
+        self.path.note_timer(timer, &sight, now);
+        self.go_on_seen(&sight, 0, now);
         applies
     }
 
@@ -323,10 +305,11 @@ impl<C: Congestion> TimedEnd<C> {
         ensures { record { timed = self.new; frame = out.new; answer = result } ≡ obeys C.control now self.old rule }
     {
         let waits = self.path.waits();
-        let alarms = alarms_by_rule(&waits, &self.alarms, rule, now);
+        self.alarms.note_rule(&waits, rule, now);
         let did = obey(&mut self.end, rule, self.path.aim, out);
-        let path = path_by_rule(&self.path, rule, &Sight::of(&self.end), now);
-        self.go_on(&alarms, &path, 1, now);
+        let sight = Sight::of(&self.end);
+        self.path.note_rule(rule, &sight, now);
+        self.go_on_seen(&sight, 1, now);
         did
     }
 

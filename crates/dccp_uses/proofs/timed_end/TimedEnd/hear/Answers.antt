@@ -12,11 +12,10 @@ returns-clause-step g c =
     let s : TimedState _ = record { end = c.self.inside.end; alarms = c.self.inside.alarms; path = c.self.inside.path } in
     subst
     (λ (x : TimedState _).
-    record { timed = c.go_on.new.self; frame = c.receive-outcome.new.out; answer = c.receive-outcome.result } ≡ timed_hears control now x c.args.datagram.now)
+    record { timed = c.go_on_seen.new.self; frame = c.receive-outcome.new.out; answer = c.receive-outcome.result } ≡ timed_hears control now x c.args.datagram.now)
     c.self.view_is
-    (heard_as control now s c.go_on.new.self c.receive-outcome.new.self c.receive-outcome.new.out c.receive-outcome.result
-    (with_control control s.end.congestion (receives s.end.state c.args.datagram.now)) c.waits-waits.result c.path_heard-path.result
-    c.progressed_by-alarms.result c.ack_hurried_by-alarms.result c.acks_now-alarms.result c.of-old.result c.of-new.result c.is_delivery-delivered.result
-    c.is_silent.result c.is_hole-hole.result c.is_taken.result c.of-old.ensures c.receive-outcome.ensures.step c.of-new.ensures
-    c.is_delivery-delivered.ensures c.is_silent.ensures c.is_hole-hole.ensures c.is_taken.ensures c.path_heard-path.ensures c.waits-waits.ensures
-    c.progressed_by-alarms.ensures c.ack_hurried_by-alarms.ensures c.acks_now-alarms.ensures c.go_on.ensures)
+    (heard_as control now s c.go_on_seen.new.self c.receive-outcome.new.self c.receive-outcome.new.out c.receive-outcome.result
+    (with_control control s.end.congestion (receives s.end.state c.args.datagram.now)) c.waits-waits.result c.hear.new.self c.note_packet.new.self
+    c.of-old.result c.of-new.result c.is_delivery-delivered.result c.is_silent.result c.is_hole-hole.result c.is_taken.result c.of-old.ensures
+    c.receive-outcome.ensures.step c.of-new.ensures c.is_delivery-delivered.ensures c.is_silent.ensures c.is_hole-hole.ensures c.is_taken.ensures
+    c.hear.ensures c.waits-waits.ensures c.note_packet.ensures c.go_on_seen.ensures)

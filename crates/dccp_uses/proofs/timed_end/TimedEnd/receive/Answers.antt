@@ -8,9 +8,9 @@ returns-clause-step g c =
     let control = g.C.Congestion.control in
     let now = c.args.now in
     let s : TimedState _ = record { end = c.self.inside.end; alarms = c.self.inside.alarms; path = c.self.inside.path } in
-    let heard : c.admit-admission.result.heard ≡ true = search rules in
+    let heard : c.admit-heard.result ≡ true = search rules in
     subst
     (λ (x : TimedState _). record { timed = c.hear.new.self; frame = c.hear.new.out; answer = Some c.hear.result } ≡ timed_takes control now x c.args.datagram.now)
     c.self.view_is
-    (taken_as control now s c.hear.new.self c.args.datagram.now c.hear.new.out c.hear.result c.admit-admission.result c.admit-admission.ensures heard
-    c.hear.ensures.step)
+    (taken_as control now s c.hear.new.self c.args.datagram.now c.hear.new.out c.hear.result c.admit-heard.result c.admit-heard.new.path
+    c.admit-heard.ensures.heard c.admit-heard.ensures.path heard c.hear.ensures.step)
