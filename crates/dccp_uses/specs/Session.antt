@@ -1,5 +1,5 @@
 -- An end with the timers that its owner keeps for it (own; the end is RFC 4340's).
-use Rattle.std.specs.Prelude.{◌≡◌, nat_lt, nat_le, ℕ, Bool, true, false, not, ◌&&◌, List, [], ◌∷◌, length, Option, Some, None, is_some, Result, Ok, Err, if◌then◌else◌}
+use Rattle.std.specs.Prelude.{nat_lt, nat_le, ℕ, Bool, true, false, not, ◌&&◌, List, [], ◌∷◌, length, Option, Some, None, is_some, Result, Ok, Err, if◌then◌else◌}
 use Rattle.congestion_trait.specs.Control.{Control}
 use Rattle.dccp_packets.specs.Outgoing.{Outgoing}
 use Rattle.dccp_endpoint.specs.Calling.{fires}
@@ -128,27 +128,9 @@ abbrev pub rings : {C : Type 0} → Control C → ℕ → SessionState C → Tim
 rings control now s timer =
     if has_run_out (alarm_of s.alarms timer) now then tells_end control now s timer else record { session = s; frame = None; answer = false }
 
--- a session after several steps, and their frames
-pub record SessionSteps (C : Type 0) : Type 0 where
-  pub session : SessionState C
-  pub frames : List (Option Outgoing)
-
--- a step in front of those that come after it, with its frame as the first
-abbrev pub followed : {C : Type 0} → SessionStep C Bool → SessionSteps C → SessionSteps C
-followed step rest = record { session = rest.session; frames = step.frame ∷ rest.frames }
-
--- each timer that has run out, one after another
-abbrev pub rings_each : {C : Type 0} → Control C → ℕ → SessionState C → List Timer → SessionSteps C
-rings_each control now s [] = record { session = s; frames = [] }
-rings_each control now s (timer ∷ rest) = followed (rings control now s timer) (rings_each control now (rings control now s timer).session rest)
-
 -- the six timers of an end, in the order in which they are looked at
 abbrev pub every_timer : List Timer
 every_timer = timers.Request ∷ timers.Ack ∷ timers.Negotiate ∷ timers.Rto ∷ timers.Close ∷ timers.TimeWait ∷ []
-
--- no timer has run out that its end was not told of
-abbrev pub NothingIsDue : ℕ → Alarms → Type 0
-NothingIsDue now alarms = (timer : Timer) → has_run_out (alarm_of alarms timer) now ≡ false
 
 -- A server's end for a peer hears its first datagram. It's a connection where it left LISTEN.
 abbrev pub is_listening : Phase → Bool
@@ -161,12 +143,3 @@ is_listening phases.Open = false
 is_listening phases.CloseReq = false
 is_listening phases.Closing = false
 is_listening phases.TimeWait = false
-
--- the session of an end that has left LISTEN
-abbrev pub unless_listening : {C : Type 0} → SessionState C → Bool → Option (SessionState C)
-unless_listening s true = None
-unless_listening s false = Some s
-
--- the session that a first datagram has made, where its end has left LISTEN
-abbrev pub accepted_session : {C : Type 0} → SessionStep C News → Option (SessionState C)
-accepted_session step = unless_listening step.session (is_listening step.session.end.state.phase)
