@@ -220,8 +220,8 @@ impl Pair {
     /// The wait of a timer of this side, if it runs.
     pub(crate) fn wait_of(&self, role: Role, timer: Timer) -> Option<u64> {
         match (role, &self.server) {
-            (Role::Client, _) => wait_in(&self.client.alarms(), timer),
-            (Role::Server, Some(server)) => wait_in(&server.alarms(), timer),
+            (Role::Client, _) => wait_in(self.client.alarms(), timer),
+            (Role::Server, Some(server)) => wait_in(server.alarms(), timer),
             (Role::Server, None) => None,
         }
     }
