@@ -167,12 +167,12 @@ pub(crate) fn receive(held: &mut Held, datagram: &[u8], now: u64) -> Reading
     ensures step { done held.new.timed held.new.intake held.new.cookie held.new.out result ≡ c_receives datagram.now now (c_end held.old) }
     ensures drops { held.new.drops ≡ record_heard datagram.now held.old.timed held.new.timed held.old.drops }
 {
-    let before = held.timed.path().reader.counted;
+    let before = held.timed.path().reader;
     let was = held.timed.end().phase();
     let heard = held.timed.receive(datagram, now, &mut held.out);
     held.cookie.keep(was, held.timed.end().phase(), datagram);
-    let after = held.timed.path().reader.counted;
-    held.drops.heard(before, after, datagram);
+    let after = held.timed.path().reader;
+    held.drops.heard(&before, &after, datagram);
     let arrival = settle_heard(&mut held.intake, &held.timed, datagram, &heard);
     speak(held);
     Reading { heard, arrival }

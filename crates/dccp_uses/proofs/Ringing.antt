@@ -1,10 +1,8 @@
 -- The timers of a session, one after another.
-use Rattle.std.proofs.Common.{◌≡◌, refl, sym, subst, ℕ, ◌≤◌, ◌-◌, ◌==◌, Bool, true, false, if◌then◌else◌, Option, Some, None, arith}
-use Rattle.congestion_trait.specs.Control.{Control}
+use Rattle.std.proofs.Common.{◌≡◌, refl, ℕ, ◌≤◌, ◌-◌, ◌==◌, Bool, true, false, Option, Some, None, arith}
 use Rattle.dccp_states.specs.declared.calls.Timer.{Timer}
 use Rattle.dccp_states.specs.declared.calls.Timer.TheVariants as timers
-use Rattle.dccp_uses.specs.Alarms.{alarm_after, alarm_of, arranged, arranged_by, classic_waits, has_run_out, next_wait, rung, rung_by, runs_in, set_back, starting_wait_by}
-use Rattle.dccp_uses.specs.Session.{NothingIsDue, SessionState, condition_of, every_timer, rings, rings_each, tells_end}
+use Rattle.dccp_uses.specs.Alarms.{alarm_after, alarm_of, arranged_by, has_run_out, next_wait, rung_by, runs_in, set_back, starting_wait_by}
 use Rattle.dccp_uses.specs.declared.alarms.Alarm.{Alarm}
 use Rattle.dccp_uses.specs.declared.alarms.Alarms.{Alarms}
 use Rattle.dccp_uses.specs.declared.alarms.Condition.{Condition}

@@ -4,6 +4,7 @@ ghost use Rattle.data_dropped.specs.Drops.{drop_code};
 ghost use Rattle.dccp_packets.specs.Grammar.{decoded};
 ghost use Rattle.dccp_uses.specs.DropRecord.{drop_recorded, packet_recorded, record_after, report_recorded};
 
+use crate::Reader;
 use crate::notice::new_reach;
 use circular_buffer::HeapCircularBuffer;
 use data_dropped::{DropEntry, DropReport};
@@ -84,19 +85,19 @@ impl DropRecord {
         }
     }
 
-    /// An end has heard this datagram: `before` and `after` are up to which number reports of drops were counted before
-    /// that and are now (`Reader::counted`).
+    /// An end has heard this datagram: `before` and `after` are what was known of its reader before that and is now
+    /// (`Path::reader`).
     #[tactic(auto, using(crate::proofs::Numbering::nothing_new))]
-    pub fn heard(&mut self, before: Option<Seq48>, after: Option<Seq48>, datagram: &[u8])
-        ensures { self.new ≡ record_after drop_recorded before after datagram.now self.old }
+    pub fn heard(&mut self, before: &Reader, after: &Reader, datagram: &[u8])
+        ensures { self.new ≡ record_after drop_recorded before.now.counted after.now.counted datagram.now self.old }
     {
-        let Some(ack) = after else {
+        let Some(ack) = after.counted else {
             return;
         };
-        if new_reach(before, ack) == 0 {
+        if new_reach(before.counted, ack) == 0 {
             return;
         }
-        self.note_datagram(before, ack, datagram);
+        self.note_datagram(before.counted, ack, datagram);
     }
 
     /// The Drop Code of the packet with this number, 0 to 7 (RFC 4340, section 11.7), or None where none is recorded. The

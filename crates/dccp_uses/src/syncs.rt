@@ -52,6 +52,9 @@ pub fn admit<C: Congestion>(end: &Endpoint<C>, path: &mut Path, datagram: &[u8],
     ensures path { path.new ≡ (admitted end.now.state path.old datagram.now now).path }
 {
     let heeds = path.pace.heeds;
+    if !path.pace.limits_syncs && !heeds {
+        return true;
+    }
     let judgement = judge(end, &path.reader, datagram);
     let heard = admit_within(path, judgement.number, end.marks().gsr, now);
     if heeds {
