@@ -6,7 +6,7 @@ use crate::{
     ArriveError, Config, Fate, Feature, FlowError, FlowRules, Held, ListenError, Phase, Place,
     RoundTrip, Statistics, StopError, Timer, Transmit, sys,
 };
-use std::collections::{BTreeMap, VecDeque};
+use std::collections::{HashMap, VecDeque};
 use std::net::SocketAddr;
 use std::time::{Duration, Instant};
 
@@ -168,7 +168,7 @@ impl Way {
 pub struct Listener {
     flows: Flows,
     changes: VecDeque<(SocketAddr, Change)>,
-    counts: BTreeMap<SocketAddr, Counts>,
+    counts: HashMap<SocketAddr, Counts>,
     /// The key from which first numbers are drawn.
     key: Option<sys::Key>,
     /// The flows count their time in milliseconds from the first call that has one.
@@ -186,6 +186,20 @@ struct Counts {
     in_flight: InFlight,
 }
 
+impl Counts {
+    /// Removes the packets of data that are not in flight any more, and counts those that are lost.
+    fn settle(&mut self, flows: &mut Flows, peer: SocketAddr) {
+        if self.in_flight.is_empty() {
+            return;
+        }
+        if let Some(view) = flows.look(peer) {
+            self.counted.lost += self
+                .in_flight
+                .settle(view.in_flight, |number| flows.fate(peer, number));
+        }
+    }
+}
+
 impl Listener {
     /// A server of at most this many peers at a time, 1 to 1,024. The configuration is a [`Config::listener`].
     pub fn new(config: &Config, most: u16) -> Result<Listener, ListenError> {
@@ -194,7 +208,7 @@ impl Listener {
         Ok(Listener {
             flows,
             changes: VecDeque::new(),
-            counts: BTreeMap::new(),
+            counts: HashMap::new(),
             key: None,
             begun: None,
             time: 0,
@@ -224,7 +238,7 @@ impl Listener {
         if is == Stand::Connection {
             let counts = self.counts.entry(peer).or_default();
             counts.counted.heard(&told, datagram);
-            self.settle(peer);
+            counts.settle(&mut self.flows, peer);
         }
         self.tell_changes(datagram);
         ArriveError::answer(status)
@@ -745,16 +759,8 @@ impl Listener {
 
     /// Removes the packets of data to a peer that are not in flight any more, and counts those that are lost.
     fn settle(&mut self, peer: SocketAddr) {
-        let Some(counts) = self.counts.get_mut(&peer) else {
-            return;
-        };
-        if counts.in_flight.is_empty() {
-            return;
-        }
-        if let Some(view) = self.flows.look(peer) {
-            counts.counted.lost += counts
-                .in_flight
-                .settle(view.in_flight, |number| self.flows.fate(peer, number));
+        if let Some(counts) = self.counts.get_mut(&peer) {
+            counts.settle(&mut self.flows, peer);
         }
     }
 
