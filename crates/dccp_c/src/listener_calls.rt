@@ -240,13 +240,13 @@ fn hear(
 {
     serving.evicted = None;
     serving.way = Way::Plain;
-    let before = serving.server.server().upkeep(peer).path.reader;
+    let before = serving.server.server().reader(peer);
     let meeting = serving
         .server
         .arrive(peer, iss, datagram, now, &mut serving.out)?;
     serving.evicted = room_maker(meeting.made_room, meeting.arrival.evicted);
     serving.way = meeting.way;
-    let after = serving.server.server().upkeep(peer).path.reader;
+    let after = serving.server.server().reader(peer);
     serving.drops.heard(peer, &before, &after, datagram);
     Ok(meeting)
 }

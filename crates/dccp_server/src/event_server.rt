@@ -23,7 +23,7 @@ fn flow_state(server: &Server, peer: Peer) -> Option<FlowState>
     ensures { result ≡ flow_state server.now.room peer }
 {
     match server.flow(peer) {
-        Some(end) => Some(seen_flow(end, server.life(peer).user, server.restraint(peer))),
+        Some(end) => Some(seen_flow(end, server.life(peer).user, server.restraint_at(peer, end))),
         None => None,
     }
 }
@@ -308,8 +308,9 @@ impl EventServer {
         ensures after { self.new ≡ ticked_on self.old (record self.old.server { room = duty_done now self.old.server.room result }) result }
         ensures sent { out.new ≡ duty_frame now self.old.server.room result }
     {
-        let was = self.due_state(self.server.duty(now));
-        let duty = self.server.tick(now, out);
+        let duty = self.server.duty(now);
+        let was = self.due_state(duty);
+        self.server.perform(duty, now, out);
         self.tell_duty(duty, was);
         duty
     }

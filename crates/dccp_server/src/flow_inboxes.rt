@@ -224,6 +224,9 @@ impl FlowInboxes {
     pub fn tidy(&mut self, server: &Server, peer: Peer)
         ensures { self.new ≡ tidied self.old server.now peer }
     {
+        if self.intakes.is_empty() {
+            return;
+        }
         if server.flow(peer).is_none() && self.held(peer) == 0 {
             self.remove(peer);
         }

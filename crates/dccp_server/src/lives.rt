@@ -13,7 +13,10 @@ use dccp_listener::{NoFlow, Peer};
 pub(crate) fn life_of(lives: &Register<Life>, peer: Peer) -> Life
     ensures { result ≡ life_of lives.now peer }
 {
-    lives.of_or(peer, Life::none())
+    match lives.get(peer) {
+        Some(life) => *life,
+        None => Life::none(),
+    }
 }
 
 /// The peer's life goes on from this one with its end, and goes with it.

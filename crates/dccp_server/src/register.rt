@@ -40,7 +40,7 @@ impl<V: Moment> Model for Register<V> {
 }
 
 impl<V: Moment> Register<V> {
-    ghost use Rattle.std.specs.Prelude.{◌≡◌, [], None, IfOk, OnOk, OnErr, IsSome, length, slice_get, unwrap_or, if◌then◌else◌};
+    ghost use Rattle.std.specs.Prelude.{◌≡◌, [], None, Some, MatchOption, IfOk, OnOk, OnErr, IsSome, length, slice_get, if◌then◌else◌};
     ghost use Rattle.std.specs.BTreeMap.{insert_entry};
     ghost use Rattle.std.specs.Map.{keys_of, lookup, remove_entry};
     ghost use Rattle.dccp_listener.specs.Peers.{is_peer, peer_cmp};
@@ -67,14 +67,11 @@ impl<V: Moment> Register<V> {
         }
     }
 
-    /// What is kept of a peer, or else this.
-    pub(crate) fn of_or(&self, peer: Peer, other: V) -> V
-        ensures { result ≡ unwrap_or (lookup (is_peer peer) self.now) other }
+    /// What is kept of a peer, to be read where it is.
+    pub(crate) fn get(&self, peer: Peer) -> Option<&V>
+        ensures { MatchOption result (lookup (is_peer peer) self.now ≡ None) (λ value. lookup (is_peer peer) self.now ≡ Some value.now) }
     {
-        match self.entries.get(&peer) {
-            Some(value) => *value,
-            None => other,
-        }
+        self.entries.get(&peer)
     }
 
     /// The peer has a place from now on: whether it had one before.

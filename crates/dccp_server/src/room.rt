@@ -4,6 +4,7 @@ ghost use Rattle.dccp_listener.specs.Calls.{seen_if};
 ghost use Rattle.dccp_listener.specs.Chain.{Arrives, Calls, asked};
 ghost use Rattle.dccp_listener.specs.Listens.{listens};
 ghost use Rattle.dccp_listener.specs.Runs.{Stepped, told_of};
+ghost use Rattle.dccp_server.specs.Lives.{life_of};
 ghost use Rattle.dccp_server.specs.Rooms.{HasArrived, HasHeard, IsJudged, IsLiving, IsRoomMade, as_room, counted_room, forgets, heard_or_fault, is_crowded, is_to_be_heard, room_does, unless_fault, who_leaves};
 ghost use Rattle.dccp_server.specs.Serving.{Does, Follows, doing_frame};
 
@@ -35,10 +36,11 @@ pub(crate) struct Judged {
     pub(crate) anew: bool,
 }
 
-/// A datagram of a peer is heard, without any rule.
+/// A datagram of a peer with this life is heard, without any rule.
 pub(crate) fn hear(
     timed: &mut TimedListener,
     lives: &mut Register<Life>,
+    life: &Life,
     peer: Peer,
     iss: Seq48,
     bytes: &[u8],
@@ -47,18 +49,18 @@ pub(crate) fn hear(
 ) -> Result<Heard, NoMemory>
     requires short { length bytes.now ≤ 2044 }
     requires living { IsLiving (as_room timed.old lives.old) }
+    requires known { life.now ≡ life_of lives.old peer }
     ensures after { OnOk result (as_room timed.new lives.new ≡ room_does now (as_room timed.old lives.old) peer (Does (Arrives iss bytes.now))) }
     ensures sent { OnOk result (out.new ≡ (listens timed.old.listening peer (Arrives iss bytes.now)).frame) }
     ensures told { IfOk result (λ heard. told_of (Ok heard) ≡ (listens timed.old.listening peer (Arrives iss bytes.now)).told) }
     ensures living { IsLiving (as_room timed.new lives.new) }
     ensures unchanged { OnErr result (as_room timed.new lives.new ≡ as_room timed.old lives.old) }
 {
-    let life = life_of(lives, peer);
     let had = lives.place_for(peer, Life::none())?;
     match timed.arrive(peer, iss, bytes, now, out) {
         Ok(heard) => {
             let signs = signs_noted(bytes, signs_heard(&heard));
-            go_on(timed, lives, peer, &life, signs, now);
+            go_on(timed, lives, peer, life, signs, now);
             Ok(heard)
         }
         Err(fault) => {
@@ -150,7 +152,8 @@ fn make_room(
     ensures made { IsRoomMade now (as_room timed.old lives.old) (as_room timed.new lives.new) peer iss bytes.now (Some leaving) out.old out.new result }
 {
     forget(timed, lives, leaving, now, out);
-    hear(timed, lives, peer, iss, bytes, now, out)
+    let life = life_of(lives, peer);
+    hear(timed, lives, &life, peer, iss, bytes, now, out)
 }
 
 // A peer that has begun anew loses its old flow, and the Sync is not sent.
@@ -239,6 +242,7 @@ fn hear_by(
     timed: &mut TimedListener,
     lives: &mut Register<Life>,
     rules: &Rules,
+    life: &Life,
     peer: Peer,
     iss: Seq48,
     bytes: &[u8],
@@ -247,14 +251,12 @@ fn hear_by(
 ) -> Judged
     requires short { length bytes.now ≤ 2044 }
     requires living { IsLiving (as_room timed.old lives.old) }
+    requires known { life.now ≡ life_of lives.old peer }
     ensures living { IsLiving (as_room timed.new lives.new) }
     ensures heard { HasHeard now rules.now (as_room timed.old lives.old) (as_room timed.new lives.new) peer iss bytes.now out.new result.heard result.evicted result.anew }
 {
-    let life = life_of(lives, peer);
-    match hear(timed, lives, peer, iss, bytes, now, out) {
-        Ok(heard) => judge(
-            timed, lives, rules, &life, heard, peer, iss, bytes, now, out,
-        ),
+    match hear(timed, lives, life, peer, iss, bytes, now, out) {
+        Ok(heard) => judge(timed, lives, rules, life, heard, peer, iss, bytes, now, out),
         Err(fault) => Judged {
             heard: Err(fault),
             evicted: None,
@@ -268,16 +270,18 @@ fn count(
     timed: &mut TimedListener,
     lives: &Register<Life>,
     rules: &Rules,
+    life: &Life,
     peer: Peer,
     bytes: &[u8],
     now: u64,
 ) -> bool
-    requires { IsLiving (as_room timed.old lives.now) }
+    requires living { IsLiving (as_room timed.old lives.now) }
+    requires known { life.now ≡ life_of lives.now peer }
     ensures living { IsLiving (as_room timed.new lives.now) }
     ensures room { as_room timed.new lives.now ≡ counted_room now rules.now (as_room timed.old lives.now) peer bytes.now }
     ensures heard { result ≡ is_to_be_heard now rules.now (as_room timed.old lives.now) peer bytes.now }
 {
-    if refuses_last_sync(rules, &life_of(lives, peer), bytes) {
+    if refuses_last_sync(rules, life, bytes) {
         return true;
     }
     timed.admits(peer, bytes, now)
@@ -320,7 +324,8 @@ pub(crate) fn arrive(
     ensures living { IsLiving (as_room timed.new lives.new) }
     ensures arrived { HasArrived now rules.now (as_room timed.old lives.old) (as_room timed.new lives.new) peer iss bytes.now out.new result.heard result.evicted result.anew }
 {
-    if !count(timed, lives, rules, peer, bytes, now) {
+    let life = life_of(lives, peer);
+    if !count(timed, lives, rules, &life, peer, bytes, now) {
         out.clear();
         return Arrival {
             heard: Ok(None),
@@ -328,6 +333,6 @@ pub(crate) fn arrive(
             anew: false,
         };
     }
-    let judged = hear_by(timed, lives, rules, peer, iss, bytes, now, out);
+    let judged = hear_by(timed, lives, rules, &life, peer, iss, bytes, now, out);
     as_arrival(&judged, out)
 }

@@ -20,7 +20,7 @@ use ccid_two::Kinds;
 use dccp_endpoint::{Endpoint, Outbox, Seen, Seq48, UserCall};
 use dccp_listener::{ListenConfig, NoFlow, Peer};
 use dccp_packets::Frame;
-use dccp_uses::{Due, Pace, Restraint, due_rule, is_taken, restraint_of};
+use dccp_uses::{Due, Pace, Reader, Restraint, due_rule, is_taken, restraint_of};
 use init_cookies::{CookieKeys, Opening, put_request};
 use std::alloc::Global;
 use std::marker::Model;
@@ -70,7 +70,7 @@ impl Server {
     ghost use Rattle.dccp_server.specs.Places.{peer_after};
     ghost use Rattle.dccp_server.specs.Refusals.{flow_asked, refused_frame, refused_server, reset_for};
     ghost use Rattle.dccp_server.specs.Rooms.{HasArrived, IsServed, forgets, is_to_be_heard, received_at, duty_done, duty_due, duty_frame, duty_in, room_does, room_waits, ruled_begins, who_is_over, who_leaves, with_user};
-    ghost use Rattle.dccp_server.specs.Serving.{Does, Follows, doing_frame, flow_restraint, upkeep_at};
+    ghost use Rattle.dccp_server.specs.Serving.{Does, Follows, doing_frame, flow_restraint, flow_restraint_by, upkeep_at};
 
     /// A server without flows, whose ends make the offers of the lists, follow the rules of `pace` on their paths, and are
     /// kept by the rules of `rules`. It takes no memory.
@@ -468,12 +468,20 @@ impl Server {
         ensures after { self.new ≡ record self.old { room = duty_done now self.old.room result } }
         ensures sent { out.new ≡ duty_frame now self.old.room result }
     {
-        out.clear();
         let duty = self.duty(now);
+        self.perform(duty, now, out);
+        duty
+    }
+
+    /// Does what there is to do, if there is something.
+    pub(crate) fn perform(&mut self, duty: Option<Duty>, now: u64, out: &mut Outbox)
+        ensures after { self.new ≡ record self.old { room = duty_done now self.old.room duty } }
+        ensures sent { out.new ≡ duty_frame now self.old.room duty }
+    {
+        out.clear();
         if let Some(duty) = duty {
             self.do_duty(duty, now, out);
         }
-        duty
     }
 
     /// How many milliseconds it is until something is due of a flow or one is given up; 2^64 - 1 where there is no such time.
@@ -527,9 +535,23 @@ impl Server {
         ensures { result ≡ flow_restraint self.now.room.served peer }
     {
         match self.timed.flow(peer) {
-            Some(end) => restraint_of(&self.timed.upkeep(peer).path.reader, end.in_flight()),
+            Some(end) => self.restraint_at(peer, end),
             None => None,
         }
+    }
+
+    /// The same of its end.
+    pub(crate) fn restraint_at(&self, peer: Peer, end: &Endpoint<Kinds>) -> Option<Restraint>
+        ensures { result ≡ flow_restraint_by (upkeep_at self.now.room.served.pace self.now.room.served.upkeeps peer) (Some end.now) }
+    {
+        restraint_of(&self.timed.reader(peer), end.in_flight())
+    }
+
+    /// What is known of the application that reads a peer's data (RFC 4340, sections 11.6 and 11.7; own).
+    pub fn reader(&self, peer: Peer) -> Reader
+        ensures { result ≡ (upkeep_at self.now.room.served.pace self.now.room.served.upkeeps peer).path.reader }
+    {
+        self.timed.reader(peer)
     }
 
     /// What is known of a peer's flow beside its end; a life that has not begun where it has none.

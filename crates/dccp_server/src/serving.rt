@@ -19,7 +19,7 @@ use crate::upkeep::Upkeep;
 use ccid_two::Kinds;
 use dccp_endpoint::{Endpoint, Feature, NoMemory, Outbox, Place, Seen, Seq48, Timer, UserCall};
 use dccp_listener::{Heard, Listener, NoFlow, Peer};
-use dccp_uses::{Due, Pace, Rule, Sight, admit, due_rule};
+use dccp_uses::{Due, Pace, Reader, Rule, Sight, admit, due_rule};
 
 // What there is to see of a peer's end, if it has one.
 fn sight_at(listener: &Listener, peer: Peer) -> Option<Sight>
@@ -47,7 +47,20 @@ fn is_silent(out: &Outbox) -> bool
 pub(crate) fn upkeep_at(upkeeps: &Register<Upkeep>, pace: Pace, peer: Peer) -> Upkeep
     ensures { result ≡ upkeep_at pace upkeeps.now peer }
 {
-    upkeeps.of_or(peer, Upkeep::begins(pace))
+    match upkeeps.get(peer) {
+        Some(upkeep) => *upkeep,
+        None => Upkeep::begins(pace),
+    }
+}
+
+/// What is known of the application that reads a peer's data.
+pub(crate) fn reader_at(upkeeps: &Register<Upkeep>, pace: Pace, peer: Peer) -> Reader
+    ensures { result ≡ (upkeep_at pace upkeeps.now peer).path.reader }
+{
+    match upkeeps.get(peer) {
+        Some(upkeep) => upkeep.path.reader,
+        None => Upkeep::begins(pace).path.reader,
+    }
 }
 
 // What is kept of the peer goes on from this with its end, and goes with it.

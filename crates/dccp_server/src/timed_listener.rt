@@ -2,12 +2,14 @@
 ghost use Rattle.std.specs.Prelude.{◌≡◌};
 
 use crate::register::Register;
-use crate::serving::{act, arrive, first_due_flow, follow, least_wait, spend, upkeep_at};
+use crate::serving::{
+    act, arrive, first_due_flow, follow, least_wait, reader_at, spend, upkeep_at,
+};
 use crate::upkeep::Upkeep;
 use ccid_two::Kinds;
 use dccp_endpoint::{Endpoint, NoMemory, Outbox, Outcome, Seen, Seq48, UserCall};
 use dccp_listener::{Heard, ListenConfig, Listener, NoFlow, Peer};
-use dccp_uses::{Due, Pace, admit};
+use dccp_uses::{Due, Pace, Reader, admit};
 use std::alloc::Global;
 use std::marker::Model;
 
@@ -204,6 +206,13 @@ impl TimedListener {
         ensures { result ≡ upkeep_at self.now.pace self.now.upkeeps peer }
     {
         upkeep_at(&self.upkeeps, self.pace, peer)
+    }
+
+    /// What is known of the application that reads a peer's data.
+    pub fn reader(&self, peer: Peer) -> Reader
+        ensures { result ≡ (upkeep_at self.now.pace self.now.upkeeps peer).path.reader }
+    {
+        reader_at(&self.upkeeps, self.pace, peer)
     }
 
     /// What it was made from.
