@@ -7,6 +7,7 @@ pub mod Going
 pub mod Judging
 pub mod Living
 pub mod MetByDoings
+pub mod NextPeer
 pub mod FewInboxes
 mod Ordered
 pub mod Placing
