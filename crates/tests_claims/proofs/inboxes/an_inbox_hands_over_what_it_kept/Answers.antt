@@ -1,4 +1,4 @@
-use Rattle.std.proofs.Common.{◌≡◌, length, take, drop, ap, ◌∙◌, arith}
+use Rattle.std.proofs.Common.{length, take, drop, ap, ◌∙◌, arith}
 use Rattle.std.proofs.Math.Seq.{drop-append_seam, take-append_seam}
 use Rattle.data_dropped.specs.History.{History, history_after_all, no_history}
 use Rattle.tests_claims.proofs.inboxes.an_inbox_hands_over_what_it_kept.Goals as goal

@@ -1,7 +1,4 @@
-use Rattle.std.proofs.Common.{false≢true, sym, subst}
-use Rattle.two_inboxes.specs.Apart.{TellsOfItsData}
-use Rattle.two_inboxes.specs.Inboxes.{InboxPair}
-use Rattle.world_events.specs.declared.event.Side.{Side}
+use Rattle.std.proofs.lemmas.Bool.{false≢true}
 use Rattle.tests_claims.proofs.Inboxed.{tells}
 use Rattle.tests_claims.proofs.inboxes.frames_are_true_of_what_was_taken.Goals as goal
 
