@@ -12,7 +12,7 @@ put-requires c = place_there_if _ c.in-Some.end.now c.args.upkeeps.now c.args.pe
 
 pub returns-in-Some : goal.returns-in-Some
 returns-in-Some c =
-    c.put.ensures ∙ ap (λ (u : Upkeep). insert_entry peer_cmp c.args.upkeeps.now c.args.peer u) c.next_upkeep-next.ensures
+    c.put.ensures ∙ ap (λ (u : Upkeep). insert_entry peer_cmp c.args.upkeeps.now c.args.peer u) c.note.ensures
     ∙ sym
     (ap (λ (found : Option FlowEnd). kept_then c.args.upkeeps.now c.args.peer
     (next_upkeep c.args.now c.args.pace c.args.upkeep.now c.args.happening.now) found) c.in-Some.ensures.value)
