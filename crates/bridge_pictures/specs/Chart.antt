@@ -2,7 +2,7 @@
 use Rattle.std.specs.Prelude.{ℕ, ◌+◌, nat_lt, max, if◌then◌else◌, List, [], ◌++◌, codes, decimal}
 use Rattle.bridge_pictures.specs.Bars.{bar, downward, group_end, packets_high, upward}
 use Rattle.bridge_pictures.specs.Places.{point}
-use Rattle.bridge_pictures.specs.Svg.{label_front, line, words}
+use Rattle.bridge_pictures.specs.Svg.{cut_text, line, words}
 use Rattle.bridge_pictures.specs.declared.windows.chart.Counts.{Counts}
 use Rattle.bridge_pictures.specs.declared.windows.chart.Span.{Span}
 
@@ -19,7 +19,7 @@ first_chart = record { shown = 0; tallest = 0; body = [] }
 -- what a column shows: what happened, the window, and what is in flight
 unfoldable pub column_words : List ℕ → Counts → List ℕ
 column_words happened counts =
-    label_front happened ++ codes "\nwindow " ++ decimal counts.window ++ codes " flight " ++ decimal counts.flight
+    cut_text happened ++ codes "\nwindow " ++ decimal counts.window ++ codes " flight " ++ decimal counts.flight
 
 -- a column's mark that the window fell from what was drawn last
 abbrev pub fall : ChartParts → ℕ → Counts → List ℕ → List ℕ

@@ -1,36 +1,34 @@
 -- What `windows --flow` draws of a capture, classic or pcapng: the windows of one flow (own).
-use Rattle.std.specs.Prelude.{ℕ, ◌==◌, ◌||◌, ◌++◌, nat_lt, Bool, is_some, if◌then◌else◌, List, [], length, flat_map, codes, Option, Some, None, Result, Ok, Err}
+use Rattle.std.specs.Prelude.{ℕ, ◌==◌, ◌||◌, ◌++◌, nat_lt, Bool, is_some, if◌then◌else◌, List, [], length, flat_map, codes, Result, Ok, Err}
 use Rattle.bridge_records.specs.Pieces.{Taken, text_of_pieces}
-use Rattle.bridge_records.specs.Recording.{RecordStep, RecordWork, RecordsState, records_of, records_work}
+use Rattle.bridge_records.specs.Recording.{RecordsState, records_of, records_work}
 use Rattle.capture_reader.specs.Records.{RecordParts}
 use Rattle.ccid_two.specs.Window.{State, first_state}
 use Rattle.dccp_options.specs.Grammar.{Entry, options_of}
 use Rattle.dccp_options.specs.Kinds.{confirm_l, confirm_r}
 use Rattle.dccp_options.specs.declared.option.OptFault.{OptFault}
-use Rattle.dccp_packets.specs.Grammar.{Parts, decoded, packet_type}
+use Rattle.dccp_packets.specs.Grammar.{Parts, packet_type}
 use Rattle.dccp_packets.specs.Kinds.{is_data}
-use Rattle.dccp_packets.specs.declared.reading.Malformed.{Malformed}
-use Rattle.packet_show.specs.Network.{DatagramParts, carried}
 use Rattle.packet_show.specs.Text.{option_text}
 use Rattle.schedule_text.specs.Names.{side_name}
 use Rattle.world_events.specs.declared.event.Side.{Side}
 use Rattle.world_events.specs.declared.event.Side.TheVariants.{Client, Server}
+use Rattle.bridge_pictures.specs.FlowPictures.{FlowDrawing, PictureKind, drawing_of, flow_work}
 use Rattle.bridge_pictures.specs.Graph.{GraphParts, counts_drawn, first_graph, graph_picture, noted_below}
 use Rattle.bridge_pictures.specs.Senders.{counts_seen, report_seen, send_seen}
 use Rattle.bridge_pictures.specs.Stamps.{record_words, stamp}
-use Rattle.bridge_pictures.specs.Walk.{WalkParts, first_walk, is_later, record_behind, step_in_flow, flow_walked}
+use Rattle.bridge_pictures.specs.Walk.{is_later}
 use Rattle.bridge_pictures.specs.declared.walk.FlowStep.{FlowStep}
 
--- The windows of a flow while they are drawn: the walk over its packets, what CCID 2 counts for each side, and the graph.
+-- The windows of a flow while they are drawn: what CCID 2 counts for each side, and the graph.
 pub record FlowWindowsParts : Type 0 where
-  pub walk : WalkParts
   pub client : State
   pub server : State
   pub graph : GraphParts
 
 -- before the first record
-abbrev pub first_flow_windows : ℕ → FlowWindowsParts
-first_flow_windows flow = record { walk = first_walk flow; client = first_state; server = first_state; graph = first_graph }
+abbrev pub first_flow_windows : FlowWindowsParts
+first_flow_windows = record { client = first_state; server = first_state; graph = first_graph }
 
 -- an option that confirms a feature's value
 abbrev pub is_confirm : ℕ → Bool
@@ -76,50 +74,21 @@ told_if_later f step packet = if is_later step.ahead then senders_told f step.fr
 unfoldable pub step_charted : FlowWindowsParts → FlowStep → RecordParts → Parts → FlowWindowsParts
 step_charted f step e packet = confirms_told (packet_column (told_if_later f step packet) e packet) step.from e packet
 
--- a packet, which is drawn where it is of the flow
-abbrev pub step_charted_if : FlowWindowsParts → Option FlowStep → RecordParts → Parts → FlowWindowsParts
-step_charted_if f None e packet = f
-step_charted_if f (Some step) e packet = step_charted f step e packet
+-- what is noted below the charts
+abbrev pub confirms_heading : List ℕ
+confirms_heading = codes "record, its time, end, and what it confirms of features"
 
--- the same, between these addresses
-unfoldable pub packet_charted : FlowWindowsParts → RecordParts → DatagramParts → Parts → FlowWindowsParts
-packet_charted f e there packet =
-    step_charted_if (record f { walk = flow_walked f.walk there packet.header }) (step_in_flow f.walk there packet.header) e packet
-
--- what bytes of DCCP come to
-abbrev pub decoded_charted : FlowWindowsParts → RecordParts → DatagramParts → Result Parts Malformed → FlowWindowsParts
-decoded_charted f e there (Ok packet) = packet_charted f e there packet
-decoded_charted f e there (Err why) = f
-
--- what a record of raw IP comes to that carries these bytes of DCCP, or none
-abbrev pub carried_charted : FlowWindowsParts → RecordParts → Option DatagramParts → FlowWindowsParts
-carried_charted f e None = f
-carried_charted f e (Some there) = decoded_charted f e there (decoded there.bytes)
-
--- What a record of raw IP draws.
-unfoldable pub ip_charted : FlowWindowsParts → RecordParts → FlowWindowsParts
-ip_charted f e = carried_charted f e (carried e.link e.bytes)
-
--- a record was passed, which writes nothing
-abbrev pub charts_on : FlowWindowsParts → RecordStep (Unit {0}) FlowWindowsParts
-charts_on f = record { deed = None; next = f }
-
--- What `windows --flow` makes of the records of a capture: each is drawn, and after the last stands the picture.
-abbrev pub flow_windows_work : RecordWork (Unit {0}) FlowWindowsParts
-flow_windows_work = record {
-  begun = λ f nanos. charts_on f;
-  passed = λ f e. charts_on (ip_charted f (record_behind e));
-  told = λ _. [];
-  closing = λ f untold records end. graph_picture f.graph [] [];
-}
+-- The windows as a picture of a flow.
+abbrev pub windows_kind : PictureKind FlowWindowsParts
+windows_kind = record { drawn = step_charted; text = λ f. graph_picture f.graph confirms_heading [] [] }
 
 -- what the pieces of an input come to
-abbrev pub flow_windows_pieces : ℕ → List ℕ → Taken (Unit {0}) (RecordsState FlowWindowsParts)
-flow_windows_pieces flow input = records_of flow_windows_work (first_flow_windows flow) input
+abbrev pub flow_windows_pieces : ℕ → List ℕ → Taken (Unit {0}) (RecordsState (FlowDrawing FlowWindowsParts))
+flow_windows_pieces flow input = records_of (flow_work windows_kind) (drawing_of flow first_flow_windows) input
 
 -- What `windows --flow` writes of an input.
 abbrev pub flow_windows_text : ℕ → List ℕ → List ℕ
-flow_windows_text flow input = text_of_pieces (records_work flow_windows_work) (flow_windows_pieces flow input)
+flow_windows_text flow input = text_of_pieces (records_work (flow_work windows_kind)) (flow_windows_pieces flow input)
 
 -- The capture has a fault.
 abbrev pub is_flow_windows_faulty : ℕ → List ℕ → Bool

@@ -71,7 +71,7 @@ right_of g = column_at (one_further g.columns)
 
 -- the size of the picture
 abbrev pub graph_size : GraphParts → Point
-graph_size g = point (max 900 (right_of g + 60)) (server_bottom g + 60 + note_at g.notes + 20)
+graph_size g = point (max 900 (right_of g + 60)) (server_bottom g + 82 + note_at g.notes + 20)
 
 -- where the client's chart stands
 abbrev pub client_span : GraphParts → Span
@@ -89,12 +89,16 @@ client_chart g marks = chart g.client (codes "client") (client_span g) marks
 unfoldable pub server_chart : GraphParts → List ℕ → List ℕ
 server_chart g marks = chart g.server (codes "server") (server_span g) marks
 
--- what is below both charts: the numbers of columns, and the notes
-unfoldable pub below_charts : GraphParts → List ℕ
-below_charts g =
-    downward (server_bottom g + 26) ++ g.axis ++ group_end ++ downward (server_bottom g + 60) ++ g.told ++ group_end
+-- what is below both charts: the numbers of columns
+unfoldable pub columns_numbered : GraphParts → List ℕ
+columns_numbered g = downward (server_bottom g + 26) ++ g.axis ++ group_end
 
--- The picture: both charts with these marks below their lines, and what is below them.
-unfoldable pub graph_picture : GraphParts → List ℕ → List ℕ → List ℕ
-graph_picture g client server =
-    front (graph_size g) ++ look ++ client_chart g client ++ server_chart g server ++ below_charts g ++ codes "</svg>\n"
+-- and below these the notes, under what they are
+unfoldable pub notes_told : GraphParts → List ℕ → List ℕ
+notes_told g heading =
+    words (codes "panel") (point 40 (server_bottom g + 60)) heading ++ downward (server_bottom g + 82) ++ g.told ++ group_end
+
+-- The picture: both charts with these marks below their lines, and below them notes under this heading.
+unfoldable pub graph_picture : GraphParts → List ℕ → List ℕ → List ℕ → List ℕ
+graph_picture g heading client server =
+    front (graph_size g) ++ look ++ client_chart g client ++ server_chart g server ++ columns_numbered g ++ notes_told g heading ++ codes "</svg>\n"

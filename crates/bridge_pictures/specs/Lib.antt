@@ -2,11 +2,13 @@ pub mod Svg
 pub mod Style
 pub mod Phases
 pub mod Places
+pub mod Peers
 pub mod Scene
 pub mod LadderLines
 pub mod Transcript
 pub mod Walk
 pub mod Stamps
+pub mod FlowPictures
 pub mod Flow
 pub mod Bars
 pub mod Look

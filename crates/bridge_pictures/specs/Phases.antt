@@ -6,10 +6,10 @@ use Rattle.dccp_packets.specs.declared.header.PacketType.{PacketType}
 use Rattle.dccp_states.specs.Phases.{after}
 use Rattle.dccp_states.specs.declared.phase.Phase.{Phase}
 use Rattle.dccp_states.specs.declared.phase.Phase.TheVariants as phases
-use Rattle.bridge_pictures.specs.declared.ladder.phases.Asked.{Asked}
-use Rattle.bridge_pictures.specs.declared.ladder.phases.Asked.TheVariants as asks
-use Rattle.bridge_pictures.specs.declared.ladder.phases.Came.{Came}
-use Rattle.bridge_pictures.specs.declared.ladder.phases.Came.TheVariants as comes
+use Rattle.bridge_pictures.specs.declared.ladder.phases.Demand.{Demand}
+use Rattle.bridge_pictures.specs.declared.ladder.phases.Demand.TheVariants as asks
+use Rattle.bridge_pictures.specs.declared.ladder.phases.Fate.{Fate}
+use Rattle.bridge_pictures.specs.declared.ladder.phases.Fate.TheVariants as comes
 
 -- the word for a phase, as end lines have it
 abbrev pub phase_class : Phase → List ℕ
@@ -41,13 +41,13 @@ phase_sent phase (kinds.Reset ack code detail) = phase_reset phase code
 phase_sent phase kind = phase
 
 -- the phase of an end to which a packet of this type came, by what became of it
-abbrev pub phase_came : Phase → PacketType → Came → Phase
+abbrev pub phase_came : Phase → PacketType → Fate → Phase
 phase_came phase kind comes.Took = (after phase kind).0
 phase_came phase kind comes.WasReset = phases.TimeWait
 phase_came phase kind came = phase
 
 -- the phase of an end that was asked for something
-abbrev pub phase_asked : Phase → Asked → Phase
+abbrev pub phase_asked : Phase → Demand → Phase
 phase_asked phase asks.GivenUp = phases.Closed
 phase_asked phase asks.TimedOut = phase
 phase_asked phase asks.Other = phase

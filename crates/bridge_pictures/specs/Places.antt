@@ -6,8 +6,8 @@ use Rattle.world_events.specs.declared.event.Side.{Side}
 use Rattle.world_events.specs.declared.event.Side.TheVariants.{Client, Server}
 use Rattle.bridge_pictures.specs.Phases.{phase_class}
 use Rattle.bridge_pictures.specs.Svg.{label, line}
-use Rattle.bridge_pictures.specs.declared.ladder.phases.Came.{Came}
-use Rattle.bridge_pictures.specs.declared.ladder.phases.Came.TheVariants as comes
+use Rattle.bridge_pictures.specs.declared.ladder.phases.Fate.{Fate}
+use Rattle.bridge_pictures.specs.declared.ladder.phases.Fate.TheVariants as comes
 use Rattle.bridge_pictures.specs.declared.svg.Point.{Point}
 
 -- a place so far from the left edge and from the top
@@ -38,7 +38,7 @@ side_class Client = codes "left"
 side_class Server = codes "right"
 
 -- how the arrow of a frame looks, by what became of it
-abbrev pub came_class : Came → List ℕ
+abbrev pub came_class : Fate → List ℕ
 came_class comes.Took = codes "took"
 came_class comes.Dropped = codes "dropped"
 came_class comes.Synced = codes "synced"
@@ -46,7 +46,7 @@ came_class comes.WasReset = codes "was-reset"
 came_class comes.SentReset = codes "sent-reset"
 
 -- the same, where a repeat looks like one
-abbrev pub arrow_class : Came → Bool → List ℕ
+abbrev pub arrow_class : Fate → Bool → List ℕ
 arrow_class came again = if again then codes "again" else came_class came
 
 -- A text beside a side's line.

@@ -1,5 +1,5 @@
 -- What `windows` draws of a schedule, which is played as `run` plays it (own).
-use Rattle.std.specs.Prelude.{ℕ, nat_lt, Bool, is_some, if◌then◌else◌, List, [], length, Option, Some, None}
+use Rattle.std.specs.Prelude.{ℕ, nat_lt, Bool, is_some, if◌then◌else◌, List, [], length, codes, Option, Some, None}
 use Rattle.ccid_two.specs.Kinds.{Both}
 use Rattle.tool_jobs.specs.Scenes.{Scene}
 use Rattle.tool_jobs.specs.Transcript.{first_play, run_job}
@@ -67,15 +67,19 @@ abbrev pub played_by : Played → Verdict Scene Play → Verdict (Unit {0}) Play
 played_by p (Refused fault) = Refused fault
 played_by p (Accepted deed next) = Accepted None (behind_line p next (line_text run_job deed))
 
+-- what is noted below the charts
+abbrev pub notes_heading : List ℕ
+notes_heading = codes "event, end, and its features as number=Here/There, * in CHANGING, ! in UNSTABLE"
+
 -- The picture after the last event, which left this world: the frames of each end are lost that the other never
 -- processed.
 unfoldable pub world_picture : WorldDrawing → Controlled Both → List ℕ
 world_picture d world =
-    graph_picture d.graph (loss_marks d.client (half_of world.world Server).processed) (loss_marks d.server (half_of world.world Client).processed)
+    graph_picture d.graph notes_heading (loss_marks d.client (half_of world.world Server).processed) (loss_marks d.server (half_of world.world Client).processed)
 
 -- the picture, by the world that the events left, if there were any
 abbrev pub picture_in : WorldDrawing → Option (Controlled Both) → List ℕ
-picture_in d None = graph_picture d.graph [] []
+picture_in d None = graph_picture d.graph notes_heading [] []
 picture_in d (Some world) = world_picture d world
 
 -- the whole picture

@@ -1,5 +1,5 @@
 -- The elements of a picture (SVG 1.1).
-use Rattle.std.specs.Prelude.{ℕ, ◌==◌, if◌then◌else◌, List, [], ◌∷◌, ◌++◌, flat_map, length, min, take, codes, decimal}
+use Rattle.std.specs.Prelude.{ℕ, ◌==◌, nat_lt, Bool, if◌then◌else◌, List, [], ◌∷◌, ◌++◌, flat_map, length, min, take, codes, decimal}
 use Rattle.bridge_pictures.specs.declared.svg.Point.{Point}
 
 -- a byte of text as XML has it between tags, which keeps two for itself
@@ -26,13 +26,29 @@ begin name class = codes "<" ++ name ++ codes " class='" ++ class ++ codes "'"
 abbrev pub text_begin : List ℕ → Point → List ℕ
 text_begin class at = begin (codes "text") class ++ attribute (codes "x") at.x ++ attribute (codes "y") at.y ++ codes ">"
 
--- the front of a text that is in a picture
-abbrev pub label_front : List ℕ → List ℕ
-label_front words = take (min (length words) 60) words
+-- a text has more than 60 bytes, and is cut
+abbrev pub is_cut : List ℕ → Bool
+is_cut words = nat_lt 60 (length words)
 
--- A text at that place: its first 60 bytes, and the whole as a tooltip.
+-- what of a text a picture has
+unfoldable pub label_front : List ℕ → List ℕ
+label_front words = if is_cut words then take (min (length words) 58) words else words
+
+-- the mark of a text that is cut
+unfoldable pub cut_mark : List ℕ → List ℕ
+cut_mark words = if is_cut words then codes ".." else []
+
+-- a text, cut and marked where it is too long
+unfoldable pub cut_text : List ℕ → List ℕ
+cut_text words = label_front words ++ cut_mark words
+
+-- what of a text is between tags
+unfoldable pub text_inside : List ℕ → List ℕ
+text_inside words = escaped (label_front words) ++ cut_mark words
+
+-- A text at that place, of at most 60 bytes, and the whole as a tooltip.
 abbrev pub label : List ℕ → Point → List ℕ → List ℕ
-label class at words = text_begin class at ++ escaped (label_front words) ++ title words ++ codes "</text>\n"
+label class at words = text_begin class at ++ text_inside words ++ title words ++ codes "</text>\n"
 
 -- A whole text at that place.
 abbrev pub words : List ℕ → Point → List ℕ → List ℕ

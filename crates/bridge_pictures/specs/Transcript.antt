@@ -1,9 +1,11 @@
--- What `ladder` draws of a transcript, those that `run` and `replay` write (own).
+-- What `ladder` draws of a transcript, those that `run`, `replay` and `listen` write (own).
 use Rattle.std.specs.Prelude.{ℕ, nat_lt, Bool, false, is_some, if◌then◌else◌, List, [], ◌++◌, length, codes, decimal, Option, Some, None, Result, Ok, Err}
+use Rattle.dccp_listener.specs.declared.peer.Peer.{Peer}
 use Rattle.dccp_packets.specs.Grammar.{Parts, decoded}
 use Rattle.dccp_packets.specs.declared.header.Kind.{Kind}
 use Rattle.dccp_packets.specs.declared.reading.Malformed.{Malformed}
 use Rattle.packet_show.specs.Lines.{words_text}
+use Rattle.tool_jobs.specs.Peers.{peer_text}
 use Rattle.tool_text.specs.Jobs.{Accepted, Gone, Job, Refused, Verdict, gone_through, refusal_told, text_apart}
 use Rattle.tool_text.specs.Names.{malformed_name}
 use Rattle.tool_text.specs.declared.lines.refusals.Refusal.{Refusal}
@@ -12,10 +14,11 @@ use Rattle.world_events.specs.declared.event.Side.{Side}
 use Rattle.world_events.specs.declared.event.Side.TheVariants.{Client, Server}
 use Rattle.bridge_pictures.specs.LadderLines.{drawn_by_line}
 use Rattle.bridge_pictures.specs.Places.{arrow_class}
-use Rattle.bridge_pictures.specs.Scene.{Drawing, asked_at, at_lone, delivered, first_drawing, gone_straight, picture, frame_sent, row_told}
-use Rattle.bridge_pictures.specs.declared.ladder.lines.Drawn.{Drawn}
-use Rattle.bridge_pictures.specs.declared.ladder.lines.Drawn.TheVariants as draws
-use Rattle.bridge_pictures.specs.declared.ladder.phases.Came.{Came}
+use Rattle.bridge_pictures.specs.Scene.{Drawing, arrival_drawn_beside, asked_at, delivered, drawn_of, first_drawing, gone_straight, is_one_end, listener_told, peer_answered, peer_heard, picture, frame_sent, row_told}
+use Rattle.bridge_pictures.specs.declared.ladder.lines.LadderLine.{LadderLine}
+use Rattle.bridge_pictures.specs.declared.ladder.lines.LadderLine.TheVariants as draws
+use Rattle.bridge_pictures.specs.declared.ladder.phases.Fate.{Fate}
+use Rattle.bridge_pictures.specs.declared.ladder.scene.Subject.TheVariants as subjects
 
 -- the letter of a side's frames
 abbrev pub side_letter : Side → List ℕ
@@ -46,31 +49,49 @@ kind_in bytes = kind_by (decoded bytes)
 
 -- a side, or the only one
 abbrev pub drawn_side : Drawing → Side → Side
-drawn_side d side = if d.lone then Client else side
+drawn_side d side = if is_one_end d.subject then Client else side
 
 -- a frame with these words was sent: an end alone has its arrow straight
 unfoldable pub frame_drawn : Drawing → Side → List ℕ → List ℕ → Drawing
-frame_drawn d from bytes words = if d.lone then gone_straight (row_told d Client words) Client (codes "sent") words else frame_sent d from (kind_in bytes) words
+frame_drawn d from bytes words =
+    if is_one_end d.subject then gone_straight (row_told d Client words) Client (codes "sent") words
+    else frame_sent d from (kind_in bytes) words
 
 -- a frame came to an end alone, from a peer that is not seen
-unfoldable pub came_alone : Drawing → Came → List ℕ → Drawing
-came_alone d came line = gone_straight (row_told (at_lone d) Client line) Server (arrow_class came false) line
+unfoldable pub came_alone : Drawing → Fate → List ℕ → Drawing
+came_alone d came line = gone_straight (row_told (drawn_of subjects.OneEnd d) Client line) Server (arrow_class came false) line
 
 -- a frame was sent, of at most 2,044 bytes
 abbrev pub sent_on : Drawing → Side → ℕ → List ℕ → Drawing
 sent_on d from index frame = if nat_lt 2044 (length frame) then d else frame_drawn d from frame (frame_label from index frame)
 
+-- a peer, and what a frame says that goes to it
+unfoldable pub peer_label : Peer → List ℕ → List ℕ
+peer_label peer bytes = peer_text peer ++ packet_words bytes
+
+-- what a packet says that came
+unfoldable pub arrival_label : List ℕ → List ℕ
+arrival_label bytes = codes "came" ++ packet_words bytes
+
+-- a frame went to a peer, of at most 2,044 bytes
+abbrev pub sent_to_peer : Drawing → Peer → List ℕ → Drawing
+sent_to_peer d peer frame = if nat_lt 2044 (length frame) then d else peer_answered d peer (peer_label peer frame)
+
 -- What a line draws.
-unfoldable pub drawn_on : Drawing → List ℕ → Drawn → Drawing
+unfoldable pub drawn_on : Drawing → List ℕ → LadderLine → Drawing
 drawn_on d line (draws.Asked side what) = asked_at d side what line
 drawn_on d line (draws.Came from index came) = delivered d from index came line
-drawn_on d line draws.AskedAlone = row_told (at_lone d) Client line
+drawn_on d line draws.AskedAlone = row_told (drawn_of subjects.OneEnd d) Client line
 drawn_on d line (draws.CameAlone came) = came_alone d came line
 drawn_on d line (draws.Sent from index frame) = sent_on d from index frame
 drawn_on d line (draws.Ended side) = row_told d (drawn_side d side) line
+drawn_on d line (draws.PeerCame peer came) = peer_heard d peer (arrow_class came false) line
+drawn_on d line (draws.SentToPeer peer frame) = sent_to_peer d peer frame
+drawn_on d line draws.ListenerTold = listener_told d line
+drawn_on d line (draws.Arrived peer frame) = arrival_drawn_beside d peer (arrival_label frame.bytes)
 
 -- what a line comes to: it is drawn, or refused, or says nothing
-abbrev pub line_drawn : Drawing → List ℕ → Result (Option Drawn) LineFault → Verdict (Unit {0}) Drawing
+abbrev pub line_drawn : Drawing → List ℕ → Result (Option LadderLine) LineFault → Verdict (Unit {0}) Drawing
 line_drawn d line (Err fault) = Refused fault
 line_drawn d line (Ok None) = Accepted None d
 line_drawn d line (Ok (Some drawn)) = Accepted None (drawn_on d line drawn)
@@ -79,13 +100,9 @@ line_drawn d line (Ok (Some drawn)) = Accepted None (drawn_on d line drawn)
 unfoldable pub line_judged : Drawing → ℕ → List ℕ → Verdict (Unit {0}) Drawing
 line_judged d number line = line_drawn d line (drawn_by_line line)
 
--- the whole picture, with what its lines are called
-abbrev pub whole_picture : Drawing → List ℕ
-whole_picture d = if d.lone then picture (codes "this end") (codes "its peer") d else picture (codes "client") (codes "server") d
-
 -- What `ladder` makes of the lines: each is drawn, and at the end stands the picture.
 abbrev pub ladder_job : Job (Unit {0}) Drawing
-ladder_job = record { judged = line_judged; told = λ _. []; ending = whole_picture }
+ladder_job = record { judged = line_judged; told = λ _. []; ending = picture }
 
 -- what the lines of a transcript come to
 abbrev pub ladder_gone : List ℕ → Gone (Unit {0}) Drawing

@@ -2,6 +2,7 @@
 
 mod flow;
 mod lines;
+mod peers;
 mod phases;
 mod places;
 mod scene;

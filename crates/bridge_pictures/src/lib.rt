@@ -4,6 +4,7 @@
 //! end does: it reads lines and packets, and plays a schedule as `run` does.
 #![tactic(auto)]
 
+mod flow_pictures;
 mod ladder;
 mod stamps;
 mod style;

@@ -31,25 +31,25 @@ fn put_three(text: &mut Vec<u8>, number: u32) -> Result<(), NoMemory>
 }
 
 /// Puts a record's number and its time, down to milliseconds. NoMemory comes where no memory was left, here and below.
-pub(crate) fn put_stamp(text: &mut Vec<u8>, record: &Record<'_>) -> Result<(), NoMemory>
-    ensures { OnOk result (text.new.items ≡ text.old.items ++ spec.stamp (entry_of record.now)) }
+pub(crate) fn put_stamp(text: &mut Vec<u8>, item: &Record<'_>) -> Result<(), NoMemory>
+    ensures { OnOk result (text.new.items ≡ text.old.items ++ spec.stamp (entry_of item.now)) }
 {
-    put_number(text, record.number)?;
-    put_counted(text, b" ", u64::from(record.seconds))?;
+    put_number(text, item.number)?;
+    put_counted(text, b" ", u64::from(item.seconds))?;
     put(text, b".")?;
-    put_three(text, milliseconds(record.nanos, record.fraction))
+    put_three(text, milliseconds(item.nanos, item.fraction))
 }
 
 /// Puts a record's number and time, and what the packet in it says.
 #[tactic(auto, unfolding(crate::specs::Stamps::record_words))]
 pub(crate) fn put_record_words(
     text: &mut Vec<u8>,
-    record: &Record<'_>,
+    item: &Record<'_>,
     packet: &Packet<'_>,
 ) -> Result<(), NoMemory>
     requires { length packet.now.options.now ≤ 1008 }
-    ensures { OnOk result (text.new.items ≡ text.old.items ++ spec.record_words (entry_of record.now) (parts_by packet.now)) }
+    ensures { OnOk result (text.new.items ≡ text.old.items ++ spec.record_words (entry_of item.now) (parts_by packet.now)) }
 {
-    put_stamp(text, record)?;
+    put_stamp(text, item)?;
     put_words(text, packet)
 }

@@ -11,7 +11,7 @@ const HEADS: &[u8] =
 
 // The colours, on light and on dark.
 const COLOURS: &[u8] =
-    b"<style>.sheet{fill:#fff}text{font:12px monospace;fill:#222}.left{text-anchor:end}.name{text-anchor:middle;font-weight:bold}line{stroke:#555;stroke-width:1.4}.took,.dropped,.synced,.was-reset,.sent-reset,.again,.sent,.late{marker-end:url(#head)}.tip{fill:#555}.dropped{stroke:#999;stroke-dasharray:6 4}.synced{stroke:#c60}.was-reset,.sent-reset{stroke:#c22}.again,.late{stroke:#06c;stroke-dasharray:2 3}.lost{stroke:#c22;stroke-dasharray:6 4;marker-end:url(#cross)}.x{stroke:#c22;stroke-width:1.4;fill:none}.CLOSED,.LISTEN,.REQUEST,.RESPOND,.PARTOPEN,.OPEN,.CLOSEREQ,.CLOSING,.TIMEWAIT{stroke-width:5}.CLOSED{stroke:#bbb}.LISTEN{stroke:#777}.REQUEST{stroke:#e8a000}.RESPOND{stroke:#b060d0}.PARTOPEN{stroke:#70b8e8}.OPEN{stroke:#2a9d4a}.CLOSEREQ{stroke:#d08060}.CLOSING{stroke:#c8503c}.TIMEWAIT{stroke:#8a6040}@media (prefers-color-scheme:dark){.sheet{fill:#16181c}text{fill:#ddd}line{stroke:#aaa}.tip{fill:#aaa}.CLOSED{stroke:#666}.LISTEN{stroke:#999}}</style><rect class='sheet' width='100%' height='100%'/>\n";
+    b"<style>.sheet{fill:#fff}text{font:12px monospace;fill:#222}.left{text-anchor:end}.name{text-anchor:middle;font-weight:bold}.peer{text-anchor:end;font-weight:bold}line{stroke:#555;stroke-width:1.4}.took,.dropped,.synced,.was-reset,.sent-reset,.again,.sent,.late{marker-end:url(#head)}.tip{fill:#555}.dropped{stroke:#999;stroke-dasharray:6 4}.synced{stroke:#c60}.was-reset,.sent-reset{stroke:#c22}.again,.late{stroke:#06c;stroke-dasharray:2 3}.lost{stroke:#c22;stroke-dasharray:6 4;marker-end:url(#cross)}.x{stroke:#c22;stroke-width:1.4;fill:none}.CLOSED,.LISTEN,.REQUEST,.RESPOND,.PARTOPEN,.OPEN,.CLOSEREQ,.CLOSING,.TIMEWAIT{stroke-width:5}.CLOSED{stroke:#bbb}.LISTEN{stroke:#777}.REQUEST{stroke:#e8a000}.RESPOND{stroke:#b060d0}.PARTOPEN{stroke:#70b8e8}.OPEN{stroke:#2a9d4a}.CLOSEREQ{stroke:#d08060}.CLOSING{stroke:#c8503c}.TIMEWAIT{stroke:#8a6040}@media (prefers-color-scheme:dark){.sheet{fill:#16181c}text{fill:#ddd}line{stroke:#aaa}.tip{fill:#aaa}.synced{stroke:#f90}.was-reset,.sent-reset,.lost,.x{stroke:#f66}.again,.late{stroke:#6af}.CLOSED{stroke:#666}.LISTEN{stroke:#999}}</style><rect class='sheet' width='100%' height='100%'/>\n";
 
 // What the colours of lines mean, at the top.
 const KEY: &[u8] =
@@ -31,19 +31,19 @@ fn put_colours(text: &mut Vec<u8>) -> Result<(), NoMemory>
     put(text, COLOURS)
 }
 
+/// Puts what the colours of lines mean. NoMemory comes where no memory was left, here and below.
 #[tactic(auto, unfolding(crate::specs::Style::key))]
-fn put_key(text: &mut Vec<u8>) -> Result<(), NoMemory>
+pub(crate) fn put_key(text: &mut Vec<u8>) -> Result<(), NoMemory>
     ensures { OnOk result (text.new.items ≡ text.old.items ++ spec.key) }
 {
     put(text, KEY)
 }
 
-/// Puts the style of a picture, its sheet, and what the colours of lines mean.
+/// Puts the style of a picture, and its sheet.
 #[tactic(auto, unfolding(crate::specs::Style::style))]
 pub(crate) fn put_style(text: &mut Vec<u8>) -> Result<(), NoMemory>
     ensures { OnOk result (text.new.items ≡ text.old.items ++ spec.style) }
 {
     put_heads(text)?;
-    put_colours(text)?;
-    put_key(text)
+    put_colours(text)
 }

@@ -12,8 +12,10 @@ pub(crate) struct Point {
     pub(crate) y: u64,
 }
 
-// So many bytes of a text are in a picture; its tooltip has all.
+// A text of more bytes is cut to the front, and marked; its tooltip has all.
 const LABEL: usize = 60;
+
+const FRONT: usize = 58;
 
 // A byte of text, or what XML writes for one that it keeps for itself.
 fn put_escaped_byte(text: &mut Vec<u8>, byte: u8) -> Result<(), NoMemory>
@@ -68,11 +70,35 @@ pub(crate) fn put_begin(text: &mut Vec<u8>, name: &[u8], class: &[u8]) -> Result
     put(text, b"'")
 }
 
-/// The front of a text that is in a picture.
-pub(crate) fn cut(words: &[u8]) -> &[u8]
+// What of a text a picture has.
+#[tactic(auto, unfolding(crate::specs::Svg::label_front))]
+fn cut(words: &[u8]) -> &[u8]
     ensures { result.now ≡ spec.label_front words.now }
 {
-    &words[..words.len().min(LABEL)]
+    if LABEL < words.len() {
+        return &words[..words.len().min(FRONT)];
+    }
+    words
+}
+
+// Puts the mark of a text that is cut.
+#[tactic(auto, unfolding(crate::specs::Svg::cut_mark))]
+fn put_cut_mark(text: &mut Vec<u8>, words: &[u8]) -> Result<(), NoMemory>
+    ensures { OnOk result (text.new.items ≡ text.old.items ++ spec.cut_mark words.now) }
+{
+    if LABEL < words.len() {
+        return put(text, b"..");
+    }
+    Ok(())
+}
+
+/// Puts a text, cut and marked where it is longer than a label.
+#[tactic(auto, unfolding(crate::specs::Svg::cut_text))]
+pub(crate) fn put_cut(text: &mut Vec<u8>, words: &[u8]) -> Result<(), NoMemory>
+    ensures { OnOk result (text.new.items ≡ text.old.items ++ spec.cut_text words.now) }
+{
+    put(text, cut(words))?;
+    put_cut_mark(text, words)
 }
 
 // Puts the beginning of a text at that place.
@@ -85,6 +111,15 @@ fn put_text_begin(text: &mut Vec<u8>, class: &[u8], at: Point) -> Result<(), NoM
     put(text, b">")
 }
 
+// Puts what of a text is between tags.
+#[tactic(auto, unfolding(crate::specs::Svg::text_inside))]
+fn put_shown(text: &mut Vec<u8>, words: &[u8]) -> Result<(), NoMemory>
+    ensures { OnOk result (text.new.items ≡ text.old.items ++ spec.text_inside words.now) }
+{
+    put_escaped(text, cut(words))?;
+    put_cut_mark(text, words)
+}
+
 /// Puts a text at that place, which is cut; its tooltip has the whole.
 pub(crate) fn put_label(
     text: &mut Vec<u8>,
@@ -95,7 +130,7 @@ pub(crate) fn put_label(
     ensures { OnOk result (text.new.items ≡ text.old.items ++ spec.label class.now at words.now) }
 {
     put_text_begin(text, class, at)?;
-    put_escaped(text, cut(words))?;
+    put_shown(text, words)?;
     put_title(text, words)?;
     put(text, b"</text>\n")
 }

@@ -84,13 +84,13 @@ pub fn side_from(ends: &FlowEnds, from: FlowEnd) -> Side
 }
 
 /// A record as it comes after `unwrap`, which finds this IP packet in it.
-pub fn record_of_ip<'a>(record: &Record<'a>, ip: &'a [u8]) -> Record<'a>
-    ensures { entry_of result ≡ spec.record_of_ip (entry_of record.now) ip.now }
+pub fn record_of_ip<'a>(item: &Record<'a>, ip: &'a [u8]) -> Record<'a>
+    ensures { entry_of result ≡ spec.record_of_ip (entry_of item.now) ip.now }
 {
     Record {
         link: RAW_IP,
         bytes: ip,
-        ..*record
+        ..*item
     }
 }
 

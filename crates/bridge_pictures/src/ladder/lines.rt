@@ -1,9 +1,12 @@
-//! What a line of a transcript draws: of those that `run` and `replay` write.
+//! What a line of a transcript draws: of those that `run`, `replay` and `listen` write.
 ghost use Rattle.std.specs.Prelude.{◌≡◌};
 ghost use Rattle.tool_text.specs.Left.{left_of};
 ghost use Rattle.bridge_pictures.specs.LadderLines as spec;
 
-use crate::ladder::phases::{Asked, Came};
+use crate::ladder::phases::{Demand, Fate};
+use dccp_listener::Peer;
+use schedule_text::{FrameLine, FrameWords};
+use tool_jobs::peer_of;
 use tool_text::{
     Digits, Hex, LineFault, LineWhy, Row, Words, is_text, number_up_to, read_line, read_word,
 };
@@ -17,15 +20,15 @@ const LINE_NUMBERS: u64 = 1 << 32;
 
 /// What a line of a transcript draws.
 #[derive(Drop)]
-pub(crate) enum Drawn<'a> {
+pub(crate) enum LadderLine<'a> {
     /// A side was asked for something, or one of its timers ran out.
-    Asked(Side, Asked),
+    Asked(Side, Demand),
     /// The frame of this sender and index came.
-    Came(Side, u64, Came),
+    Came(Side, u64, Fate),
     /// The only end of a replay was asked for something.
     AskedAlone,
     /// A frame came to the only end of a replay.
-    CameAlone(Came),
+    CameAlone(Fate),
     /// A side sent a frame of this index.
     Sent {
         from: Side,
@@ -34,6 +37,17 @@ pub(crate) enum Drawn<'a> {
     },
     /// How a side ended.
     Ended(Side),
+    /// A packet of this peer came to a listener.
+    PeerCame(Peer, Fate),
+    /// A listener sent this peer a frame.
+    SentToPeer {
+        peer: Peer,
+        frame: Digits<'a>,
+    },
+    /// A listener was asked for something, or tells of its flows.
+    ListenerTold,
+    /// What came, from this peer or from the other end, is this frame.
+    Arrived(Option<Peer>, FrameLine<'a>),
 }
 
 // A word without the colon at its end, if one is there.
@@ -63,23 +77,23 @@ fn side_of(word: &[u8]) -> Option<Side>
 }
 
 // What became of a frame, by the first word of what was answered.
-fn came_of(word: &[u8]) -> Option<Came>
+fn came_of(word: &[u8]) -> Option<Fate>
     ensures { result ≡ spec.came_of word.now }
 {
     if is_text(word, b"took") {
-        return Some(Came::Took);
+        return Some(Fate::Took);
     }
     if is_text(word, b"dropped") {
-        return Some(Came::Dropped);
+        return Some(Fate::Dropped);
     }
     if is_text(word, b"synced") {
-        return Some(Came::Synced);
+        return Some(Fate::Synced);
     }
     if is_text(word, b"was") {
-        return Some(Came::WasReset);
+        return Some(Fate::WasReset);
     }
     if is_text(word, b"sent") {
-        return Some(Came::SentReset);
+        return Some(Fate::SentReset);
     }
     None
 }
@@ -107,50 +121,71 @@ fn is_line_number(word: &[u8]) -> bool
     number_up_to(LINE_NUMBERS - 1, without_colon(word)).is_some()
 }
 
-fn came<'a>(name: &[u8], answer: &[u8]) -> Option<Drawn<'a>>
+fn came<'a>(name: &[u8], answer: &[u8]) -> Option<LadderLine<'a>>
     ensures { result ≡ spec.came name.now answer.now }
 {
     let (from, index) = frame_of(without_colon(name))?;
-    Some(Drawn::Came(from, index, came_of(answer)?))
+    Some(LadderLine::Came(from, index, came_of(answer)?))
 }
 
-fn asked<'a>(side: &[u8], asked: Asked) -> Option<Drawn<'a>>
+fn asked<'a>(side: &[u8], asked: Demand) -> Option<LadderLine<'a>>
     ensures { result ≡ spec.asked_drawn side.now asked }
 {
-    Some(Drawn::Asked(side_of(without_colon(side))?, asked))
+    Some(LadderLine::Asked(side_of(without_colon(side))?, asked))
 }
 
-fn abort_asked(answer: &[u8]) -> Asked
+fn abort_asked(answer: &[u8]) -> Demand
     ensures { result ≡ spec.abort_asked answer.now }
 {
     if is_text(answer, b"ok") {
-        return Asked::GivenUp;
+        return Demand::GivenUp;
     }
-    Asked::Other
+    Demand::Other
 }
 
 // What a timer that ran out asks for, if it had something to do.
-fn timer_asked(timer: &[u8], answer: &[u8]) -> Asked
+fn timer_asked(timer: &[u8], answer: &[u8]) -> Demand
     ensures { result ≡ spec.timer_asked timer.now answer.now }
 {
     if !is_text(answer, b"fired") {
-        return Asked::Other;
+        return Demand::Other;
     }
     if is_text(timer, b"timewait:") {
-        return Asked::GivenUp;
+        return Demand::GivenUp;
     }
     if is_text(timer, b"rto:") {
-        return Asked::TimedOut;
+        return Demand::TimedOut;
     }
-    Asked::Other
+    Demand::Other
 }
 
-// An event of two ends, by its words.
-fn event<'a>(second: &[u8], third: &[u8], fourth: &[u8], fifth: &[u8]) -> Option<Drawn<'a>>
+// What became of a packet of a peer, by the first word of what was answered.
+fn peer_came_of(answer: &[u8]) -> Option<Fate>
+    ensures { result ≡ spec.peer_came_of answer.now }
+{
+    if is_text(answer, b"busy") {
+        return Some(Fate::SentReset);
+    }
+    came_of(answer)
+}
+
+// What happened to a peer.
+fn peer_event<'a>(name: &[u8], answer: &[u8]) -> Option<LadderLine<'a>>
+    ensures { result ≡ spec.peer_event name.now answer.now }
+{
+    let peer = peer_of(without_colon(name))?;
+    match peer_came_of(answer) {
+        Some(came) => Some(LadderLine::PeerCame(peer, came)),
+        None => Some(LadderLine::ListenerTold),
+    }
+}
+
+// An event of two ends, or of a listener's peer, by its words.
+fn event<'a>(second: &[u8], third: &[u8], fourth: &[u8], fifth: &[u8]) -> Option<LadderLine<'a>>
     ensures { result ≡ spec.event second.now third.now fourth.now fifth.now }
 {
     if is_text(second, b"open:") {
-        return Some(Drawn::Asked(Side::Client, Asked::Other));
+        return Some(LadderLine::Asked(Side::Client, Demand::Other));
     }
     if is_text(second, b"deliver") {
         return came(third, fourth);
@@ -162,25 +197,25 @@ fn event<'a>(second: &[u8], third: &[u8], fourth: &[u8], fifth: &[u8]) -> Option
         return asked(third, timer_asked(fourth, fifth));
     }
     if is_text(second, b"send") || is_text(second, b"prefer") || is_text(second, b"close") {
-        return asked(third, Asked::Other);
+        return asked(third, Demand::Other);
     }
-    None
+    peer_event(second, third)
 }
 
 // What an end alone answered.
-fn alone<'a>(answer: &[u8]) -> Drawn<'a>
+fn alone<'a>(answer: &[u8]) -> LadderLine<'a>
     ensures { result ≡ spec.answered_alone answer.now }
 {
     match came_of(answer) {
-        Some(came) => Drawn::CameAlone(came),
-        None => Drawn::AskedAlone,
+        Some(came) => LadderLine::CameAlone(came),
+        None => LadderLine::AskedAlone,
     }
 }
 
-fn ended<'a>(side: &[u8]) -> Option<Drawn<'a>>
+fn ended<'a>(side: &[u8]) -> Option<LadderLine<'a>>
     ensures { result ≡ spec.end_drawn side.now }
 {
-    Some(Drawn::Ended(side_of(side)?))
+    Some(LadderLine::Ended(side_of(side)?))
 }
 
 // What a line tells that is no frame's, by its first five words.
@@ -191,14 +226,17 @@ fn told<'a>(
     third: &[u8],
     fourth: &[u8],
     fifth: &[u8],
-) -> Option<Drawn<'a>>
+) -> Option<LadderLine<'a>>
     ensures { result ≡ spec.told_drawn first.now second.now third.now fourth.now fifth.now }
 {
     if is_text(first, b"end") {
         return ended(second);
     }
     if is_text(first, b"open:") {
-        return Some(Drawn::AskedAlone);
+        return Some(LadderLine::AskedAlone);
+    }
+    if is_text(first, b"flows") || is_text(first, b"flow") {
+        return Some(LadderLine::ListenerTold);
     }
     if !is_line_number(first) {
         return None;
@@ -209,7 +247,7 @@ fn told<'a>(
     event(second, third, fourth, fifth)
 }
 
-fn or_unknown<'a>(column: u32, drawn: Option<Drawn<'a>>) -> Result<Drawn<'a>, LineFault>
+fn or_unknown<'a>(column: u32, drawn: Option<LadderLine<'a>>) -> Result<LadderLine<'a>, LineFault>
     ensures { result ≡ spec.or_unknown column drawn.entry }
 {
     match drawn {
@@ -221,15 +259,24 @@ fn or_unknown<'a>(column: u32, drawn: Option<Drawn<'a>>) -> Result<Drawn<'a>, Li
     }
 }
 
-fn sent_frame<'a>(name: &[u8], frame: Digits<'a>) -> Option<Drawn<'a>>
-    ensures { result ≡ spec.sent_frame name.now frame.entry }
+fn sent_to_peer<'a>(name: &[u8], frame: Digits<'a>) -> Option<LadderLine<'a>>
+    ensures { result ≡ spec.peer_sent name.now frame.entry }
 {
-    let (from, index) = frame_of(name)?;
-    Some(Drawn::Sent { from, index, frame })
+    let peer = peer_of(name)?;
+    Some(LadderLine::SentToPeer { peer, frame })
 }
 
-// What follows `sent`: a frame's name and its bytes.
-fn sent<'a>(words: &mut Words<'a>) -> Result<Drawn<'a>, LineFault>
+fn sent_frame<'a>(name: &[u8], frame: Digits<'a>) -> Option<LadderLine<'a>>
+    ensures { result ≡ spec.sent_frame name.now frame.entry }
+{
+    match frame_of(name) {
+        Some((from, index)) => Some(LadderLine::Sent { from, index, frame }),
+        None => sent_to_peer(name, frame),
+    }
+}
+
+// What follows `sent`: a frame's name, or the peer to which it went, and its bytes.
+fn sent<'a>(words: &mut Words<'a>) -> Result<LadderLine<'a>, LineFault>
     ensures { result ≡ spec.sent_drawn (left_of words.old) }
 {
     let name = words.next_word();
@@ -239,7 +286,7 @@ fn sent<'a>(words: &mut Words<'a>) -> Result<Drawn<'a>, LineFault>
 
 // What a line tells that is no frame's, whose first word was read.
 #[tactic(auto, unfolding(crate::specs::LadderLines::behind))]
-fn behind<'a>(column: u32, first: &[u8], words: &mut Words<'a>) -> Result<Drawn<'a>, LineFault>
+fn behind<'a>(column: u32, first: &[u8], words: &mut Words<'a>) -> Result<LadderLine<'a>, LineFault>
     ensures { result ≡ spec.behind column first.now (left_of words.old) }
 {
     let second = words.next_word();
@@ -252,18 +299,40 @@ fn behind<'a>(column: u32, first: &[u8], words: &mut Words<'a>) -> Result<Drawn<
     )
 }
 
-// The words of a line.
-struct ALine;
+// A packet that came, from this peer or from the other end.
+fn arrival<'a>(peer: Option<Peer>, words: &mut Words<'a>) -> Result<LadderLine<'a>, LineFault>
+    ensures { result ≡ spec.arrival_drawn peer (left_of words.old) }
+{
+    let frame = FrameWords::read(words)?;
+    Ok(LadderLine::Arrived(peer, frame))
+}
 
-impl<'a> Row<'a> for ALine {
-    type Said = Drawn<'a>;
+// What follows `came`: the frame of a line of the input, with its peer in front if it has one.
+fn came_by_line<'a>(words: &mut Words<'a>) -> Result<LadderLine<'a>, LineFault>
+    ensures { result ≡ spec.came_drawn (left_of words.old) }
+{
+    let mut all = *words;
+    match peer_of(words.next_word().text) {
+        Some(peer) => arrival(Some(peer), words),
+        None => arrival(None, &mut all),
+    }
+}
+
+// The words of a line.
+struct LadderWords;
+
+impl<'a> Row<'a> for LadderWords {
+    type Said = LadderLine<'a>;
 
     ghost said = { spec.ladder_row };
 
-    fn read(words: &mut Words<'a>) -> Result<Drawn<'a>, LineFault> {
+    fn read(words: &mut Words<'a>) -> Result<LadderLine<'a>, LineFault> {
         let first = words.next_word();
         if is_text(first.text, b"sent") {
             return sent(words);
+        }
+        if is_text(first.text, b"came") {
+            return came_by_line(words);
         }
         behind(first.column, first.text, words)
     }
@@ -271,9 +340,9 @@ impl<'a> Row<'a> for ALine {
 
 /// What a line of a transcript draws, without its newline, or None where it is empty or a comment; or the first of its
 /// faults: NotText, then BadHex or Missing of a frame's bytes, and then UnknownWord, at the first word, or at the name
-/// of a frame. The line of a refusal is unknown, too.
-pub(crate) fn drawn_by_line(line: &[u8]) -> Result<Option<Drawn<'_>>, LineFault>
+/// of a frame or of a peer. The line of a refusal is unknown, too. After `came` they are those of a replay's line.
+pub(crate) fn drawn_by_line(line: &[u8]) -> Result<Option<LadderLine<'_>>, LineFault>
     ensures { result ≡ spec.drawn_by_line line.now }
 {
-    read_line::<ALine>(line)
+    read_line::<LadderWords>(line)
 }

@@ -7,7 +7,7 @@ use dccp_states::{Phase, after};
 
 /// What became of a frame that came, as far as a phase goes by it.
 #[derive(Clone, Copy)]
-pub(crate) enum Came {
+pub(crate) enum Fate {
     /// It was taken.
     Took,
     /// It was dropped.
@@ -22,7 +22,7 @@ pub(crate) enum Came {
 
 /// What an end was asked for, as far as its phase goes by it.
 #[derive(Clone, Copy)]
-pub(crate) enum Asked {
+pub(crate) enum Demand {
     /// To give up, which it did.
     GivenUp,
     /// Its retransmission timer ran out.
@@ -83,22 +83,22 @@ pub(crate) fn phase_sent(phase: Phase, kind: &Kind) -> Phase
 }
 
 /// The phase of an end to which a packet of this type came.
-pub(crate) fn phase_came(phase: Phase, kind: PacketType, came: Came) -> Phase
+pub(crate) fn phase_came(phase: Phase, kind: PacketType, came: Fate) -> Phase
     ensures { result ≡ spec.phase_came phase kind came }
 {
     match came {
-        Came::Took => after(phase, kind).0,
-        Came::WasReset => Phase::TimeWait,
-        Came::Dropped | Came::Synced | Came::SentReset => phase,
+        Fate::Took => after(phase, kind).0,
+        Fate::WasReset => Phase::TimeWait,
+        Fate::Dropped | Fate::Synced | Fate::SentReset => phase,
     }
 }
 
 /// The phase of an end that was asked for something.
-pub(crate) fn phase_asked(phase: Phase, asked: Asked) -> Phase
+pub(crate) fn phase_asked(phase: Phase, asked: Demand) -> Phase
     ensures { result ≡ spec.phase_asked phase asked }
 {
     match asked {
-        Asked::GivenUp => Phase::Closed,
-        Asked::TimedOut | Asked::Other => phase,
+        Demand::GivenUp => Phase::Closed,
+        Demand::TimedOut | Demand::Other => phase,
     }
 }

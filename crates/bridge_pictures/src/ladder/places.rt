@@ -2,7 +2,7 @@
 ghost use Rattle.std.specs.Prelude.{◌≡◌, ◌<◌, ◌≤◌, ◌^◌, ◌++◌, OnOk};
 ghost use Rattle.bridge_pictures.specs.Places as spec;
 
-use crate::ladder::phases::{Came, phase_name};
+use crate::ladder::phases::{Fate, phase_name};
 use crate::svg::{Point, put_label, put_line};
 use dccp_states::Phase;
 use seq_circle::NoMemory;
@@ -84,20 +84,20 @@ fn side_class(side: Side) -> &'static [u8]
     }
 }
 
-fn came_class(came: Came) -> &'static [u8]
+fn came_class(came: Fate) -> &'static [u8]
     ensures { result.now ≡ spec.came_class came }
 {
     match came {
-        Came::Took => b"took",
-        Came::Dropped => b"dropped",
-        Came::Synced => b"synced",
-        Came::WasReset => b"was-reset",
-        Came::SentReset => b"sent-reset",
+        Fate::Took => b"took",
+        Fate::Dropped => b"dropped",
+        Fate::Synced => b"synced",
+        Fate::WasReset => b"was-reset",
+        Fate::SentReset => b"sent-reset",
     }
 }
 
 /// How the arrow of a frame looks that came: one that had come before is a repeat.
-pub(crate) fn arrow_class(came: Came, again: bool) -> &'static [u8]
+pub(crate) fn arrow_class(came: Fate, again: bool) -> &'static [u8]
     ensures { result.now ≡ spec.arrow_class came again }
 {
     if again {

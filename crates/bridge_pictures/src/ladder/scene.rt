@@ -1,13 +1,16 @@
 //! A ladder while it is drawn, row by row.
-ghost use Rattle.std.specs.Prelude.{◌≡◌, ◌++◌, OnOk, false};
+ghost use Rattle.std.specs.Prelude.{◌≡◌, ◌≤◌, ◌^◌, ◌++◌, IfOk, OnOk};
+ghost use Rattle.bridge_pictures.specs.Peers.{entry, lane_of};
 ghost use Rattle.bridge_pictures.specs.Scene as spec;
 
-use crate::ladder::phases::{Asked, Came, phase_asked, phase_came, phase_sent};
+use crate::ladder::peers::{Peers, put_arrow_from, put_arrow_to, put_at_lane};
+use crate::ladder::phases::{Demand, Fate, phase_asked, phase_came, phase_sent};
 use crate::ladder::places::{
     arrow_class, put_arrow, put_beside, put_lost, put_name, put_plain, put_segment, size_of,
 };
-use crate::style::put_style;
-use crate::svg::put_front;
+use crate::style::{put_key, put_style};
+use crate::svg::{Point, put_front};
+use dccp_listener::Peer;
 use dccp_packets::{Kind, PacketType};
 use dccp_states::Phase;
 use seq_circle::NoMemory;
@@ -125,14 +128,25 @@ fn put_loss(text: &mut Vec<u8>, side: Side, flight: &Flight) -> Result<(), NoMem
     put_lost(text, side, flight.row)
 }
 
+/// Whose lines a ladder has.
+#[derive(Clone, Copy)]
+pub(crate) enum Subject {
+    /// Both ends of a connection.
+    BothEnds,
+    /// An end alone: its peer is not seen, and its phases are not told.
+    OneEnd,
+    /// A listener and its peers: phases are not told.
+    Listener,
+}
+
 /// A ladder while it is drawn.
 #[derive(Drop)]
 pub(crate) struct Ladder {
     rows: u32,
-    // Whether the left line is an end alone, whose peer is not seen and whose phases are not told.
-    lone: bool,
+    subject: Subject,
     client: Lifeline,
     server: Lifeline,
+    peers: Peers,
     body: Vec<u8>,
 }
 
@@ -141,7 +155,25 @@ impl Model for Ladder {
 
     ghost Value = { Drawing };
 
-    ghost view = { λ l. record { rows = l.rows; lone = l.lone; client = l.client; server = l.server; body = l.body.items } };
+    ghost view = { λ l. record { rows = l.rows; subject = l.subject; client = l.client; server = l.server; peers = l.peers; body = l.body.items } };
+}
+
+// Puts what the lines are called.
+fn put_names(text: &mut Vec<u8>, subject: Subject) -> Result<(), NoMemory>
+    ensures { OnOk result (text.new.items ≡ text.old.items ++ spec.names subject) }
+{
+    match subject {
+        Subject::BothEnds => {
+            put_key(text)?;
+            put_name(text, Side::Client, b"client")?;
+            put_name(text, Side::Server, b"server")
+        }
+        Subject::OneEnd => {
+            put_name(text, Side::Client, b"this end")?;
+            put_name(text, Side::Server, b"its peer")
+        }
+        Subject::Listener => put_name(text, Side::Client, b"listener"),
+    }
 }
 
 fn next_row(row: u32) -> u32
@@ -160,25 +192,29 @@ impl Ladder {
     {
         Ladder {
             rows: 0,
-            lone: false,
+            subject: Subject::BothEnds,
             client: Lifeline::new(alloc, Phase::Closed),
             server: Lifeline::new(alloc, Phase::Listen),
+            peers: Peers::new(alloc),
             body: Vec::new(alloc),
         }
     }
 
     /// Whether the left line is an end alone.
-    pub(crate) fn is_lone(&self) -> bool
-        ensures { result ≡ self.now.lone }
+    pub(crate) fn is_one_end(&self) -> bool
+        ensures { result ≡ spec.is_one_end self.now.subject }
     {
-        self.lone
+        match self.subject {
+            Subject::OneEnd => true,
+            Subject::BothEnds | Subject::Listener => false,
+        }
     }
 
-    /// An end answers that is alone: the left line is its.
-    pub(crate) fn set_lone(&mut self)
-        ensures { self.new ≡ spec.at_lone self.old }
+    /// The lines are of these.
+    pub(crate) fn set_subject(&mut self, subject: Subject)
+        ensures { self.new ≡ spec.drawn_of subject self.old }
     {
-        self.lone = true;
+        self.subject = subject;
     }
 
     /// Begins a row, with this text beside a side's line. NoMemory comes where no memory was left, here and below.
@@ -213,7 +249,7 @@ impl Ladder {
 
     /// A side was asked for something.
     #[tactic(auto, unfolding(crate::specs::Scene::asked_at))]
-    pub(crate) fn ask(&mut self, side: Side, asked: Asked, words: &[u8]) -> Result<(), NoMemory>
+    pub(crate) fn ask(&mut self, side: Side, asked: Demand, words: &[u8]) -> Result<(), NoMemory>
         ensures { OnOk result (self.new ≡ spec.asked_at self.old side asked words.now) }
     {
         self.tell(side, words)?;
@@ -236,7 +272,7 @@ impl Ladder {
         &mut self,
         from: Side,
         flight: Flight,
-        came: Came,
+        came: Fate,
         words: &[u8],
     ) -> Result<(), NoMemory>
         ensures { OnOk result (self.new ≡ spec.arrow_arrived self.old from flight came words.now) }
@@ -256,7 +292,7 @@ impl Ladder {
         &mut self,
         from: Side,
         index: u64,
-        came: Came,
+        came: Fate,
         words: &[u8],
     ) -> Result<(), NoMemory>
         ensures { OnOk result (self.new ≡ spec.delivered self.old from index came words.now) }
@@ -306,36 +342,106 @@ impl Ladder {
         put_arrow(&mut self.body, class, from, self.rows, self.rows, words)
     }
 
-    // Puts the parts that are drawn at last: both lines to the bottom, and the frames that never came.
-    #[tactic(auto, unfolding(crate::specs::Scene::last_parts))]
-    fn put_rest(&self, text: &mut Vec<u8>) -> Result<(), NoMemory>
-        ensures { OnOk result (text.new.items ≡ text.old.items ++ spec.last_parts self.now) }
+    // A peer is seen in this row: how far its line lies from the left edge.
+    fn enter(&mut self, peer: Peer) -> Result<u64, NoMemory>
+        ensures lane { IfOk result (λ x. x ≡ lane_of self.old.peers peer) }
+        ensures low { IfOk result (λ x. x ≤ 2 ^ 48) }
+        ensures next { OnOk result (self.new ≡ spec.entered_in_row self.old peer) }
     {
-        let bottom = next_row(self.rows);
-        if self.lone {
-            put_plain(text, Side::Client, bottom)?;
-            return put_plain(text, Side::Server, bottom);
+        self.peers.enter(&mut self.body, peer, self.rows)
+    }
+
+    /// A listener was asked for something, or tells of its flows.
+    #[tactic(auto, unfolding(crate::specs::Scene::listener_told))]
+    pub(crate) fn tell_of_listener(&mut self, words: &[u8]) -> Result<(), NoMemory>
+        ensures { OnOk result (self.new ≡ spec.listener_told self.old words.now) }
+    {
+        self.set_subject(Subject::Listener);
+        self.tell(Side::Client, words)
+    }
+
+    /// A packet of a peer came to a listener, and looks so by what became of it.
+    #[tactic(auto, unfolding(crate::specs::Scene::peer_heard))]
+    pub(crate) fn hear(&mut self, peer: Peer, class: &[u8], words: &[u8]) -> Result<(), NoMemory>
+        ensures { OnOk result (self.new ≡ spec.peer_heard self.old peer class.now words.now) }
+    {
+        self.tell_of_listener(words)?;
+        let x = self.enter(peer)?;
+        put_arrow_from(&mut self.body, class, x, self.rows, words)
+    }
+
+    /// A listener sends a packet to a peer.
+    #[tactic(auto, unfolding(crate::specs::Scene::peer_answered))]
+    pub(crate) fn answer(&mut self, peer: Peer, words: &[u8]) -> Result<(), NoMemory>
+        ensures { OnOk result (self.new ≡ spec.peer_answered self.old peer words.now) }
+    {
+        self.tell_of_listener(words)?;
+        let x = self.enter(peer)?;
+        put_arrow_to(&mut self.body, x, self.rows, words)
+    }
+
+    /// Puts what a packet says that came in the row that was begun last: from a peer, or from the other end.
+    #[tactic(auto, unfolding(crate::specs::Scene::arrival_drawn_beside))]
+    pub(crate) fn tell_arrival(&mut self, peer: Option<Peer>, words: &[u8]) -> Result<(), NoMemory>
+        ensures { OnOk result (self.new ≡ spec.arrival_drawn_beside self.old peer words.now) }
+    {
+        match peer {
+            Some(peer) => {
+                let x = self.enter(peer)?;
+                put_at_lane(&mut self.body, x, self.rows, words)
+            }
+            None => put_beside(&mut self.body, Side::Server, self.rows, words),
         }
+    }
+
+    // Puts both lines to the bottom, and the frames that never came.
+    fn put_both_ends(&self, text: &mut Vec<u8>, bottom: u32) -> Result<(), NoMemory>
+        requires { bottom ≡ spec.next_row self.now.rows }
+        ensures { OnOk result (text.new.items ≡ text.old.items ++ spec.two_ends_rest self.now) }
+    {
         self.client.put_up_to(text, Side::Client, bottom)?;
         self.server.put_up_to(text, Side::Server, bottom)?;
         self.client.put_losses(text, Side::Client)?;
         self.server.put_losses(text, Side::Server)
     }
 
+    // Puts the parts that are drawn at last.
+    #[tactic(auto, unfolding(crate::specs::Scene::last_parts))]
+    fn put_rest(&self, text: &mut Vec<u8>) -> Result<(), NoMemory>
+        ensures { OnOk result (text.new.items ≡ text.old.items ++ spec.last_parts self.now) }
+    {
+        let bottom = next_row(self.rows);
+        match self.subject {
+            Subject::BothEnds => self.put_both_ends(text, bottom),
+            Subject::OneEnd => {
+                put_plain(text, Side::Client, bottom)?;
+                put_plain(text, Side::Server, bottom)
+            }
+            Subject::Listener => {
+                put_plain(text, Side::Client, bottom)?;
+                self.peers.put_lanes(text, bottom)
+            }
+        }
+    }
+
+    // The size of the picture.
+    fn size(&self) -> Point
+        ensures { result ≡ spec.size_by self.now.subject self.now }
+    {
+        match self.subject {
+            Subject::BothEnds | Subject::OneEnd => size_of(self.rows),
+            Subject::Listener => self.peers.size(self.rows),
+        }
+    }
+
     /// Puts the picture: its size, its style, what the lines are called, and all that was drawn.
     #[tactic(auto, unfolding(crate::specs::Scene::picture))]
-    pub(crate) fn put_picture(
-        &self,
-        text: &mut Vec<u8>,
-        left: &[u8],
-        right: &[u8],
-    ) -> Result<(), NoMemory>
-        ensures { OnOk result (text.new.items ≡ text.old.items ++ spec.picture left.now right.now self.now) }
+    pub(crate) fn put_picture(&self, text: &mut Vec<u8>) -> Result<(), NoMemory>
+        ensures { OnOk result (text.new.items ≡ text.old.items ++ spec.picture self.now) }
     {
-        put_front(text, size_of(self.rows))?;
+        put_front(text, self.size())?;
         put_style(text)?;
-        put_name(text, Side::Client, left)?;
-        put_name(text, Side::Server, right)?;
+        put_names(text, self.subject)?;
         put(text, &self.body)?;
         self.put_rest(text)?;
         put(text, b"</svg>\n")

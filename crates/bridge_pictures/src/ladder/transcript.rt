@@ -3,18 +3,22 @@ ghost use Rattle.std.specs.Prelude.{◌≡◌, ◌++◌, ℕ, List, OnOk, Some};
 ghost use Rattle.dccp_io.specs.Counts.{Rose};
 ghost use Rattle.packet_show.specs.Lines.{parts_by};
 ghost use Rattle.tool_text.specs.Ends.{Answers, IsAnswered, EndsForCause, SinkFails, StopsWithin};
+ghost use Rattle.bridge_pictures.specs.Scene.{arrival_drawn_beside};
 ghost use Rattle.bridge_pictures.specs.Transcript as spec;
 ghost use Rattle.bridge_pictures.specs.Transcript.{ladder_accepted, ladder_refusal, ladder_refused, ladder_text};
 
-use crate::ladder::lines::{Drawn, drawn_by_line};
-use crate::ladder::phases::Came;
+use crate::ladder::lines::{LadderLine, drawn_by_line};
+use crate::ladder::phases::Fate;
 use crate::ladder::places::arrow_class;
-use crate::ladder::scene::Ladder;
+use crate::ladder::scene::{Ladder, Subject};
 use dccp_io::{Sink, Source};
+use dccp_listener::Peer;
 use dccp_packets::{Kind, MOST_FRAME_BYTES, decode};
 use packet_show::put_words;
+use schedule_text::FrameLine;
 use seq_circle::NoMemory;
 use std::alloc::Global;
+use tool_jobs::put_peer;
 use tool_text::{
     Digits, LineError, LineJob, LinesEnd, malformed_name, put, put_named, put_number,
     run_lines_apart,
@@ -50,6 +54,24 @@ fn put_frame_words(text: &mut Vec<u8>, from: Side, index: u64, bytes: &[u8]) -> 
     put_packet_words(text, bytes)
 }
 
+// Puts a peer, and what a frame says that goes to it.
+#[tactic(auto, unfolding(crate::specs::Transcript::peer_label))]
+fn put_peer_words(text: &mut Vec<u8>, peer: Peer, bytes: &[u8]) -> Result<(), NoMemory>
+    ensures { OnOk result (text.new.items ≡ text.old.items ++ spec.peer_label peer bytes.now) }
+{
+    put_peer(text, peer)?;
+    put_packet_words(text, bytes)
+}
+
+// Puts what a packet says that came.
+#[tactic(auto, unfolding(crate::specs::Transcript::arrival_label))]
+fn put_arrival_words(text: &mut Vec<u8>, bytes: &[u8]) -> Result<(), NoMemory>
+    ensures { OnOk result (text.new.items ≡ text.old.items ++ spec.arrival_label bytes.now) }
+{
+    put(text, b"came")?;
+    put_packet_words(text, bytes)
+}
+
 // The kind of packet that bytes are, if they are one.
 fn kind_of(bytes: &[u8]) -> Option<Kind>
     ensures { result ≡ spec.kind_in bytes.now }
@@ -65,7 +87,11 @@ impl Ladder {
     fn seen(&self, side: Side) -> Side
         ensures { result ≡ spec.drawn_side self.now side }
     {
-        if self.is_lone() { Side::Client } else { side }
+        if self.is_one_end() {
+            Side::Client
+        } else {
+            side
+        }
     }
 
     // A frame with these words was sent.
@@ -73,7 +99,7 @@ impl Ladder {
     fn draw_frame(&mut self, from: Side, bytes: &[u8], words: &[u8]) -> Result<(), NoMemory>
         ensures { OnOk result (self.new ≡ spec.frame_drawn self.old from bytes.now words.now) }
     {
-        if self.is_lone() {
+        if self.is_one_end() {
             self.tell(Side::Client, words)?;
             return self.pass(Side::Client, b"sent", words);
         }
@@ -100,31 +126,64 @@ impl Ladder {
         self.draw_frame(from, frame.bytes(), &words)
     }
 
+    // A frame went to a peer.
+    fn draw_answer(&mut self, alloc: Global, peer: Peer, frame: &Digits<'_>) -> Result<(), NoMemory>
+        ensures { OnOk result (self.new ≡ spec.sent_to_peer self.old peer frame.now) }
+    {
+        // No line has room for more bytes.
+        if MOST_FRAME_BYTES < frame.len() {
+            return Ok(());
+        }
+        let frame = frame.frame();
+        let mut words = Vec::new(alloc);
+        put_peer_words(&mut words, peer, frame.bytes())?;
+        self.answer(peer, &words)
+    }
+
+    // What came is this frame.
+    fn draw_arrival(
+        &mut self,
+        alloc: Global,
+        peer: Option<Peer>,
+        frame: &FrameLine<'_>,
+    ) -> Result<(), NoMemory>
+        ensures { OnOk result (self.new ≡ arrival_drawn_beside self.old peer (spec.arrival_label frame.now.bytes)) }
+    {
+        let frame = frame.bytes.frame();
+        let mut words = Vec::new(alloc);
+        put_arrival_words(&mut words, frame.bytes())?;
+        self.tell_arrival(peer, &words)
+    }
+
     // A frame came to an end alone.
     #[tactic(auto, unfolding(crate::specs::Transcript::came_alone))]
-    fn draw_alone(&mut self, came: Came, line: &[u8]) -> Result<(), NoMemory>
+    fn draw_alone(&mut self, came: Fate, line: &[u8]) -> Result<(), NoMemory>
         ensures { OnOk result (self.new ≡ spec.came_alone self.old came line.now) }
     {
-        self.set_lone();
+        self.set_subject(Subject::OneEnd);
         self.tell(Side::Client, line)?;
         self.pass(Side::Server, arrow_class(came, false), line)
     }
 
     // Draws a line.
     #[tactic(auto, unfolding(crate::specs::Transcript::drawn_on))]
-    fn draw(&mut self, alloc: Global, drawn: Drawn<'_>, line: &[u8]) -> Result<(), NoMemory>
+    fn draw(&mut self, alloc: Global, drawn: LadderLine<'_>, line: &[u8]) -> Result<(), NoMemory>
         ensures { OnOk result (self.new ≡ spec.drawn_on self.old line.now drawn.entry) }
     {
         match drawn {
-            Drawn::Asked(side, asked) => self.ask(side, asked, line),
-            Drawn::Came(from, index, came) => self.deliver(from, index, came, line),
-            Drawn::AskedAlone => {
-                self.set_lone();
+            LadderLine::Asked(side, asked) => self.ask(side, asked, line),
+            LadderLine::Came(from, index, came) => self.deliver(from, index, came, line),
+            LadderLine::AskedAlone => {
+                self.set_subject(Subject::OneEnd);
                 self.tell(Side::Client, line)
             }
-            Drawn::CameAlone(came) => self.draw_alone(came, line),
-            Drawn::Sent { from, index, frame } => self.draw_sent(alloc, from, index, &frame),
-            Drawn::Ended(side) => self.tell(self.seen(side), line),
+            LadderLine::CameAlone(came) => self.draw_alone(came, line),
+            LadderLine::Sent { from, index, frame } => self.draw_sent(alloc, from, index, &frame),
+            LadderLine::Ended(side) => self.tell(self.seen(side), line),
+            LadderLine::PeerCame(peer, came) => self.hear(peer, arrow_class(came, false), line),
+            LadderLine::SentToPeer { peer, frame } => self.draw_answer(alloc, peer, &frame),
+            LadderLine::ListenerTold => self.tell_of_listener(line),
+            LadderLine::Arrived(peer, frame) => self.draw_arrival(alloc, peer, &frame),
         }
     }
 }
@@ -158,22 +217,20 @@ impl LineJob for Ladder {
     }
 
     fn finish(&mut self, _alloc: Global, text: &mut Vec<u8>) -> Result<(), NoMemory> {
-        if self.is_lone() {
-            return self.put_picture(text, b"this end", b"its peer");
-        }
-        self.put_picture(text, b"client", b"server")
+        self.put_picture(text)
     }
 }
 
-/// Draws a transcript as a ladder (own): it reads the lines that `run` or `replay` wrote, and writes a picture, one SVG
-/// file. Each line is a row. What `run` tells is drawn between two lines, whose colours are the phases of the ends: a
-/// frame goes from the row in which it was sent to each row in which it came, and one that never came ends half way.
-/// Of `replay` the left line is the end, whose phases are not told, and frames go straight. Each packet is written
-/// beside its sender's line, as `show` has it, cut to 60 bytes, with all of it as a tooltip.
+/// Draws a transcript as a ladder (own): it reads the lines that `run`, `replay` or `listen` wrote, and writes a
+/// picture, one SVG file. Each line is a row. What `run` tells is drawn between two lines, whose colours are the phases
+/// of the ends: a frame goes from the row in which it was sent to each row in which it came, and one that never came
+/// ends half way. Of `replay` the left line is the end, whose phases are not told, and frames go straight. Of `listen`
+/// it is the listener, and each peer has a line of its own from the row in which it was first seen. Each packet is
+/// written beside its sender's line, as `show` has it, cut to 60 bytes, with all of it as a tooltip.
 ///
-/// Where a line is refused, nothing is written, and its refusal is answered. With status 0 or 1 the output is that of the
-/// whole input, with another a front of it. Read comes where the source failed, Write where the sink did, and Memory
-/// where no memory was left.
+/// Where a line is refused, nothing is written, and its refusal is answered. With status 0 or 1 the output is that of
+/// the whole input, with another a front of it. Read comes where the source failed, Write where the sink did, and
+/// Memory where no memory was left.
 pub fn ladder_of_transcript<S: Source, K: Sink>(
     alloc: Global,
     input: &mut S,

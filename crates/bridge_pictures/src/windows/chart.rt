@@ -2,7 +2,7 @@
 ghost use Rattle.std.specs.Prelude.{◌≡◌, ◌+◌, ◌≤◌, ◌^◌, ◌++◌, OnOk};
 ghost use Rattle.bridge_pictures.specs.Chart as spec;
 
-use crate::svg::{Point, cut, put_line, put_words};
+use crate::svg::{Point, put_cut, put_line, put_words};
 use crate::windows::bars::{EDGE, packets_high, put_bar, put_downward, put_group_end, put_upward};
 use seq_circle::NoMemory;
 use std::alloc::Global;
@@ -41,7 +41,7 @@ impl Model for Chart {
 fn put_column_words(text: &mut Vec<u8>, words: &[u8], counts: Counts) -> Result<(), NoMemory>
     ensures { OnOk result (text.new.items ≡ text.old.items ++ spec.column_words words.now counts) }
 {
-    put(text, cut(words))?;
+    put_cut(text, words)?;
     put_counted(text, b"\nwindow ", u64::from(counts.window))?;
     put_counted(text, b" flight ", u64::from(counts.flight))
 }

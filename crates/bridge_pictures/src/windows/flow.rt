@@ -5,24 +5,23 @@ ghost use Rattle.dccp_io.specs.Counts.{Rose};
 ghost use Rattle.dccp_options.specs.Grammar.{options_of};
 ghost use Rattle.dccp_options.specs.Left.{item_of};
 ghost use Rattle.packet_show.specs.Lines.{parts_by};
-ghost use Rattle.packet_show.specs.Network.{carried_by};
 ghost use Rattle.bridge_records.specs.Recording.{capture_refusal, capture_skips};
 ghost use Rattle.tool_text.specs.Ends.{Answers, IsAnswered, EndsForCause, SinkFails, StopsWithin};
 ghost use Rattle.bridge_pictures.specs.FlowWindows as spec;
 ghost use Rattle.bridge_pictures.specs.FlowWindows.{flow_windows_pieces, flow_windows_text, is_flow_windows_faulty};
 
+use crate::flow_pictures::{FlowJob, FlowPicture};
 use crate::stamps::{put_record_words, put_stamp};
-use crate::walk::{FlowStep, Walk, is_later, record_of_ip};
+use crate::walk::{FlowStep, is_later};
 use crate::windows::graph::Graph;
 use crate::windows::senders::{counts_seen, see_report, see_sent};
-use bridge_links::ip_packet;
-use bridge_records::{PieceFault, RecordJob, RecordsEnd, Skips, run_records};
+use bridge_records::{RecordsEnd, Skips, run_records};
 use capture_reader::Record;
 use ccid_two::Ccid2;
 use dccp_io::{Sink, Source};
 use dccp_options::{Opt, OptFault, kinds, options};
-use dccp_packets::{Packet, decode};
-use packet_show::{Datagram, carried, put_option};
+use dccp_packets::Packet;
+use packet_show::put_option;
 use schedule_text::side_name;
 use seq_circle::NoMemory;
 use std::alloc::Global;
@@ -30,11 +29,13 @@ use std::marker::Model;
 use tool_text::{JobEnd, put};
 use world_events::Side;
 
+// What is noted below the charts.
+const HEADING: &[u8] = b"record, its time, end, and what it confirms of features";
+
 /// The windows of a flow while they are drawn.
 #[derive(Drop)]
 pub(crate) struct FlowWindows {
     alloc: Global,
-    walk: Walk,
     client: Ccid2,
     server: Ccid2,
     graph: Graph,
@@ -45,7 +46,7 @@ impl Model for FlowWindows {
 
     ghost Value = { FlowWindowsParts };
 
-    ghost view = { λ f. record { walk = f.walk; client = f.client; server = f.server; graph = f.graph } };
+    ghost view = { λ f. record { client = f.client; server = f.server; graph = f.graph } };
 }
 
 // Puts an option that confirms a feature's value, and nothing for another.
@@ -78,27 +79,26 @@ fn put_confirms(text: &mut Vec<u8>, area: &[u8], on_data: bool) -> Result<(), No
 fn put_confirms_note(
     text: &mut Vec<u8>,
     from: Side,
-    record: &Record<'_>,
+    item: &Record<'_>,
     confirms: &[u8],
 ) -> Result<(), NoMemory>
-    ensures { OnOk result (text.new.items ≡ text.old.items ++ spec.confirms_note from (entry_of record.now) confirms.now) }
+    ensures { OnOk result (text.new.items ≡ text.old.items ++ spec.confirms_note from (entry_of item.now) confirms.now) }
 {
-    put_stamp(text, record)?;
+    put_stamp(text, item)?;
     put(text, b" ")?;
     put(text, side_name(from))?;
     put(text, confirms)
 }
 
 impl FlowWindows {
-    // Before the first record.
-    fn new(alloc: Global, flow: u64) -> Result<FlowWindows, NoMemory>
-        ensures { IfOk result (λ f. f ≡ spec.first_flow_windows flow) }
+    // Before the first packet.
+    fn new(alloc: Global) -> Result<FlowWindows, NoMemory>
+        ensures { IfOk result (λ f. f ≡ spec.first_flow_windows) }
     {
         let client = Ccid2::new(alloc)?;
         let server = Ccid2::new(alloc)?;
         Ok(FlowWindows {
             alloc,
-            walk: Walk::new(alloc, flow),
             client,
             server,
             graph: Graph::new(alloc),
@@ -125,12 +125,12 @@ impl FlowWindows {
 
     // Draws the column of a packet.
     #[tactic(auto, unfolding(crate::specs::FlowWindows::packet_column))]
-    fn draw_column(&mut self, record: &Record<'_>, packet: &Packet<'_>) -> Result<(), NoMemory>
+    fn draw_column(&mut self, item: &Record<'_>, packet: &Packet<'_>) -> Result<(), NoMemory>
         requires { length packet.now.options.now ≤ 1008 }
-        ensures { OnOk result (self.new ≡ spec.packet_column self.old (entry_of record.now) (parts_by packet.now)) }
+        ensures { OnOk result (self.new ≡ spec.packet_column self.old (entry_of item.now) (parts_by packet.now)) }
     {
         let mut words = Vec::new(self.alloc);
-        put_record_words(&mut words, record, packet)?;
+        put_record_words(&mut words, item, packet)?;
         let client = counts_seen(&self.client);
         let server = counts_seen(&self.server);
         self.graph.draw(client, server, &words)
@@ -141,11 +141,11 @@ impl FlowWindows {
     fn tell_confirms(
         &mut self,
         from: Side,
-        record: &Record<'_>,
+        item: &Record<'_>,
         packet: &Packet<'_>,
     ) -> Result<(), NoMemory>
         requires { length packet.now.options.now ≤ 1008 }
-        ensures { OnOk result (self.new ≡ spec.confirms_told self.old from (entry_of record.now) (parts_by packet.now)) }
+        ensures { OnOk result (self.new ≡ spec.confirms_told self.old from (entry_of item.now) (parts_by packet.now)) }
     {
         let mut confirms = Vec::new(self.alloc);
         let on_data = packet.header.kind.packet_type().is_data();
@@ -154,84 +154,34 @@ impl FlowWindows {
             return Ok(());
         }
         let mut words = Vec::new(self.alloc);
-        put_confirms_note(&mut words, from, record, &confirms)?;
+        put_confirms_note(&mut words, from, item, &confirms)?;
         self.graph.note(&words)
-    }
-
-    // A packet of the flow. Only one with a later number is news to the senders.
-    #[tactic(auto, unfolding(crate::specs::FlowWindows::step_charted))]
-    fn draw_step(
-        &mut self,
-        step: FlowStep,
-        record: &Record<'_>,
-        packet: &Packet<'_>,
-    ) -> Result<(), NoMemory>
-        requires { length packet.now.options.now ≤ 1008 }
-        ensures { OnOk result (self.new ≡ spec.step_charted self.old step (entry_of record.now) (parts_by packet.now)) }
-    {
-        if is_later(step.ahead) {
-            self.tell_senders(step.from, packet);
-        }
-        self.draw_column(record, packet)?;
-        self.tell_confirms(step.from, record, packet)
-    }
-
-    // A packet, which is drawn where it is of the flow.
-    #[tactic(auto, unfolding(crate::specs::FlowWindows::packet_charted))]
-    fn pass_packet(
-        &mut self,
-        record: &Record<'_>,
-        there: &Datagram<'_>,
-        packet: &Packet<'_>,
-    ) -> Result<(), NoMemory>
-        requires { length packet.now.options.now ≤ 1008 }
-        ensures { OnOk result (self.new ≡ spec.packet_charted self.old (entry_of record.now) (carried_by there.now) (parts_by packet.now)) }
-    {
-        match self.walk.go(there, &packet.header)? {
-            Some(step) => self.draw_step(step, record, packet),
-            None => Ok(()),
-        }
-    }
-
-    // A record of raw IP.
-    #[tactic(auto, unfolding(crate::specs::FlowWindows::ip_charted))]
-    fn pass_ip(&mut self, record: &Record<'_>) -> Result<(), NoMemory>
-        ensures { OnOk result (self.new ≡ spec.ip_charted self.old (entry_of record.now)) }
-    {
-        let Some(there) = carried(record.link, record.bytes) else {
-            return Ok(());
-        };
-        match decode(there.bytes) {
-            Ok(packet) => self.pass_packet(record, &there, &packet),
-            Err(_) => Ok(()),
-        }
     }
 }
 
-impl RecordJob for FlowWindows {
-    ghost use Rattle.bridge_pictures.specs.FlowWindows.{flow_windows_work};
+impl FlowPicture for FlowWindows {
+    ghost use Rattle.bridge_pictures.specs.FlowWindows.{windows_kind};
 
-    ghost Deed = { Unit {0} };
+    ghost kind = { windows_kind };
 
-    ghost work = { flow_windows_work };
-
-    fn begin(&mut self, _nanos: bool, _text: &mut Vec<u8>) -> Result<(), NoMemory> {
-        Ok(())
-    }
-
-    fn pass(&mut self, record: &Record<'_>, _text: &mut Vec<u8>) -> Result<(), NoMemory> {
-        let ip = ip_packet(self.alloc, record.link, record.bytes)?;
-        self.pass_ip(&record_of_ip(record, ip.bytes()))
-    }
-
-    fn finish(
-        &self,
-        _untold: bool,
-        _records: u64,
-        _end: Option<PieceFault>,
-        text: &mut Vec<u8>,
+    // Only a packet with a later number is news to the senders.
+    #[tactic(auto, unfolding(crate::specs::FlowWindows::step_charted))]
+    fn draw(
+        &mut self,
+        _alloc: Global,
+        step: FlowStep,
+        item: &Record<'_>,
+        packet: &Packet<'_>,
     ) -> Result<(), NoMemory> {
-        self.graph.put_picture(text, b"", b"")
+        if is_later(step.ahead) {
+            self.tell_senders(step.from, packet);
+        }
+        self.draw_column(item, packet)?;
+        self.tell_confirms(step.from, item, packet)
+    }
+
+    fn put_text(&self, text: &mut Vec<u8>) -> Result<(), NoMemory> {
+        self.graph.put_picture(text, HEADING, b"", b"")
     }
 }
 
@@ -258,12 +208,13 @@ pub fn windows_of_flow<S: Source, K: Sink>(
     ensures skipped { (bytes : List ℕ) → S.left input.old ≡ Some bytes → IsAnswered result.end → result.skips ≡ capture_skips (flow_windows_pieces flow bytes) }
     ensures cause { EndsForCause result.end (Rose (S.faults input.old) (S.faults input.new)) (SinkFails K.faults K.empty_takes output.old output.new) }
 {
-    let Ok(job) = FlowWindows::new(alloc, flow) else {
+    let Ok(windows) = FlowWindows::new(alloc) else {
         return RecordsEnd {
             end: JobEnd::Memory,
             refusal: None,
             skips: Skips::none(),
         };
     };
+    let job = FlowJob::new(alloc, flow, windows);
     run_records(alloc, job, input, output)
 }

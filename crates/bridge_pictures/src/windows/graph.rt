@@ -16,10 +16,13 @@ const TOP: u64 = 60;
 
 const BETWEEN: u64 = 60;
 
-// The columns are numbered so far below the second chart, and notes begin so far below it.
+// The columns are numbered so far below the second chart, the notes' heading is so far below it, and they begin so far
+// below it.
 const NUMBERS: u64 = 26;
 
-const NOTES: u64 = 60;
+const HEADING: u64 = 60;
+
+const NOTES: u64 = 82;
 
 // A note has this height.
 const NOTE: u64 = 18;
@@ -211,34 +214,48 @@ impl Graph {
         self.server.put(self.alloc, text, b"server", span, marks)
     }
 
-    // Puts what is below both charts: the numbers of columns, and the notes.
-    #[tactic(auto, unfolding(crate::specs::Graph::below_charts))]
-    fn put_below(&self, text: &mut Vec<u8>) -> Result<(), NoMemory>
-        ensures { OnOk result (text.new.items ≡ text.old.items ++ spec.below_charts self.now) }
+    // Puts the numbers of columns.
+    #[tactic(auto, unfolding(crate::specs::Graph::columns_numbered))]
+    fn put_numbers(&self, text: &mut Vec<u8>) -> Result<(), NoMemory>
+        ensures { OnOk result (text.new.items ≡ text.old.items ++ spec.columns_numbered self.now) }
     {
         put_downward(text, self.server_bottom() + NUMBERS)?;
         put(text, &self.axis)?;
-        put_group_end(text)?;
+        put_group_end(text)
+    }
+
+    // Puts the notes, under what they are.
+    #[tactic(auto, unfolding(crate::specs::Graph::notes_told))]
+    fn put_notes(&self, text: &mut Vec<u8>, heading: &[u8]) -> Result<(), NoMemory>
+        ensures { OnOk result (text.new.items ≡ text.old.items ++ spec.notes_told self.now heading.now) }
+    {
+        let at = Point {
+            x: EDGE,
+            y: self.server_bottom() + HEADING,
+        };
+        put_words(text, b"panel", at, heading)?;
         put_downward(text, self.server_bottom() + NOTES)?;
         put(text, &self.told)?;
         put_group_end(text)
     }
 
-    /// Puts the picture: both charts with these marks below their lines, and what is below them.
+    /// Puts the picture: both charts with these marks below their lines, and below them the notes under this heading.
     #[tactic(auto, unfolding(crate::specs::Graph::graph_picture))]
     pub(crate) fn put_picture(
         &self,
         text: &mut Vec<u8>,
+        heading: &[u8],
         client: &[u8],
         server: &[u8],
     ) -> Result<(), NoMemory>
-        ensures { OnOk result (text.new.items ≡ text.old.items ++ spec.graph_picture self.now client.now server.now) }
+        ensures { OnOk result (text.new.items ≡ text.old.items ++ spec.graph_picture self.now heading.now client.now server.now) }
     {
         put_front(text, self.size())?;
         put_look(text)?;
         self.put_client(text, client)?;
         self.put_server(text, server)?;
-        self.put_below(text)?;
+        self.put_numbers(text)?;
+        self.put_notes(text, heading)?;
         put(text, b"</svg>\n")
     }
 }

@@ -18,6 +18,10 @@ use tool_text::{LineError, LineJob, LinesEnd, run_lines_apart};
 use two_ends::World;
 use world_events::Side;
 
+// What is noted below the charts.
+const HEADING: &[u8] =
+    b"event, end, and its features as number=Here/There, * in CHANGING, ! in UNSTABLE";
+
 /// The windows of a world while they are drawn.
 #[derive(Drop)]
 pub(crate) struct WorldWindows {
@@ -73,7 +77,7 @@ impl WorldWindows {
         let mut server = Vec::new(self.alloc);
         self.server
             .put_losses(&mut server, world.processed(Side::Client))?;
-        self.graph.put_picture(text, &client, &server)
+        self.graph.put_picture(text, HEADING, &client, &server)
     }
 }
 
@@ -154,7 +158,7 @@ impl LineJob for PlayedWindows {
         let played = &*self;
         match played.schedule.world() {
             Some(world) => played.drawn.put_picture(text, world),
-            None => played.drawn.graph.put_picture(text, b"", b""),
+            None => played.drawn.graph.put_picture(text, HEADING, b"", b""),
         }
     }
 }
