@@ -1,3 +1,4 @@
+pub mod Arriving
 pub mod FrameCarrying
 pub mod FrameFitting
 pub mod Telling
@@ -17,6 +18,7 @@ pub mod ShowAgreeing
 pub mod JsonLists
 pub mod WholeNumbers
 pub mod JsonAndUnwrap
+pub mod SeedObjects
 pub mod SeedTold
 pub mod SeedReading
 pub mod SeedDrawn

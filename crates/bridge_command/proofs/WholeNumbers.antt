@@ -41,7 +41,7 @@ second : (a b : Bool) → (a || b) ≡ false → b ≡ false
 second false b none = none
 second true b none = cc none
 
-plain_put : (k : List ℕ) (d : Json) (ms : Members) → has_float d ≡ false → members_have_float ms ≡ false
+pub plain_put : (k : List ℕ) (d : Json) (ms : Members) → has_float d ≡ false → members_have_float ms ≡ false
     → members_have_float (put k d ms) ≡ false
 plain_put k d no_members plain rest = neither (has_float d) false plain refl
 plain_put k d (member l e ms) plain rest = by (slice_cmp nat_cmp k l) (plain_put k d ms plain (second (has_float e) (members_have_float ms) rest)) where

@@ -1,31 +1,48 @@
--- What `capture` writes of a transcript: a capture with a record for each frame that was sent (own).
+-- What `capture` writes of a transcript: a capture with a record for each frame that was sent, or that it says came (own).
 use Rattle.std.specs.Prelude.{ℕ, Bool, false, is_some, List, [], ◌++◌, Option, Some, None, Result, Ok, Err}
 use Rattle.bridge_records.specs.Writing.{file_header, raw_record}
+use Rattle.dccp_listener.specs.declared.peer.Peer.{Peer}
+use Rattle.schedule_text.specs.declared.line.FrameLine.{FrameLine}
+use Rattle.tool_jobs.specs.Ends.{arriving}
 use Rattle.tool_text.specs.Jobs.{Accepted, Gone, Job, Refused, Verdict, gone_through, refusal_told, text_apart}
 use Rattle.tool_text.specs.declared.lines.refusals.Refusal.{Refusal}
 use Rattle.tool_text.specs.declared.words.faults.LineFault.{LineFault}
-use Rattle.world_events.specs.declared.event.Side.{Side}
+use Rattle.world_events.specs.Actors.{other}
+use Rattle.world_events.specs.declared.event.Side.TheVariants.{Client, Server}
 use Rattle.bridge_command.specs.declared.capture.capturing.Clock.{Clock}
-use Rattle.bridge_command.specs.declared.capture.lines.Told.{Told}
-use Rattle.bridge_command.specs.declared.capture.lines.Told.TheVariants as told
+use Rattle.bridge_command.specs.declared.capture.lines.TranscriptLine.{TranscriptLine}
+use Rattle.bridge_command.specs.declared.capture.lines.TranscriptLine.TheVariants as told
 use Rattle.bridge_command.specs.TranscriptLines.{told_of_line}
-use Rattle.bridge_command.specs.FrameRecords.{TimedFrame, frame_record}
+use Rattle.bridge_command.specs.FrameReading.{travels}
+use Rattle.bridge_command.specs.FrameRecords.{TimedFrame, frame_record, travel_from, travel_of}
+use Rattle.bridge_command.specs.declared.capture.records.Travel.{Travel}
 
--- before the first line
+-- before the first line: an end alone is a server unless it opens
 abbrev pub first_clock : Clock
-first_clock = record { seconds = 0 }
+first_clock = record { seconds = 0; alone = Server }
 
--- a frame that is sent at this time
-abbrev pub timed : Clock → Side → List ℕ → TimedFrame
-timed clock from frame = record { seconds = clock.seconds; from = from; frame = frame }
+-- a frame that goes this way at this time
+abbrev pub timed : Clock → Travel → List ℕ → TimedFrame
+timed clock travel frame = record { seconds = clock.seconds; travel = travel; frame = frame }
 
--- A line with a number sets the time, one with a frame has its record, and any other does nothing.
-abbrev pub by_told : Clock → Result (Option Told) LineFault → Verdict TimedFrame Clock
+-- the way of a frame that came: from a peer of a listener, or to an end alone from the other side
+abbrev pub travel_in : Clock → Option Peer → Travel
+travel_in clock (Some peer) = travel_from peer
+travel_in clock None = travel_of (other clock.alone)
+
+-- a frame that comes this way at this time, whose checksum is set where its line says so
+abbrev pub timed_arrival : Clock → Travel → FrameLine → TimedFrame
+timed_arrival clock travel frame = timed clock travel (arriving (travels travel) frame)
+
+-- A line with a number sets the time, one with a frame has its record, and an end alone that opens is a client.
+abbrev pub by_told : Clock → Result (Option TranscriptLine) LineFault → Verdict TimedFrame Clock
 by_told clock (Err fault) = Refused fault
 by_told clock (Ok None) = Accepted None clock
 by_told clock (Ok (Some told.Other)) = Accepted None clock
-by_told clock (Ok (Some (told.Number number))) = Accepted None (record { seconds = number })
-by_told clock (Ok (Some (told.Sent from frame))) = Accepted (Some (timed clock from frame)) clock
+by_told clock (Ok (Some told.Opened)) = Accepted None (record clock { alone = Client })
+by_told clock (Ok (Some (told.Number number))) = Accepted None (record clock { seconds = number })
+by_told clock (Ok (Some (told.Sent travel frame))) = Accepted (Some (timed clock travel frame)) clock
+by_told clock (Ok (Some (told.Came peer frame))) = Accepted (Some (timed_arrival clock (travel_in clock peer) frame)) clock
 
 -- A line of a transcript, without its newline.
 unfoldable pub transcript_judged : Clock → ℕ → List ℕ → Verdict TimedFrame Clock

@@ -15,6 +15,7 @@ use Rattle.bridge_pictures.specs.Played.{windows_accepted, windows_refusal, wind
 use Rattle.bridge_pictures.specs.Transcript.{ladder_accepted, ladder_refusal, ladder_refused, ladder_text}
 use Rattle.bridge_command.specs.Telling.{is_json_faulty, json_pieces, json_text}
 use Rattle.bridge_command.specs.Schedule.{seed_text}
+use Rattle.bridge_command.specs.SeedLines.{seeds_text}
 use Rattle.bridge_command.specs.Unwrapping.{is_unwrapped_faulty, unwrapped_pieces, unwrapped_text}
 use Rattle.bridge_command.specs.Words.{asked_form}
 use Rattle.bridge_command.specs.declared.words.Form.{Form}
@@ -22,9 +23,10 @@ use Rattle.bridge_command.specs.declared.words.Form.TheVariants as form
 use Rattle.bridge_command.specs.declared.words.Picture.{Picture}
 use Rattle.bridge_command.specs.declared.words.Picture.TheVariants as pictures
 
--- Only `seed` reads no input.
+-- Only `seed` and `seeds` read no input.
 abbrev pub has_input : Form → Bool
 has_input (form.Seed run) = false
+has_input (form.Seeds range) = false
 has_input _ = true
 
 -- what a picture of lines has: a ladder of a transcript, or the windows of a schedule
@@ -58,23 +60,25 @@ flow_picture_accepted pictures.Ladder flow bytes = (flow_ladder_pieces flow byte
 flow_picture_accepted pictures.Windows flow bytes = (flow_windows_pieces flow bytes).accepted
 
 -- What a form writes of the bytes that it reads, when all is written: a capture of the frames that they tell, one of raw
--- IP, the schedule of a seed, a flow's packets as lines of `replay`, an object of each record, and a picture of lines or
--- of a flow.
+-- IP, the schedule of a seed, an object of each seed, a flow's packets as lines of `replay`, an object of each record,
+-- and a picture of lines or of a flow.
 abbrev pub bridge_text : Form → List ℕ → List ℕ
 bridge_text form.Capture bytes = frames_capture bytes
 bridge_text form.Unwrap bytes = unwrapped_text bytes
 bridge_text (form.Seed run) bytes = seed_text run.seed run.events
+bridge_text (form.Seeds range) bytes = seeds_text range
 bridge_text (form.Frames asked) bytes = frames_text asked.flow asked.side bytes
 bridge_text (form.Json payload) bytes = json_text payload bytes
 bridge_text (form.Picture picture) bytes = picture_text picture bytes
 bridge_text (form.FlowPicture picture flow) bytes = flow_picture_text picture flow bytes
 
--- Whether a form refuses these bytes: a line of them, or a capture for its fault. (Of `seed`, which reads none, the rows here
--- and below are those of an empty input.)
+-- Whether a form refuses these bytes: a line of them, or a capture for its fault. (Of `seed` and `seeds`, which read none, the
+-- rows here and below are those of an empty input.)
 abbrev pub is_bridge_refused : Form → List ℕ → Bool
 is_bridge_refused form.Capture bytes = transcript_refused bytes
 is_bridge_refused form.Unwrap bytes = is_unwrapped_faulty bytes
 is_bridge_refused (form.Seed run) bytes = false
+is_bridge_refused (form.Seeds range) bytes = false
 is_bridge_refused (form.Frames asked) bytes = is_frames_faulty asked.flow asked.side bytes
 is_bridge_refused (form.Json payload) bytes = is_json_faulty payload bytes
 is_bridge_refused (form.Picture picture) bytes = picture_refused picture bytes
@@ -85,6 +89,7 @@ abbrev pub bridge_accepted : Form → List ℕ → ℕ
 bridge_accepted form.Capture bytes = transcript_accepted bytes
 bridge_accepted form.Unwrap bytes = (unwrapped_pieces bytes).accepted
 bridge_accepted (form.Seed run) bytes = 0
+bridge_accepted (form.Seeds range) bytes = 0
 bridge_accepted (form.Frames asked) bytes = (frames_pieces asked.flow asked.side bytes).accepted
 bridge_accepted (form.Json payload) bytes = (json_pieces payload bytes).accepted
 bridge_accepted (form.Picture picture) bytes = picture_accepted picture bytes
@@ -111,6 +116,7 @@ abbrev pub bridge_said : Form → List ℕ → Said
 bridge_said form.Capture bytes = line_said (transcript_refusal bytes)
 bridge_said form.Unwrap bytes = capture_said (capture_refusal (unwrapped_pieces bytes)) (capture_skips (unwrapped_pieces bytes))
 bridge_said (form.Seed run) bytes = line_said None
+bridge_said (form.Seeds range) bytes = line_said None
 bridge_said (form.Frames asked) bytes =
     capture_said (capture_refusal (frames_pieces asked.flow asked.side bytes)) (capture_skips (frames_pieces asked.flow asked.side bytes))
 bridge_said (form.Json payload) bytes = capture_said (capture_refusal (json_pieces payload bytes)) (capture_skips (json_pieces payload bytes))

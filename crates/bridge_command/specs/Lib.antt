@@ -16,4 +16,5 @@ pub mod OptionObjects
 pub mod Objects
 pub mod Telling
 pub mod Schedule
+pub mod SeedLines
 pub mod Counted

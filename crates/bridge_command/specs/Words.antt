@@ -6,9 +6,8 @@ use Rattle.bridge_command.specs.declared.words.Form.{Form}
 use Rattle.bridge_command.specs.declared.words.Form.TheVariants as form
 use Rattle.bridge_command.specs.declared.words.Picture.{Picture}
 use Rattle.bridge_command.specs.declared.words.Picture.TheVariants as pictures
-use Rattle.tool_forms.specs.BridgeWords.{IsFlowWithinBounds, IsRunWithinBounds, flow_side_of, seed_run_of}
+use Rattle.tool_forms.specs.BridgeWords.{IsFlowWithinBounds, IsRangeWithinBounds, IsRunWithinBounds, flow_side_of, seed_range_of, seed_run_of}
 use Rattle.tool_forms.specs.Words.{is_word}
-use Rattle.tool_forms.specs.declared.bridge_words.SeedRun.{SeedRun}
 use Rattle.tool_text.specs.Numbers.{number_below}
 
 -- No word may follow `capture` and `unwrap`.
@@ -19,6 +18,10 @@ stands_alone form (word ∷ words) = None
 -- The words after `seed`.
 abbrev pub asked_seed : List (String Global) → Option Form
 asked_seed words = option_and_then (λ run. Some (form.Seed run)) (seed_run_of words)
+
+-- The words after `seeds`.
+abbrev pub asked_seeds : List (String Global) → Option Form
+asked_seeds words = option_and_then (λ range. Some (form.Seeds range)) (seed_range_of words)
 
 -- The words after `frames`.
 abbrev pub asked_flow : List (String Global) → Option Form
@@ -51,13 +54,14 @@ asked_picture picture (word ∷ []) = joined_picture picture (string_bytes word)
 asked_picture picture (name ∷ flow ∷ []) = if is_word name (codes "--flow") then flow_picture picture (string_bytes flow) else None
 asked_picture picture _ = None
 
--- The form of a first word and those after it: `capture`, `unwrap`, `seed`, `frames`, `json`, `ladder` or
--- `windows`.
+-- The form of a first word and those after it: `capture`, `unwrap`, `seed`, `seeds`, `frames`, `json`, `ladder`
+-- or `windows`.
 unfoldable pub form_behind : String Global → List (String Global) → Option Form
 form_behind first words =
     if is_word first (codes "capture") then stands_alone form.Capture words
     else if is_word first (codes "unwrap") then stands_alone form.Unwrap words
     else if is_word first (codes "seed") then asked_seed words
+    else if is_word first (codes "seeds") then asked_seeds words
     else if is_word first (codes "frames") then asked_flow words
     else if is_word first (codes "json") then asked_json words
     else if is_word first (codes "ladder") then asked_picture pictures.Ladder words
@@ -74,14 +78,15 @@ abbrev pub IsBridgeFormWithinBounds : Form → Type 0
 IsBridgeFormWithinBounds form.Capture = Unit {0}
 IsBridgeFormWithinBounds form.Unwrap = Unit {0}
 IsBridgeFormWithinBounds (form.Seed run) = IsRunWithinBounds run
+IsBridgeFormWithinBounds (form.Seeds range) = IsRangeWithinBounds range
 IsBridgeFormWithinBounds (form.Frames asked) = IsFlowWithinBounds asked
 IsBridgeFormWithinBounds (form.Json payload) = Unit {0}
 IsBridgeFormWithinBounds (form.Picture picture) = Unit {0}
 IsBridgeFormWithinBounds (form.FlowPicture picture flow) = 1 ≤ flow
 
--- Only the words after `seed` and `frames` are settings.
+-- Only the words after `seed`, `seeds` and `frames` are settings.
 abbrev pub has_settings_behind : String Global → Bool
-has_settings_behind first = is_word first (codes "seed") || is_word first (codes "frames")
+has_settings_behind first = (is_word first (codes "seed") || is_word first (codes "seeds")) || is_word first (codes "frames")
 
 -- Some word may be a setting.
 abbrev pub has_bridge_settings : List (String Global) → Bool
@@ -90,8 +95,8 @@ has_bridge_settings (first ∷ words) = has_settings_behind first
 
 -- The line that answers all other words.
 abbrev pub bridge_usage : List ℕ
-bridge_usage = codes "usage: dccp_bridge capture | unwrap | seed --seed S --events E | frames --flow F --side server|client | json [--payload] | ladder [--flow F] | windows [--flow F]\n"
+bridge_usage = codes "usage: dccp_bridge capture | unwrap | seed --seed S --events E | seeds --first F --seeds N --events E | frames --flow F --side server|client | json [--payload] | ladder [--flow F] | windows [--flow F]\n"
 
--- For `seed`, which reads nothing, something holds of the run that is asked for.
-abbrev pub OnSeed : List (String Global) → (SeedRun → Type 0) → Type 0
-OnSeed words Holds = (run : SeedRun) → asked_form words ≡ Some (form.Seed run) → Holds run
+-- For any form that the words have, something holds of it.
+abbrev pub OnAsked : List (String Global) → (Form → Type 0) → Type 0
+OnAsked words Holds = (form : Form) → asked_form words ≡ Some form → Holds form

@@ -15,4 +15,5 @@ mod telling;
 pub use crate::json::laws::{
     each_record_is_told, each_record_told_is_unwrapped, what_show_shows_is_told,
 };
+pub(crate) use crate::json::objects::Object;
 pub(crate) use crate::json::telling::json_records;

@@ -1,9 +1,9 @@
 //! The second tool's one call: what its words ask for, done over a source and a sink (own).
 //!
 //! It makes captures of what the tool tells, captures of raw IP, lines and objects of captures, pictures, and the
-//! schedules of seeds, which it runs as `campaign` does. It opens no file, socket or clock, and reads and writes nothing but the
-//! source and the sink that it is lent. It takes memory for words and text, for a table of flows, for the values of a
-//! record and for the run of a seed.
+//! schedules and the objects of seeds, which it runs as `campaign` does. It opens no file, socket or clock, and reads
+//! and writes nothing but the source and the sink that it is lent. It takes memory for words and text, for a table of
+//! flows, for the values of a record and for the run of a seed.
 #![tactic(auto)]
 
 mod capture;
@@ -11,6 +11,7 @@ mod complaints;
 mod frames;
 mod json;
 mod seed;
+mod seeds;
 mod top;
 mod unwrap;
 mod words;
@@ -29,5 +30,5 @@ pub use crate::seed::a_schedule_is_the_run_of_its_seed;
 pub use crate::top::bridge;
 pub use crate::unwrap::{each_record_is_unwrapped, what_show_shows_stays};
 pub use crate::words::{Form, Picture, USAGE, form_of};
-pub use tool_forms::{FlowSide, SeedRun};
+pub use tool_forms::{FlowSide, SeedRange, SeedRun};
 pub use tool_text::Status;

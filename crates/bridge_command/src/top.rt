@@ -1,9 +1,8 @@
 //! The second tool's one call: a form of its words over a source and a sink.
 ghost use Rattle.std.specs.Prelude.{◌≡◌, ◌⊎◌, ℕ, List, [], Some, None, false, true};
 ghost use Rattle.dccp_io.specs.Counts.{Rose};
-ghost use Rattle.bridge_command.specs.Schedule.{seed_text};
 ghost use Rattle.bridge_command.specs.Forms.{OnBridgeInput, OnBridgeRead, bridge_accepted, bridge_reads_past, bridge_said, bridge_text, flow_picture_accepted, flow_picture_refusal, flow_picture_skips, flow_picture_text, has_input, is_bridge_refused, is_flow_picture_faulty, picture_accepted, picture_refusal, picture_refused, picture_text};
-ghost use Rattle.bridge_command.specs.Words.{IsBridgeFormWithinBounds, OnSeed, asked_form, bridge_usage, has_bridge_settings};
+ghost use Rattle.bridge_command.specs.Words.{IsBridgeFormWithinBounds, OnAsked, asked_form, bridge_usage, has_bridge_settings};
 ghost use Rattle.bridge_command.specs.Complaints.{OnAnswer, said_text};
 ghost use Rattle.tool_text.specs.Ends.{SinkFails, IsAnswered, IsWritten, OnJobEnd, Answers, StopsWithin, EndsForCause};
 
@@ -12,6 +11,7 @@ use crate::complaints::{FormEnd, capture_said, line_said, tell_said};
 use crate::frames::frame_flow;
 use crate::json::json_records;
 use crate::seed::tell_seed;
+use crate::seeds::tell_seeds;
 use crate::unwrap::unwrap_capture;
 use crate::words::{Form, Picture, USAGE, form_of};
 use bridge_pictures::{ladder_of_flow, ladder_of_transcript, windows_of_flow, windows_of_schedule};
@@ -22,16 +22,17 @@ use tool_text::{JobEnd, LinesEnd, Status};
 
 /// Does what the words ask for (own), those after the program's name. `capture` reads what `run` or `replay` wrote, and
 /// writes a classic capture with a record for each frame that was sent. `unwrap` reads a capture, classic or pcapng, of
-/// any of eleven link types, and writes a classic one of raw IP, record for record. `seed` reads nothing, and writes the
-/// schedule of a campaign's seed. `frames` reads a capture as `unwrap` does, and writes lines of `replay` for the
-/// packets of a flow that go to a side; and `json` writes an object for each record. `ladder` draws what `run` or `replay`
-/// wrote, and with a flow the packets of that flow in a capture. `windows` draws the windows of a schedule that it plays,
-/// and with a flow those of that flow in a capture.
+/// any of eleven link types, and writes a classic one of raw IP, record for record. `seed` reads nothing, and writes
+/// the schedule of a campaign's seed; so does `seeds`, which writes an object for each of many seeds. `frames` reads a
+/// capture as `unwrap` does, and writes lines of `replay` for the packets of a flow that go to a side; and `json`
+/// writes an object for each record. `ladder` draws what `run` or `replay` wrote, and with a flow the packets of that
+/// flow in a capture. `windows` draws the windows of a schedule that it plays, and with a flow those of that flow in a
+/// capture.
 ///
 /// Words are judged first; after that the first refusal met in the order of reading decides. With status 0 or 1 the
-/// output is that of the whole input, with status 3, 4 or 5 a front of it. What of a capture was skipped, and why an input
-/// is refused, goes to `errors`, and so does the usage line. The clauses on the output speak of a source that tells its bytes and a sink that tells what
-/// it took.
+/// output is that of the whole input, with status 3, 4 or 5 a front of it. What of a capture was skipped, and why an
+/// input is refused, goes to `errors`, and so does the usage line. The clauses on the output speak of a source that
+/// tells its bytes and a sink that tells what it took.
 pub fn bridge<S: Source, K: Sink, E: Sink>(
     alloc: Global,
     words: &[String],
@@ -55,15 +56,15 @@ pub fn bridge<S: Source, K: Sink, E: Sink>(
     ensures past { OnBridgeInput words.now (S.left input.old) (λ form bytes.
         OnJobEnd result (λ end. StopsWithin (bridge_reads_past form) (bridge_accepted form bytes) bytes end (S.left input.new))) }
 
-    // With an answer, what of a capture was skipped, and why the input is refused, is told on the sink for errors, as far
-    // as it takes that: a line for each kind, and one for the refusal, or nothing.
+    // With an answer, what of a capture was skipped, and why the input is refused, is told on the sink for errors, as
+    // far as it takes that: a line for each kind, and one for the refusal, or nothing.
     ensures said { OnBridgeInput words.now (S.left input.old) (λ form bytes.
         OnJobEnd result (λ end. OnAnswer end (IsWritten (said_text (bridge_said form bytes)) (E.taken errors.old) (E.taken errors.new)
         (SinkFails E.faults E.empty_takes errors.old errors.new)))) }
 
-    // What a seed owes, which reads nothing: the same as of an empty input. And why any form ended.
-    ensures told { OnSeed words.now (λ run.
-        OnJobEnd result (λ end. Answers (seed_text run.seed run.events) false end (Some []) (K.taken output.old) (K.taken output.new))) }
+    // What a form owes that reads nothing: the same as of an empty input. And why any form ended.
+    ensures told { OnAsked words.now (λ form. has_input form ≡ false
+        → OnJobEnd result (λ end. Answers (bridge_text form []) false end (Some []) (K.taken output.old) (K.taken output.new))) }
     ensures form_unread { (form : Form) → asked_form words.now ≡ Some form → has_input form ≡ false → input.new ≡ input.old }
     ensures cause { (form : Form) → asked_form words.now ≡ Some form
         → OnJobEnd result (λ end. EndsForCause end (Rose (S.faults input.old) (S.faults input.new)) (SinkFails K.faults K.empty_takes output.old output.new)) }
@@ -129,6 +130,10 @@ fn perform<S: Source, K: Sink>(alloc: Global, form: Form, input: &mut S, output:
         }
         Form::Seed(run) => FormEnd {
             end: tell_seed(alloc, run.seed, run.events, output),
+            said: line_said(None),
+        },
+        Form::Seeds(range) => FormEnd {
+            end: tell_seeds(alloc, range, output),
             said: line_said(None),
         },
         Form::Unwrap => {

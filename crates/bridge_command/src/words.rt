@@ -1,10 +1,10 @@
 //! What the words after the program's name ask for.
 ghost use Rattle.std.specs.Prelude.{◌≡◌, IfOk, IfSome, IsOk, false};
-ghost use Rattle.bridge_command.specs.Words.{IsBridgeFormWithinBounds, asked_flow, asked_form, asked_json, asked_picture, asked_seed, flow_picture, form_behind, joined_picture, has_bridge_settings, has_settings_behind, stands_alone};
+ghost use Rattle.bridge_command.specs.Words.{IsBridgeFormWithinBounds, asked_flow, asked_form, asked_json, asked_picture, asked_seed, asked_seeds, flow_picture, form_behind, joined_picture, has_bridge_settings, has_settings_behind, stands_alone};
 
 use seq_circle::NoMemory;
 use std::alloc::Global;
-use tool_forms::{FlowSide, SeedRun, flow_side_of, is_word, seed_run_of};
+use tool_forms::{FlowSide, SeedRange, SeedRun, flow_side_of, is_word, seed_range_of, seed_run_of};
 use tool_text::{is_text, number_up_to};
 
 /// A job of the second tool (own).
@@ -16,6 +16,8 @@ pub enum Form {
     Unwrap,
     /// `seed` makes a schedule of a campaign's seed.
     Seed(SeedRun),
+    /// `seeds` makes an object of JSON of each seed of a campaign.
+    Seeds(SeedRange),
     /// `frames` makes lines of `replay` of the packets of a flow that go to a side.
     Frames(FlowSide),
     /// `json` makes an object of JSON of each record of a capture, and `json --payload` with the bytes of data.
@@ -40,7 +42,7 @@ const FLOW: &[u8] = b"--flow=";
 
 /// The line that answers words which are none of the forms (own). It names all forms.
 pub const USAGE: &[u8] =
-    b"usage: dccp_bridge capture | unwrap | seed --seed S --events E | frames --flow F --side server|client | json [--payload] | ladder [--flow F] | windows [--flow F]\n";
+    b"usage: dccp_bridge capture | unwrap | seed --seed S --events E | seeds --first F --seeds N --events E | frames --flow F --side server|client | json [--payload] | ladder [--flow F] | windows [--flow F]\n";
 
 // No word may follow.
 fn stands_alone(form: Form, words: &[String]) -> Option<Form>
@@ -58,6 +60,17 @@ fn asked_seed(alloc: Global, words: &[String]) -> Result<Option<Form>, NoMemory>
 {
     match seed_run_of(alloc, words)? {
         Some(run) => Ok(Some(Form::Seed(run))),
+        None => Ok(None),
+    }
+}
+
+// The job that the words after `seeds` ask for.
+fn asked_seeds(alloc: Global, words: &[String]) -> Result<Option<Form>, NoMemory>
+    ensures value { IfOk result (λ form. form ≡ asked_seeds words.now) }
+    ensures within { IfOk result (λ form. IfSome form IsBridgeFormWithinBounds) }
+{
+    match seed_range_of(alloc, words)? {
+        Some(range) => Ok(Some(Form::Seeds(range))),
         None => Ok(None),
     }
 }
@@ -137,6 +150,9 @@ fn form_behind(alloc: Global, first: &String, words: &[String]) -> Result<Option
     if is_word(first, b"seed") {
         return asked_seed(alloc, words);
     }
+    if is_word(first, b"seeds") {
+        return asked_seeds(alloc, words);
+    }
     if is_word(first, b"frames") {
         return asked_flow(alloc, words);
     }
@@ -153,8 +169,8 @@ fn form_behind(alloc: Global, first: &String, words: &[String]) -> Result<Option
 }
 
 /// The job that these words ask for, those after the program's name, or None where they are none of the forms (own).
-/// NoMemory comes only for words after `seed` and `frames`, whose settings are read by a command of `clap`, and then
-/// says nothing of them.
+/// NoMemory comes only for words after `seed`, `seeds` and `frames`, whose settings are read by a command of `clap`,
+/// and then says nothing of them.
 pub fn form_of(alloc: Global, words: &[String]) -> Result<Option<Form>, NoMemory>
     ensures value { IfOk result (λ form. form ≡ asked_form words.now) }
     ensures within { IfOk result (λ form. IfSome form IsBridgeFormWithinBounds) }

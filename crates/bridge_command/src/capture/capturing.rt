@@ -1,21 +1,29 @@
 //! `capture`: a job over a transcript's lines.
-ghost use Rattle.std.specs.Prelude.{◌≡◌, ℕ, List, Some};
+ghost use Rattle.std.specs.Prelude.{◌≡◌, ◌++◌, ℕ, List, OnOk, Some};
 ghost use Rattle.dccp_io.specs.Counts.{Rose};
 ghost use Rattle.tool_text.specs.Ends.{Answers, IsAnswered, SinkFails, StopsWithin, EndsForCause};
-ghost use Rattle.bridge_command.specs.Capturing.{first_clock, frames_capture, transcript_accepted, transcript_refusal, transcript_refused};
+ghost use Rattle.bridge_records.specs.Writing.{raw_record};
+ghost use Rattle.bridge_command.specs.FrameRecords.{frame_record};
+ghost use Rattle.bridge_command.specs.TranscriptLines.{CanArrive};
+ghost use Rattle.bridge_command.specs.Capturing.{timed_arrival, first_clock, travel_in, frames_capture, transcript_accepted, transcript_refusal, transcript_refused};
 
-use crate::capture::lines::{Told, told_of_line};
-use crate::capture::records::put_record;
+use crate::capture::lines::{TranscriptLine, told_of_line};
+use crate::capture::records::{Travel, put_record, put_record_of};
 use bridge_records::put_file_header;
 use dccp_io::{Sink, Source};
+use dccp_listener::Peer;
+use schedule_text::FrameLine;
 use seq_circle::NoMemory;
 use std::alloc::Global;
+use tool_jobs::arriving;
 use tool_text::{JobEnd, LineError, LineJob, LinesEnd, run_lines_apart};
+use world_events::Side;
 
-/// When frames are sent: the number of the line that was answered last, as seconds.
+/// When frames are sent: the number of the line that was answered last, as seconds; and whose end it is that is alone.
 #[derive(Drop)]
 pub(crate) struct Clock {
     pub(crate) seconds: u32,
+    pub(crate) alone: Side,
 }
 
 impl Clock {
@@ -23,7 +31,35 @@ impl Clock {
     fn new() -> Clock
         ensures { result ≡ first_clock }
     {
-        Clock { seconds: 0 }
+        Clock {
+            seconds: 0,
+            alone: Side::Server,
+        }
+    }
+
+    // The way of a frame that came: from a peer of a listener, or to an end alone from the other side.
+    fn travel(&self, peer: Option<Peer>) -> Travel
+        ensures { result ≡ travel_in self.now peer }
+    {
+        match peer {
+            Some(peer) => Travel::from(peer),
+            None => Travel::of(self.alone.other()),
+        }
+    }
+
+    // Puts the record of a frame that comes, its checksum set where its line says so.
+    fn put_arrival(
+        &self,
+        text: &mut Vec<u8>,
+        peer: Option<Peer>,
+        frame: &FrameLine<'_>,
+    ) -> Result<(), NoMemory>
+        requires { CanArrive (TranscriptLine.Came peer frame.now) }
+        ensures { OnOk result (text.new.items ≡ text.old.items ++ raw_record (frame_record (timed_arrival self.now (travel_in self.now peer) frame.now))) }
+    {
+        let travel = self.travel(peer);
+        let frame = arriving(&travel.pseudo(), frame);
+        put_record_of(text, self.seconds, travel, frame.bytes())
     }
 }
 
@@ -48,13 +84,21 @@ impl LineJob for Clock {
     ) -> Result<(), LineError> {
         match told_of_line(line) {
             Err(fault) => Err(LineError::Refused(fault)),
-            Ok(None | Some(Told::Other)) => Ok(()),
-            Ok(Some(Told::Number(number))) => {
+            Ok(None | Some(TranscriptLine::Other)) => Ok(()),
+            Ok(Some(TranscriptLine::Opened)) => {
+                self.alone = Side::Client;
+                Ok(())
+            }
+            Ok(Some(TranscriptLine::Number(number))) => {
                 self.seconds = number;
                 Ok(())
             }
-            Ok(Some(Told::Sent { from, frame })) => {
-                put_record(text, self.seconds, from, &frame)?;
+            Ok(Some(TranscriptLine::Sent { travel, frame })) => {
+                put_record(text, self.seconds, travel, &frame)?;
+                Ok(())
+            }
+            Ok(Some(TranscriptLine::Came { peer, frame })) => {
+                self.put_arrival(text, peer, &frame)?;
                 Ok(())
             }
         }
@@ -67,10 +111,12 @@ impl LineJob for Clock {
 
 /// Makes a capture of a transcript's frames (own): it reads the lines of `input` one by one, and writes to `output` a
 /// classic capture of link type 101 with a record for each line `sent NAME HEX`, in their order: an IPv4 packet between
-/// the addresses of the usual ends. Its time is the number of the line that was answered with it, in seconds. Records
-/// go out in blocks, and before more of the input is asked for. Where a line is refused, its refusal is answered, and
-/// the records before it are written. With status 0 or 1 the output is that of the whole input, with another a front of
-/// it. Read comes where the source failed, Write where the sink did, and Memory where no memory was left.
+/// the addresses of the usual ends, or of the listener and a peer. A line `came`, which the launcher puts after the
+/// answer to a line of the input, has a record too: the frame of that line. Its time is the number of the line that was
+/// answered with it, in seconds. Records go out in blocks, and before more of the input is asked for. Where a line is
+/// refused, its refusal is answered, and the records before it are written. With status 0 or 1 the output is that of
+/// the whole input, with another a front of it. Read comes where the source failed, Write where the sink did, and
+/// Memory where no memory was left.
 pub(crate) fn capture_frames<S: Source, K: Sink>(
     alloc: Global,
     input: &mut S,

@@ -1,8 +1,12 @@
 //! What a line of a transcript tells.
-ghost use Rattle.std.specs.Prelude.{◌≡◌, IfErr};
+ghost use Rattle.std.specs.Prelude.{◌≡◌, IfErr, IfOk, IfSome};
 ghost use Rattle.tool_text.specs.Left.{left_of};
-ghost use Rattle.bridge_command.specs.TranscriptLines.{frame_name_read, frame_of_sender, is_other, line_said, sent_said, told_first, told_of_line, without_colon};
+ghost use Rattle.bridge_command.specs.TranscriptLines.{CanArrive, came_said, frame_came, frame_name_read, frame_of_sender, to_peer_named, is_other, line_said, sent_said, told_first, told_of_line, without_colon};
 
+use crate::capture::records::Travel;
+use dccp_listener::Peer;
+use schedule_text::{FrameLine, FrameWords};
+use tool_jobs::peer_of;
 use tool_text::{
     Digits, Flaw, Hex, LineFault, LineWhy, Row, WordKind, Words, found_or, is_text, number_up_to,
     read_line, read_word,
@@ -20,49 +24,70 @@ const LINE_NUMBERS: u64 = 1 << 32;
 
 /// What a line of a transcript tells. A frame's bytes are decoded where they are put.
 #[derive(Drop)]
-pub(crate) enum Told<'a> {
-    /// No frame: it is the line of `open` or of an end.
+pub(crate) enum TranscriptLine<'a> {
+    /// No frame: it is the line of an end or of flows.
     Other,
+    /// An end alone opened.
+    Opened,
     /// The input's line of this number was answered.
     Number(u32),
-    /// This side sent this frame.
-    Sent { from: Side, frame: Digits<'a> },
+    /// This frame was sent this way.
+    Sent {
+        travel: Travel,
+        frame: Digits<'a>,
+    },
+    /// This frame came, from a peer or from the only other end.
+    Came {
+        peer: Option<Peer>,
+        frame: FrameLine<'a>,
+    },
 }
 
-// The side and the index in a frame's name.
-fn frame_of_sender(from: Side, index: &[u8]) -> Result<(Side, u64), Flaw>
+// The way of the frame of this sender whose index this is.
+fn frame_of_sender(from: Side, index: &[u8]) -> Result<Travel, Flaw>
     ensures value { result ≡ frame_of_sender from index.now }
     ensures within { IfErr result (λ flaw. flaw.place ≡ 0) }
 {
-    let index = found_or(LineWhy::BadNumber, number_up_to(INDICES - 1, index))?;
-    Ok((from, index))
+    let _index = found_or(LineWhy::BadNumber, number_up_to(INDICES - 1, index))?;
+    Ok(Travel::of(from))
 }
 
-// A frame's name: the letter of its sender, and its index.
-struct AFrameName;
+// The way of a frame that a listener sent to this peer.
+fn to_peer_named(peer: Option<Peer>) -> Result<Travel, Flaw>
+    ensures value { result ≡ to_peer_named peer }
+    ensures within { IfErr result (λ flaw. flaw.place ≡ 0) }
+{
+    match peer {
+        Some(peer) => Ok(Travel::to(peer)),
+        None => Err(Flaw {
+            place: 0,
+            why: LineWhy::UnknownWord,
+        }),
+    }
+}
 
-impl<'a> WordKind<'a> for AFrameName {
-    type Read = (Side, u64);
+// The name of a frame that was sent: the letter of its sender, and its index; or the peer to which it went.
+struct SentName;
+
+impl<'a> WordKind<'a> for SentName {
+    type Read = Travel;
 
     ghost reads = { frame_name_read };
 
-    fn read(word: &'a [u8]) -> Result<(Side, u64), Flaw> {
+    fn read(word: &'a [u8]) -> Result<Travel, Flaw> {
         match word {
             [b'c', index @ ..] => frame_of_sender(Side::Client, index),
             [b's', index @ ..] => frame_of_sender(Side::Server, index),
-            _ => Err(Flaw {
-                place: 0,
-                why: LineWhy::UnknownWord,
-            }),
+            _ => to_peer_named(peer_of(word)),
         }
     }
 }
 
-// The word that begins a line without a frame, but for those that begin with a number.
+// The word that begins a line without a frame, except for those that begin with a number.
 fn is_other(word: &[u8]) -> bool
     ensures { result ≡ is_other word.now }
 {
-    is_text(word, b"open:") || is_text(word, b"end")
+    is_text(word, b"end") || is_text(word, b"flows") || is_text(word, b"flow")
 }
 
 // A word without the colon at its end, if one is there.
@@ -80,73 +105,102 @@ fn without_colon(word: &[u8]) -> &[u8]
 }
 
 // What the first word of a line tells that is no line of a frame.
-fn told_first<'a>(word: &'a [u8]) -> Result<Told<'a>, Flaw>
+fn told_first<'a>(word: &'a [u8]) -> Result<TranscriptLine<'a>, Flaw>
     ensures value { result ≡ told_first word.now }
     ensures within { IfErr result (λ flaw. flaw.place ≡ 0) }
 {
+    if is_text(word, b"open:") {
+        return Ok(TranscriptLine::Opened);
+    }
     if is_other(word) {
-        return Ok(Told::Other);
+        return Ok(TranscriptLine::Other);
     }
     let number = found_or(
         LineWhy::UnknownWord,
         number_up_to(LINE_NUMBERS - 1, without_colon(word)),
     )?;
-    Ok(Told::Number(number as u32))
+    Ok(TranscriptLine::Number(number as u32))
 }
 
 // The first word of a line that is no line of a frame.
-struct AFirstWord;
+struct HeadWord;
 
-impl<'a> WordKind<'a> for AFirstWord {
-    type Read = Told<'a>;
+impl<'a> WordKind<'a> for HeadWord {
+    type Read = TranscriptLine<'a>;
 
     ghost reads = { told_first };
 
-    fn read(word: &'a [u8]) -> Result<Told<'a>, Flaw> {
+    fn read(word: &'a [u8]) -> Result<TranscriptLine<'a>, Flaw> {
         told_first(word)
     }
 }
 
 // What follows `sent`: a frame's name and its bytes, and nothing after them.
-fn sent<'a>(words: &mut Words<'a>) -> Result<Told<'a>, LineFault>
+fn sent<'a>(words: &mut Words<'a>) -> Result<TranscriptLine<'a>, LineFault>
     ensures { result ≡ sent_said (left_of words.old) }
 {
     let all = *words;
-    let (name, (digits, ())) = <(AFrameName, (Hex, ()))>::read(words)?;
+    let (travel, (digits, ())) = <(SentName, (Hex, ()))>::read(words)?;
     if MOST_OF_FRAME < digits.len() {
         return Err(LineFault {
             column: all.column_of(1),
             why: LineWhy::FrameTooLong,
         });
     }
-    Ok(Told::Sent {
-        from: name.0,
+    Ok(TranscriptLine::Sent {
+        travel,
         frame: digits,
     })
 }
 
-// The words of a transcript's line.
-struct ALine;
+// A frame that came, of this peer or of the only other end.
+fn frame_came<'a>(
+    peer: Option<Peer>,
+    words: &mut Words<'a>,
+) -> Result<TranscriptLine<'a>, LineFault>
+    ensures { result ≡ frame_came peer (left_of words.old) }
+{
+    let frame = FrameWords::read(words)?;
+    Ok(TranscriptLine::Came { peer, frame })
+}
 
-impl<'a> Row<'a> for ALine {
-    type Said = Told<'a>;
+// What follows `came`: the frame of a line of the input, with its peer in front if it has one.
+fn came<'a>(words: &mut Words<'a>) -> Result<TranscriptLine<'a>, LineFault>
+    ensures { result ≡ came_said (left_of words.old) }
+{
+    let mut all = *words;
+    match peer_of(words.next_word().text) {
+        Some(peer) => frame_came(Some(peer), words),
+        None => frame_came(None, &mut all),
+    }
+}
+
+// The words of a transcript's line.
+struct TranscriptWords;
+
+impl<'a> Row<'a> for TranscriptWords {
+    type Said = TranscriptLine<'a>;
 
     ghost said = { line_said };
 
-    fn read(words: &mut Words<'a>) -> Result<Told<'a>, LineFault> {
+    fn read(words: &mut Words<'a>) -> Result<TranscriptLine<'a>, LineFault> {
         let first = words.next_word();
         if is_text(first.text, b"sent") {
             return sent(words);
         }
-        read_word::<AFirstWord>(first)
+        if is_text(first.text, b"came") {
+            return came(words);
+        }
+        read_word::<HeadWord>(first)
     }
 }
 
 /// What a line of a transcript tells, without its newline, or None where it is empty or a comment; or the first of its
 /// faults: NotText, then Missing, UnknownWord, BadNumber and BadHex, word by word from the left, then Trailing, and
-/// then FrameTooLong at the bytes of a frame that has more than 2,044.
-pub(crate) fn told_of_line(line: &[u8]) -> Result<Option<Told<'_>>, LineFault>
-    ensures { result ≡ told_of_line line.now }
+/// then FrameTooLong at the bytes of a frame that has more than 2,044. After `came` they are those of a replay's line.
+pub(crate) fn told_of_line(line: &[u8]) -> Result<Option<TranscriptLine<'_>>, LineFault>
+    ensures value { result ≡ told_of_line line.now }
+    ensures arrives { IfOk result (λ said. IfSome said CanArrive) }
 {
-    read_line::<ALine>(line)
+    read_line::<TranscriptWords>(line)
 }

@@ -111,7 +111,7 @@ impl Framing {
     fn put_lines(
         &self,
         met: &Met,
-        record: &Record<'_>,
+        item: &Record<'_>,
         there: &Datagram<'_>,
         packet: &Packet<'_>,
         text: &mut Vec<u8>,
@@ -121,16 +121,16 @@ impl Framing {
         requires options { length packet.now.options.now ≤ 1008 }
         requires valid { IsTrue (is_valid packet.now.header) }
         ensures { OnOk result (text.new.items ≡ text.old.items
-            ++ flow_packet_text (spec.flow_packet self.now met.now (entry_of record.now) (carried_by there.now) (parts_by packet.now))) }
+            ++ flow_packet_text (spec.flow_packet self.now met.now (entry_of item.now) (carried_by there.now) (parts_by packet.now))) }
     {
-        put_comment(text, record, there, packet, self.flow)?;
+        put_comment(text, item, there, packet, self.flow)?;
         put_frame(text, &self.end, met.initial, packet)
     }
 
     // A packet of the flow.
     fn pass_by_sender(
         &mut self,
-        record: &Record<'_>,
+        item: &Record<'_>,
         there: &Datagram<'_>,
         packet: &Packet<'_>,
         text: &mut Vec<u8>,
@@ -140,14 +140,14 @@ impl Framing {
         requires options { length packet.now.options.now ≤ 1008 }
         requires valid { IsTrue (is_valid packet.now.header) }
         ensures text { OnOk result (text.new.items ≡ text.old.items ++ piece_text (records_work frames_work)
-            (spec.by_sender self.old (entry_of record.now) (carried_by there.now) (parts_by packet.now) (from_end there.now.pseudo packet.now.header.from)).deed) }
+            (spec.by_sender self.old (entry_of item.now) (carried_by there.now) (parts_by packet.now) (from_end there.now.pseudo packet.now.header.from)).deed) }
         ensures next { OnOk result (self.new
-            ≡ (spec.by_sender self.old (entry_of record.now) (carried_by there.now) (parts_by packet.now) (from_end there.now.pseudo packet.now.header.from)).next) }
+            ≡ (spec.by_sender self.old (entry_of item.now) (carried_by there.now) (parts_by packet.now) (from_end there.now.pseudo packet.now.header.from)).next) }
     {
         let from = from_end(&there.pseudo, packet.header.from);
         let met = met_by(self.met, from, packet.header.kind.packet_type());
         if goes_to(self.side, side_from(&met.ends, from)) {
-            self.put_lines(&met, record, there, packet, text)?;
+            self.put_lines(&met, item, there, packet, text)?;
             self.met = Some(met);
         } else {
             self.met = Some(met_number(&met, packet.header.number));
@@ -158,7 +158,7 @@ impl Framing {
     // A packet, whose flow is numbered.
     fn pass_packet(
         &mut self,
-        record: &Record<'_>,
+        item: &Record<'_>,
         there: &Datagram<'_>,
         packet: &Packet<'_>,
         text: &mut Vec<u8>,
@@ -168,29 +168,29 @@ impl Framing {
         requires options { length packet.now.options.now ≤ 1008 }
         requires valid { IsTrue (is_valid packet.now.header) }
         ensures text { OnOk result (text.new.items ≡ text.old.items ++ piece_text (records_work frames_work)
-            (spec.by_flow self.old (entry_of record.now) (carried_by there.now) (parts_by packet.now) (flow_of there.now.pseudo packet.now.header.from packet.now.header.to)).deed) }
+            (spec.by_flow self.old (entry_of item.now) (carried_by there.now) (parts_by packet.now) (flow_of there.now.pseudo packet.now.header.from packet.now.header.to)).deed) }
         ensures next { OnOk result (self.new
-            ≡ (spec.by_flow self.old (entry_of record.now) (carried_by there.now) (parts_by packet.now) (flow_of there.now.pseudo packet.now.header.from packet.now.header.to)).next) }
+            ≡ (spec.by_flow self.old (entry_of item.now) (carried_by there.now) (parts_by packet.now) (flow_of there.now.pseudo packet.now.header.from packet.now.header.to)).next) }
     {
         let header = &packet.header;
         let number = self.flows.number(&there.pseudo, header.from, header.to)?;
         if number != self.flow {
             return Ok(());
         }
-        self.pass_by_sender(record, there, packet, text)
+        self.pass_by_sender(item, there, packet, text)
     }
 
     // A record of raw IP.
     #[tactic(auto, unfolding(crate::specs::Framing::framed_record))]
-    fn pass_ip(&mut self, record: &Record<'_>, text: &mut Vec<u8>) -> Result<(), NoMemory>
-        ensures text { OnOk result (text.new.items ≡ text.old.items ++ piece_text (records_work frames_work) (framed_record self.old (entry_of record.now)).deed) }
-        ensures next { OnOk result (self.new ≡ (framed_record self.old (entry_of record.now)).next) }
+    fn pass_ip(&mut self, item: &Record<'_>, text: &mut Vec<u8>) -> Result<(), NoMemory>
+        ensures text { OnOk result (text.new.items ≡ text.old.items ++ piece_text (records_work frames_work) (framed_record self.old (entry_of item.now)).deed) }
+        ensures next { OnOk result (self.new ≡ (framed_record self.old (entry_of item.now)).next) }
     {
-        let Some(there) = carried(record.link, record.bytes) else {
+        let Some(there) = carried(item.link, item.bytes) else {
             return Ok(());
         };
         match decode(there.bytes) {
-            Ok(packet) => self.pass_packet(record, &there, &packet, text),
+            Ok(packet) => self.pass_packet(item, &there, &packet, text),
             Err(_) => Ok(()),
         }
     }
@@ -223,10 +223,9 @@ impl RecordJob for FramingJob {
         Ok(())
     }
 
-    fn pass(&mut self, record: &Record<'_>, text: &mut Vec<u8>) -> Result<(), NoMemory> {
-        let ip = ip_packet(self.alloc, record.link, record.bytes)?;
-        self.framing
-            .pass_ip(&record_of_ip(record, ip.bytes()), text)
+    fn pass(&mut self, item: &Record<'_>, text: &mut Vec<u8>) -> Result<(), NoMemory> {
+        let ip = ip_packet(self.alloc, item.link, item.bytes)?;
+        self.framing.pass_ip(&record_of_ip(item, ip.bytes()), text)
     }
 
     fn finish(
@@ -245,10 +244,10 @@ impl RecordJob for FramingJob {
 /// with the ports, the Service Code and, where it acknowledges, the number that `replay`'s end of that side would find
 /// in it. An acknowledgement number is as far above that end's initial number as it was above the captured end's, which
 /// is the first number of 48 bits that this sent (RFC 4340, section 7.2); Ack Vectors count from it and stay, as
-/// sequence numbers, options and data do. Whose packet comes first in the flow is its client, unless that is a
-/// Response or a CloseReq. A packet without a frame has a comment in its place: NumberUnknown where the captured end sent no such number before it, FrameTooLong where
-/// it has more than 2,044 bytes. Where no packet of the flow goes to the side, nothing is written. The frames show what
-/// the end answers to these packets, and no other connection.
+/// sequence numbers, options and data do. Whose packet comes first in the flow is its client, unless that is a Response
+/// or a CloseReq. A packet without a frame has a comment in its place: NumberUnknown where the captured end sent no
+/// such number before it, FrameTooLong where it has more than 2,044 bytes. Where no packet of the flow goes to the
+/// side, nothing is written. The frames show what the end answers to these packets, and no other connection.
 ///
 /// The capture is one that `unwrap` takes, and its packets are found as by `show` after `unwrap`. Input comes where it
 /// has a fault, which is answered. With status 0 or 1 the output is that of the whole input,

@@ -33,7 +33,7 @@ fn cut_comment(text: &mut Vec<u8>, start: usize) -> Result<(), NoMemory>
 /// Puts the line that `show` has for a packet of this flow, as a comment.
 pub(crate) fn put_comment(
     text: &mut Vec<u8>,
-    record: &Record<'_>,
+    item: &Record<'_>,
     there: &Datagram<'_>,
     packet: &Packet<'_>,
     flow: u64,
@@ -42,11 +42,11 @@ pub(crate) fn put_comment(
     requires high { length there.now.bytes.now ≤ 65535 }
     requires options { length packet.now.options.now ≤ 1008 }
     ensures { OnOk result (text.new.items
-        ≡ text.old.items ++ spec.comment_line (packet_line (entry_of record.now) (carried_by there.now) (parts_by packet.now) flow)) }
+        ≡ text.old.items ++ spec.comment_line (packet_line (entry_of item.now) (carried_by there.now) (parts_by packet.now) flow)) }
 {
     let start = text.len();
     put(text, b"# ")?;
-    put_packet(text, record, there, packet, flow)?;
+    put_packet(text, item, there, packet, flow)?;
     cut_comment(text, start)
 }
 

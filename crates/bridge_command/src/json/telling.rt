@@ -49,8 +49,8 @@ impl RecordJob for Telling {
         Ok(())
     }
 
-    fn pass(&mut self, record: &Record<'_>, text: &mut Vec<u8>) -> Result<(), NoMemory> {
-        self.put_record(text, record)
+    fn pass(&mut self, item: &Record<'_>, text: &mut Vec<u8>) -> Result<(), NoMemory> {
+        self.put_record(text, item)
     }
 
     fn finish(
@@ -72,12 +72,13 @@ impl RecordJob for Telling {
 /// the link types that `unwrap` knows.
 ///
 /// Each object has `record` (its number, from 1), `seconds` and `nanoseconds` (its time), `link` (the link type),
-/// `length` (its bytes on the link) and `captured` (those that are there). Where the IP packet in it carries a packet of
-/// DCCP, as `show` finds one, it has `flow` (its number), `ttl`, `ecn`, `source`, `destination` and their ports, `type`,
-/// `sequence`, `short` (whether numbers have 24 bits), `ccval`, `cscov`, `checksum`, `options` as objects, `data` (the
-/// bytes of data that are there) and `verdict` (that on the checksum); as the type has them `acknowledgement`,
-/// `service_code`, `reset_code` and `data_1` to `data_3`; and with `payload` its bytes of data. Else it has `malformed`,
-/// why whole bytes of DCCP are no packet, with `ttl`, `ecn` and the addresses; or `skipped`, why it holds none.
+/// `length` (its bytes on the link) and `captured` (those that are there). Where the IP packet in it carries a packet
+/// of DCCP, as `show` finds one, it has `flow` (its number), `ttl`, `ecn`, `source`, `destination` and their ports,
+/// `type`, `sequence`, `short` (whether numbers have 24 bits), `ccval`, `cscov`, `checksum`, `options` as objects,
+/// `data` (the bytes of data that are there) and `verdict` (that on the checksum); as the type has them
+/// `acknowledgement`, `service_code`, `reset_code` and `data_1` to `data_3`; and with `payload` its bytes of data. Else
+/// it has `malformed`, why whole bytes of DCCP are no packet, with `ttl`, `ecn` and the addresses; or `skipped`, why it
+/// holds none.
 ///
 /// Input comes where the capture has a fault, and then an object with `fault` and `records`, how many came before it,
 /// is the last. With status 0 or 1 the output is that of the whole input, with another a front of it. Read comes where

@@ -32,39 +32,39 @@ impl Model for Unwrapping {
 }
 
 // How many bytes the packet of a record had.
-fn original_of(record: &Record<'_>, ip: &[u8]) -> u32
-    requires part { length ip.now ≤ length record.now.bytes.now }
-    requires short { length record.now.bytes.now ≤ 262144 }
-    ensures { result ≡ spec.original_of (entry_of record.now) ip.now }
+fn original_of(item: &Record<'_>, ip: &[u8]) -> u32
+    requires part { length ip.now ≤ length item.now.bytes.now }
+    requires short { length item.now.bytes.now ≤ 262144 }
+    ensures { result ≡ spec.original_of (entry_of item.now) ip.now }
 {
     if ip.is_empty() {
         return 0;
     }
-    let taken = (record.bytes.len() - ip.len()) as u32;
-    record.original.saturating_sub(taken)
+    let taken = (item.bytes.len() - ip.len()) as u32;
+    item.original.saturating_sub(taken)
 }
 
 // The header of the record of this packet, which is found in one.
-fn header_of(record: &Record<'_>, ip: &[u8]) -> RecordHeader
-    requires part { length ip.now ≤ length record.now.bytes.now }
-    requires short { length record.now.bytes.now ≤ 262144 }
-    ensures { result ≡ header_for (spec.unwrapped_of (entry_of record.now) ip.now) }
+fn header_of(item: &Record<'_>, ip: &[u8]) -> RecordHeader
+    requires part { length ip.now ≤ length item.now.bytes.now }
+    requires short { length item.now.bytes.now ≤ 262144 }
+    ensures { result ≡ header_for (spec.unwrapped_of (entry_of item.now) ip.now) }
 {
     RecordHeader {
-        seconds: record.seconds,
-        fraction: record.fraction,
+        seconds: item.seconds,
+        fraction: item.fraction,
         captured: ip.len() as u32,
-        original: original_of(record, ip),
+        original: original_of(item, ip),
     }
 }
 
 // Puts the record of this packet, which is found in one.
-fn put_record_of(text: &mut Vec<u8>, record: &Record<'_>, ip: &[u8]) -> Result<(), NoMemory>
-    requires part { length ip.now ≤ length record.now.bytes.now }
-    requires short { length record.now.bytes.now ≤ 262144 }
-    ensures { OnOk result (text.new.items ≡ text.old.items ++ raw_record (spec.unwrapped_of (entry_of record.now) ip.now)) }
+fn put_record_of(text: &mut Vec<u8>, item: &Record<'_>, ip: &[u8]) -> Result<(), NoMemory>
+    requires part { length ip.now ≤ length item.now.bytes.now }
+    requires short { length item.now.bytes.now ≤ 262144 }
+    ensures { OnOk result (text.new.items ≡ text.old.items ++ raw_record (spec.unwrapped_of (entry_of item.now) ip.now)) }
 {
-    let header = header_of(record, ip);
+    let header = header_of(item, ip);
     put_record_header(text, &header)?;
     put(text, ip)?;
     Ok(())
@@ -72,12 +72,12 @@ fn put_record_of(text: &mut Vec<u8>, record: &Record<'_>, ip: &[u8]) -> Result<(
 
 // Puts the record that is made of one.
 #[tactic(auto, unfolding(crate::specs::Unwrapping::unwrapped_entry))]
-fn put_unwrapped(alloc: Global, text: &mut Vec<u8>, record: &Record<'_>) -> Result<(), NoMemory>
-    requires { length record.now.bytes.now ≤ 262144 }
-    ensures { OnOk result (text.new.items ≡ text.old.items ++ raw_record (unwrapped_entry (entry_of record.now))) }
+fn put_unwrapped(alloc: Global, text: &mut Vec<u8>, item: &Record<'_>) -> Result<(), NoMemory>
+    requires { length item.now.bytes.now ≤ 262144 }
+    ensures { OnOk result (text.new.items ≡ text.old.items ++ raw_record (unwrapped_entry (entry_of item.now))) }
 {
-    let packet = ip_packet(alloc, record.link, record.bytes)?;
-    put_record_of(text, record, packet.bytes())
+    let packet = ip_packet(alloc, item.link, item.bytes)?;
+    put_record_of(text, item, packet.bytes())
 }
 
 /// Why a capture is refused, as a word (own).
@@ -116,8 +116,8 @@ impl RecordJob for Unwrapping {
         put_file_header(text, nanos)
     }
 
-    fn pass(&mut self, record: &Record<'_>, text: &mut Vec<u8>) -> Result<(), NoMemory> {
-        put_unwrapped(self.alloc, text, record)
+    fn pass(&mut self, item: &Record<'_>, text: &mut Vec<u8>) -> Result<(), NoMemory> {
+        put_unwrapped(self.alloc, text, item)
     }
 
     fn finish(
@@ -135,8 +135,8 @@ impl RecordJob for Unwrapping {
 }
 
 /// Makes of a capture a classic one of raw IP (own): a record for each record, at the same time, with the IP packet
-/// that is found after the header of its link and up to two VLAN tags, without the extension headers of IPv6 that lead to
-/// DCCP; or empty where there is none. Of link types it knows 0 and 108, which begin with an address family, 1
+/// that is found after the header of its link and up to two VLAN tags, without the extension headers of IPv6 that lead
+/// to DCCP; or empty where there is none. Of link types it knows 0 and 108, which begin with an address family, 1
 /// (Ethernet), 9 (PPP), 12 and 101 (raw IP), 113 and 276 (the "any" device of Linux), 228 (IPv4), 229 (IPv6) and 239
 /// (packets that Linux's packet filter logged). The capture is a classic one or a pcapng file, whose records are its
 /// Enhanced Packet Blocks, and its Simple Packet Blocks at time 0. Fractions of a second are nanoseconds where six

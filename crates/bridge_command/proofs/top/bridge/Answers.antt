@@ -1,5 +1,5 @@
 -- The form that was found is the one that the words have.
-use Rattle.std.proofs.Common.{rules, ◌≡◌, ◌∙◌, ap, subst, refl, [], true, false, Some}
+use Rattle.std.proofs.Common.{rules, ◌≡◌, ◌∙◌, ap, subst, [], true, false, Some}
 use Rattle.std.proofs.lemmas.Option.{same_Some}
 use Rattle.dccp_io.specs.Counts.{Rose}
 use Rattle.tool_text.specs.Ends.{Answers, EndsForCause, IsWritten, SinkFails, StopsWithin}
@@ -7,8 +7,6 @@ use Rattle.bridge_command.specs.Complaints.{OnAnswer, said_text}
 use Rattle.tool_text.specs.declared.output.status.JobEnd.{JobEnd}
 use Rattle.tool_text.proofs.Ending.{on-job-end}
 use Rattle.bridge_command.specs.declared.words.Form.{Form}
-use Rattle.bridge_command.specs.declared.words.Form.TheVariants as form
-use Rattle.bridge_command.specs.Schedule.{seed_text}
 use Rattle.bridge_command.specs.Forms.{bridge_accepted, bridge_reads_past, bridge_said, bridge_text, has_input, is_bridge_refused}
 use Rattle.bridge_command.specs.Words.{asked_form}
 use Rattle.bridge_command.proofs.top.bridge.Goals as goal
@@ -45,15 +43,15 @@ returns-in-Ok-Some-clause-cause g c = λ asked words.
     (SinkFails g.K.Sink.faults g.K.Sink.empty_takes c.args.output.now c.perform_and_tell.new.output)) c.status.ensures.value c.perform_and_tell.ensures.cause
 
 pub returns-in-Ok-Some-clause-told : goal.returns-in-Ok-Some-clause-told
-returns-in-Ok-Some-clause-told g c = λ run words.
+returns-in-Ok-Some-clause-told g c = λ asked words unread.
     let found : Some c.in-Ok-Some.form ≡ asked_form c.args.words.now = search rules in
     on-job-end c.perform_and_tell.result c.status.result
-    (λ (end : JobEnd). Answers (seed_text run.seed run.events) false end (Some []) (g.K.Sink.taken c.args.output.now) (g.K.Sink.taken c.perform_and_tell.new.output))
+    (λ (end : JobEnd). Answers (bridge_text asked []) false end (Some []) (g.K.Sink.taken c.args.output.now) (g.K.Sink.taken c.perform_and_tell.new.output))
     c.status.ensures.value
     (subst
     (λ (f : Form). has_input f ≡ false → Answers (bridge_text f []) false c.perform_and_tell.result (Some []) (g.K.Sink.taken c.args.output.now)
     (g.K.Sink.taken c.perform_and_tell.new.output))
-    (same_Some c.in-Ok-Some.form (form.Seed run) (found ∙ words)) c.perform_and_tell.ensures.told refl)
+    (same_Some c.in-Ok-Some.form asked (found ∙ words)) c.perform_and_tell.ensures.told unread)
 
 pub returns-in-Ok-Some-clause-said : goal.returns-in-Ok-Some-clause-said
 returns-in-Ok-Some-clause-said g c = λ asked words reads bytes told.

@@ -9,7 +9,7 @@ use Rattle.bridge_command.proofs.frames.lines.put_comment.Goals as goal
 pub returns : goal.returns
 returns c =
     let old : List ℕ = c.args.text.now.items in
-    let line : List ℕ = packet_line (entry_of c.args.record.now) (carried_by c.args.there.now) (parts_by c.args.packet.now) c.args.flow in
+    let line : List ℕ = packet_line (entry_of c.args.item.now) (carried_by c.args.there.now) (parts_by c.args.packet.now) c.args.flow in
     let size : vec_len c.args.text.now ≡ length old = omega arith in
     subst (λ (text : List ℕ). OnOk c.cut_comment.result (c.cut_comment.new.text.items ≡ text))
     (comment_put old line c.put_packet.new.text.items c.len-start.result (c.len-start.ensures ∙ size)

@@ -13,4 +13,4 @@ returns c =
     c.in_ok-put.ensures.ok
     ∙ ap (λ (front : List ℕ). front ++ ip) c.in_ok-put_record_header.ensures
     ∙ ap (λ (h : RecordHeader). text ++ record_head h ++ ip) c.header_of-header.ensures
-    ∙ append_assoc text (record_head (header_for (unwrapped_of (entry_of c.args.record.now) ip))) ip
+    ∙ append_assoc text (record_head (header_for (unwrapped_of (entry_of c.args.item.now) ip))) ip

@@ -10,5 +10,5 @@ unfolding unwrapped_entry
 returns c =
     subst
     (λ (ip : List ℕ). OnOk c.put_record_of.result
-    (c.put_record_of.new.text.items ≡ c.args.text.now.items ++ raw_record (unwrapped_of (entry_of c.args.record.now) ip)))
+    (c.put_record_of.new.text.items ≡ c.args.text.now.items ++ raw_record (unwrapped_of (entry_of c.args.item.now) ip)))
     (c.bytes.ensures ∙ c.in_ok-packet.ensures.value) c.put_record_of.ensures
