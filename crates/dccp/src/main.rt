@@ -3,7 +3,7 @@
 #![tactic(auto)]
 
 use dccp_command::{OpenGate, Status, dccp};
-use dccp_io::{StdSink, StdSource};
+use dccp_io::{StdSink, StdSource, write_all};
 use std::alloc::AllocError;
 use std::env;
 use std::io::ErrorKind;
@@ -12,9 +12,22 @@ use std::process::ExitCode;
 fn main(rt: HostRuntime) -> ExitCode {
     let mut input = StdSource::new(rt.stdin());
     let mut output = StdSink::new(rt.stdout());
-    match words_of(&rt) {
-        Ok(words) => code(dccp(&rt, rt.alloc(), &OpenGate, &words, &mut input, &mut output)),
-        Err(AllocError) => code(Status::Memory),
+    let status = match words_of(&rt) {
+        Ok(words) => dccp(&rt, rt.alloc(), &OpenGate, &words, &mut input, &mut output),
+        Err(AllocError) => Status::Memory,
+    };
+    // Where it cannot be told, the status tells it.
+    let _ = write_all(&mut StdSink::new(rt.stderr()), told(status));
+    code(status)
+}
+
+// What standard error tells of a status with which the output is a front at most (own).
+fn told(status: Status) -> &'static [u8] {
+    match status {
+        Status::Read => b"dccp: the input could not be read\n",
+        Status::Write => b"dccp: the output could not be written\n",
+        Status::Memory => b"dccp: no memory was left\n",
+        Status::Done | Status::Input | Status::Words => b"",
     }
 }
 

@@ -3,7 +3,7 @@
 #![tactic(auto)]
 
 use bridge_command::{Status, bridge};
-use dccp_io::{StdSink, StdSource};
+use dccp_io::{StdSink, StdSource, write_all};
 use std::alloc::AllocError;
 use std::env;
 use std::io::ErrorKind;
@@ -13,11 +13,25 @@ fn main(rt: HostRuntime) -> ExitCode {
     let mut input = StdSource::new(rt.stdin());
     let mut output = StdSink::new(rt.stdout());
     let mut errors = StdSink::new(rt.stderr());
-    match words_of(&rt) {
-        Ok(words) => code(bridge(rt.alloc(), &words, &mut input, &mut output, &mut errors)),
-        Err(AllocError) => code(Status::Memory),
+    let status = match words_of(&rt) {
+        Ok(words) => bridge(rt.alloc(), &words, &mut input, &mut output, &mut errors),
+        Err(AllocError) => Status::Memory,
+    };
+    // Where it cannot be told, the status tells it.
+    let _ = write_all(&mut errors, told(status));
+    code(status)
+}
+
+// What standard error tells of a status with which the output is a front at most (own).
+fn told(status: Status) -> &'static [u8] {
+    match status {
+        Status::Read => b"dccp_bridge: the input could not be read\n",
+        Status::Write => b"dccp_bridge: the output could not be written\n",
+        Status::Memory => b"dccp_bridge: no memory was left\n",
+        Status::Done | Status::Input | Status::Words => b"",
     }
 }
+
 // The words after the program's name. Where one is not UTF-8 they are none of the forms, and neither are no words.
 fn words_of(rt: &HostRuntime) -> Result<Vec<String>, AllocError> {
     let mut words = Vec::new(rt.alloc());
