@@ -214,7 +214,8 @@ c0000201c00002021b5800210400aa440800000a00000001aa000000070000000000000021000000
 => Done\n";
 
 // Words, and the schedule that a model apart draws: of one event; with data and a list for each end; with frames of
-// both ends and a timer; of the greatest seed, with its words in other orders. Then words that are none of a form,
+// both ends and a timer; of the greatest seed, with its words in other orders. What is counted of a seed whose events
+// were drawn apart (seeds.rt), and of one that only opens. Then words that are none of a form,
 // which are answered by the line that docs/TOOL.md has.
 const WORDS: &str = "\
 ~ seed,--seed,0,--events,1\n\
@@ -239,60 +240,86 @@ unread\
 => Done\n\
 iss client 168767807923846\niss server 230952348278845\nopen\ndeliver c0\ntimer server ack\n\
 prefer client here 1 2,248\ndeliver c0\ndeliver s0\ndeliver s0\ndeliver s0\n\
+~ seeds,--first,1,--seeds,1,--events,12\n\
+unread\
+=> Done\n\
+{\"client_frames\":8,\"delivered\":0,\"dropped\":0,\"events\":12,\"refused\":2,\"seed\":1,\"sent_reset\":0,\"server_frames\":1,\"settled\":16,\"state\":\"unsettled\",\"synced\":0,\"took\":7,\"was_reset\":0}\n\
+~ seeds,--events=1,--seeds=1,--first=18446744073709551615\n\
+unread\
+=> Done\n\
+{\"client_frames\":1,\"delivered\":0,\"dropped\":0,\"events\":1,\"refused\":0,\"seed\":18446744073709551615,\"sent_reset\":0,\"server_frames\":0,\"settled\":16,\"state\":\"unsettled\",\"synced\":0,\"took\":0,\"was_reset\":0}\n\
 ~ seed\nunread=> Words \
-usage: dccp_bridge capture | unwrap | seed --seed S --events E | frames --flow F --side server|client | json [--payload] | ladder [--flow F] | windows [--flow F]\n\
+usage: dccp_bridge capture | unwrap | seed --seed S --events E | seeds --first F --seeds N --events E | frames --flow F --side server|client | json [--payload] | ladder [--flow F] | windows [--flow F]\n\
 ~ seed,--seed,1\nunread=> Words \
-usage: dccp_bridge capture | unwrap | seed --seed S --events E | frames --flow F --side server|client | json [--payload] | ladder [--flow F] | windows [--flow F]\n\
+usage: dccp_bridge capture | unwrap | seed --seed S --events E | seeds --first F --seeds N --events E | frames --flow F --side server|client | json [--payload] | ladder [--flow F] | windows [--flow F]\n\
 ~ seed,--events,1\nunread=> Words \
-usage: dccp_bridge capture | unwrap | seed --seed S --events E | frames --flow F --side server|client | json [--payload] | ladder [--flow F] | windows [--flow F]\n\
+usage: dccp_bridge capture | unwrap | seed --seed S --events E | seeds --first F --seeds N --events E | frames --flow F --side server|client | json [--payload] | ladder [--flow F] | windows [--flow F]\n\
 ~ seed,--seed,1,--events,0\nunread=> Words \
-usage: dccp_bridge capture | unwrap | seed --seed S --events E | frames --flow F --side server|client | json [--payload] | ladder [--flow F] | windows [--flow F]\n\
+usage: dccp_bridge capture | unwrap | seed --seed S --events E | seeds --first F --seeds N --events E | frames --flow F --side server|client | json [--payload] | ladder [--flow F] | windows [--flow F]\n\
 ~ seed,--seed,1,--events,4097\nunread=> Words \
-usage: dccp_bridge capture | unwrap | seed --seed S --events E | frames --flow F --side server|client | json [--payload] | ladder [--flow F] | windows [--flow F]\n\
+usage: dccp_bridge capture | unwrap | seed --seed S --events E | seeds --first F --seeds N --events E | frames --flow F --side server|client | json [--payload] | ladder [--flow F] | windows [--flow F]\n\
 ~ seed,--seed,18446744073709551616,--events,1\nunread=> Words \
-usage: dccp_bridge capture | unwrap | seed --seed S --events E | frames --flow F --side server|client | json [--payload] | ladder [--flow F] | windows [--flow F]\n\
+usage: dccp_bridge capture | unwrap | seed --seed S --events E | seeds --first F --seeds N --events E | frames --flow F --side server|client | json [--payload] | ladder [--flow F] | windows [--flow F]\n\
 ~ seed,--seed,01,--events,1\nunread=> Words \
-usage: dccp_bridge capture | unwrap | seed --seed S --events E | frames --flow F --side server|client | json [--payload] | ladder [--flow F] | windows [--flow F]\n\
+usage: dccp_bridge capture | unwrap | seed --seed S --events E | seeds --first F --seeds N --events E | frames --flow F --side server|client | json [--payload] | ladder [--flow F] | windows [--flow F]\n\
 ~ seed,--seed,-1,--events,1\nunread=> Words \
-usage: dccp_bridge capture | unwrap | seed --seed S --events E | frames --flow F --side server|client | json [--payload] | ladder [--flow F] | windows [--flow F]\n\
+usage: dccp_bridge capture | unwrap | seed --seed S --events E | seeds --first F --seeds N --events E | frames --flow F --side server|client | json [--payload] | ladder [--flow F] | windows [--flow F]\n\
 ~ seed,--seed,1,--events,1,--seed,1\nunread=> Words \
-usage: dccp_bridge capture | unwrap | seed --seed S --events E | frames --flow F --side server|client | json [--payload] | ladder [--flow F] | windows [--flow F]\n\
+usage: dccp_bridge capture | unwrap | seed --seed S --events E | seeds --first F --seeds N --events E | frames --flow F --side server|client | json [--payload] | ladder [--flow F] | windows [--flow F]\n\
 ~ seed,--seed,1,--events,1,--workers,1\nunread=> Words \
-usage: dccp_bridge capture | unwrap | seed --seed S --events E | frames --flow F --side server|client | json [--payload] | ladder [--flow F] | windows [--flow F]\n\
+usage: dccp_bridge capture | unwrap | seed --seed S --events E | seeds --first F --seeds N --events E | frames --flow F --side server|client | json [--payload] | ladder [--flow F] | windows [--flow F]\n\
 ~ seed,--seed,1,--events,1,--\nunread=> Words \
-usage: dccp_bridge capture | unwrap | seed --seed S --events E | frames --flow F --side server|client | json [--payload] | ladder [--flow F] | windows [--flow F]\n\
+usage: dccp_bridge capture | unwrap | seed --seed S --events E | seeds --first F --seeds N --events E | frames --flow F --side server|client | json [--payload] | ladder [--flow F] | windows [--flow F]\n\
 ~ seed,1,1\nunread=> Words \
-usage: dccp_bridge capture | unwrap | seed --seed S --events E | frames --flow F --side server|client | json [--payload] | ladder [--flow F] | windows [--flow F]\n\
+usage: dccp_bridge capture | unwrap | seed --seed S --events E | seeds --first F --seeds N --events E | frames --flow F --side server|client | json [--payload] | ladder [--flow F] | windows [--flow F]\n\
 ~ seed,--help\nunread=> Words \
-usage: dccp_bridge capture | unwrap | seed --seed S --events E | frames --flow F --side server|client | json [--payload] | ladder [--flow F] | windows [--flow F]\n\
+usage: dccp_bridge capture | unwrap | seed --seed S --events E | seeds --first F --seeds N --events E | frames --flow F --side server|client | json [--payload] | ladder [--flow F] | windows [--flow F]\n\
+~ seeds\nunread=> Words \
+usage: dccp_bridge capture | unwrap | seed --seed S --events E | seeds --first F --seeds N --events E | frames --flow F --side server|client | json [--payload] | ladder [--flow F] | windows [--flow F]\n\
+~ seeds,--first,1,--seeds,1\nunread=> Words \
+usage: dccp_bridge capture | unwrap | seed --seed S --events E | seeds --first F --seeds N --events E | frames --flow F --side server|client | json [--payload] | ladder [--flow F] | windows [--flow F]\n\
+~ seeds,--seeds,1,--events,1\nunread=> Words \
+usage: dccp_bridge capture | unwrap | seed --seed S --events E | seeds --first F --seeds N --events E | frames --flow F --side server|client | json [--payload] | ladder [--flow F] | windows [--flow F]\n\
+~ seeds,--first,1,--seeds,0,--events,1\nunread=> Words \
+usage: dccp_bridge capture | unwrap | seed --seed S --events E | seeds --first F --seeds N --events E | frames --flow F --side server|client | json [--payload] | ladder [--flow F] | windows [--flow F]\n\
+~ seeds,--first,1,--seeds,100001,--events,1\nunread=> Words \
+usage: dccp_bridge capture | unwrap | seed --seed S --events E | seeds --first F --seeds N --events E | frames --flow F --side server|client | json [--payload] | ladder [--flow F] | windows [--flow F]\n\
+~ seeds,--first,1,--seeds,1,--events,4097\nunread=> Words \
+usage: dccp_bridge capture | unwrap | seed --seed S --events E | seeds --first F --seeds N --events E | frames --flow F --side server|client | json [--payload] | ladder [--flow F] | windows [--flow F]\n\
+~ seeds,--first,18446744073709551615,--seeds,2,--events,1\nunread=> Words \
+usage: dccp_bridge capture | unwrap | seed --seed S --events E | seeds --first F --seeds N --events E | frames --flow F --side server|client | json [--payload] | ladder [--flow F] | windows [--flow F]\n\
+~ seeds,--first,1,--seeds,1,--events,1,--workers,1\nunread=> Words \
+usage: dccp_bridge capture | unwrap | seed --seed S --events E | seeds --first F --seeds N --events E | frames --flow F --side server|client | json [--payload] | ladder [--flow F] | windows [--flow F]\n\
+~ seeds,--first,1,--first,1,--seeds,1,--events,1\nunread=> Words \
+usage: dccp_bridge capture | unwrap | seed --seed S --events E | seeds --first F --seeds N --events E | frames --flow F --side server|client | json [--payload] | ladder [--flow F] | windows [--flow F]\n\
 ~ --seed,1,--events,1\nunread=> Words \
-usage: dccp_bridge capture | unwrap | seed --seed S --events E | frames --flow F --side server|client | json [--payload] | ladder [--flow F] | windows [--flow F]\n\
+usage: dccp_bridge capture | unwrap | seed --seed S --events E | seeds --first F --seeds N --events E | frames --flow F --side server|client | json [--payload] | ladder [--flow F] | windows [--flow F]\n\
 ~ \nunread=> Words \
-usage: dccp_bridge capture | unwrap | seed --seed S --events E | frames --flow F --side server|client | json [--payload] | ladder [--flow F] | windows [--flow F]\n\
+usage: dccp_bridge capture | unwrap | seed --seed S --events E | seeds --first F --seeds N --events E | frames --flow F --side server|client | json [--payload] | ladder [--flow F] | windows [--flow F]\n\
 ~ walk\nunread=> Words \
-usage: dccp_bridge capture | unwrap | seed --seed S --events E | frames --flow F --side server|client | json [--payload] | ladder [--flow F] | windows [--flow F]\n\
+usage: dccp_bridge capture | unwrap | seed --seed S --events E | seeds --first F --seeds N --events E | frames --flow F --side server|client | json [--payload] | ladder [--flow F] | windows [--flow F]\n\
 ~ Capture\nunread=> Words \
-usage: dccp_bridge capture | unwrap | seed --seed S --events E | frames --flow F --side server|client | json [--payload] | ladder [--flow F] | windows [--flow F]\n\
+usage: dccp_bridge capture | unwrap | seed --seed S --events E | seeds --first F --seeds N --events E | frames --flow F --side server|client | json [--payload] | ladder [--flow F] | windows [--flow F]\n\
 ~ capture,capture\nunread=> Words \
-usage: dccp_bridge capture | unwrap | seed --seed S --events E | frames --flow F --side server|client | json [--payload] | ladder [--flow F] | windows [--flow F]\n\
+usage: dccp_bridge capture | unwrap | seed --seed S --events E | seeds --first F --seeds N --events E | frames --flow F --side server|client | json [--payload] | ladder [--flow F] | windows [--flow F]\n\
 ~ ladder,transcript\nunread=> Words \
-usage: dccp_bridge capture | unwrap | seed --seed S --events E | frames --flow F --side server|client | json [--payload] | ladder [--flow F] | windows [--flow F]\n\
+usage: dccp_bridge capture | unwrap | seed --seed S --events E | seeds --first F --seeds N --events E | frames --flow F --side server|client | json [--payload] | ladder [--flow F] | windows [--flow F]\n\
 ~ ladder,--flow\nunread=> Words \
-usage: dccp_bridge capture | unwrap | seed --seed S --events E | frames --flow F --side server|client | json [--payload] | ladder [--flow F] | windows [--flow F]\n\
+usage: dccp_bridge capture | unwrap | seed --seed S --events E | seeds --first F --seeds N --events E | frames --flow F --side server|client | json [--payload] | ladder [--flow F] | windows [--flow F]\n\
 ~ ladder,--flow,0\nunread=> Words \
-usage: dccp_bridge capture | unwrap | seed --seed S --events E | frames --flow F --side server|client | json [--payload] | ladder [--flow F] | windows [--flow F]\n\
+usage: dccp_bridge capture | unwrap | seed --seed S --events E | seeds --first F --seeds N --events E | frames --flow F --side server|client | json [--payload] | ladder [--flow F] | windows [--flow F]\n\
 ~ ladder,--flow=18446744073709551616\nunread=> Words \
-usage: dccp_bridge capture | unwrap | seed --seed S --events E | frames --flow F --side server|client | json [--payload] | ladder [--flow F] | windows [--flow F]\n\
+usage: dccp_bridge capture | unwrap | seed --seed S --events E | seeds --first F --seeds N --events E | frames --flow F --side server|client | json [--payload] | ladder [--flow F] | windows [--flow F]\n\
 ~ ladder,--side,1\nunread=> Words \
-usage: dccp_bridge capture | unwrap | seed --seed S --events E | frames --flow F --side server|client | json [--payload] | ladder [--flow F] | windows [--flow F]\n\
+usage: dccp_bridge capture | unwrap | seed --seed S --events E | seeds --first F --seeds N --events E | frames --flow F --side server|client | json [--payload] | ladder [--flow F] | windows [--flow F]\n\
 ~ ladder,--flow,1,2\nunread=> Words \
-usage: dccp_bridge capture | unwrap | seed --seed S --events E | frames --flow F --side server|client | json [--payload] | ladder [--flow F] | windows [--flow F]\n\
+usage: dccp_bridge capture | unwrap | seed --seed S --events E | seeds --first F --seeds N --events E | frames --flow F --side server|client | json [--payload] | ladder [--flow F] | windows [--flow F]\n\
 ~ windows,schedule\nunread=> Words \
-usage: dccp_bridge capture | unwrap | seed --seed S --events E | frames --flow F --side server|client | json [--payload] | ladder [--flow F] | windows [--flow F]\n\
+usage: dccp_bridge capture | unwrap | seed --seed S --events E | seeds --first F --seeds N --events E | frames --flow F --side server|client | json [--payload] | ladder [--flow F] | windows [--flow F]\n\
 ~ windows,--flow=0\nunread=> Words \
-usage: dccp_bridge capture | unwrap | seed --seed S --events E | frames --flow F --side server|client | json [--payload] | ladder [--flow F] | windows [--flow F]\n\
+usage: dccp_bridge capture | unwrap | seed --seed S --events E | seeds --first F --seeds N --events E | frames --flow F --side server|client | json [--payload] | ladder [--flow F] | windows [--flow F]\n\
 ~ show\n00=> Words \
-usage: dccp_bridge capture | unwrap | seed --seed S --events E | frames --flow F --side server|client | json [--payload] | ladder [--flow F] | windows [--flow F]\n";
+usage: dccp_bridge capture | unwrap | seed --seed S --events E | seeds --first F --seeds N --events E | frames --flow F --side server|client | json [--payload] | ladder [--flow F] | windows [--flow F]\n";
 
 #[test]
 fn calls_of_the_bridge_in_pieces(rt: HostRuntime) -> Result<(), Fail> {
