@@ -9,6 +9,7 @@ _dccp_words() {
   [ "$word" != = ] || word=
   [ "$before" != = ] || before=${COMP_WORDS[COMP_CWORD - 2]}
   case $before in
+    --input) mapfile -t COMPREPLY < <(compgen -f -- "$word"); return ;;
     --side) mapfile -t COMPREPLY < <(compgen -W 'server client' -- "$word"); return ;;
     --first | --seeds | --seed | --events | --workers | --buffer | --most | --flow) return ;;
   esac
@@ -17,12 +18,15 @@ _dccp_words() {
     dccp:campaign) settings='--first --seeds --events --workers' ;;
     dccp:listen) settings='--most' ;;
     dccp_bridge:seed) settings='--seed --events' ;;
+    dccp_bridge:seeds) settings='--first --seeds --events' ;;
     dccp_bridge:frames) settings='--flow --side' ;;
     dccp_bridge:json) settings='--payload' ;;
-    dccp_bridge:ladder | dccp_bridge:windows) settings='--flow' ;;
+    dccp_bridge:capture) settings='--input' ;;
+    dccp_bridge:ladder) settings='--flow --input' ;;
+    dccp_bridge:windows) settings='--flow' ;;
   esac
   case $2:$form:$word in
-    dccp_bridge:capture:* | dccp_bridge:unwrap:* | dccp_bridge:json:[!-]* | dccp_bridge:frames:[!-]* | dccp_bridge:ladder:[!-]* | \
+    dccp_bridge:capture:[!-]* | dccp_bridge:unwrap:* | dccp_bridge:json:[!-]* | dccp_bridge:frames:[!-]* | dccp_bridge:ladder:[!-]* | \
       dccp_bridge:windows:[!-]*)
       mapfile -t COMPREPLY < <(compgen -f -- "$word") ;;
     *) mapfile -t COMPREPLY < <(compgen -W "$settings" -- "$word") ;;
@@ -31,7 +35,7 @@ _dccp_words() {
 
 _dccp() { _dccp_words 'run replay campaign show listen ecn' dccp; }
 
-_dccp_bridge() { _dccp_words 'capture unwrap seed frames json ladder windows --help --version' dccp_bridge; }
+_dccp_bridge() { _dccp_words 'capture unwrap seed seeds frames json ladder windows --help --version' dccp_bridge; }
 
 complete -o filenames -F _dccp dccp
 complete -o filenames -F _dccp_bridge dccp_bridge
