@@ -1,5 +1,5 @@
--- An end with a bounded inbox, what it does with bytes that arrive, and what its calls are beside the inbox (own; the end's part is RFC 4340's, section
--- 8.5).
+-- An end with a bounded inbox: what it does with bytes that arrive, and what its calls do (own; the end's part is RFC
+-- 4340's, section 8.5).
 use Rattle.std.specs.Prelude.{ℕ, ◌≤◌, Bool, true, false, List, length, Option, Some, None, slice_range}
 use Rattle.congestion_trait.specs.Control.{Control}
 use Rattle.dccp_endpoint.specs.Controlled.{End, EndStep, begins, with_control}
@@ -64,14 +64,15 @@ HasDataWithin bytes (Synced number) = Unit {0}
 HasDataWithin bytes (WasReset code) = Unit {0}
 HasDataWithin bytes (SentReset code detail) = Unit {0}
 
--- both after a step, the frame that goes out, if any, the outcome, and what became of data, if any were delivered
+-- the end and the inbox after a step, the frame that goes out, if any, the outcome, and what became of data, if any
+-- were delivered
 pub record BufferedStep (C : Type 0) : Type 0 where
   pub after : Buffered C
   pub frame : Option Outgoing
   pub outcome : Outcome
   pub arrival : Option Arrival
 
--- The end's step, and what it made of the inbox: the frame says what the inbox then has to say.
+-- The end's step, and what it does to the inbox: the frame then says what the inbox has to say.
 abbrev pub with_inbox : {C : Type 0} → EndStep C Outcome → Delivery → BufferedStep C
 with_inbox step delivery =
     record {
@@ -90,7 +91,7 @@ abbrev pub buffers : {C : Type 0} → Control C → Buffered C → List ℕ → 
 buffers control b bytes =
     buffers_step b.inbox bytes (with_control control b.end.congestion (receives b.end.state bytes))
 
--- both after a call of the end, the frame that goes out, if any, and the end's answer
+-- the end and the inbox after a call of the end, the frame that goes out, if any, and the end's answer
 pub record BufferedCall (C Answer : Type 0) : Type 0 where
   pub after : Buffered C
   pub frame : Option Outgoing

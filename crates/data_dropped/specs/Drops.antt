@@ -5,7 +5,7 @@ use Rattle.seq_circle.specs.Circle.{distance}
 use Rattle.ack_vectors.specs.Coding.{Coding, coded_bytes, states_down, states_of}
 use Rattle.data_dropped.specs.declared.drops.DropEntry.{DropEntry}
 
--- of these entries, the oldest first, the code of the last one of a number, or else the one found before
+-- among these entries, the oldest first, the code of the last one of a number; the given code if there is none
 abbrev pub drop_code_from : ℕ → Option ℕ → List DropEntry → Option ℕ
 drop_code_from n found [] = found
 drop_code_from n found (d ∷ ds) = drop_code_from n (if d.number == n then Some d.code else found) ds
@@ -29,12 +29,12 @@ abbrev pub up_to_last_code : List (Option ℕ) → List (Option ℕ)
 up_to_last_code [] = []
 up_to_last_code (code ∷ codes) = before_codes code (up_to_last_code codes)
 
--- What a report at an acknowledgement number is to tell: of the numbers from it downwards, to the lowest that has a
+-- What a report at an acknowledgement number should say: the codes of the numbers from it down to the lowest that has a
 -- code (own).
 abbrev pub codes_reported : List DropEntry → ℕ → List (Option ℕ)
 codes_reported drops ack = up_to_last_code (code_table drops ack)
 
--- two numbers were dropped for the same reason, or neither was
+-- the data of two numbers were dropped for the same reason, or neither were dropped
 abbrev pub same_code : Option ℕ → Option ℕ → Bool
 same_code None None = true
 same_code None (Some code) = false

@@ -15,7 +15,7 @@ use Rattle.data_dropped.specs.declared.answers.Arrival.{Arrival}
 use Rattle.data_dropped.specs.declared.answers.Arrival.TheVariants.{Kept}
 use Rattle.data_dropped.specs.declared.answers.Arrival.TheVariants as arrival
 
--- a call of an end with an inbox that changes it: of the end alone, or of both
+-- a call that changes an end with an inbox: the end alone, or both
 pub data EndCall : Type 0 where
   EndCalls : (given : Input) → EndCall
   EndReceives : (bytes : List ℕ) → EndCall
@@ -66,8 +66,8 @@ past_after control p (EndReceives bytes) =
 past_after control p EndTakes = record p { past = history_after p.past Takes }
 past_after control p EndStops = record p { past = history_after p.past Stops }
 
--- What is told of the data of a packet with this number is what became of them: the inbox kept them, it dropped them for
--- this reason, or nothing was done with it.
+-- What is said of the data of a packet with this number is what became of them: the inbox kept them, it dropped them
+-- for this reason, or nothing was done with it.
 abbrev pub IsToldSo : ℕ → Option Arrival → History → History → Type 0
 IsToldSo n None old new = new ≡ old
 IsToldSo n (Some Kept) old new = ((payload : List ℕ) × (new.kept ≡ old.kept ++ record { number = n; payload = payload } ∷ [])) × (new.dropped ≡ old.dropped)

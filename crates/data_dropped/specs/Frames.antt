@@ -26,7 +26,7 @@ slow_said true = slow_receiver ∷ []
 abbrev pub said : InboxState → ℕ → List ℕ
 said held ack = drops_said (drop_bytes held.drops ack) ++ slow_said (is_slow held)
 
--- the acknowledgement number that is told of a frame, of an Ack or a DataAck
+-- the acknowledgement number that the end states for a frame that is an Ack or a DataAck
 abbrev pub acknowledged_by : Option ℕ → Kind → Option ℕ
 acknowledged_by told kind = if is_acking (packet_type kind) then told else None
 
@@ -48,7 +48,8 @@ abbrev pub lengthened_if : Bool → Pseudo → Parts → List ℕ → List ℕ �
 lengthened_if true pseudo p frame more = lengthened pseudo p more
 lengthened_if false pseudo p frame more = frame
 
--- a frame that is this packet, by the number that it acknowledges: what is not an Ack or a DataAck goes out as it is
+-- a frame that is this packet, by the number that it acknowledges: any other type than Ack and DataAck goes out as it
+-- is
 abbrev pub buffered_ack : Pseudo → InboxState → Parts → List ℕ → Option ℕ → List ℕ
 buffered_ack pseudo held p frame None = frame
 buffered_ack pseudo held p frame (Some ack) = lengthened_if (says_more p (said held ack)) pseudo p frame (said held ack)
@@ -58,11 +59,11 @@ abbrev pub buffered_packet : Pseudo → Option ℕ → InboxState → List ℕ �
 buffered_packet pseudo told held frame (Ok p) = buffered_ack pseudo held p frame (acknowledged_by told p.header.kind)
 buffered_packet pseudo told held frame (Err fault) = frame
 
--- A frame of an end, of which this acknowledgement number is told, as it goes out.
+-- A frame of an end, for which this acknowledgement number is stated, as it goes out.
 abbrev pub buffered : Pseudo → Option ℕ → InboxState → List ℕ → List ℕ
 buffered pseudo told held frame = buffered_packet pseudo told held frame (decoded frame)
 
--- the same with the numbers that are told of it, which stay
+-- the same with the numbers that are stated for it, which stay
 abbrev pub buffered_sent : Pseudo → InboxState → Outgoing → Outgoing
 buffered_sent pseudo held sent = record sent { bytes = buffered pseudo sent.ack held sent.bytes }
 

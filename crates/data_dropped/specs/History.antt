@@ -1,4 +1,4 @@
--- What is asked of an inbox, call by call, and what became of it (own).
+-- The calls of an inbox, one by one, and the results (own).
 use Rattle.std.specs.Prelude.{◌≡◌, ℕ, ◌≤◌, Bool, true, false, List, [], ◌∷◌, ◌++◌, length, take}
 use Rattle.circular_buffer.specs.Buffer.{keep_last}
 use Rattle.data_dropped.specs.Drops.{HaveCodes}
@@ -31,12 +31,12 @@ abbrev pub kept_by : Arrival → ℕ → List ℕ → List KeptData
 kept_by Kept n payload = record { number = n; payload = payload } ∷ []
 kept_by (Dropped code) n payload = []
 
--- the drop that it tells
+-- the drop that it reports
 abbrev pub dropped_by : Arrival → ℕ → List DropEntry
 dropped_by Kept n = []
 dropped_by (Dropped code) n = record { number = n; code = code } ∷ []
 
--- an answer to data: what it says is noted, and the inbox is this then
+-- an answer to data: what it says is noted, and the inbox is then this one
 abbrev pub history_answered : History → Arrival → ℕ → List ℕ → InboxState → History
 history_answered h answer n payload held =
     record { held = held; kept = h.kept ++ kept_by answer n payload; taken = h.taken; dropped = h.dropped ++ dropped_by answer n }

@@ -21,15 +21,15 @@ pub record InboxState : Type 0 where
   pub capacity : ℕ
   pub most : ℕ
 
--- an inbox for so many items of up to so many bytes that was asked for nothing
+-- an inbox for so many items of up to so many bytes, before any call
 abbrev pub inbox_of : ℕ → ℕ → InboxState
 inbox_of most capacity = record { items = []; drops = []; stopped = false; capacity = capacity; most = most }
 
--- one of this capacity whose items have up to 1,024 bytes, as many as an end sends at once (own)
+-- an inbox of this capacity whose items have up to 1,024 bytes, as many as an end sends at once (own)
 abbrev pub empty_inbox : ℕ → InboxState
 empty_inbox capacity = inbox_of 1024 capacity
 
--- What always holds of an inbox: it holds no more than it may, which is 1 to 1,024 items; it has room for 2,048 drops,
+-- What always holds of an inbox: its capacity is 1 to 1,024 items, and it holds no more; it has room for 2,048 drops,
 -- each with a Drop Code of three bits; and an item has no more bytes than a datagram brings.
 pub record IsInbox (items : Buffer KeptData) (drops : Buffer DropEntry) (most : ℕ) : Type 0 where
   pub within : length items.items ≤ items.capacity
@@ -103,6 +103,6 @@ taking held = record held { items = drop 1 held.items }
 abbrev pub stopping : InboxState → InboxState
 stopping held = record held { stopped = true }
 
--- three quarters of the room are taken (own; RFC 4340, section 11.6 leaves to the receiver when it is slow)
+-- three quarters of the room are taken (own; RFC 4340, section 11.6, lets the receiver decide when it is slow)
 abbrev pub is_slow : InboxState → Bool
 is_slow held = nat_le (3 * held.capacity) (4 * length held.items)

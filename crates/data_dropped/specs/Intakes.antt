@@ -28,7 +28,7 @@ abbrev pub settled_in : Option InboxState → ℕ → List ℕ → Outcome → S
 settled_in None n bytes outcome = record { inbox = None; arrival = None }
 settled_in (Some held) n bytes outcome = settled_by (delivery_by held n bytes outcome)
 
--- a packet was received with this outcome, if it was heard at all
+-- a packet was received with this outcome, if the end heard it at all
 abbrev pub came_in : Option InboxState → ℕ → List ℕ → Option Outcome → Settled
 came_in held n bytes None = record { inbox = held; arrival = None }
 came_in held n bytes (Some outcome) = settled_in held n bytes outcome

@@ -28,13 +28,13 @@ drops_in_packet p = drop_options (options_in_packet p)
 abbrev pub one_option : List ℕ → List (List ℕ)
 one_option bytes = if length bytes == 0 then [] else bytes ∷ []
 
--- where something is said, the report is
+-- the report, if anything is said
 abbrev pub told_if : Bool → List ℕ → List (List ℕ)
 told_if true bytes = one_option bytes
 told_if false bytes = []
 
--- What a packet of the end tells once it went out: an Ack or a DataAck tells the report at the number that it
--- acknowledges, where that has a byte and the packet has room for all that is to be said.
+-- What a packet of the end reports once it has gone out: an Ack or a DataAck has the report at the number that it
+-- acknowledges, if that report has a byte and the packet has room for all that is to be said.
 abbrev pub told_by_ack : InboxState → Parts → Option ℕ → List (List ℕ)
 told_by_ack held p None = []
 told_by_ack held p (Some ack) = told_if (says_more p (said held ack)) (drop_bytes held.drops ack)
@@ -44,9 +44,9 @@ abbrev pub IsPassedOver : Result Entry OptFault → Type 0
 IsPassedOver (Ok entry) = (entry.kind ≡ data_dropped) ⊎ ((entry.kind ≡ slow_receiver) × (entry.body ≡ []))
 IsPassedOver (Err fault) = ⊥
 
--- A frame of the end went out as this one: the same numbers are told of it, it is a packet with the same number and
--- the same ports, type, fields and data, the checksums fit, its Data Dropped options are what is to be told, and after the
--- options that it had stand only such as say nothing to an end.
+-- A frame of the end went out as this one. The same numbers are stated for it; it is a packet with the same number,
+-- ports, type, fields and data; and the checksums fit. Its Data Dropped options are what is to be reported, and after
+-- the options that it had are only those that say nothing to an end.
 pub record TellsItsDrops (pseudo : Pseudo) (held : InboxState) (own frame : Outgoing) : Type 0 where
   pub before : Parts
   pub packet : Parts
@@ -65,7 +65,7 @@ pub record TellsItsDrops (pseudo : Pseudo) (held : InboxState) (own frame : Outg
   pub are_passed_over : All IsPassedOver more
   pub tells : drops_in_packet packet ≡ told_by_ack held before (acknowledged_by own.ack before.header.kind)
 
--- the frame of a step went out, as one that tells its drops
+-- the frame of a step went out, as one that reports its drops
 pub record FrameTells (pseudo : Pseudo) (held : InboxState) (own : Outgoing) (sent : Option Outgoing) : Type 0 where
   pub frame : Outgoing
   pub goes_out : sent ≡ Some frame
@@ -75,8 +75,8 @@ pub record FrameTells (pseudo : Pseudo) (held : InboxState) (own : Outgoing) (se
 abbrev pub report_in_packet : ℕ → Parts → Option Report
 report_in_packet ack p = joined_report ack (drops_in_packet p)
 
--- Of a frame that tells its drops a code is read only where it is the number's, and where nothing was cut off each of
--- the 2,048 numbers from the acknowledgement number down has its code.
+-- From a frame that reports its drops, a code of a number is read only if it is that number's; and if nothing was cut
+-- off, each of the 2,048 numbers from the acknowledgement number down has its code.
 pub record IsReadAsDrops (held : InboxState) (ack : ℕ) (r : Report) : Type 0 where
   pub only : (n code : ℕ) → n < 2 ^ 48 → code_at r.ack r.bytes n ≡ Some code → drop_code held.drops n ≡ Some code
   pub all : (n : ℕ) → n < 2 ^ 48 → IsTrue (tells_all held.drops ack) → distance n ack < 2048 → code_at r.ack r.bytes n ≡ drop_code held.drops n

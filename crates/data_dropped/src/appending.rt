@@ -27,7 +27,7 @@ const MOST_DATA: usize = 1024;
 // An option area with what is said after it.
 type Area = ArrayVec<u8, 1264>;
 
-// The acknowledgement number that is told of a frame, of an Ack or a DataAck.
+// The acknowledgement number that the end states for a frame that is an Ack or a DataAck.
 fn acknowledged_by(kind: &Kind, told: &Option<Seq48>) -> Option<Seq48>
     ensures { result ≡ acknowledged_by told.now kind.now }
 {
@@ -72,8 +72,8 @@ fn put_said<const MOST: usize>(out: &mut Said, inbox: &BoundedInbox<MOST>, ack: 
     }
 }
 
-/// Writes the packet with more options after its own, and its checksum anew, where there are any and it has room: a Data
-/// Offset counts 1,020 bytes at most (RFC 4340, section 5.1). Tells whether it did.
+/// Writes the packet with more options after its own, if there are any and it has room, and sets its checksum again: a
+/// Data Offset counts 1,020 bytes at most (RFC 4340, section 5.1). True exactly if it did.
 pub fn lengthen(packet: &Packet<'_>, more: &[u8], pseudo: &Pseudo, longer: &mut Frame) -> bool
     requires valid { IsTrue (is_valid packet.now.header) }
     requires area { length packet.now.options.now ≤ 1008 }
@@ -94,7 +94,8 @@ pub fn lengthen(packet: &Packet<'_>, more: &[u8], pseudo: &Pseudo, longer: &mut 
     true
 }
 
-// Writes a frame with what is to be said after its options, where anything is and it has room; tells whether it did.
+// Writes a frame with what is to be said after its options, if there is anything and it has room. True exactly if it
+// did.
 fn write_buffered<const MOST: usize>(
     frame: &[u8],
     told: &Option<Seq48>,
@@ -117,8 +118,8 @@ fn write_buffered<const MOST: usize>(
     lengthen(&packet, more.as_slice(), pseudo, longer)
 }
 
-// The same of the frame in the box, in whose place the longer one comes. It stands apart, for the room that it takes for
-// a second frame is large, and mostly nothing is to be said.
+// The same for the frame in the Outbox, which the longer one replaces. It is a function by itself because it takes room
+// for a second frame, which is large, and there is mostly nothing to say.
 #[inline(never)]
 fn lengthen_sent<const MOST: usize>(out: &mut Outbox, inbox: &BoundedInbox<MOST>, pseudo: &Pseudo)
     ensures { out.new ≡ buffered_frame pseudo.now inbox.now out.old }
@@ -136,7 +137,7 @@ fn lengthen_sent<const MOST: usize>(out: &mut Outbox, inbox: &BoundedInbox<MOST>
     }
 }
 
-/// The frame in the box as it goes out: an Ack or a DataAck says after its options what the inbox has to say.
+/// The frame in the Outbox as it goes out: an Ack or a DataAck says after its options what the inbox has to say.
 #[tactic(auto, using(crate::proofs::Silent::silent_same))]
 pub(crate) fn buffer<const MOST: usize>(
     out: &mut Outbox,

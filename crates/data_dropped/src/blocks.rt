@@ -1,4 +1,4 @@
-//! One byte of Data Dropped: a block of numbers that were not dropped, or that were dropped for one reason (RFC 4340,
+//! One byte of Data Dropped: a block of numbers whose data were not dropped, or were dropped for one reason (RFC 4340,
 //! section 11.7).
 ghost use Rattle.std.specs.Prelude.{◌≡◌, ◌≤◌};
 ghost use Rattle.data_dropped.specs.Drops.{code_in, drop_byte, most_numbers, numbers_in, same_code};
@@ -16,7 +16,7 @@ const CODE_UNIT: u8 = 16;
 
 const CODES: u8 = 8;
 
-/// Tells whether two numbers were dropped for the same reason, or neither was.
+/// Whether the data of two numbers were dropped for the same reason, or neither were dropped.
 pub(crate) fn is_same(one: Option<u8>, other: Option<u8>) -> bool
     ensures { result ≡ same_code one other }
 {
@@ -39,7 +39,7 @@ pub(crate) fn most_numbers(code: Option<u8>) -> usize
     }
 }
 
-/// The byte of so many numbers that were dropped for this reason, or of which none was.
+/// The byte of so many numbers whose data were dropped for this reason, or were not dropped.
 pub(crate) fn drop_byte(code: Option<u8>, count: usize) -> u8
     requires some { 1 ≤ count }
     requires few { count ≤ most_numbers code }

@@ -12,10 +12,10 @@ use std::alloc::Global;
 use std::marker::Model;
 
 /// An end whose application reads when it likes: data that the end delivers are held in an [`Inbox`], up to a number of
-/// packets, until they are taken. What is dropped for want of room, or after `stop`, the end's acknowledgements tell
-/// the peer by Data Dropped, and that three quarters of the room are taken by Slow Receiver, after their own options
-/// and as far as they have room (RFC 4340, sections 11.6 and 11.7; that, and when, is own). Nothing else is changed of
-/// the end, and each packet is acknowledged whether its data were kept or dropped.
+/// packets, until they are taken. Data are dropped for lack of room, or after `stop`. The end's acknowledgements report
+/// these drops by Data Dropped, and by Slow Receiver that three quarters of the room are taken, after their own options
+/// and as far as they have room (RFC 4340, sections 11.6 and 11.7; that, and when, is own). Nothing else of the end is
+/// different, and each packet is acknowledged whether its data were kept or dropped.
 ///
 /// It has every call of an end, and `end` shows what an end shows. Only `new` takes memory. The `Outbox` is the end's.
 #[derive(Drop)]
@@ -36,8 +36,8 @@ impl<C: Congestion + Drop> BufferedEnd<C> {
     ghost use Rattle.std.specs.Prelude.{◌≡◌, ◌≤◌, IfOk, IsTrue};
     ghost use Rattle.data_dropped.specs.Buffering.{begins_buffered};
 
-    /// An end of its configuration, as `Endpoint::new` makes it, and an empty inbox for 1 to 1,024 packets. NoMemory
-    /// where either finds none; no other call takes any.
+    /// An end of this configuration, as `Endpoint::new` makes it, and an empty inbox for 1 to 1,024 packets. NoMemory
+    /// if there is no memory for either; no other call takes any.
     pub fn new(
         alloc: Global,
         config: Config,
@@ -187,7 +187,7 @@ impl<C: Congestion> BufferedEnd<C> {
         answer
     }
 
-    // The frame in the box says what the inbox has to say.
+    // The frame in the Outbox says what the inbox has to say.
     fn speak(&self, out: &mut Outbox)
         ensures codes { HaveCodes self.now.inbox.drops }
         ensures says { out.new ≡ buffered_frame self.now.end.state.config.pseudo_out self.now.inbox out.old }
@@ -195,10 +195,10 @@ impl<C: Congestion> BufferedEnd<C> {
         buffer(out, &self.inbox, &self.end.pseudo_out());
     }
 
-    /// Takes bytes that arrived, at most 2,044, as `Endpoint::receive` does. Data that are delivered come into the
-    /// inbox under their packet's number, or are dropped; of these `arrival` tells, and it is None where none were
-    /// delivered. What goes out is the end's frame; an Ack or a DataAck tells after its options of the drops, and that
-    /// the inbox is slow, as the inbox is then, where there is anything to tell and the packet has room for it.
+    /// Takes bytes that arrived, at most 2,044, as `Endpoint::receive` does. Data that are delivered go into the inbox
+    /// under their packet's number, or are dropped: `arrival` says which, and is None if none were delivered. What goes
+    /// out is the end's frame. An Ack or a DataAck reports the drops after its options, and that the inbox is slow, as
+    /// the inbox is after the step, if there is anything to report and the packet has room for it.
     pub fn receive(&mut self, bytes: &[u8], out: &mut Outbox) -> Got
         requires { length bytes.now ≤ 2044 }
         ensures step { record { after = self.new; frame = out.new; outcome = result.outcome; arrival = result.arrival } ≡ buffers C.control self.old bytes.now }

@@ -1,4 +1,4 @@
-//! Which data were dropped, and the codes of the numbers that a report tells of.
+//! Which data were dropped, and the codes of the numbers that a report covers.
 ghost use Rattle.std.specs.Prelude.{◌≡◌, ◌^◌, ◌<◌, ◌≤◌, Some, length, slice_set, take};
 ghost use Rattle.seq_circle.specs.Circle.{distance};
 ghost use Rattle.data_dropped.specs.Drops.{code_table, up_to_last_code};
@@ -10,7 +10,7 @@ use seq_circle::Seq48;
 /// The bytes of a Data Dropped option: at most 253 (RFC 4340, section 5.8).
 pub type DropBytes = ArrayVec<u8, 253>;
 
-/// How many drops count, and of how many numbers a report tells at most (own).
+/// How many drops count, and how many numbers a report covers at most (own).
 pub(crate) const SPAN: usize = 2048;
 
 /// Data that were dropped. No call gives one out; contracts speak of them.
@@ -22,7 +22,7 @@ pub struct DropEntry {
     pub code: u8,
 }
 
-// One drop more: its number's code is this one now, if the number is among those of the table.
+// One drop more: the code of its number is now this one, if the number is among those of the table.
 fn note(table: &mut [Option<u8>; SPAN], entry: &DropEntry, ack: Seq48)
     ensures noted { table.new ≡ slice_set table.old (distance entry.now.number ack) (Some entry.now.code) }
     ensures number_fits { entry.now.number < 2 ^ 48 }
@@ -39,7 +39,7 @@ fn note(table: &mut [Option<u8>; SPAN], entry: &DropEntry, ack: Seq48)
 }
 
 /// The codes of the numbers from this one downwards. The oldest drop is noted first, so that the latest of a number
-/// counts; the cost is that of the drops and the numbers, once each.
+/// counts. It looks at each drop and each number once.
 pub(crate) fn fill(drops: &HeapCircularBuffer<DropEntry>, ack: Seq48) -> [Option<u8>; SPAN]
     ensures { result ≡ code_table drops.now.items ack }
 {

@@ -95,7 +95,7 @@ impl<const MOST: usize> BoundedInbox<MOST> {
         self.items.push_back(Item::of(number, payload));
     }
 
-    // One drop more, which may drive the oldest out.
+    // One drop more, which may replace the oldest.
     fn note_drop(&mut self, number: Seq48) -> Arrival
         ensures dropped { self.new ≡ dropping self.old number }
         ensures answer { result ≡ Dropped (reason self.old) }
@@ -122,7 +122,7 @@ impl<const MOST: usize> BoundedInbox<MOST> {
         MOST
     }
 
-    // It has nothing to say: no drop counts, and it is not slow.
+    // Whether it has nothing to say: no drop counts, and it is not slow.
     pub(crate) fn is_silent(&self) -> bool
         ensures no_drop { result ≡ true → self.now.drops ≡ [] }
         ensures not_slow { result ≡ true → is_slow self.now ≡ false }
@@ -177,7 +177,7 @@ impl<const MOST: usize> BoundedInbox<MOST> {
         self.stopped = true;
     }
 
-    /// Tells whether three quarters of the room are taken, or more (own).
+    /// Whether three quarters of the room are taken, or more (own).
     pub fn slow(&self) -> bool
         ensures { result ≡ is_slow self.now }
     {

@@ -35,8 +35,8 @@ impl Intake {
         Intake { inbox: None }
     }
 
-    /// Data wait in an inbox for so many packets, at most 1,024; where that is 0, they go to the owner at once. NoMemory
-    /// where the inbox finds none: 2,048 bytes a packet and 32 KB. No other call takes any.
+    /// Data wait in an inbox for so many packets, at most 1,024; where that is 0, they go to the owner at once.
+    /// NoMemory if there is none for the inbox, which takes 2,048 bytes a packet and 32 KB. No other call takes any.
     pub fn new(alloc: Global, capacity: u16) -> Result<Intake, NoMemory>
         requires { capacity ≤ 1024 }
         ensures { IfOk result (λ intake. intake ≡ intake_of capacity) }
@@ -76,7 +76,7 @@ impl Intake {
         }
     }
 
-    /// The frame in the box as it goes out under this pseudo-header: of an end with an inbox an Ack or a DataAck says
+    /// The frame in the Outbox as it goes out under this pseudo-header: if there is an inbox, an Ack or a DataAck says
     /// after its options what the inbox has to say.
     pub fn speak(&self, pseudo: &Pseudo, out: &mut Outbox)
         ensures says { out.new ≡ spoken pseudo.now self.now out.old }
@@ -87,8 +87,8 @@ impl Intake {
         }
     }
 
-    /// Takes the data that have waited longest: they are written over the front of `into`, and their packet's number
-    /// and their length are answered. The rest of `into` stays. None where none wait; then nothing changes.
+    /// Takes the data that have waited longest: writes them over the front of `into`, and returns their packet's number
+    /// and their length. The rest of `into` stays. None if none wait; then nothing changes.
     pub fn read(&mut self, into: &mut [u8; 2032]) -> Option<(Seq48, usize)>
         ensures rest { self.new ≡ without_first self.old }
         ensures answer { result ≡ first_read self.old }
@@ -100,8 +100,8 @@ impl Intake {
         }
     }
 
-    /// The application listens no more: data that arrive from now on are dropped, and their sender is told so (RFC
-    /// 4340, section 11.7). False where there is no inbox; then nothing changes.
+    /// The application stops listening: data that arrive from now on are dropped, and their sender is told so (RFC
+    /// 4340, section 11.7). False if there is no inbox; then nothing changes.
     pub fn stop(&mut self) -> bool
         ensures stops { self.new ≡ without_listener self.old }
         ensures no_inbox { (result ≡ false) ↔ (self.old ≡ None) }

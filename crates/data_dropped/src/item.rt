@@ -46,7 +46,7 @@ impl<const MOST: usize> Item<MOST> {
         self.number
     }
 
-    /// Writes the data over the front of these bytes, and tells how many they are.
+    /// Writes the data over the front of these bytes, and returns how many they are.
     pub(crate) fn put(&self, into: &mut [u8; MOST]) -> usize
         ensures count { result ≡ length self.now.payload }
         ensures put { into.new ≡ self.now.payload ++ drop (length self.now.payload) into.old }

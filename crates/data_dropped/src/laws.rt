@@ -27,9 +27,9 @@ pub fn the_latest_drop_counts()
         → drop_code (drops ++ d ∷ []) n ≡ (if d.number == n then Some d.code else drop_code drops n) }
 {}
 
-/// A report of drops is read back: each number that it reaches has the code that was told, if one was, and no number
-/// below has one (`codes`). So a code is read only where it is the number's (`only`), and where nothing was cut off
-/// every number of the 2,048 from the acknowledgement number down has its code (`all`; RFC 4340, section 11.7). It
+/// A report of drops reads back: each number that it reaches has the code that was reported, if one was, and no number
+/// below has one (`codes`). So a code of a number is read only if it is that number's (`only`); and if nothing was cut
+/// off, every number of the 2,048 from the acknowledgement number down has its code (`all`; RFC 4340, section 11.7). It
 /// reaches no further (`within`), and fits one option (`fits`; section 5.8).
 pub fn a_report_of_drops_reads_back()
     ensures codes { (drops : List DropEntry) (ack n : ℕ) → HaveCodes drops → ack < 2 ^ 48 → n < 2 ^ 48
@@ -44,8 +44,8 @@ pub fn a_report_of_drops_reads_back()
 {}
 
 /// Over every list of calls of an inbox, what was taken and then what is held is what was kept, whole, once and in
-/// order; no more is held than may be; it was stopped where a call stopped it; and the drops that count are the last
-/// 2,048 of all, each with a Drop Code of three bits (own).
+/// order; no more is held than may be; it was stopped if a call stopped it; and the drops that count are the last 2,048
+/// of all, each with a Drop Code of three bits (own).
 pub fn what_is_kept_is_taken()
     ensures accounted { (capacity : ℕ) (calls : List InboxCall)
         → IsAccounted capacity (list_any is_stop calls) (history_after_all (no_history capacity) calls) }
@@ -53,8 +53,8 @@ pub fn what_is_kept_is_taken()
         → HaveCodes (history_after_all (no_history capacity) calls).held.drops }
 {}
 
-/// The same over every list of calls of an end with an inbox, whose packets are calls of its inbox where they deliver
-/// data (`received`); and what is told of these is what became of them (`told`).
+/// The same over every list of calls of an end with an inbox, whose packets are calls of its inbox if they deliver data
+/// (`received`); and what the end says of these data is what became of them (`told`).
 pub fn what_an_end_keeps_is_taken<C: Congestion>()
     ensures received { (p : BufferedPast C) (bytes : List ℕ)
         → (buffers C.control (buffered_now p) bytes).after ≡ buffered_now (past_after C.control p (EndReceives bytes)) }
@@ -83,7 +83,8 @@ pub fn every_frame_tells_its_drops<C: Congestion>()
         → (buffers C.control b bytes).frame ≡ None }
 {}
 
-/// What is read of such a frame: a code only where it is the number's, and every code where nothing was cut off.
+/// What is read from such a frame: a code of a number only if it is that number's, and every code if nothing was cut
+/// off.
 pub fn a_frame_is_read_as_its_drops()
     ensures { (pseudo : Pseudo) (held : InboxState) (own frame : Outgoing) (tells : TellsItsDrops pseudo held own frame) (ack : ℕ) (r : Report)
         → acknowledged_by frame.ack tells.packet.header.kind ≡ Some ack → report_in_packet ack tells.packet ≡ Some r → HaveCodes held.drops → ack < 2 ^ 48

@@ -2,9 +2,9 @@
 //! and that it is slow, by Slow Receiver (RFC 4340, sections 11.6 and 11.7).
 //!
 //! An [`Inbox`] holds the data that an application has not read yet, and knows what it dropped. A [`BufferedEnd`] is an
-//! end with an inbox: data that it delivers go there, and its acknowledgements tell of the drops. An [`Intake`] is an
-//! inbox beside any end, or none. A [`DropReport`] reads what a packet tells. Nothing here resends anything or slows a sender down, and no memory is taken once an
-//! inbox is made.
+//! end with an inbox: data that it delivers go there, and its acknowledgements report the drops. An [`Intake`] is an
+//! inbox beside any end, or none. A [`DropReport`] reads what a packet reports. Nothing here resends anything or slows
+//! a sender down, and no memory is taken once an inbox is made.
 #![tactic(auto)]
 
 mod answers;

@@ -27,7 +27,7 @@ impl<'a> Model for DropReport<'a> {
     ghost view = { λ report. record { ack = report.ack; bytes = drop_data report.options } };
 }
 
-// The data of the first Data Dropped option among these, which go on after it.
+// The data of the first Data Dropped option among these; the options then go on after it.
 fn next_drops<'a>(options: &mut OptList<'a>) -> Option<&'a [u8]>
     ensures { MatchOption result
         ((drop_options options.old ≡ []) × (drop_options options.new ≡ []))
@@ -42,7 +42,8 @@ fn next_drops<'a>(options: &mut OptList<'a>) -> Option<&'a [u8]>
     None
 }
 
-// The code of the number so far below the first that these bytes cover, or how far it is below the last one.
+// The code of the number that is so far below the first that these bytes cover; or how far it is below the last that
+// they cover.
 fn code_below(bytes: &[u8], below: u64) -> Result<Option<u8>, u64>
     ensures { MatchResult result
         (λ code. slice_get (states_of drop_coding bytes.now) below ≡ Some code)

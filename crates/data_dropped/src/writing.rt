@@ -26,7 +26,7 @@ fn run_at(codes: &[Option<u8>], place: usize) -> usize
     most
 }
 
-// Writes the bytes of these codes, as many as there is room for; tells whether there was room for all.
+// Writes the bytes of these codes, as many as there is room for. True exactly if there was room for all.
 fn put_codes(out: &mut DropBytes, codes: &[Option<u8>]) -> bool
     requires { out.old.items ≡ [] }
     ensures bytes { out.new.items ≡ take 253 (bytes_from codes.now 0) }
@@ -44,7 +44,7 @@ fn put_codes(out: &mut DropBytes, codes: &[Option<u8>]) -> bool
     true
 }
 
-/// Writes the report of these drops at this number, in place of what was there; tells whether nothing was cut off.
+/// Writes the report of these drops at this number, in place of what was there. True exactly if nothing was cut off.
 pub(crate) fn write_drops(
     drops: &HeapCircularBuffer<DropEntry>,
     out: &mut DropBytes,
