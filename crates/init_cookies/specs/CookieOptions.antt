@@ -19,7 +19,7 @@ cookie_options (item ∷ rest) = cookie_in item ++ cookie_options rest
 abbrev pub first_cookie : List (Result Entry OptFault) → Option (List ℕ)
 first_cookie items = slice_get (cookie_options items) 0
 
--- what a client returns of the Init Cookies of a Response, as options: its one cookie, and none where there are more (own)
+-- what a client returns of the Init Cookies of a Response, as options: its cookie if there is only one, else none (own)
 abbrev pub one_cookie : List (List ℕ) → List ℕ
 one_cookie (body ∷ []) = if nat_le (length body) 253 then spelled false init_cookie body else []
 one_cookie _ = []

@@ -23,12 +23,12 @@ cookie_bytes keys route o = big_bytes 8 (cookie_tag (key_at keys o.time) route (
 abbrev pub is_fresh : ℕ → ℕ → Bool
 is_fresh now time = nat_le time now && nat_le (now - time) 120000
 
--- the opening, where the cookie is fresh, and its tag is that of what it holds
+-- the opening, if the cookie is fresh and its tag is that of its content
 abbrev pub opening_if : CookieKeys → ℕ → Route → ℕ → List ℕ → Option OpeningState
 opening_if keys now route tag held =
     if is_fresh now (opening_read held).time && (tag == cookie_tag (key_at keys (opening_read held).time) route held) then Some (opening_read held) else None
 
--- What a cookie that came by this route opens: nothing where its length is not one of a cookie, its time is past, or its
+-- What a cookie that came by this route opens: nothing if it does not have a cookie's length, its time is past, or its
 -- tag is not the keyed hash.
 abbrev pub cookie_opening : CookieKeys → ℕ → Route → List ℕ → Option OpeningState
 cookie_opening keys now route bytes =

@@ -1,4 +1,4 @@
--- What a cookie comes back as (RFC 4340, section 8.1.4; own).
+-- What is read from a cookie that comes back (RFC 4340, section 8.1.4; own).
 use Rattle.std.specs.Prelude.{◌≡◌, ℕ, true, Some}
 use Rattle.init_cookies.specs.Cookies.{cookie_bytes, cookie_opening, is_fresh, key_at}
 use Rattle.init_cookies.specs.Openings.{FitsCookie, OpeningState}

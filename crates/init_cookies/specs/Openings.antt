@@ -1,4 +1,4 @@
--- What a Request asked for, and what it was answered by (RFC 4340, sections 5.1, 5.2 and 8.1.4; its bytes are own).
+-- What a Request asked for, and how it was answered (RFC 4340, sections 5.1, 5.2 and 8.1.4; its bytes are own).
 use Rattle.std.specs.Prelude.{ℕ, ◌<◌, ◌≤◌, ◌^◌, List, [], ◌++◌, length, drop}
 use Rattle.byteorder.specs.Endian.{big_bytes, big_number}
 use Rattle.dccp_packets.specs.Grammar.{spelling}
@@ -45,6 +45,6 @@ abbrev pub request_header : Route → OpeningState → Header
 request_header r o =
     record { from = r.from; to = r.to; ccval = 0; cscov = 0; checksum = 0; number = Long o.number; kind = kind.Request o.service }
 
--- The Request spelled again, without the data that it may have had.
+-- The Request written again, without the data that it may have had.
 abbrev pub request_bytes : Route → OpeningState → List ℕ
 request_bytes r o = sealed r.pseudo (spelling (request_header r o) o.options [])

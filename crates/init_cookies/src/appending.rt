@@ -7,7 +7,7 @@ use data_dropped::lengthen;
 use dccp_packets::{Frame, Numbers, Outbox, decode};
 use dccp_sum::Pseudo;
 
-// Writes the frame's packet with these options after its own, where it has room; tells whether it did.
+// Writes the frame's packet with these options after its own, if it has room. True exactly if it did.
 fn write_longer(frame: &[u8], more: &[u8], pseudo: &Pseudo, longer: &mut Frame) -> bool
     requires { length more.now ≤ 256 }
     ensures longer { OnTrue result (longer.new ≡ appended_bytes pseudo.now more.now frame.now) }
@@ -19,8 +19,8 @@ fn write_longer(frame: &[u8], more: &[u8], pseudo: &Pseudo, longer: &mut Frame) 
     }
 }
 
-/// The frame in the box goes out with these options after its own, at most 256 bytes, and its checksum made anew, where
-/// it has room for them: a Data Offset counts 1,020 bytes at most (RFC 4340, section 5.1).
+/// The frame in the Outbox goes out with these options after its own, at most 256 bytes, and with a new checksum, if it
+/// has room for them: a Data Offset counts 1,020 bytes at most (RFC 4340, section 5.1).
 pub fn append_options(out: &mut Outbox, more: &[u8], pseudo: &Pseudo)
     requires { length more.now ≤ 256 }
     ensures { out.new ≡ appended pseudo.now more.now out.old }

@@ -82,7 +82,7 @@ fn service_at(bytes: &[u8]) -> u32
     BigEndian::read_u32(&bytes[20..])
 }
 
-// What stands from a place on.
+// The bytes from a place on.
 fn rest_from(bytes: &[u8], place: usize) -> &[u8]
     requires { place ≤ length bytes.now }
     ensures { result.now ≡ drop place bytes.now }
@@ -110,8 +110,8 @@ impl CookieKeys {
     ghost use Rattle.std.specs.Prelude.{◌≡◌, ◌≤◌, [], length};
     ghost use Rattle.init_cookies.specs.Cookies.{cookie_bytes, cookie_opening, key_at, opening_if};
 
-    /// Keys of which there is one, drawn at random: 32 bytes that nobody else knows. The time is in milliseconds from any
-    /// beginning, as in each call.
+    /// Keys with one key so far, drawn at random: 32 bytes that nobody else knows. The time is in milliseconds since
+    /// any moment, as in each call.
     pub fn new(key: [u8; 32], now: u64) -> CookieKeys
         ensures { result ≡ record { key = key; before = key; since = now } }
     {
@@ -129,7 +129,8 @@ impl CookieKeys {
         self.key
     }
 
-    /// Cookies are written by this key from now on. Those that the one before wrote stay good for their two minutes.
+    /// Cookies are written with this key from now on. Those that were written with the key before it stay good for
+    /// their two minutes.
     pub fn change(&mut self, key: [u8; 32], now: u64)
         ensures { self.new ≡ record { key = key; before = self.old.key; since = now } }
     {
@@ -166,7 +167,7 @@ impl CookieKeys {
         let _ = out.try_extend_from_slice(bytes.as_slice());
     }
 
-    // The opening that these bytes hold, where it is fresh, and this is its tag.
+    // The opening that these bytes hold, if it is fresh and this is its tag.
     fn opening_if(&self, now: u64, route: &Route, tag: u64, held: &[u8]) -> Option<Opening>
         requires low { 24 ≤ length held.now }
         requires high { length held.now ≤ 244 }
@@ -181,8 +182,8 @@ impl CookieKeys {
         }
     }
 
-    /// The opening that a cookie holds, which came by this route. None where it is older than two minutes or of another
-    /// time, or its tag is not the keyed hash of what it holds and of the route.
+    /// The opening that a cookie holds that came by this route. None if it is older than two minutes or from the
+    /// future, or its tag is not the keyed hash of its content and the route.
     pub fn read(&self, route: &Route, bytes: &[u8], now: u64) -> Option<Opening>
         ensures { result ≡ cookie_opening self.now now route.now bytes.now }
     {

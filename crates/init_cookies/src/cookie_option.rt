@@ -10,7 +10,7 @@ use dccp_options::kinds::INIT_COOKIE;
 /// An Init Cookie as it is among options: its type, its length and its data.
 pub type CookieOption = ArrayVec<u8, 256>;
 
-// The data of the first Init Cookie among these, which go on after it.
+// The data of the first Init Cookie among these; the options then go on after it.
 fn next_cookie<'a>(options: &mut OptList<'a>) -> Option<&'a [u8]>
     ensures { MatchOption result
         ((cookie_options options.old ≡ []) × (cookie_options options.new ≡ []))
@@ -45,8 +45,8 @@ pub fn init_cookie(body: &[u8], out: &mut CookieOption)
     let _ = out.try_extend_from_slice(body);
 }
 
-/// What a client returns of these options of a Response: its Init Cookie, where there is one alone, in place of what was
-/// there; where there are more it returns none (own).
+/// What a client returns of these options of a Response, in place of what was there: its Init Cookie if there is only
+/// one, else none (own).
 pub fn one_cookie(options: &OptList<'_>, out: &mut CookieOption)
     ensures value { out.new.items ≡ one_cookie (cookie_options options.now) }
     ensures short { length out.new.items ≤ 255 }

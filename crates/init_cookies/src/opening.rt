@@ -1,4 +1,4 @@
-//! What a Request asked for, and the Request spelled again.
+//! What a Request asked for, and the Request written again.
 ghost use Rattle.std.specs.Prelude.{◌≡◌, ◌≤◌, [], IsTrue, length};
 ghost use Rattle.dccp_packets.specs.Grammar.{header_length, is_valid, spelling};
 ghost use Rattle.init_cookies.specs.Openings.{request_bytes, request_header};
@@ -128,7 +128,7 @@ fn request_header(route: &Route, opening: &Opening) -> Header
     }
 }
 
-// Spells a Request of these options, without data.
+// Writes a Request with these options, without data.
 #[tactic(auto, using(crate::proofs::Fitting::request_fits))]
 fn spell(header: &Header, options: &[u8], out: &mut Frame)
     requires valid { IsTrue (is_valid header.now) }
@@ -140,7 +140,7 @@ fn spell(header: &Header, options: &[u8], out: &mut Frame)
     let _ = encode(header, options, &[], out);
 }
 
-/// Spells the Request again, in place of what was in the frame, without the data that it may have had: no end in LISTEN
+/// Writes the Request again, in place of what was in the frame, without the data that it may have had: no end in LISTEN
 /// delivers data (RFC 4340, section 8.5, step 3).
 pub fn put_request(route: &Route, opening: &Opening, out: &mut Frame)
     ensures { out.new ≡ request_bytes route.now opening.now }

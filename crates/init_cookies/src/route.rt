@@ -25,7 +25,7 @@ impl Route {
     ghost use Rattle.std.specs.Prelude.{◌≡◌, ◌≤◌, [], length};
     ghost use Rattle.init_cookies.specs.Routes.{back, route_bytes};
 
-    /// The addresses of what goes back.
+    /// The addresses of packets that go back.
     pub fn back(&self) -> Pseudo
         ensures { result ≡ back self.now.pseudo }
     {
@@ -35,7 +35,7 @@ impl Route {
         }
     }
 
-    // What the tag of a cookie is taken over of the route.
+    // The bytes of the route that the tag of a cookie covers.
     pub(crate) fn put(&self, out: &mut RouteBytes)
         requires { out.old.items ≡ [] }
         ensures value { out.new.items ≡ route_bytes self.now }
