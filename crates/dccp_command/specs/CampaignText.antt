@@ -1,4 +1,4 @@
--- What `campaign` writes: what was counted of all its seeds, a line each (own).
+-- What `campaign` writes: the counts over all its seeds, a line each (own).
 use Rattle.std.specs.Prelude.{◌≡◌, ◌≢◌, ℕ, ◌++◌, List, codes, Option}
 use Rattle.fault_campaign.specs.Totals.{totals}
 use Rattle.fault_campaign.specs.declared.report.Report.{Report}
@@ -32,8 +32,9 @@ report_text r = run_text r ++ arrival_text r ++ count_line (codes "refused ") r.
 unfoldable pub campaign_text : Campaign → List ℕ
 campaign_text c = report_text (totals c.first c.seeds c.events)
 
--- What a campaign owes, which reads nothing and has nothing to refuse: Done is the whole text, and what was cut off is
--- a front of it. It ends with Write only where the sink failed, and where that did not, with Done, if memory is found.
+-- What a campaign guarantees, which reads nothing and has nothing to refuse: with Done the text is whole, and otherwise
+-- it is a prefix. It ends with Write only if the sink failed; and if the sink did not, with Done, unless memory runs
+-- out.
 pub record AnswersUnread (text : List ℕ) (result : JobEnd) (before after : Option (List ℕ)) (sink_failed : Type 0) : Type 0 where
   pub whole : result ≡ ended.Done → HasTaken before after text
   pub front : IsCutOff result → HasBegun before after text

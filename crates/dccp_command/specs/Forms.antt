@@ -1,4 +1,4 @@
--- What each form of the tool's words makes of the input that it reads (own).
+-- What each form of the tool's words does with the input that it reads (own).
 use Rattle.std.specs.Prelude.{◌≡◌, ℕ, Bool, true, false, List, Option, Some, String}
 use Rattle.std.specs.declared.alloc.Global.{Global}
 use Rattle.dccp_command.specs.CampaignText.{campaign_text}
@@ -17,10 +17,10 @@ abbrev pub reads_input : Form → Bool
 reads_input (form.Campaign campaign) = false
 reads_input _ = true
 
--- What a form writes of the bytes that it reads, when all is written: the transcript of a schedule, the text of a replay
--- without a receive buffer or with one, the sums of a campaign, the lines of a capture's packets, what a listener
--- answers its peers, and what comes of events between an ECN-capable sender and receiver. Of `campaign`, which reads
--- none, it is the same for all bytes, and so below.
+-- What a form writes of the bytes that it reads, when all is written: the transcript of a schedule, the text of a
+-- replay without a receive buffer or with one, the sums of a campaign, the lines of a capture's packets, what a
+-- listener answers its peers, and the results of events between an ECN-capable sender and receiver. For `campaign`,
+-- which reads no bytes, it is the same for all; also below.
 abbrev pub form_text : Form → List ℕ → List ℕ
 form_text form.Run bytes = transcript bytes
 form_text (form.Replay side plain) bytes = replay_text side plain bytes
@@ -55,10 +55,10 @@ abbrev pub form_reads_past : Form → ℕ
 form_reads_past form.Show = 524288
 form_reads_past _ = 16384
 
--- Where a form reads its input, over a source that tells its bytes, something holds of them.
+-- If a form reads its input, over a source whose bytes are known, something holds of these bytes.
 abbrev pub OnRead : Form → Option (List ℕ) → (List ℕ → Type 0) → Type 0
 OnRead form told Holds = reads_input form ≡ true → (bytes : List ℕ) → told ≡ Some bytes → Holds bytes
 
--- For any form that the words have and that reads its input, something holds of both.
+-- For any form that the words name and that reads its input, something holds of the form and the input.
 abbrev pub OnInput : List (String Global) → Option (List ℕ) → (Form → List ℕ → Type 0) → Type 0
 OnInput words told Holds = (form : Form) → form_of words ≡ Some form → OnRead form told (Holds form)

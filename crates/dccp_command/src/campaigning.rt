@@ -1,4 +1,4 @@
-//! `campaign`: seeds that are run by workers, and what is counted of them.
+//! `campaign`: seeds that workers run, and the counts over them.
 ghost use Rattle.std.specs.Prelude.{◌≡◌, ◌++◌, IfOk, OnOk};
 ghost use Rattle.dccp_command.specs.CampaignText.{AnswersUnread, arrival_text, campaign_text, count_line, report_text, run_text};
 ghost use Rattle.tool_forms.specs.CampaignWords.{IsWithinBounds};
@@ -53,7 +53,7 @@ fn put_report(text: &mut Vec<u8>, report: &Report) -> Result<(), NoMemory>
     put_count(text, b"settled ", report.settled)
 }
 
-// Runs the seeds, and puts what was counted of them.
+// Runs the seeds, and puts the counts over them.
 #[tactic(auto, unfolding(crate::specs::CampaignText::campaign_text))]
 fn counted<R: Threads + Sync, G: Gate + Sync>(
     rt: &R,
@@ -78,7 +78,7 @@ fn counted<R: Threads + Sync, G: Gate + Sync>(
     Ok(text)
 }
 
-/// Runs a campaign, and writes what was counted of its seeds, a line each, when all have ended.
+/// Runs a campaign, and writes the counts over its seeds, a line each, when all have ended.
 pub(crate) fn run_campaign<R: Threads + Sync, G: Gate + Sync, K: Sink>(
     rt: &R,
     alloc: Global,

@@ -19,20 +19,20 @@ use tool_text::{JobEnd, Status};
 
 /// Does what the words ask for (own), those after the program's name. `run` plays a schedule: it reads `input`, and
 /// writes to `output` a line for each event and for each frame that it sent, and at last the state of both ends.
-/// `replay` hands the frames of `input` to one end, and writes the same of it; where words ask for it the end has a
+/// `replay` hands the frames of `input` to one end, and writes the same of it; if words ask for it, the end has a
 /// receive buffer, which is read as lines say. `show` reads a capture, and writes a line for each DCCP packet in it,
 /// and at last how many records it has or why it ends early. `listen` hands what many peers send to one listener, and
-/// writes a line for what each is answered and for each frame that goes to one, and at last the flows. `ecn` lets
-/// events take place between an ECN-capable sender and an ECN-capable receiver, and writes a line for each. Each form
-/// answers while it reads, a line or a record at a time: the answer goes out in blocks, and before more of the input is
-/// asked for. `campaign` reads nothing: it runs seeds on as many threads as it is told, each of which calls `gate`
-/// before each seed that it runs, and writes what was counted of all of them, the same for every number of threads and
-/// for every gate.
+/// writes a line for each answer and for each frame that goes to a peer, and at last the flows. `ecn` plays events
+/// between an ECN-capable sender and an ECN-capable receiver, and writes a line for each. Each form answers while it
+/// reads, a line or a record at a time. The answer goes out in blocks, and before the form reads more of the input.
+/// `campaign` reads nothing: it runs seeds on as many threads as the words say, each of which calls `gate` before each
+/// seed that it runs, and writes the counts over all of them, which are the same for every number of threads and every
+/// gate.
 ///
 /// Words are judged first; after that the first refusal met in the order of reading decides. With status 0 or 1 the
 /// output is the text of the whole input, and each event of a schedule took place in a safe world and left a safe one.
-/// With status 3, 4 or 5 it is a front of that text. The clauses on the output speak of a source that tells its bytes
-/// and a sink that tells what it took.
+/// With status 3, 4 or 5 it is a prefix of that text. The clauses on the output are about a source whose bytes are
+/// known, and a sink that shows what it took.
 pub fn dccp<R: Threads + Sync, G: Gate + Sync, S: Source, K: Sink>(
     rt: &R,
     alloc: Global,
@@ -41,8 +41,8 @@ pub fn dccp<R: Threads + Sync, G: Gate + Sync, S: Source, K: Sink>(
     input: &mut S,
     output: &mut K,
 ) -> Status
-    // Words that are none of the forms come to the usage line, as far as the sink takes it. Where no memory was left to
-    // read settings, nothing is written.
+    // Words that are none of the forms are answered by the usage line, as far as the sink takes it. If no memory was
+    // left to read settings, nothing is written.
     ensures words { result ≡ Status.Words → form_of words.now ≡ None }
     ensures others { form_of words.now ≡ None
         → (result ≡ Status.Words) ⊎ ((result ≡ Status.Memory) × (has_settings words.now ≡ true)) }
@@ -51,7 +51,7 @@ pub fn dccp<R: Threads + Sync, G: Gate + Sync, S: Source, K: Sink>(
         → IsWritten usage (K.taken output.old) (K.taken output.new) (SinkFails K.faults K.empty_takes output.old output.new) }
     ensures silent { form_of words.now ≡ None → result ≡ Status.Memory → output.new ≡ output.old }
 
-    // What each form that reads its input writes and how it ends, and how far it had read where it refuses it.
+    // What each form that reads its input writes, how it ends, and how far it has read when it refuses the input.
     ensures answers { OnInput words.now (S.left input.old) (λ form bytes.
         OnJobEnd result (λ end. Answers (form_text form bytes) (is_form_refused form bytes) end (S.left input.new) (K.taken output.old) (K.taken output.new))) }
     ensures past { OnInput words.now (S.left input.old) (λ form bytes.
