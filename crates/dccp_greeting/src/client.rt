@@ -14,7 +14,7 @@ pub(crate) const SERVER_ADDRESS: [u8; 4] = [192, 0, 2, 2];
 
 pub(crate) const SERVER_PORT: u16 = 5_001;
 
-/// A client's connection, the wires to its server and back, and how far it has come.
+/// A client's connection, the wires to its server and back, and what has happened so far.
 #[derive(Drop)]
 pub(crate) struct Client {
     /// The address and port that its datagrams come from.
@@ -28,7 +28,7 @@ pub(crate) struct Client {
 }
 
 impl Client {
-    /// The one whose address ends with this byte. A real client draws the number of its first packet.
+    /// The client whose address ends with this byte. A real client draws the number of its first packet.
     pub(crate) fn new(alloc: Global, last: u8) -> Option<Client> {
         let peer = Peer {
             address: [192, 0, 2, last],

@@ -1,6 +1,6 @@
 //! Two servers in one process, whose clients send a greeting and close: a server of one connection, and a server of
-//! many peers, at which a second client finds no place, since one flow may be there. What each server got is
-//! printed, and then what the second client was told.
+//! many peers, where a second client finds no place, since there may be one flow only. It prints what each server got,
+//! and then what the second client was told.
 //!
 //! It is the program of docs/USING.md, to be read whole and copied from, and has no contract of its own. Its wires are
 //! in memory, since this repository opens no socket. It takes memory for each frame on them.

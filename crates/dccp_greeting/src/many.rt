@@ -18,7 +18,7 @@ pub(crate) struct ServerOfMany {
 }
 
 impl ServerOfMany {
-    /// A server at which one flow may stand.
+    /// A server that may have one flow.
     pub(crate) fn new(alloc: Global) -> ServerOfMany {
         let mut services = ArrayVec::new();
         let _ = services.try_push(SERVICE);
@@ -102,7 +102,7 @@ fn tick(server: &mut ServerOfMany, first: &mut Client, second: &mut Client, now:
     }
 }
 
-// All talk until the first has ended. What the second was told.
+// All talk until the first client's connection has ended. Returns what the second was told.
 fn exchange(server: &mut ServerOfMany, first: &mut Client, second: &mut Client) -> Option<u8> {
     first.open()?;
     second.open()?;
@@ -124,7 +124,7 @@ fn talk_beside(alloc: Global, server: &mut ServerOfMany, first: &mut Client) -> 
     exchange(server, first, &mut second)
 }
 
-/// Two clients come. The code of the Reset that the second was told; None where memory ran out or a call was refused.
+/// Two clients come. Returns the code of the Reset that the second got; None if memory ran out or a call was refused.
 pub(crate) fn talk(alloc: Global, server: &mut ServerOfMany) -> Option<u8> {
     let mut first = Client::new(alloc, 1)?;
     talk_beside(alloc, server, &mut first)

@@ -16,7 +16,7 @@ pub(crate) struct ServerOfOne {
     pub(crate) got: Vec<u8>,
 }
 
-// What the end for a peer is made from. A real server draws the number.
+// The configuration of the end for a peer. A real server draws the number.
 fn config_for(peer: Peer) -> Option<Config> {
     let address = peer.address;
     let addresses = Pseudo::V4 {
@@ -40,7 +40,7 @@ impl ServerOfOne {
         }
     }
 
-    // A datagram of a stranger, whose address and port a socket tells.
+    // A datagram of a stranger, whose address and port a socket gives.
     fn meet(&mut self, peer: Peer, datagram: &[u8], now: u64, network: &mut Wire) -> Option<()> {
         let config = config_for(peer)?;
         let congestion = Kinds::new(self.alloc).ok()?;
@@ -83,7 +83,7 @@ impl ServerOfOne {
     }
 }
 
-// Both talk until the connection has ended. None where memory ran out or a call was refused.
+// Both talk until the connection has ended. None if memory ran out or a call was refused.
 fn exchange(server: &mut ServerOfOne, client: &mut Client) -> Option<()> {
     client.open()?;
     // A turn takes 10 milliseconds. A real loop sleeps until a datagram comes, or `until_first` has gone by.
@@ -99,7 +99,7 @@ fn exchange(server: &mut ServerOfOne, client: &mut Client) -> Option<()> {
     None
 }
 
-/// A client comes. None where memory ran out or a call was refused.
+/// A client comes. None if memory ran out or a call was refused.
 pub(crate) fn talk(alloc: Global, server: &mut ServerOfOne) -> Option<()> {
     let mut client = Client::new(alloc, 1)?;
     exchange(server, &mut client)

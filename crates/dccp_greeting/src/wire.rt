@@ -28,13 +28,13 @@ impl Wire {
 }
 
 impl Network for Wire {
-    // What contracts may say of a wire by a frame: nothing.
+    // What contracts may say of a wire once it has carried a frame: nothing.
     ghost sends = { λ _ _ _. Unit {0} };
 
     fn send(&mut self, frame: &[u8]) {
         let mut datagram = Vec::new(self.alloc);
         if datagram.extend_from_slice(frame).is_ok() {
-            // A frame that finds no memory is a lost one.
+            // A frame for which there is no memory is lost.
             let _ = self.frames.push(datagram);
         }
     }
