@@ -9,7 +9,7 @@ times x xs = count_by (λ y. y == x) xs
 abbrev pub once_below : ℕ → ℕ → ℕ
 once_below x m = if nat_lt x m then 1 else 0
 
--- in the list stand the numbers below m, each once, and no others
+-- the list has the numbers below m, each once, and no others
 abbrev pub AreOnceBelow : ℕ → List ℕ → Type 0
 AreOnceBelow m xs = (x : ℕ) → times x xs ≡ once_below x m
 

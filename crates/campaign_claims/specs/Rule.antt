@@ -1,4 +1,4 @@
--- The rule over the word and the views of all claimers, and what a claim tells of the word that it read (own).
+-- The rule over the word and the views of all claimers, and what a claim says about the word that it read (own).
 use Rattle.std.specs.Prelude.{◌≡◌, ℕ, ◌^◌, ◌<◌, ◌≤◌, min, nat_lt, if◌then◌else◌, List, [], ◌∷◌, length, All, sum_by, Option, Some, None, ◌-◌}
 use mathlib.Core.Option.{some}
 use lib.ListN.{get_elem?}

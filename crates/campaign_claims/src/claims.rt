@@ -47,8 +47,8 @@ impl Model for Claimer {
     ghost invariant = { λ c. (c.seat.me.1 ≡ []) × (c.limit ≡ c.seat.me.0.limit) × (0 < c.seat.me.0.share) };
 }
 
-/// Claims to the numbers below `n`, of which none is claimed yet, and a claimer with all 2^62 shares. `NoMemory` comes
-/// only here.
+/// Claims to the numbers below `n`, of which none is claimed yet, and a claimer with all 2^62 shares. Only this call
+/// may return `NoMemory`.
 pub fn make_claims(alloc: Global, n: u64) -> Result<(Claims, Claimer), NoMemory>
     requires few { n ≤ 100000 }
     ensures { IfOk result (λ made. made.1 ≡ held made.0 (first n)) }
@@ -121,9 +121,9 @@ impl Claimer {
 }
 
 impl Claims {
-    /// Ends the claims and answers the word's last value: how many claims were made by all. The numbers of any claimer
-    /// lie below the lesser of the limit and the word, each at most once. Whoever has joined all others, and so has all
-    /// 2^62 shares, has made all claims and has all those numbers.
+    /// Ends the claims and returns the word's last value: how many claims were made in all. The numbers of any claimer
+    /// lie below the lesser of the limit and the word, each at most once. A claimer that has joined all others, and so
+    /// has all 2^62 shares, has made all claims and has all those numbers.
     pub fn close(self, last: Claimer) -> u64
         requires same { last.claims ≡ self }
         ensures least { last.view.drawn ≤ result }

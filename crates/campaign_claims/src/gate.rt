@@ -1,9 +1,9 @@
-//! What whoever claims a number waits for before it begins with it.
+//! What a thread waits for before it begins with a number that it has claimed.
 ghost use Rattle.campaign_claims.specs.Views.{IsLastNumber};
 
 use crate::Claimer;
 
-/// It is called with each number that is begun (own). It may make its caller wait, and has no say in what that does.
+/// It is called with each number that is begun (own). It may make its caller wait, and has no other effect on it.
 pub trait Gate {
     /// This number is begun with: the last that its claimer drew.
     fn begin(&self, claimer: &Claimer, index: u64)

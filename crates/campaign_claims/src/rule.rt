@@ -1,8 +1,8 @@
 //! What a claimer knows, the rule over all of them, and the kinds of step that there are.
 //!
-//! The limit is in every view, and in the claimer as a number: what a step makes of a view may depend on that view
-//! and on the word alone, and a claim compares the two. A claimer's numbers are a list and not a set. So what two
-//! workers did is put together by joining lists, and counts say how often a number is there.
+//! The limit is in every view, and in the claimer as a number: what a step makes of a view may depend on that view and
+//! on the word alone, and a claim compares the two. A claimer's numbers are a list and not a set. So the work of two
+//! workers is joined by joining lists, and counts say how often a number is there.
 use atomic_table::{Join, Play, Split, TableRule};
 use std::collections::LinkedList;
 
@@ -10,7 +10,7 @@ use std::collections::LinkedList;
 pub struct View {
     /// The numbers that it claimed, each claimer's in the order of its claims.
     pub numbers: LinkedList<u64>,
-    /// How many claims it made, those in vain among them.
+    /// How many claims it made, including those that gave no number.
     pub drawn: u64,
     /// How many claims it may make in all. All claimers have 2^62 together.
     pub share: u64,
