@@ -26,7 +26,7 @@ pub record IsSameStep (one other : Step Outcome) : Type 0 where
   pub same_calls : one.calls ≡ other.calls
   pub same_outcome : without_place one.answer ≡ without_place other.answer
 
--- An end to which the frame is addressed takes it as it takes the end's own frame, in whose place it went out.
+-- An end to which the frame is addressed takes it as it would take the end's own frame, which it replaces.
 abbrev pub LongerFramesAreTakenAlike : Type 0
 LongerFramesAreTakenAlike =
     (e : EndState) (held : InboxState) (own frame : Outgoing) → TellsItsDrops e.config.pseudo_in held own frame

@@ -1,4 +1,4 @@
--- What the frames of ends with inboxes tell of the data that came (own; RFC 4340, sections 11.4 and 11.7).
+-- What the frames of ends with inboxes say about the data that arrived (own; RFC 4340, sections 11.4 and 11.7).
 use Rattle.std.specs.Prelude.{◌≡◌, ℕ, ◌^◌, ◌<◌, true, List, map, slice_get, Some, Ok}
 use Rattle.std.specs.List.{Contains}
 use Rattle.congestion_trait.specs.Control.{Control}
@@ -25,7 +25,7 @@ data_numbers items = map (λ (item : KeptData). item.number) items
 abbrev pub drop_numbers : List DropEntry → List ℕ
 drop_numbers drops = map (λ (d : DropEntry). d.number) drops
 
--- A frame of a side, and the packet as which it went out; it acknowledges this number.
+-- A frame of a side, and the packet that went out for it, which acknowledges this number.
 pub record WentOut {C : Type 0} (w : InboxPair C) (side : Side) (frame : SentFrame) (packet : Parts) (ack : ℕ) : Type 0 where
   pub index : ℕ
   pub bytes : List ℕ
@@ -35,9 +35,9 @@ pub record WentOut {C : Type 0} (w : InboxPair C) (side : Side) (frame : SentFra
   pub acknowledges : frame.ack ≡ Some ack
   pub ack_fits : ack < 2 ^ 48
 
--- What a side's application took is data of packets that the side processed. No packet that a frame calls dropped, whenever that
--- went out, is among these. And of one that was processed before a frame went out, no Ack Vector of that frame says that it is
--- missing.
+-- The data that a side's application took are of packets that the side processed. No packet that a frame calls dropped
+-- is among these, whenever the frame went out. And if such a packet was processed before a frame went out, no Ack
+-- Vector of that frame says that it is missing.
 pub record TellsOfItsData {C : Type 0} (w : InboxPair C) (side : Side) : Type 0 where
   pub taken_are_processed : (n : ℕ) → Contains (data_numbers (inbox_at w side).past.taken) n → Contains (half_of w.ends.world side).processed n
   pub dropped_are_not_taken : (n code ack : ℕ) (frame : SentFrame) (packet : Parts) (report : Report) → WentOut w side frame packet ack
@@ -48,7 +48,7 @@ pub record TellsOfItsData {C : Type 0} (w : InboxPair C) (side : Side) : Type 0 
       → Contains (data_numbers (inbox_at w side).past.taken) n → Contains (processed_by (half_of w.ends.world side) frame) n
       → state_at report.ack report.bytes n ≡ Some state → is_received (Some state) ≡ true
 
--- So it is at either side, over every list of events, of readings and of ends of reading.
+-- This holds at either side, after every list of events, of readings and of ends of reading.
 abbrev pub TellOfTheirData : {C : Type 0} → Control C → Type 0
 TellOfTheirData {C} control =
     (client server : Config) (for_client for_server : C) (client_most server_most : ℕ) (events : List InboxEvent)

@@ -1,4 +1,4 @@
--- Two ends with inboxes: their frames go out with what the inboxes have to say, and so they arrive (own).
+-- Two ends with inboxes: their frames go out, and arrive, with what the inboxes have to say (own).
 use Rattle.std.specs.Prelude.{◌≡◌, ℕ, List, [], ◌∷◌, ◌++◌, length, map, drop, slice_get, Option, Some, None, Result, Ok, Err}
 use Rattle.congestion_trait.specs.Control.{Control}
 use Rattle.data_dropped.specs.EndHistory.{calls_by}
@@ -73,7 +73,7 @@ abbrev pub bytes_arriving : {C : Type 0} → InboxPair C → Event → List ℕ
 bytes_arriving w (event.Deliver from index) = bytes_if (went_out_at w from index)
 bytes_arriving w _ = []
 
--- the calls of an inbox by what was seen of its end's step: data that were delivered from these bytes
+-- the calls of an inbox that follow from a step of its end: data that were delivered from these bytes
 abbrev pub inbox_calls : InboxState → ℕ → List ℕ → Seen → List InboxCall
 inbox_calls held n bytes (seen.Received outcome) = calls_by held n bytes outcome
 inbox_calls held n bytes (seen.Called result) = []
@@ -91,7 +91,7 @@ inbox_after x calls before half =
       said = x.said ++ map (said_frame half.end.config.pseudo_out (history_after_all x.past calls).held) (drop before half.frames);
     }
 
--- what a step makes of the inbox of the side that acts
+-- what a step does to the inbox of the side that acts
 abbrev pub inbox_stepped : {C : Type 0} → InboxPair C → Event → WorldStep → InboxSide
 inbox_stepped w e step =
     inbox_after (inbox_at w (actor e))
@@ -143,8 +143,8 @@ begins_with_inboxes control client server for_client for_server client_most serv
 abbrev pub AreAddressed : Config → Config → Type 0
 AreAddressed client server = (server.pseudo_in ≡ client.pseudo_out) × (client.pseudo_in ≡ server.pseudo_out)
 
--- Ends with inboxes do what the ends alone do: whatever arrives, in whatever order, they are after each schedule where these are
--- after the same events. So each law on schedules of two ends holds of them.
+-- Ends with inboxes do what ends alone do: whatever arrives, in whatever order, after each schedule they are as ends
+-- alone are after the same events. So each law on schedules of two ends holds of them.
 abbrev pub RunAsAlone : {C : Type 0} → Control C → Type 0
 RunAsAlone {C} control =
     (client server : Config) (for_client for_server : C) (client_most server_most : ℕ) (events : List InboxEvent)

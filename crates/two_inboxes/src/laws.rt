@@ -13,17 +13,18 @@ pub fn longer_frames_are_taken_alike()
     ensures { LongerFramesAreTakenAlike }
 {}
 
-/// Two ends with inboxes are after every list of events where two ends alone are after the same events (own). So what
-/// holds of every schedule of two ends holds of them: agreement, truthful vectors, and data once among it.
+/// After every list of events, two ends with inboxes are as two ends alone are after the same events (own). So what
+/// holds of every schedule of two ends holds of them: agreement, truthful vectors and data that are delivered once,
+/// among others.
 pub fn ends_with_inboxes_run_as_alone<C: Congestion>()
     ensures { RunAsAlone C.control }
 {
     every_step_has_one_effect();
 }
 
-/// No packet that a frame of an end calls dropped is one whose data its application took, before that frame or after it.
-/// Each packet whose data it took was processed; and of one that was processed before a frame went out, no Ack Vector of
-/// that frame says that it is missing. So it is at both ends, over every list of events (RFC 4340, sections 11.4 and
+/// No packet that a frame of an end calls dropped is one whose data its application took, before that frame or after
+/// it. Each packet whose data it took was processed; and if it was processed before a frame went out, no Ack Vector of
+/// that frame says that it is missing. This holds at both ends, after every list of events (RFC 4340, sections 11.4 and
 /// 11.7).
 pub fn frames_tell_of_what_was_taken<C: Congestion>()
     ensures { TellOfTheirData C.control }

@@ -1,4 +1,4 @@
-//! What holds of two ends with inboxes (own): their frames go out with what the inboxes have to say, and arrive so.
+//! What holds of two ends with inboxes (own): their frames go out, and arrive, with what the inboxes have to say.
 #![tactic(auto)]
 
 mod laws;
