@@ -1,4 +1,4 @@
--- Data that a sender's owner hands over get to the other end (RFC 4340, section 8.5, step 16; own).
+-- Data that a sender's owner hands over reach the other end (RFC 4340, section 8.5, step 16; own).
 use Rattle.std.specs.Prelude.{◌≡◌, ℕ, ◌+◌, ◌^◌, ◌<◌, true, List, length, drop, slice_get, Some, Ok}
 use Rattle.congestion_trait.specs.Control.{Control}
 use Rattle.dccp_endpoint.specs.Calling.{lacks_vectors}
@@ -11,11 +11,12 @@ use Rattle.dccp_states.specs.declared.seen.Seen.TheVariants as seen
 use Rattle.world_events.specs.declared.event.Side.{Side}
 use Rattle.two_ends_progress.specs.Settled.{HaveAgreed}
 
--- Each side has sent so few frames that, with so many more, their short numbers can be told (RFC 4340, section 7.6).
+-- Each side has sent so few frames that, with so many more, their short numbers are unambiguous (RFC 4340, section
+-- 7.6).
 abbrev pub AreFew : ℕ → WorldState → Type 0
 AreFew more w = (side : Side) → length (half_of w side).frames + more < 2 ^ 23
 
--- A side's `send` takes these data, and the delivery of the frame that goes out for them hands over just these.
+-- A side's `send` takes these data, and the delivery of the frame that carries them hands over exactly these.
 pub record GetsThrough {C : Type 0} (control : Control C) (w : Controlled C) (from : Side) (payload : List ℕ) : Type 0 where
   pub sent : ControlledStep C
   pub takes_place : happens_to control w (event.Send from payload) ≡ Ok sent

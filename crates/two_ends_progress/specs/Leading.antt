@@ -8,7 +8,7 @@ use Rattle.world_events.specs.declared.event.Event.{Event}
 use Rattle.world_events.specs.declared.event.Event.TheVariants as event
 use Rattle.world_events.specs.declared.event.Side.{Side}
 
--- The event is a timer or a delivery: nothing that an owner asks for.
+-- The event is a timer or a delivery, and no call of an owner.
 abbrev pub IsPassive : Event → Type 0
 IsPassive event.Open = ⊥
 IsPassive (event.Deliver from index) = Unit {0}

@@ -1,4 +1,4 @@
--- What an opening is, and what it may come to (RFC 4340, section 8.1; own).
+-- What an opening is, and how it may end (RFC 4340, section 8.1; own).
 use Rattle.std.specs.Prelude.{◌≡◌, ◌⊎◌, true, None}
 use Rattle.dccp_endpoint.specs.End.{is_connected}
 use Rattle.dccp_endpoint.specs.Steps.{next_number}
@@ -10,8 +10,8 @@ use Rattle.world_events.specs.declared.event.Side.{Side}
 use Rattle.world_events.specs.declared.event.Side.TheVariants.{Client, Server}
 use Rattle.two_ends_progress.specs.Leading.{IsOver}
 
--- An opening is under way: the client asks, and the server has heard nothing, or is in RESPOND, where the client's next
--- number is in its window; or the client has the Response, and the server waits for an acknowledgement of it.
+-- An opening is under way. The client asks, and the server has heard nothing, or is in RESPOND with the client's next
+-- number in its window; or the client has the Response, and the server waits for an acknowledgement of it.
 pub data IsInHandshake (w : WorldState) : Type 0 where
   IsAsking : w.client.end.phase ≡ phases.Request → w.server.end.phase ≡ phases.Listen → IsInHandshake w
   AsksAgain : w.client.end.phase ≡ phases.Request → w.server.end.phase ≡ phases.Respond

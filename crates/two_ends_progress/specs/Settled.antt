@@ -1,4 +1,4 @@
--- All negotiations have come to an end (RFC 4340, section 6; own).
+-- All negotiations have ended (RFC 4340, section 6; own).
 use Rattle.std.specs.Prelude.{◌≡◌}
 use Rattle.dccp_endpoint.specs.End.{held_of}
 use Rattle.feature_lists.specs.declared.features.Feature.{Feature}

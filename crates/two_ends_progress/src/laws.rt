@@ -51,8 +51,8 @@ pub fn closing_ends_both<C: Congestion>()
     every_step_has_one_effect();
 }
 
-/// What such a way of closing is, in plain words: a list of at most seven events (`few`), each of them a timer of a side
-/// or the delivery of a frame (`passive`), after which either end is in CLOSED or in TIMEWAIT (`over`).
+/// What such a way of closing is, in plain words: a list of at most seven events (`few`), each of them a timer of a
+/// side or the delivery of a frame (`passive`), after which each end is in CLOSED or in TIMEWAIT (`over`).
 pub fn closing_takes_seven_events<C: Congestion>()
     ensures few { (w : Controlled C) (way : HasWay C.control 7 w (λ (v : Controlled C). AreOver v.world)) → length way.events ≤ 7 }
     ensures passive { (w : Controlled C) (way : HasWay C.control 7 w (λ (v : Controlled C). AreOver v.world)) (place : ℕ) (e : Event)
@@ -63,10 +63,11 @@ pub fn closing_takes_seven_events<C: Congestion>()
         ⊎ ((half_of (plays C.control w way.events).world side).end.phase ≡ phases.TimeWait) }
 {}
 
-/// What an opening is that gets through, and such a way, in plain words. The client asks and the server has heard nothing,
-/// or answered a Request and would take the next; or the client is in PARTOPEN and the server in RESPOND (`asking`,
-/// `again`, `answered`). The way is a list of at most four events (`few`), each of them a timer of a side or the delivery
-/// of a frame (`passive`), after which an end is in CLOSED or in TIMEWAIT, or each is in PARTOPEN or in OPEN (`through`).
+/// What an opening is that gets through, and what a way of it is, in plain words. The client asks and the server has
+/// heard nothing, or answered a Request and would take the next; or the client is in PARTOPEN and the server in RESPOND
+/// (`asking`, `again`, `answered`). The way is a list of at most four events (`few`), each of them a timer of a side or
+/// the delivery of a frame (`passive`), after which an end is in CLOSED or in TIMEWAIT, or each is in PARTOPEN or in
+/// OPEN (`through`).
 pub fn openings_take_four_events<C: Congestion>()
     ensures asking { (w : WorldState) → w.client.end.phase ≡ phases.Request → w.server.end.phase ≡ phases.Listen → IsInHandshake w }
     ensures again { (w : WorldState) → w.client.end.phase ≡ phases.Request → w.server.end.phase ≡ phases.Respond
@@ -83,11 +84,11 @@ pub fn openings_take_four_events<C: Congestion>()
         ⊎ ((half_of (plays C.control w way.events).world side).end.phase ≡ phases.Open)) }
 {}
 
-/// An opening gets through. Where the client is in REQUEST and the server in LISTEN, or in RESPOND with the client's next
-/// number in its window, or the client is in PARTOPEN and the server in RESPOND, at most four timers and deliveries lead
-/// both to PARTOPEN or OPEN, or an end to CLOSED or TIMEWAIT (`asked`; RFC 4340, section 8.1). Such is the world after
-/// `open` at the start (`started`). The configurations are each other's. A server in RESPOND whose window the client's
-/// next number has left is in no such world: it answers no further Request.
+/// An opening gets through. Where the client is in REQUEST and the server in LISTEN, or in RESPOND with the client's
+/// next number in its window, or the client is in PARTOPEN and the server in RESPOND, at most four timers and
+/// deliveries lead both to PARTOPEN or OPEN, or an end to CLOSED or TIMEWAIT (`asked`; RFC 4340, section 8.1). The
+/// world after `open` at the start is one of these (`started`). The configurations are each other's. The law excludes a
+/// server in RESPOND whose window the client's next number has left: it answers no further Request.
 pub fn openings_get_through<C: Congestion>()
     ensures asked { (client server : Config) (for_client for_server : C) (events : List Event) → client.role ≡ role.Client
         → server.role ≡ role.Server → Fits client → Fits server → AreForEachOther client server
@@ -101,9 +102,9 @@ pub fn openings_get_through<C: Congestion>()
     every_step_has_one_effect();
 }
 
-/// An opening ends in OPEN. From the same worlds, where each side has sent fewer than 2^23 - 13 frames, at most thirteen
-/// timers and deliveries lead both ends to OPEN, or an end to CLOSED or TIMEWAIT (RFC 4340, section 8.1). Of so few frames
-/// the short numbers can be told.
+/// An opening ends in OPEN. From the same worlds, where each side has sent fewer than 2^23 - 13 frames, at most
+/// thirteen timers and deliveries lead both ends to OPEN, or an end to CLOSED or TIMEWAIT (RFC 4340, section 8.1). With
+/// so few frames the short numbers are unambiguous.
 pub fn openings_end_in_open<C: Congestion>()
     ensures { (client server : Config) (for_client for_server : C) (events : List Event) → client.role ≡ role.Client
         → server.role ≡ role.Server → Fits client → Fits server → AreForEachOther client server
@@ -159,11 +160,11 @@ pub fn settling_takes_twenty_four_events<C: Congestion>()
         ≡ (held_of (plays C.control w way.events).world.server.end feature place.Here).value }
 {}
 
-/// Data get through. Where both ends are OPEN and all rows of both are STABLE, whatever led there and whatever was lost,
-/// at most six timers and deliveries lead to a world in which `send` of a side takes up to 1,024 bytes, and in which the
-/// delivery of the frame that goes out for them hands over just these (RFC 4340, sections 7 and 8.5). A sender whose CCID
-/// needs Ack Vectors has to get some, the configurations are each other's, and each side has sent fewer than 2^23 - 8
-/// frames, so that a short number tells which one it is.
+/// Data get through. Where both ends are OPEN and all rows of both are STABLE, whatever led there and whatever was
+/// lost, at most six timers and deliveries lead to a world in which `send` of a side takes up to 1,024 bytes, and in
+/// which the delivery of the frame that carries them hands over exactly these data (RFC 4340, sections 7 and 8.5). A
+/// sender whose CCID needs Ack Vectors has to get some, the configurations are each other's, and each side has sent
+/// fewer than 2^23 - 8 frames, so that short numbers are unambiguous.
 pub fn data_get_through<C: Congestion>()
     ensures { (client server : Config) (for_client for_server : C) (events : List Event) (side : Side) (payload : List ℕ)
         → client.role ≡ role.Client → server.role ≡ role.Server → Fits client → Fits server → AreForEachOther client server
@@ -194,10 +195,10 @@ pub fn senders_are_never_stuck<C: Congestion>()
     every_run_is_safe::<C>();
 }
 
-/// What such a way of sending is, in plain words: a list of at most six events (`few`), each of them a timer of a side or
-/// the delivery of a frame (`passive`). After it `send` is taken (`taken`); and of the world that it leaves, the delivery
-/// of the frame that it added hands over the bytes from a place up to the frame's end, which are the data (`handed`). Any
-/// world with fewer than 2^23 - 8 frames a side will do (`counts`).
+/// What such a way of sending is, in plain words: a list of at most six events (`few`), each of them a timer of a side
+/// or the delivery of a frame (`passive`). After it `send` is taken (`taken`); and of the world that it leaves, the
+/// delivery of the frame that it added hands over the bytes from a place up to the frame's end, which are the data
+/// (`handed`). It is enough that each side has sent fewer than 2^23 - 8 frames (`counts`).
 pub fn sending_takes_six_events<C: Congestion>()
     ensures few { (w : Controlled C) (side : Side) (payload : List ℕ) (way : HasWay C.control 6 w (λ (v : Controlled C). GetsThrough C.control v side payload))
         → length way.events ≤ 6 }
@@ -226,18 +227,18 @@ pub fn a_sender_lacks_reports_by_agreement()
 {}
 
 /// Where the greatest number received comes from, after every list of events, from any two configurations whose fields
-/// fit. Once an end has received a first number, in every phase but CLOSED, TIMEWAIT among them, it processed its GSR; or
-/// a frame with that number arrived, valid and of a type that the phase did not expect, and a Sync of the number answered
-/// it (RFC 4340, section 8.5, step 7). So no other packet raises GSR.
+/// fit. Once an end has received a first number, in every phase except CLOSED, it processed its GSR; or a frame with
+/// that number arrived, valid and of a type that the phase did not expect, and was answered by a Sync for that number
+/// (RFC 4340, section 8.5, step 7). So no other packet raises GSR.
 pub fn the_greatest_number_was_processed_or_refused<C: Congestion>()
     ensures { (start : Controlled C) (events : List Event) → IsBeginning C.control start → (side : Side) → GreatestIsMet C.control start events side }
 {
     every_step_has_one_effect();
 }
 
-/// What this comes to, in plain words. The side's phase is not CLOSED, and a first number was received: its phase says so,
-/// or it has processed a number. Then GSR is among the numbers that it processed; or the events have a front, and next the
-/// arrival of a frame of the other side with just this number, which a Sync of the number answered.
+/// The same in plain words. The side's phase is not CLOSED, and a first number was received: its phase says so, or it
+/// has processed a number. Then GSR is among the numbers that it processed; or after some of the events a frame of the
+/// other side with just this number arrived, and was answered by a Sync for that number.
 pub fn a_number_that_is_not_processed_was_answered_by_a_sync<C: Congestion>()
     ensures { (start : Controlled C) (events : List Event) (side : Side) → GreatestIsMet C.control start events side
         → (half_of (plays C.control start events).world side).end.phase ≢ phases.Closed

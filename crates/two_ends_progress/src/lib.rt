@@ -1,8 +1,8 @@
-//! What leads on from every world of two ends: no world is a dead end, as far as these laws go (own). Beside that stands
-//! what led to it: where an end's greatest number received came from.
+//! What leads on from every world of two ends: no world is a dead end, as far as these laws go (own). One more law
+//! looks back: where an end's greatest number received came from.
 //!
-//! A law says that from a world, whatever led to it, a short list of timers and deliveries leads to a goal. It says
-//! nothing of whether these events come: that the frames of that list arrive, and that timers fire, is its premise.
+//! A law says that from a world, whatever led to it, a short list of timers and deliveries leads to a goal. It does not
+//! say that these events happen: its premise is that the frames of the list arrive, and that the timers fire.
 #![tactic(auto)]
 
 mod laws;
