@@ -1,5 +1,5 @@
--- What `replay` writes of an input where its end has a receive buffer, of which an application reads and which it may
--- stop reading (own).
+-- What `replay` writes of an input if its end has a receive buffer, which an application reads, and may stop reading
+-- (own).
 use Rattle.std.specs.Prelude.{ℕ, ◌++◌, Bool, ◌||◌, if◌then◌else◌, is_some, List, [], ◌∷◌, codes, decimal, Option, Some, None, Result}
 use Rattle.std.specs.Str.{bytes_eq}
 use Rattle.ccid_two.specs.Kinds.{Both, at_first, kinds_control}
@@ -17,7 +17,7 @@ use Rattle.schedule_text.specs.Results.{result_line}
 use Rattle.tool_text.specs.Text.{hex_or_dash}
 use Rattle.tool_jobs.specs.Replay.{Act, Acts, Heeded, opened_line, replay_config, replay_of_input, text_of_replay}
 
--- the line of the call `open`, and what the call made of the end; its inbox is as it was
+-- the line of the call `open`, and the end after the call; its inbox is as it was
 abbrev pub buffered_opened : BufferedCall Both (Result (Unit {0}) OpenFault) → Act (Buffered Both)
 buffered_opened step = record { text = opened_line step.answer; after = step.after; frame = step.frame }
 
@@ -25,13 +25,13 @@ buffered_opened step = record { text = opened_line step.answer; after = step.aft
 abbrev pub dropped_text : ℕ → ℕ → List ℕ
 dropped_text number code = decimal number ++ codes ": took dropped " ++ decimal code ++ codes "\n"
 
--- The line of what became of a frame: data that were dropped are told by their code, and all else as of any end.
+-- The line of what became of a frame: data that were dropped are shown by their code, and all else as for any end.
 abbrev pub arrival_line : ℕ → List ℕ → Outcome → Option Arrival → List ℕ
 arrival_line number bytes outcome None = result_line number (seen.Received outcome) bytes
 arrival_line number bytes outcome (Some Kept) = result_line number (seen.Received outcome) bytes
 arrival_line number bytes outcome (Some (Dropped code)) = dropped_text number code
 
--- that line, and what the bytes that arrived made of the end and its inbox
+-- that line, and the end and its inbox after the bytes that arrived
 abbrev pub buffered_heard : ℕ → List ℕ → BufferedStep Both → Act (Buffered Both)
 buffered_heard number bytes step = record { text = arrival_line number bytes step.outcome step.arrival; after = step.after; frame = step.frame }
 
@@ -52,7 +52,7 @@ item_read b number = record { text = item_line number b.inbox.items; after = rec
 abbrev pub reading_stopped : Buffered Both → ℕ → Heeded (Buffered Both)
 reading_stopped b number = record { text = decimal number ++ codes ": ok\n"; after = record { end = b.end; inbox = stopping b.inbox } }
 
--- Its own lines are `read` and `stop`, each where it is that word alone.
+-- Its own lines are `read` and `stop`, each as a line of that word alone.
 abbrev pub buffered_acts : Acts (Buffered Both)
 buffered_acts = record {
   opening = λ b. buffered_opened (beside b.inbox (with_control kinds_control b.end.congestion (opens b.end.state)));

@@ -19,11 +19,11 @@ send_row = row_as (λ s. call.Send s.0) (dash_kind ▷ end_row)
 abbrev pub timer_row : Row PeerCall
 timer_row = row_as (λ s. call.Timer s.0) (timer_kind ▷ end_row)
 
--- nothing follows where the connection is to end in order
+-- nothing follows `close`, which ends the connection in order
 abbrev pub close_row : Row PeerCall
 close_row = row_as (λ s. call.Close) end_row
 
--- nor where it is to end at once
+-- nor `abort`, which ends it at once
 abbrev pub abort_row : Row PeerCall
 abort_row = row_as (λ s. call.Abort) end_row
 
@@ -31,7 +31,7 @@ abort_row = row_as (λ s. call.Abort) end_row
 abbrev pub arrival_row : Row PeerCall
 arrival_row = row_as (λ frame. call.Frame frame) replay_row
 
--- what happens, by its first word; a frame has none that says so
+-- what happens, by the first word; a line of a frame has no such word
 abbrev pub call_row : Row PeerCall
 call_row =
     after_word (codes "send") send_row

@@ -19,8 +19,8 @@ role_of Server = role.Server
 abbrev pub config_without_offers : Config → Config
 config_without_offers config = record config { lists = listed.without_offers config.lists }
 
--- The frame that a line makes arrive: with `seal` the checksum is set for these addresses, unless the coverage passes
--- the frame's end.
+-- The frame that arrives by a line: with `seal` the checksum is set for these addresses, unless the coverage passes the
+-- frame's end.
 abbrev pub arriving : Pseudo → FrameLine → List ℕ
 arriving addresses frame = if frame.seal then sealed addresses frame.bytes else frame.bytes
 

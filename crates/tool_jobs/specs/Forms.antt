@@ -9,7 +9,7 @@ use Rattle.tool_text.specs.Lines.{line_read}
 use Rattle.tool_jobs.specs.declared.ecn.names.Form.{Form}
 use Rattle.tool_jobs.specs.declared.ecn.names.Form.TheVariants as form
 
--- the first word of a line of `ecn`, which tells what the line is
+-- the first word of a line of `ecn`, which says what the line is
 abbrev pub ecn_form_name : Form → List ℕ
 ecn_form_name form.Send = codes "send"
 ecn_form_name form.Deliver = codes "deliver"

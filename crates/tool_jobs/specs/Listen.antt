@@ -1,5 +1,4 @@
--- What `listen` writes of an input: what each peer is answered, line by line, then the flows or the line of the first
--- refusal (own).
+-- What `listen` writes of an input: the answer to each line, then the flows or the line of the first refusal (own).
 use Rattle.std.specs.Prelude.{ℕ, ◌+◌, nat_lt, Bool, if◌then◌else◌, is_some, List, [], ◌∷◌, map, Option, Some, None, Result, Ok, Err}
 use Rattle.dccp_listener.specs.Chain.{Deed, Arrives, Calls, Sends, Fires, Closes, Aborts}
 use Rattle.dccp_listener.specs.Listens.{computed_turn, listening_after}
@@ -35,11 +34,11 @@ abbrev pub listen_config : ℕ → ListenConfig
 listen_config most =
     record { own_address = own_address; own_port = 5001; services = record { items = 42 ∷ 43 ∷ [] }; lists = usual_lists; most = most }
 
--- Before the first line: no flow stands, and their ends will make no offers.
+-- Before the first line: there are no flows, and their ends will make no offers.
 abbrev pub first_listening : ℕ → Listening
 first_listening most = record { config = unoffering (listen_config most); flows = [] }
 
--- nor has anything happened
+-- and nothing has happened
 abbrev pub first_serving : ℕ → Serving
 first_serving most = record { listener = first_listening most; events = 0 }
 
@@ -59,11 +58,11 @@ deed_of peer call.Abort = Calls Aborts
 abbrev pub exchange_at : Listening → ℕ → Peer → Deed → Exchange
 exchange_at l number peer deed = record { number = number; before = l; peer = peer; deed = deed }
 
--- it happens: one line more counts, and the listener stands as it leaves it
+-- it happens: one line more counts, and the listener is as it leaves it
 abbrev pub by_exchange : Serving → Exchange → Verdict Exchange Serving
 by_exchange s x = Accepted (Some x) (record { listener = listening_after x.before x.peer x.deed; events = s.events + 1 })
 
--- a line by which something happens is refused once there were as many as may be
+-- a line by which something happens is refused once there were as many as are allowed
 abbrev pub by_call : Serving → ℕ → Peer → PeerCall → Verdict Exchange Serving
 by_call s number peer said =
     if nat_lt s.events most_events then by_exchange s (exchange_at s.listener number peer (deed_of peer said)) else Refused (whole_line why.TooManyEvents)
@@ -82,7 +81,7 @@ peer_line_judged s number line = by_peer_line s number (read_call line)
 abbrev pub listen_job : Job Exchange Serving
 listen_job = record { judged = peer_line_judged; told = exchange_text; ending = λ s. flow_lines s.listener.flows }
 
--- what an input comes to, from a listener that has no flow and may have so many
+-- the result of an input, from a listener without flows that may have so many
 abbrev pub listened : ℕ → List ℕ → Gone Exchange Serving
 listened most input = gone_through listen_job (first_serving most) input
 
@@ -106,7 +105,7 @@ turns_of_input most input = map (λ x. computed_turn x.before x.peer x.deed) (li
 abbrev pub EveryInputIsARun : Type 0
 EveryInputIsARun = (most : ℕ) (input : List ℕ) → IsRunOfTurns (first_listening most) (listened most input).last.listener (turns_of_input most input)
 
--- So what each peer is answered and sent is the chain of its own lines, from no end to the one that it has at the end.
+-- So the answers and frames of each peer are the chain of its lines, from no end to the end that it has at last.
 abbrev pub EachPeerOfAnInputHasItsChain : Type 0
 EachPeerOfAnInputHasItsChain =
     (most : ℕ) (input : List ℕ) (peer : Peer)

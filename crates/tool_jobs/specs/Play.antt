@@ -18,18 +18,18 @@ use Rattle.tool_jobs.specs.SeenText.{ecn_ending, ecn_event_line}
 abbrev pub first_ecn_play : EcnPlay
 first_ecn_play = record { events = 0; world = ecn_begins }
 
--- A packet or report that is named and is not there: at the index, the second word of the line.
+-- The fault of a packet or report that does not exist: at the index, the second word of the line.
 abbrev pub lacking_index : List ℕ → LineFault
 lacking_index line = fault_at (word_at 1 (words_of line)).column why.NoSuchFrame
 
--- An event that took place, or the fault of its line. (No input comes to a world without room for its events.)
+-- An event that took place, or the fault of its line. (No input leads to a world without room for its events.)
 abbrev pub by_ecn_step : EcnPlay → ℕ → List ℕ → Result EcnStep EcnFault → Verdict (List ℕ) EcnPlay
 by_ecn_step play number line (Ok step) =
     Accepted (Some (ecn_event_line number line step.after step.seen)) (record { events = play.events + 1; world = step.after })
 by_ecn_step play number line (Err fault.NoSuchFrame) = Refused (lacking_index line)
 by_ecn_step play number line (Err _) = Refused (whole_line why.TooManyEvents)
 
--- the line of an event, which is refused once an input has its most events
+-- the line of an event, which is refused once an input has the most events that it may have
 abbrev pub by_ecn_event : EcnPlay → ℕ → List ℕ → EcnEvent → Verdict (List ℕ) EcnPlay
 by_ecn_event play number line event =
     if nat_lt play.events most_events then by_ecn_step play number line (happens_by play.world event) else Refused (whole_line why.TooManyEvents)
@@ -49,7 +49,7 @@ ecn_judged play number line = by_ecn_line play number line (read_ecn_line line)
 abbrev pub ecn_job : Job (List ℕ) EcnPlay
 ecn_job = record { judged = ecn_judged; told = λ text. text; ending = λ play. ecn_ending play.world }
 
--- what an input comes to
+-- the result of an input
 abbrev pub ecn_of_input : List ℕ → Gone (List ℕ) EcnPlay
 ecn_of_input input = gone_through ecn_job first_ecn_play input
 

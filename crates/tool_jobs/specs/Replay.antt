@@ -1,5 +1,5 @@
 -- What `replay` writes of an input: what an end does with its frames, line by line, then the end's line or the line of
--- the first refusal (own). An end alone and one with a receive buffer differ in what they do, and in nothing else.
+-- the first refusal (own). An end alone and one with a receive buffer differ only in what they do.
 use Rattle.std.specs.Prelude.{◌≡◌, ℕ, ◌+◌, ◌++◌, Bool, if◌then◌else◌, List, [], codes, Option, Some, None, Result, Ok, Err}
 use Rattle.ccid_two.specs.Kinds.{Both}
 use Rattle.dccp_packets.specs.Outgoing.{Outgoing}
@@ -16,7 +16,7 @@ use Rattle.tool_jobs.specs.EndLines.{bytes_line, end_line}
 use Rattle.tool_jobs.specs.Ends.{arriving, config_without_offers, role_of}
 use Rattle.tool_text.specs.Jobs.{Accepted, Gone, Job, Refused, Verdict, gone_through, text_of_job}
 
--- Where a replay stands: how many frames its end has sent, whose end it is, and the end.
+-- The state of a replay: how many frames its end has sent, whose end it is, and the end.
 pub record ReplayState (E : Type 0) : Type 0 where
   pub sent : ℕ
   pub side : Side
@@ -33,8 +33,8 @@ pub record Heeded (E : Type 0) : Type 0 where
   pub text : List ℕ
   pub after : E
 
--- An end of some kind, as a replay has it: what it does at the call `open`, and with bytes that the line of this number
--- made arrive; which lines say what it is to do itself, and what it does then; and the end whose line comes last.
+-- An end of some kind, as a replay has it: what it does at the call `open`, and with bytes that arrive by the line of
+-- this number; which lines say what it should do itself, and what it does then; and the end whose line comes last.
 pub record Acts (E : Type 0) : Type 0 where
   pub opening : E → Act E
   pub hearing : E → ℕ → List ℕ → Act E
@@ -73,7 +73,7 @@ act_lines replay act = act.text ++ reply_line replay.side replay.sent act.frame
 abbrev pub after_act : {E : Type 0} → ReplayState E → Act E → ReplayState E
 after_act replay act = record { sent = replay.sent + count act.frame; side = replay.side; end = act.after }
 
--- What comes before the first line: its text, and where the replay then stands.
+-- What comes before the first line: its text, and the state of the replay after it.
 pub record Begun (E : Type 0) : Type 0 where
   pub text : List ℕ
   pub replay : ReplayState E
@@ -98,7 +98,7 @@ by_frame_line acts replay number (Ok None) = Accepted None replay
 by_frame_line acts replay number (Ok (Some frame)) =
     by_act replay (acts.hearing replay.end number (arriving (usual (role_of replay.side)).pseudo_in frame))
 
--- a line that says what the end is to do is accepted
+-- a line that says what the end should do is accepted
 abbrev pub by_heeded : {E : Type 0} → ReplayState E → Heeded E → Verdict (List ℕ) (ReplayState E)
 by_heeded replay heeded = Accepted (Some heeded.text) (record { sent = replay.sent; side = replay.side; end = heeded.after })
 
@@ -111,7 +111,7 @@ replay_judged acts replay number line =
 abbrev pub replay_job : {E : Type 0} → Acts E → Job (List ℕ) (ReplayState E)
 replay_job acts = record { judged = replay_judged acts; told = λ text. text; ending = λ replay. end_line replay.side (acts.standing replay.end) }
 
--- what an input comes to, whose frames arrive at this new end of this side
+-- the result of an input whose frames arrive at this new end of this side
 abbrev pub replay_of_input : {E : Type 0} → Acts E → Side → E → List ℕ → Gone (List ℕ) (ReplayState E)
 replay_of_input acts side end input = gone_through (replay_job acts) (begun_replay acts side end).replay input
 
@@ -119,7 +119,7 @@ replay_of_input acts side end input = gone_through (replay_job acts) (begun_repl
 abbrev pub text_of_replay : {E : Type 0} → Acts E → Side → E → List ℕ → List ℕ
 text_of_replay acts side end input = (begun_replay acts side end).text ++ text_of_job (replay_job acts) (replay_of_input acts side end input)
 
--- An act was done so: its line is at the text's end.
+-- An act was done in this way: its line is at the text's end.
 abbrev pub Performs : {E : Type 0} → Act E → E → Option Outgoing → List ℕ → List ℕ → Type 0
 Performs act after frame old new = (after ≡ act.after) × (frame ≡ act.frame) × (new ≡ old ++ act.text)
 

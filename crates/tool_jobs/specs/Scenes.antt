@@ -8,14 +8,14 @@ use Rattle.two_ends.specs.World.{half_of}
 use Rattle.world_events.specs.Actors.{actor}
 use Rattle.world_events.specs.declared.event.Event.{Event}
 
--- An event that took place: under the number of its line, in this world, with the step that it made of it.
+-- An event that took place: the number of its line, the world in which it took place, and the step that it made.
 pub record Scene : Type 0 where
   pub number : ℕ
   pub before : Controlled Both
   pub event : Event
   pub step : ControlledStep Both
 
--- Its lines: what was seen of the event, and the frame that its actor sent, one more than it had sent before.
+-- Its lines: the result of the event, and the frame that its actor sent, if it sent one.
 abbrev pub scene_text : Scene → List ℕ
 scene_text scene =
     seen_line scene.number scene.event scene.step.seen (arrived scene.step.after.world scene.event)

@@ -13,7 +13,7 @@ use Rattle.tool_jobs.specs.Text.{phase_name}
 use Rattle.tool_text.specs.Text.{labelled_number}
 use Rattle.tool_jobs.specs.Peers.{peer_text}
 
--- What a peer was answered, and the line's end. (Nothing is told of want of memory, which ends a run.)
+-- The answer to a peer, and the line's end. (A lack of memory has no text, since it ends a run.)
 abbrev pub answer_text : List ℕ → CallTold → List ℕ
 answer_text bytes (Stepped (Some seen)) = result_text bytes seen
 answer_text bytes (Stepped None) = codes ": refused NoFlow\n"
@@ -27,24 +27,24 @@ CanBeTold bytes (Stepped None) = Unit {0}
 CanBeTold bytes WasBusy = Unit {0}
 CanBeTold bytes HadNoMemory = Unit {0}
 
--- the line of the frame that goes to a peer, where one does
+-- the line of the frame that goes to a peer, if one does
 abbrev pub frame_to_peer : Peer → Option Outgoing → List ℕ
 frame_to_peer peer None = []
 frame_to_peer peer (Some sent) = codes "sent " ++ peer_text peer ++ codes " " ++ encode_lower sent.bytes ++ codes "\n"
 
--- the bytes that arrive, and none with a call
+-- the bytes that arrive; none by a call
 abbrev pub arriving_bytes : Deed → List ℕ
 arriving_bytes (Arrives iss bytes) = bytes
 arriving_bytes (Calls call) = []
 
--- Something that happens to a peer, under the number of its line, while the listener stands so.
+-- Something that happens to a peer, under the number of its line, at this listener.
 pub record Exchange : Type 0 where
   pub number : ℕ
   pub before : Listening
   pub peer : Peer
   pub deed : Deed
 
--- Its lines, computed from it: what the peer is answered, and the frame that goes to it.
+-- Its lines, computed from it: the answer to the peer, and the frame that goes to it.
 abbrev pub exchange_text : Exchange → List ℕ
 exchange_text x =
     decimal x.number ++ codes " " ++ peer_text x.peer ++ answer_text (arriving_bytes x.deed) (listens x.before x.peer x.deed).told
@@ -58,7 +58,7 @@ peer_in_phase peer phase = codes "flow " ++ peer_text peer ++ codes " " ++ phase
 abbrev pub flow_line : Peer × FlowEnd → List ℕ
 flow_line flow = peer_in_phase flow.0 flow.1.state.phase
 
--- the line of a flow, where there is one
+-- the line of a flow, if there is one
 abbrev pub flow_line_if : Option (Peer × FlowEnd) → List ℕ
 flow_line_if None = []
 flow_line_if (Some flow) = flow_line flow

@@ -37,7 +37,7 @@ use Rattle.tool_text.specs.Jobs.{Gone, Job, Verdict, Accepted, Refused, gone_thr
 use Rattle.tool_jobs.specs.Scenes.{Scene, scene_text}
 use Rattle.tool_jobs.specs.WorldLines.{end_lines}
 
--- Where a schedule is before its first line: the two usual ends are configured.
+-- The state of a schedule before its first line: the two usual ends are configured.
 abbrev pub first_play : Play
 first_play = record { events = 0; is_configured = false; client = usual role.Client; server = usual role.Server; world = None }
 
@@ -45,7 +45,7 @@ first_play = record { events = 0; is_configured = false; client = usual role.Cli
 abbrev pub starts : Config → Config → Controlled Both
 starts client server = begins_with kinds_control client server at_first at_first
 
--- the world that events have made, or that of two ends to which nothing has happened
+-- the world that events have led to, or that of two ends to which nothing has happened
 abbrev pub world_or_start : Config → Config → Option (Controlled Both) → Controlled Both
 world_or_start client server None = starts client server
 world_or_start client server (Some w) = w
@@ -85,7 +85,7 @@ abbrev pub with_vectors : Vectors → Play → Play
 with_vectors vectors play =
     record play { client = record play.client { vectors = vectors }; server = record play.server { vectors = vectors } }
 
--- The version comes before every other line that says something, and so once.
+-- The version comes before every other line that says something, and therefore only once.
 abbrev pub says_version : Play → ℕ → Verdict Scene Play
 says_version play version =
     if play.is_configured then Refused (whole_line why.HeaderLate) else configures play (with_vectors (vectors_of version))
@@ -118,8 +118,8 @@ with_set side feature place values play =
 abbrev pub with_offered : Side → Feature → Place → Bool → Play → Play
 with_offered side feature place mandatory play = with_config side (offering (config_of play side) feature place mandatory) play
 
--- An event that takes place, or the fault of its line: it names no frame. (No schedule comes to a world without room
--- for it, or to a frame that is far. Some fault has to be named for these, which the code does not have.)
+-- An event that takes place, or the fault of its line: it names no frame. (No schedule leads to a world without room
+-- for the event, or to a frame that is far. Some fault has to be named for these cases, which the code does not have.)
 abbrev pub by_step : ℕ → Controlled Both → Event → Result (ControlledStep Both) WorldFault → Result Scene LineFault
 by_step number before event (Ok step) = Ok (record { number = number; before = before; event = event; step = step })
 by_step number before event (Err fault.NoSuchFrame) = Err no_such_frame
@@ -134,7 +134,7 @@ abbrev pub by_scene : Play → Result Scene LineFault → Verdict Scene Play
 by_scene play (Ok scene) = Accepted (Some scene) (record play { events = play.events + 1; world = Some scene.step.after })
 by_scene play (Err fault) = Refused fault
 
--- the line of an event, which is refused once a schedule has its most events
+-- the line of an event, which is refused once a schedule has the most events that it may have
 abbrev pub says_event : Play → ℕ → Event → Verdict Scene Play
 says_event play number event =
     if nat_lt play.events most_events then by_scene play (event_shown number (world_of play) event) else Refused (whole_line why.TooManyEvents)
@@ -165,7 +165,7 @@ by_line play number (Ok (line.Event event)) = says_event play number event
 unfoldable pub judged_line : Play → ℕ → List ℕ → Verdict Scene Play
 judged_line play number line = by_line play number (read_line line)
 
--- What `run` makes of the lines of an input: the events that take place, and at its end the two end lines.
+-- What `run` does with the lines of an input: the events that take place, and at its end the two end lines.
 abbrev pub run_job : Job Scene Play
 run_job = record { judged = judged_line; told = scene_text; ending = λ play. end_lines (world_of play) }
 
@@ -192,7 +192,7 @@ pub record IsPlayable (play : Play) : Type 0 where
   pub peers : ArePeers play.client play.server
   pub few : IfSome play.world (λ w. SentFew w play.events)
 
--- What an input comes to, played from the two usual ends.
+-- The result of an input, played from the two usual ends.
 abbrev pub performed : List ℕ → Gone Scene Play
 performed input = gone_through run_job first_play input
 
@@ -214,7 +214,7 @@ abbrev pub IsSafeThroughout : Gone Scene Play → Type 0
 IsSafeThroughout whole =
     All (λ scene. Safe kinds_control scene.before × Safe kinds_control scene.step.after) whole.deeds × Safe kinds_control (world_of whole.last)
 
--- the same of what this input comes to
+-- the same of the result of this input
 abbrev pub SafeThroughout : List ℕ → Type 0
 SafeThroughout input = IsSafeThroughout (performed input)
 

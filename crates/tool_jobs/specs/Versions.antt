@@ -1,4 +1,4 @@
--- What the first line of a schedule that says something makes of Ack Vectors (own).
+-- What the first line of a schedule that says something sets for Ack Vectors (own).
 use Rattle.std.specs.Prelude.{◌≡◌, ℕ, ◌+◌, List, [], ◌∷◌, length, Result, Ok, Err}
 use Rattle.ack_vectors.specs.declared.room.Vectors.{Vectors}
 use Rattle.ack_vectors.specs.declared.room.Vectors.TheVariants.{One}

@@ -1,5 +1,5 @@
 //! `ecn`: an input's lines, each an event between an ECN-capable sender and an ECN-capable receiver, and the lines of
-//! what is seen of them (own).
+//! their results (own).
 
 mod laws;
 mod names;

@@ -1,5 +1,5 @@
-//! What the jobs over an end share: the role of a side's end, the frame that a line makes arrive, and the lines of
-//! frames that were sent and of ends.
+//! What the jobs over an end share: the role of a side's end, the frame that arrives by a line, and the lines of frames
+//! that were sent and of ends.
 
 mod frames;
 mod lines;

@@ -1,9 +1,8 @@
-//! The tool's jobs over ends: each reads an input's lines, lets what they say happen, and writes a line for what came of
-//! it (own).
+//! The tool's jobs over ends: each reads an input's lines, does what they say, and writes a line for each result (own).
 //!
 //! `replay` hands frames to one end, `run` plays a schedule on the two ends of a world, `listen` hands what peers send
-//! to one listener, and `ecn` plays events between an ECN-capable sender and receiver. Each is a `LineJob` under the one
-//! loop of tool_text. No socket and no clock is opened; memory is taken for the ends and for the text.
+//! to one listener, and `ecn` plays events between an ECN-capable sender and receiver. Each is a `LineJob` under the
+//! one loop of tool_text. They open no socket and no clock, and take memory for the ends and for the text.
 #![tactic(auto)]
 
 mod ecn;

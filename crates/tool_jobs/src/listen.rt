@@ -1,8 +1,8 @@
-//! `listen`: what peers send and what is asked of their ends, handed to one listener, and the lines of what came of it
+//! `listen`: the frames of peers and the calls of their ends, handed to one listener, and the lines of the results
 //! (own).
 //!
-//! A line names a peer and says what happens to it. The listener serves each peer by an end; nothing here answers for
-//! an end itself, and no socket and no clock is opened. It takes memory where a peer gets an end, and for the text.
+//! A line names a peer and says what happens to it. The listener serves each peer by an end; nothing here acts in place
+//! of an end, and nothing opens a socket or a clock. It takes memory when a peer gets an end, and for the text.
 
 mod calls;
 mod exchanges;

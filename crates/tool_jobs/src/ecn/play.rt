@@ -10,7 +10,7 @@ use seq_circle::NoMemory;
 use std::alloc::Global;
 use tool_text::{LineError, LineFault, LineJob, LineWhy, MOST_EVENTS, Words, whole_line};
 
-/// Where an input stands.
+/// The state of an input while it is played.
 #[derive(Drop)]
 pub(crate) struct EcnPlay {
     /// How many events took place.
@@ -19,7 +19,7 @@ pub(crate) struct EcnPlay {
     pub(crate) world: EcnWorld,
 }
 
-// The fault of a line whose packet or report is not there.
+// The fault of a line whose packet or report does not exist.
 fn lacking_index(line: &[u8]) -> LineFault
     requires { length line.now ≤ 4096 }
     ensures { result ≡ lacking_index line.now }

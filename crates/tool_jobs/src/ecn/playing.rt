@@ -10,10 +10,10 @@ use std::alloc::Global;
 use tool_text::{JobEnd, run_lines};
 
 /// Lets the events of an input take place between an ECN-capable sender and an ECN-capable receiver (own): it reads the
-/// lines of `input` one by one, and writes to `output` a line for what is seen of each event, and at last how many
+/// lines of `input` one by one, and writes to `output` a line with the result of each event, and at last how many
 /// packets were sent and reports kept, or the line of the first refusal. With status 0 or 1 the output is the text of
-/// the whole input, with another a front of it. Read comes where the source failed, Write where the sink did, and
-/// Memory where no memory was left.
+/// the whole input; with another status it is a prefix of that text. Read means that the source failed, Write that the
+/// sink did, and Memory that no memory was left.
 pub fn play_nonces<S: Source, K: Sink>(alloc: Global, input: &mut S, output: &mut K) -> JobEnd
     ensures played { (bytes : List ℕ) → S.left input.old ≡ Some bytes
         → Answers (ecn_text bytes) (ecn_refused bytes) result (S.left input.new) (K.taken output.old) (K.taken output.new) }

@@ -1,4 +1,4 @@
-//! The texts of what is seen of an event, and of the two ends at last.
+//! The texts of the result of an event, and of the two ends at last.
 ghost use Rattle.std.specs.Prelude.{◌≡◌, ◌++◌, OnOk, slice_get};
 ghost use Rattle.tool_jobs.specs.SeenText.{check_name, ecn_ending, ecn_event_line, ecn_seen_text, marked_name, vector_text};
 
@@ -39,7 +39,7 @@ fn put_vector(text: &mut Vec<u8>, world: &EcnWorld, index: u64) -> Result<(), No
     put_hex_or_dash(text, bytes)
 }
 
-// Puts what is seen of an event, which left the world so.
+// Puts the result of an event that left this world.
 fn put_seen(text: &mut Vec<u8>, world: &EcnWorld, seen: EcnSeen) -> Result<(), NoMemory>
     ensures { OnOk result (text.new.items ≡ text.old.items ++ ecn_seen_text world.now seen) }
 {
@@ -52,8 +52,8 @@ fn put_seen(text: &mut Vec<u8>, world: &EcnWorld, seen: EcnSeen) -> Result<(), N
     }
 }
 
-/// Puts the line of an event that took place (own): the number of its line, the line as it was read, and what is seen
-/// of the event, which left the world so. NoMemory comes where the text could not grow.
+/// Puts the line of an event that took place (own): the number of its line, the line as it was read, and the result of
+/// the event, which left this world. NoMemory means that the text could not grow.
 pub(crate) fn put_event_line(
     text: &mut Vec<u8>,
     number: u64,
@@ -71,7 +71,7 @@ pub(crate) fn put_event_line(
     put(text, b"\n")
 }
 
-/// Puts the last line (own): how many packets were sent, and how many reports kept. NoMemory comes where the text could
+/// Puts the last line (own): how many packets were sent, and how many reports kept. NoMemory means that the text could
 /// not grow.
 pub(crate) fn put_ending(text: &mut Vec<u8>, world: &EcnWorld) -> Result<(), NoMemory>
     ensures { OnOk result (text.new.items ≡ text.old.items ++ ecn_ending world.now) }

@@ -1,4 +1,4 @@
-//! The role of a side's end, and the frame that a line makes arrive at an end.
+//! The role of a side's end, and the frame that arrives at an end by a line.
 ghost use Rattle.std.specs.Prelude.{◌≡◌, ◌≤◌, length};
 ghost use Rattle.tool_jobs.specs.Ends.{CanBeSealed, arriving, role_of};
 
@@ -18,7 +18,7 @@ pub fn role_of(side: Side) -> Role
     }
 }
 
-/// The frame that a line makes arrive (own): its checksum is set for these addresses where the line says so.
+/// The frame that arrives by a line (own): its checksum is set for these addresses if the line says so.
 pub fn arriving(addresses: &Pseudo, said: &FrameLine<'_>) -> Frame
     requires { CanBeSealed said.now }
     ensures { result ≡ arriving addresses.now said.now }
@@ -30,7 +30,7 @@ pub fn arriving(addresses: &Pseudo, said: &FrameLine<'_>) -> Frame
     frame
 }
 
-/// Puts the bytes of that frame into the room for them, which has as many.
+/// Puts the bytes of that frame into this room, which has exactly their length.
 pub(crate) fn put_arriving(room: &mut [u8], addresses: &Pseudo, said: &FrameLine<'_>)
     requires room { length room.old ≡ length said.now.bytes }
     requires short { length room.old ≤ 2044 }

@@ -50,7 +50,7 @@ fn stand_mark(stand: Stand) -> &'static [u8]
 }
 
 /// Puts the line of a frame that was sent (own): whose it is, its index among those of its side, and its bytes.
-/// NoMemory comes where the text could not grow.
+/// NoMemory means that the text could not grow.
 pub(crate) fn put_frame_line(
     text: &mut Vec<u8>,
     side: Side,
@@ -83,8 +83,8 @@ fn put_row(text: &mut Vec<u8>, end: &Endpoint<Kinds>, feature: Feature) -> Resul
     put_held(text, end.held(feature, Place::There))
 }
 
-/// Puts the values of an end's features as its line has them (own): of each, after a blank, its number, and its value
-/// here and there, marked where it is not settled. NoMemory comes where the text could not grow.
+/// Puts the values of an end's features as its line has them (own): for each, after a space, its number and its values
+/// here and there, marked if they are not settled. NoMemory means that the text could not grow.
 #[tactic(auto, unfolding(crate::specs::EndLines::end_rows))]
 pub fn put_end_rows(text: &mut Vec<u8>, end: &Endpoint<Kinds>) -> Result<(), NoMemory>
     ensures { OnOk result (text.new.items ≡ text.old.items ++ end_rows end.now.state) }
@@ -110,7 +110,7 @@ fn put_end_counts(text: &mut Vec<u8>, end: &Endpoint<Kinds>) -> Result<(), NoMem
 }
 
 /// Puts the line of an end when the input is over (own): its phase, the counts of its congestion control, and the
-/// values of its features. NoMemory comes where the text could not grow.
+/// values of its features. NoMemory means that the text could not grow.
 pub(crate) fn put_end_line(
     text: &mut Vec<u8>,
     side: Side,

@@ -8,10 +8,10 @@ use dccp_listener::Peer;
 use schedule_text::{FrameLine, FrameWords, LineFault, Timer, TimerWord};
 use tool_text::{Digits, HexOrDash, Row, Words, read_line};
 
-/// What happens to a peer. A frame's bytes and data are decoded where they are wanted.
+/// What happens to a peer. The digits of frames and data are decoded when the bytes are wanted.
 #[derive(Drop)]
 pub(crate) enum PeerCall<'a> {
-    /// A frame of it arrives.
+    /// A frame of the peer arrives.
     Frame(FrameLine<'a>),
     /// These data are to go to it.
     Send(Digits<'a>),
@@ -58,7 +58,7 @@ fn arrival<'a>(words: &mut Words<'a>) -> Result<PeerCall<'a>, LineFault>
     Ok(PeerCall::Frame(frame))
 }
 
-// The words after a peer. Those of a frame have no word in front that says so.
+// The words after a peer. The line of a frame has no word that says so.
 struct CallWords;
 
 impl<'a> Row<'a> for CallWords {

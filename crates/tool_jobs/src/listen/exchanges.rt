@@ -68,7 +68,7 @@ fn ask(listener: &mut Listener, peer: Peer, act: Act<'_>, out: &mut Outbox) -> R
     listener.act(peer, act, out)
 }
 
-// A frame of the peer arrives, and the lines of that are put.
+// Lets a frame of the peer arrive, and puts the lines of that.
 fn arrive(
     listener: &mut Listener,
     number: u64,
@@ -89,7 +89,7 @@ fn arrive(
     put_frame(text, peer, &out)
 }
 
-// The peer's end is called, and the lines of that are put.
+// Calls the peer's end, and puts the lines of that.
 fn call(
     listener: &mut Listener,
     number: u64,
@@ -107,8 +107,8 @@ fn call(
     put_frame(text, peer, &out)
 }
 
-/// What the line of this number says happens to the peer, and the lines of that are put. NoMemory comes where no memory
-/// was left for an end of the peer or for the text.
+/// Does to the peer what the line of this number says, and puts the lines of that. NoMemory means that no memory was
+/// left for an end of the peer or for the text.
 pub(crate) fn exchange(
     listener: &mut Listener,
     number: u64,

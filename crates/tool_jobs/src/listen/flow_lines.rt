@@ -18,7 +18,7 @@ fn put_flow(text: &mut Vec<u8>, peer: Peer, phase: Phase) -> Result<(), NoMemory
     put(text, b"\n")
 }
 
-// Puts the line of the flow at this place, where there is one.
+// Puts the line of the flow at this place, if there is one.
 fn put_flow_at(text: &mut Vec<u8>, listener: &Listener, place: u16) -> Result<(), NoMemory>
     ensures { OnOk result (text.new.items ≡ text.old.items ++ flow_line_if (slice_get listener.now.flows place)) }
 {
@@ -43,7 +43,7 @@ fn put_each_flow(text: &mut Vec<u8>, listener: &Listener) -> Result<(), NoMemory
     Ok(())
 }
 
-/// Puts how many flows stand, and each of them in the order of their peers.
+/// Puts how many flows there are, and each of them in the order of their peers.
 pub(crate) fn put_flows(text: &mut Vec<u8>, listener: &Listener) -> Result<(), NoMemory>
     ensures { OnOk result (text.new.items ≡ text.old.items ++ flow_lines listener.now.flows) }
 {

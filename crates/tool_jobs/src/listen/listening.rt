@@ -9,11 +9,11 @@ use dccp_io::{Sink, Source};
 use std::alloc::Global;
 use tool_text::{JobEnd, run_lines};
 
-/// Hands what peers send, and what is asked of their ends, to one listener of at most `most` flows, 1 to 1,024 (own):
-/// it reads the lines of `input` one by one, and writes to `output` a line for what each peer is answered and for each
-/// frame that goes to one, and at last how many flows stand and the phase of each, or the line of the first refusal.
-/// With status 0 or 1 the output is the text of the whole input, with another a front of it. Read comes where the
-/// source failed, Write where the sink did, and Memory where no memory was left, for an end or for the text.
+/// Hands the frames of peers, and the calls of their ends, to one listener of at most `most` flows, 1 to 1,024 (own).
+/// It reads the lines of `input` one by one, and writes to `output` a line for each answer and for each frame that goes
+/// to a peer. At last it writes how many flows there are and the phase of each, or the line of the first refusal. With
+/// status 0 or 1 the output is the text of the whole input; with another status it is a prefix of that text. Read means
+/// that the source failed, Write that the sink did, and Memory that no memory was left, for an end or for the text.
 pub fn listen_to_peers<S: Source, K: Sink>(
     alloc: Global,
     most: u16,

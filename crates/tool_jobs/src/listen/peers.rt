@@ -25,7 +25,7 @@ fn port_of(text: &[u8]) -> Option<u16>
     Some(number as u16)
 }
 
-// The numbers of an address, where each is one.
+// The numbers of an address, if each is one.
 fn bytes_of(first: &[u8], second: &[u8], third: &[u8], fourth: &[u8]) -> Option<[u8; 4]>
     ensures { result ≡ spec.all_four (number_below 256 first.now) (number_below 256 second.now) (number_below 256 third.now) (number_below 256 fourth.now) }
 {
@@ -50,7 +50,7 @@ fn address_of(text: &[u8]) -> Option<[u8; 4]>
     }
 }
 
-/// The peer that a word is, as `10.0.0.1:40000`, or None where it is none (own): an address and a port in decimal,
+/// The peer that a word spells, as `10.0.0.1:40000`, or None if it spells none (own): an address and a port in decimal,
 /// without leading zeros.
 #[tactic(auto, using(crate::proofs::Parts::three_parts))]
 pub fn peer_of(word: &[u8]) -> Option<Peer>
@@ -81,7 +81,7 @@ impl<'a> WordKind<'a> for PeerWord {
     }
 }
 
-/// Puts a peer as its line has it (own). NoMemory comes where no memory was left.
+/// Puts a peer as its line has it (own). NoMemory means that no memory was left.
 #[tactic(auto, unfolding(crate::specs::Peers::peer_text))]
 pub fn put_peer(text: &mut Vec<u8>, peer: Peer) -> Result<(), NoMemory>
     ensures { OnOk result (text.new.items ≡ text.old.items ++ spec.peer_text peer) }

@@ -1,4 +1,4 @@
-//! Where `listen` stands: one listener, and how much has happened.
+//! The state of `listen`: one listener, and how much has happened.
 ghost use Rattle.std.specs.Prelude.{◌≡◌, ◌≤◌, [], ◌∷◌, OnOk};
 ghost use Rattle.tool_text.specs.Jobs.{Judges, most_events};
 ghost use Rattle.tool_jobs.specs.Calls.{SealsInFull};
@@ -25,7 +25,7 @@ fn services() -> ArrayVec<u32, 16>
     services
 }
 
-// What the listener is made from.
+// The configuration of the listener.
 fn listen_config(most: u16) -> ListenConfig
     ensures { result ≡ listen_config most }
 {
@@ -38,17 +38,17 @@ fn listen_config(most: u16) -> ListenConfig
     }
 }
 
-/// Where the lines stand.
+/// The state of the lines.
 #[derive(Drop)]
 pub(crate) struct Serving {
-    /// What serves the peers.
+    /// The listener that serves the peers.
     pub(crate) listener: Listener,
     /// By how many lines something happened.
     pub(crate) events: u32,
 }
 
 impl Serving {
-    /// Before the first line: at most so many flows may stand, and none does.
+    /// Before the first line: there may be at most so many flows, and there are none.
     pub(crate) fn new(alloc: Global, most: u16) -> Serving
         requires least { 1 ≤ most }
         requires most { most ≤ 1024 }
@@ -60,7 +60,7 @@ impl Serving {
         }
     }
 
-    // Something happens to the peer by the line of this number, unless it is one too many.
+    // Does to the peer what the line of this number says, unless it is one line too many.
     fn say(
         &mut self,
         number: u64,

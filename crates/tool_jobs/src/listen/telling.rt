@@ -14,7 +14,7 @@ use schedule_text::put_result;
 use seq_circle::NoMemory;
 use tool_text::{put, put_hex, put_number};
 
-/// Puts the front of a line, up to what the peer was answered.
+/// Puts the front of a line, up to the answer to the peer.
 pub(crate) fn put_whom(text: &mut Vec<u8>, number: u64, peer: Peer) -> Result<(), NoMemory>
     ensures { OnOk result (text.new.items ≡ text.old.items ++ (decimal number ++ codes " " ++ peer_text peer)) }
 {
@@ -23,7 +23,7 @@ pub(crate) fn put_whom(text: &mut Vec<u8>, number: u64, peer: Peer) -> Result<()
     put_peer(text, peer)
 }
 
-// Puts what an end made of a datagram of these bytes.
+// Puts the outcome of a datagram of these bytes at an end.
 fn put_outcome(text: &mut Vec<u8>, bytes: &[u8], outcome: Outcome) -> Result<(), NoMemory>
     requires { HasItsData bytes.now outcome }
     ensures { OnOk result (text.new.items ≡ text.old.items ++ result_text bytes.now (Seen.Received outcome)) }
@@ -31,7 +31,7 @@ fn put_outcome(text: &mut Vec<u8>, bytes: &[u8], outcome: Outcome) -> Result<(),
     put_result(text, bytes, &Seen::Received(outcome))
 }
 
-/// Puts what became of a datagram of these bytes.
+/// Puts the result of a datagram of these bytes.
 pub(crate) fn put_heard(text: &mut Vec<u8>, bytes: &[u8], heard: Heard) -> Result<(), NoMemory>
     requires { CanBeTold bytes.now (told_of (Ok heard)) }
     ensures { OnOk result (text.new.items ≡ text.old.items ++ answer_text bytes.now (told_of (Ok heard))) }
@@ -42,7 +42,7 @@ pub(crate) fn put_heard(text: &mut Vec<u8>, bytes: &[u8], heard: Heard) -> Resul
     }
 }
 
-/// Puts what a call was answered.
+/// Puts the answer to a call.
 pub(crate) fn put_answer(text: &mut Vec<u8>, answer: Result<Seen, NoFlow>) -> Result<(), NoMemory>
     requires { CanBeTold [] (Stepped (seen_if answer)) }
     ensures { OnOk result (text.new.items ≡ text.old.items ++ answer_text [] (Stepped (seen_if answer))) }
@@ -53,7 +53,7 @@ pub(crate) fn put_answer(text: &mut Vec<u8>, answer: Result<Seen, NoFlow>) -> Re
     }
 }
 
-/// Puts the line of the frame that goes to the peer, where one does.
+/// Puts the line of the frame that goes to the peer, if one does.
 pub(crate) fn put_frame(text: &mut Vec<u8>, peer: Peer, out: &Outbox) -> Result<(), NoMemory>
     ensures { OnOk result (text.new.items ≡ text.old.items ++ frame_to_peer peer out.now) }
 {

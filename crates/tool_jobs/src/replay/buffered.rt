@@ -70,7 +70,7 @@ impl ReplayEnd for BufferedEnd<Kinds> {
     }
 }
 
-// The application takes the first item, and the line of that is put.
+// Lets the application take the first item, and puts the line of that.
 fn read(end: &mut BufferedEnd<Kinds>, number: u64, text: &mut Vec<u8>) -> Result<(), NoMemory>
     ensures { OnOk result (Heeds (item_read end.old number) end.new text.old.items text.new.items) }
 {
@@ -81,7 +81,7 @@ fn read(end: &mut BufferedEnd<Kinds>, number: u64, text: &mut Vec<u8>) -> Result
     }
 }
 
-// The application stops listening, and the line of that is put.
+// Lets the application stop listening, and puts the line of that.
 fn stop(end: &mut BufferedEnd<Kinds>, number: u64, text: &mut Vec<u8>) -> Result<(), NoMemory>
     ensures { OnOk result (Heeds (reading_stopped end.old number) end.new text.old.items text.new.items) }
 {

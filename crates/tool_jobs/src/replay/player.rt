@@ -23,7 +23,7 @@ const CLIENT: [u8; 4] = [10, 0, 0, 1];
 
 const SERVER: [u8; 4] = [10, 0, 0, 2];
 
-/// An end at which the frames of a replay arrive. Each call that puts a line answers NoMemory where the text could not
+/// An end at which the frames of a replay arrive. NoMemory from a call that puts a line means that the text could not
 /// grow.
 pub(crate) trait ReplayEnd {
     // What it does.
@@ -33,7 +33,7 @@ pub(crate) trait ReplayEnd {
     fn begin(&mut self, out: &mut Outbox, text: &mut Vec<u8>) -> Result<(), NoMemory>
         ensures { OnOk result (Performs (acts.opening self.old) self.new out.new text.old.items text.new.items) };
 
-    /// Receives bytes that the line of this number made arrive, and puts the line of that.
+    /// Receives bytes that arrive by the line of this number, and puts the line of that.
     fn hear(
         &mut self,
         number: u64,
@@ -44,7 +44,7 @@ pub(crate) trait ReplayEnd {
         requires { length bytes.now ≤ 2044 }
         ensures { OnOk result (Performs (acts.hearing self.old number bytes.now) self.new out.new text.old.items text.new.items) };
 
-    /// The line says what the end is to do itself: it has no frame.
+    /// Whether the line says what the end should do itself: it has no frame.
     fn is_own(line: &[u8]) -> bool
         ensures { result ≡ acts.is_own line.now };
 
@@ -57,8 +57,8 @@ pub(crate) trait ReplayEnd {
         ensures { result.now ≡ acts.standing self.now };
 }
 
-/// Where a replay stands, with room that is made once for all frames: for the one that arrives, and for the one that the
-/// end sends. Contracts see where it stands alone.
+/// The state of a replay, with room that is made once for all frames: for the one that arrives, and for the one that
+/// the end sends. Contracts see the state alone.
 #[derive(Drop)]
 pub(crate) struct Replay<E> {
     sent: u64,
@@ -90,7 +90,7 @@ impl<E: ReplayEnd> Replay<E> {
         }
     }
 
-    // The end opens, and the lines of that are put.
+    // Opens the end, and puts the lines of that.
     fn open(&mut self, text: &mut Vec<u8>) -> Result<(), NoMemory>
         requires { self.old.sent + 1 < 2 ^ 64 }
         ensures value { OnOk result (self.new ≡ (begun_from E.acts self.old Side.Client).replay) }
@@ -100,7 +100,7 @@ impl<E: ReplayEnd> Replay<E> {
         put_sent(text, self.side, &mut self.sent, &self.out)
     }
 
-    // The frame arrives that the line of this number says, and the lines of that are put.
+    // Lets the frame arrive that the line of this number has, and puts the lines of that.
     fn hear(
         &mut self,
         number: u64,
@@ -130,7 +130,7 @@ impl<E: ReplayEnd> Replay<E> {
 }
 
 impl<E: ReplayEnd + Drop> Replay<E> {
-    // Where a replay is before its first line: a client has opened then, and the lines of that were put.
+    // The state of a replay before its first line: a client has opened, and the lines of that were put.
     fn begin(side: Side, end: E, text: &mut Vec<u8>) -> Result<Replay<E>, NoMemory>
         ensures value { IfOk result (λ replay. replay ≡ (begun_replay E.acts side end).replay) }
         ensures text { OnOk result (text.new.items ≡ text.old.items ++ (begun_replay E.acts side end).text) }
@@ -179,7 +179,7 @@ impl<E: ReplayEnd> LineJob for Replay<E> {
     }
 }
 
-// The frame that a line says arrives at an end, and the line of that is put.
+// Lets the frame of a line arrive at an end, and puts the line of that.
 fn hear_said<E: ReplayEnd>(
     end: &mut E,
     room: &mut [u8; MOST_FRAME_BYTES],
@@ -236,8 +236,8 @@ pub(crate) fn replay_config(side: Side, plain: bool) -> Config
     config
 }
 
-// The addresses of the frames that arrive at the end of a side: those of its usual end, which are not taken out of a
-// whole configuration for each frame.
+// The addresses of the frames that arrive at the end of a side: those of its usual end, which need no whole
+// configuration for each frame.
 fn addresses(side: Side) -> Pseudo
     ensures { result ≡ (usual (role_of side)).pseudo_in }
 {

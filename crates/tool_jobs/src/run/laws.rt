@@ -1,4 +1,4 @@
-//! What a schedule's lines make happen.
+//! What happens by a schedule's lines.
 ghost use Rattle.std.specs.Prelude.{◌≡◌, ◌≢◌, ◌++◌, ℕ, List, Some, Err, false, flat_map, slice_get, take};
 ghost use Rattle.ccid_two.specs.Kinds.{kinds_control};
 ghost use Rattle.dccp_io.specs.Lines.{lines_of};
@@ -36,14 +36,14 @@ pub fn the_first_events_lead_to_a_safe_world()
 {}
 
 /// A schedule's world has room for whatever event its next line makes (own): no side has sent more frames than there
-/// were events, 16,384 at most. Lines before a line are an input too, so this is said of every event that is judged.
+/// were events, 16,384 at most. The lines before a line are also an input, so this holds of every event that is judged.
 pub fn no_schedule_fills_a_world()
     ensures { (input : List ℕ) (event : Event)
         → happens_to kinds_control (world_of (performed input).last) event ≢ Err WorldFault.Full }
 {}
 
-/// No line of a schedule names a frame whose short numbers could not be told where it arrives (own): the sides have
-/// sent too few. Lines before a line are an input too, so this is said of every event that is judged.
+/// No line of a schedule names a frame whose short numbers are ambiguous where it arrives (own): the sides have sent
+/// too few frames for that. The lines before a line are also an input, so this holds of every event that is judged.
 pub fn no_schedule_meets_a_far_frame()
     ensures { (input : List ℕ) (event : Event)
         → happens_to kinds_control (world_of (performed input).last) event ≢ Err WorldFault.FarShort }
@@ -51,8 +51,8 @@ pub fn no_schedule_meets_a_far_frame()
     few_frames_are_never_far::<Kinds>();
 }
 
-/// Both ends write Ack Vectors of up to two options exactly where the first line that says something is `version 2`
-/// (own). They are configured so at last, which is how the first event finds them.
+/// Both ends write Ack Vectors of up to two options exactly if the first line that says something is `version 2` (own).
+/// They are configured so at last, and so when the first event takes place.
 pub fn the_first_line_says_the_version()
     ensures { (input : List ℕ) → HaveVectors (vectors_said 0 (lines_of input)) (performed input).last }
 {}

@@ -28,9 +28,9 @@ pub(crate) struct Play {
     pub(crate) events: u32,
     /// A line that comes before all events was accepted.
     pub(crate) is_configured: bool,
-    /// What the client is made from.
+    /// The configuration of the client.
     pub(crate) client: Config,
-    /// What the server is made from.
+    /// The configuration of the server.
     pub(crate) server: Config,
     /// The two ends, from the first event on.
     pub(crate) world: Option<World<Kinds>>,
@@ -51,8 +51,8 @@ impl Play {
     }
 
     /// Plays the line of this number, as it was read, or answers why it is refused. Faults that need more than the line
-    /// are judged here, each at its place among those of the line: that it has to be before all events (which is judged
-    /// before the wish), the limit of events, and a frame that was not sent.
+    /// are judged here, each at its place among those of the line: whether it has to come before all events (judged
+    /// before the wish), the limit of events, and whether a frame was sent.
     pub(crate) fn say(
         &mut self,
         alloc: Global,
@@ -85,7 +85,7 @@ impl Play {
         }
     }
 
-    /// What an end may not wish is judged once its line is known to come before all events.
+    /// Judges what an end may not wish, once its line is known to come before all events.
     pub(crate) fn in_place(&self, fault: LineFault) -> LineFault
         ensures { result ≡ in_place self.now fault }
     {
@@ -152,7 +152,7 @@ impl Play {
         ensures playable { IsPlayable self.new }
     {
         self.begin_header()?;
-        // Contracts learn that a number fits where it is read.
+        // Contracts know that a number fits only once it is read.
         let _ = number.get();
         match side {
             Side::Client => self.client.iss = number,
@@ -225,7 +225,7 @@ impl Play {
         Ok(())
     }
 
-    // Makes the world of the two configurations, where none is made yet.
+    // Makes the world of the two configurations, if none is made yet.
     fn make_world(&mut self, alloc: Global) -> Result<(), NoMemory>
         requires { ArePeers self.old.client self.old.server }
         ensures { OnOk result (self.new ≡ record self.old { world = Some (world_of self.old) }) }
@@ -236,7 +236,7 @@ impl Play {
         self.begin_world(alloc)
     }
 
-    // Apart from `make_world`, which each event calls: this takes room for a world.
+    // Not in `make_world`, which each event calls, since this takes room for a world.
     #[inline(never)]
     fn begin_world(&mut self, alloc: Global) -> Result<(), NoMemory>
         requires peers { ArePeers self.old.client self.old.server }
@@ -281,7 +281,7 @@ fn offer_nothing(config: &mut Config)
     lists_fit(config);
 }
 
-// Another wish. `read_line` refuses the lines of those that an end may not have.
+// Another wish. `read_line` refuses the lines of wishes that an end may not have.
 fn wish_for(config: &mut Config, feature: Feature, place: Place, values: &[u64])
     requires { Fits config.old }
     ensures wish { config.new ≡ wishing config.old feature place (wish_of feature place values.now) }
@@ -292,7 +292,7 @@ fn wish_for(config: &mut Config, feature: Feature, place: Place, values: &[u64])
     lists_fit(config);
 }
 
-// Another offer. `read_line` refuses the lines of those that an end may not make.
+// Another offer. `read_line` refuses the lines of offers that an end may not make.
 fn offer(config: &mut Config, feature: Feature, place: Place, mandatory: bool)
     requires { Fits config.old }
     ensures offer { config.new ≡ offering config.old feature place mandatory }
@@ -303,7 +303,7 @@ fn offer(config: &mut Config, feature: Feature, place: Place, mandatory: bool)
     lists_fit(config);
 }
 
-// Contracts learn that lists are in order where they are read.
+// Contracts know that lists are in order only once they are read.
 fn lists_fit(config: &Config)
     ensures { IsLists config.now.lists }
 {

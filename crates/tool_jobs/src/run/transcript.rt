@@ -15,8 +15,9 @@ use std::marker::Model;
 use tool_text::{JobEnd, LineError, LineJob, run_lines};
 use two_ends::{World, every_run_is_safe};
 
-/// A schedule while it is played (own), with room for what one line says: for one that sends data by itself, since a line
-/// that becomes one of another kind is cleared with its room for data. Contracts see where the schedule stands.
+/// A schedule while it is played (own), with room for what one line says. A line that sends data has its own room,
+/// since a line that is read as another kind is cleared together with its room for data. Contracts see the state of the
+/// schedule.
 #[derive(Drop)]
 pub struct Schedule {
     play: Play,
@@ -75,7 +76,7 @@ impl LineJob for Schedule {
         line: &[u8],
         text: &mut Vec<u8>,
     ) -> Result<(), LineError> {
-        // Which of the two rooms a line is read into changes nothing that is said of it.
+        // Into which of the two rooms a line is read changes nothing.
         match line {
             [b's', b'e', b'n', ..] => {
                 judge_into(&mut self.sending, &mut self.play, alloc, number, line, text)
@@ -89,7 +90,7 @@ impl LineJob for Schedule {
     }
 }
 
-// Judges a line, by what it says, which is left in `said`.
+// Judges a line by what it says, which it leaves in `said`.
 #[tactic(auto, unfolding(crate::specs::Transcript::judged_line))]
 fn judge_into(
     said: &mut Line,
@@ -122,7 +123,7 @@ pub fn run_schedule<S: Source, K: Sink>(alloc: Global, input: &mut S, output: &m
         → StopsWithin 16384 (accepted_bytes bytes) bytes result (S.left input.new) }
     ensures cause { EndsForCause result (Rose (S.faults input.old) (S.faults input.new)) (SinkFails K.faults K.empty_takes output.old output.new) }
 {
-    // The law, which `safe` follows from.
+    // The law from which `safe` follows.
     every_run_is_safe::<Kinds>();
     let mut schedule = Schedule::new();
     let mut text = Vec::new(alloc);

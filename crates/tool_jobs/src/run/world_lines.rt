@@ -1,4 +1,4 @@
-//! The lines of a world: a frame that an event made its actor send, and the two ends.
+//! The lines of a world: the frame that the actor of an event sent, and the two ends.
 ghost use Rattle.std.specs.Prelude.{◌≡◌, ◌++◌, OnOk};
 ghost use Rattle.tool_jobs.specs.WorldLines.{arrived, sent_line, end_lines};
 
