@@ -21,20 +21,20 @@ half window = (window + 1) / 2
 abbrev pub aim_by_use : ℕ → ℕ → ℕ → ℕ
 aim_by_use window used width = max (min (max (shares used 32) (shares (4 * used) width)) (half window)) 2
 
--- each packet is acknowledged at once where the window is below 4, so that three later ones may tell a loss (own)
+-- each packet is acknowledged at once if the window is below 4, so that three later ones may show a loss (own)
 abbrev pub ack_ratio_aim : ℕ → ℕ → ℕ → ℕ
 ack_ratio_aim window used width = if nat_lt window 4 then 1 else aim_by_use window used width
 
--- lowered: to 1, or where it is above half the window, or by a half at least
+-- lowered: to 1, or if it is above half the window, or by a half at least
 abbrev pub lowers_ratio : ℕ → ℕ → ℕ → Bool
 lowers_ratio held aim window = nat_lt aim held && (aim == 1 || (nat_lt (half window) held || nat_le aim (held / 2)))
 
--- so long ago, or never
+-- it was so long ago, or never
 abbrev pub has_waited : Option ℕ → ℕ → Bool
 has_waited None wait = true
 has_waited (Some waited) wait = nat_le wait waited
 
--- raised: from 1 after five seconds, and else by twice at least, after a period
+-- raised: from 1 after five seconds, and otherwise at least to twice its value, after a period
 abbrev pub raises_ratio : ℕ → ℕ → Option ℕ → ℕ → Bool
 raises_ratio held aim waited wait =
     if nat_lt held 2 then nat_lt held aim && has_waited waited 5000 else nat_le held (aim / 2) && has_waited waited wait
@@ -48,8 +48,8 @@ waited_since (Some asked) now = Some (now - asked)
 abbrev pub wants_ack_ratio : AckRatio → ℕ → ℕ → ℕ → ℕ → Bool
 wants_ack_ratio ratio aim window wait now = lowers_ratio ratio.held aim window || raises_ratio ratio.held aim (waited_since ratio.asked now) wait
 
--- What is wanted is 1 or 2 or at most half the window, and then at most 32 and a quarter of the width in Acks are due
--- for what is used of it.
+-- The wanted ratio is 1 or 2, or at most half the window. Then at most 32 Acks, and at most a quarter of the width, are
+-- due for what is used of the window.
 pub record AckRatiosFit : Type 0 where
   pub some : (window used width : ℕ) → 1 ≤ ack_ratio_aim window used width
   pub half : (window used width : ℕ) → (ack_ratio_aim window used width ≤ 2) ⊎ (ack_ratio_aim window used width ≤ half window)

@@ -1,20 +1,20 @@
--- What a sender allows itself for the sake of the application that reads its data (RFC 4340, sections 11.6 and 11.7; RFC
--- 4341, section 5.2; own).
+-- How far a sender limits itself for the application that reads its data (RFC 4340, sections 11.6 and 11.7; RFC 4341,
+-- section 5.2; own).
 use Rattle.std.specs.Prelude.{ℕ, ◌+◌, ◌-◌, ◌/◌, ◌≤◌, max, min, nat_lt, nat_le, Bool, not, Option, Some, None, if◌then◌else◌}
 use Rattle.path_rules.specs.declared.allowance.Allowance.{Allowance}
 use Rattle.path_rules.specs.declared.round_trip.RoundTrip.{RoundTrip}
 
--- the window of the sender: that of its congestion control, or what it is allowed where that is less
+-- the window of the sender: that of its congestion control, or the allowance if that is less
 abbrev pub window_within : Option Allowance → ℕ → ℕ
 window_within None window = window
 window_within (Some it) window = min it.most window
 
--- An allowance that is at so many packets, of which none was acknowledged yet; one packet at least.
+-- An allowance of so many packets, one at least, of which none was acknowledged yet.
 abbrev pub allowance_of : ℕ → Allowance
 allowance_of packets = record { most = max 1 packets; acked = 0 }
 
--- One packet less for each that the receive buffer dropped (RFC 4341, section 5.2). With none it stays where it is: so it
--- does for a slow receiver (RFC 4340, section 11.6). Slow start is over with it (RFC 4341, section 5.2).
+-- One packet less for each that the receive buffer dropped (RFC 4341, section 5.2). With no dropped packet it stays, as
+-- it does for a slow receiver (RFC 4340, section 11.6). It ends slow start (RFC 4341, section 5.2).
 abbrev pub allowed_after_drops : Option Allowance → ℕ → ℕ → Allowance
 allowed_after_drops it window drops = allowance_of (window_within it window - drops)
 
@@ -30,12 +30,12 @@ allowed_after_timeout it = allowance_of (max 2 (it.most / 2))
 abbrev pub grown : Allowance → ℕ → Allowance
 grown it acked = if nat_le it.most acked then allowance_of (it.most + 1) else record it { acked = acked }
 
--- as long as the window of the congestion control is above it
+-- it grows as long as the window of the congestion control is above it
 abbrev pub allowed_after_acks : Allowance → ℕ → ℕ → Allowance
 allowed_after_acks it window acked = if nat_lt it.most window then grown it (it.acked + acked) else it
 
--- Less than a round trip has gone by: so long as it was measured, a millisecond at least; else until what was in flight is
--- acknowledged.
+-- Less than a round trip has gone by. A round trip is as long as it was measured, a millisecond at least; without a
+-- sample it ends once what was in flight is acknowledged.
 abbrev pub is_within_round_trip : Option RoundTrip → ℕ → Bool → Bool
 is_within_round_trip None elapsed acked = not acked
 is_within_round_trip (Some path) elapsed acked = nat_lt elapsed (max 1 (path.smoothed / 1000))

@@ -25,12 +25,12 @@ is_near_greatest number greatest = nat_lt (distance number greatest) (2 ^ 24) ||
 abbrev pub brim : Limit → ℕ
 brim limit = limit.burst * 1000
 
--- a bucket that has rested
+-- a full bucket
 abbrev pub full : Limit → ℕ → Bucket
 full limit now = record { thousandths = brim limit; since = now }
 
--- What a bucket holds at a time: each millisecond brings a thousandth of what comes in a second, up to the brim. After
--- as many milliseconds as the brim has thousandths it is full.
+-- What a bucket holds at a time: each millisecond brings a thousandth of what comes in a second, up to its capacity.
+-- After as many milliseconds as the capacity has thousandths it is full.
 abbrev pub refilled : Limit → Bucket → ℕ → ℕ
 refilled limit bucket now = min (bucket.thousandths + limit.per_second * min (now - bucket.since) (brim limit)) (brim limit)
 
@@ -39,7 +39,7 @@ abbrev pub tokens_for : Bool → ℕ
 tokens_for true = 1
 tokens_for false = 0
 
--- A token is a thousand thousandths, and is granted where there are so many.
+-- A token is a thousand thousandths, and is granted if the bucket holds so many.
 abbrev pub token_taken_from : ℕ → ℕ → Taking
 token_taken_from held since =
     record {
@@ -47,7 +47,7 @@ token_taken_from held since =
       bucket = record { thousandths = held - 1000 * tokens_for (nat_le 1000 held); since = since };
     }
 
--- what asking for a token comes to
+-- the result of asking for a token
 abbrev pub token_taken : Limit → Bucket → ℕ → Taking
 token_taken limit bucket now = token_taken_from (refilled limit bucket now) (max bucket.since now)
 
@@ -61,7 +61,7 @@ abbrev pub asked_last : ℕ → List ℕ → ℕ
 asked_last since [] = since
 asked_last since (now ∷ later) = asked_last (max since now) later
 
--- Whoever asks, and however often: what passes is what the bucket held at first, and what came in since, at most.
+-- Whatever is asked, and however often, no more passes than the bucket held at first and what came in since.
 abbrev pub LimitsHold : Type 0
 LimitsHold =
     (limit : Limit) (bucket : Bucket) (times : List ℕ)

@@ -18,7 +18,7 @@ apart a b = (a - b) + (b - a)
 abbrev pub first_round_trip : ℕ → RoundTrip
 first_round_trip sample = record { smoothed = sample; variance = sample / 2 }
 
--- each further sample: RTTVAR takes a quarter of how far it is off, and SRTT an eighth of it (section 2.3)
+-- each further sample: RTTVAR takes a quarter of its distance from SRTT, and SRTT an eighth of the sample (section 2.3)
 abbrev pub further_round_trip : RoundTrip → ℕ → RoundTrip
 further_round_trip old sample =
     record { smoothed = (7 * old.smoothed + sample) / 8; variance = (3 * old.variance + apart old.smoothed sample) / 4 }

@@ -28,12 +28,12 @@ probing_wait path = record { first = min (max (timeout path) 200) 2000; most = 2
 abbrev pub rto_wait : Option RoundTrip → Wait
 rto_wait path = record { first = timeout path; most = 64000 }
 
--- two round trips (section 8.3), of 100 milliseconds at least, or 400 where nothing is known of them (own)
+-- two round trips (section 8.3), at least 100 milliseconds, or 400 without a sample (own)
 abbrev pub two_round_trips : Option RoundTrip → ℕ
 two_round_trips None = 400
 two_round_trips (Some path) = max (2 * path.smoothed / 1000) 100
 
--- they are the first wait for the answer to a Close or CloseReq, and 64 seconds the longest (section 8.3)
+-- these are the first wait for the answer to a Close or CloseReq, and 64 seconds the longest (section 8.3)
 abbrev pub close_wait : Option RoundTrip → Wait
 close_wait path = record { first = two_round_trips path; most = 64000 }
 

@@ -62,7 +62,7 @@ fn lowers(held: u64, aim: u64, window: u32) -> bool
     aim < held && (aim == 1 || half(window) < held || aim <= held / 2)
 }
 
-// Whether it is raised, where it was asked for so long ago.
+// Whether it is raised, if it was asked for so long ago.
 fn raises(held: u64, aim: u64, waited: Option<u64>, period: u64) -> bool
     ensures { result ≡ raises_ratio held aim waited period }
 {
@@ -72,9 +72,10 @@ fn raises(held: u64, aim: u64, waited: Option<u64>, period: u64) -> bool
     held <= aim / 2 && waited.is_none_or(|waited| period <= waited)
 }
 
-/// Whether a sender asks for the Ack Ratio that it wants (own; RFC 4341, section 6.1.2, would have it doubled where Acks
-/// are lost). It lowers it at once where 1 is wanted, where the one it holds is above half the window, or at least twice
-/// what is wanted. It raises it from 1 five seconds after it has last asked, and else by twice at least, once a period.
+/// Whether a sender asks for the Ack Ratio that it wants (own; RFC 4341, section 6.1.2, would have it doubled where
+/// Acks are lost). It lowers the ratio at once if 1 is wanted, or if the present ratio is above half the window or at
+/// least twice what is wanted. It raises the ratio from 1 five seconds after it last asked; otherwise it raises it at
+/// least to twice its value, once a period.
 pub fn wants_ack_ratio(ratio: &AckRatio, aim: u64, window: u32, period: u64, now: u64) -> bool
     ensures { result ≡ wants_ack_ratio ratio.now aim window period now }
 {

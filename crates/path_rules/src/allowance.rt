@@ -1,11 +1,11 @@
-//! What a sender allows itself for the sake of the application that reads its data.
+//! How far a sender limits itself for the application that reads its data.
 ghost use Rattle.std.specs.Prelude.{◌≡◌};
 ghost use Rattle.path_rules.specs.Allowance.{allowance_of, allowed_after_acks, allowed_after_congestion, allowed_after_drops, allowed_after_timeout, grown, is_within_round_trip, window_within};
 
 use crate::round_trip::RoundTrip;
 
-/// How many data packets may be in flight for the sake of the application that reads them (RFC 4340, sections 11.6 and
-/// 11.7; own).
+/// How many data packets may be in flight, as far as the application that reads them allows (RFC 4340, sections 11.6
+/// and 11.7; own).
 #[derive(Clone, Copy, Debug, PartialEq, Eq)]
 pub struct Allowance {
     /// How many may be, one at least.
@@ -14,7 +14,7 @@ pub struct Allowance {
     pub acked: u32,
 }
 
-/// The window of a sender: `window`, that of its congestion control, or its allowance where that is less.
+/// The window of a sender: `window`, that of its congestion control, or its allowance if that is less.
 pub fn window_within(allowance: Option<Allowance>, window: u32) -> u32
     ensures { result ≡ window_within allowance window }
 {
@@ -74,7 +74,7 @@ pub fn allowed_after_acks(allowance: &Allowance, window: u32, acked: u32) -> All
 }
 
 /// Whether less than a round trip has gone by (RFC 4340, section 11.6): `elapsed` milliseconds are less than it was
-/// measured to take. Where it was not, `acked` says that what was in flight is acknowledged.
+/// measured to take. Without a sample, `acked` says that what was in flight is acknowledged.
 pub fn is_within_round_trip(path: Option<RoundTrip>, elapsed: u64, acked: bool) -> bool
     ensures { result ≡ is_within_round_trip path elapsed acked }
 {

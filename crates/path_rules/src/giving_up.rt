@@ -13,8 +13,8 @@ pub const GIVES_UP_ENDING: u64 = 120_000;
 /// two more (own).
 pub const GIVES_UP_SILENT: u64 = 180_000;
 
-/// Whether an open end asks its peer for a sign of life: where it has taken no packet for a minute, each ten seconds
-/// (own). `asked` is when it did last.
+/// Whether an open end asks its peer for a sign of life: once it has taken no packet for a minute, and then every ten
+/// seconds (own). `asked` is when it last did.
 pub fn asks_after_silence(heard: u64, asked: u64, now: u64) -> bool
     ensures { result ≡ asks_after_silence heard asked now }
 {

@@ -1,11 +1,11 @@
-//! What the rules come to.
+//! What follows from the rules.
 ghost use Rattle.path_rules.specs.AckRatio.{AckRatiosFit};
 ghost use Rattle.path_rules.specs.Allowance.{AllowancesAreKept};
 ghost use Rattle.path_rules.specs.Limits.{LimitsHold};
 ghost use Rattle.path_rules.specs.RoundTrip.{TimeoutsAreBounded};
 
-/// However many ask for tokens, and whenever: what is granted is what the bucket held at first and what came in since,
-/// at most (own).
+/// However many tokens are asked for, and whenever, no more are granted than the bucket held at first and what came in
+/// since (own).
 pub fn limits_hold()
     ensures { LimitsHold }
 {}

@@ -1,9 +1,9 @@
-//! The rules by which the owner of an end fills its path and spares it: round trips and timeouts, the waits of timers,
-//! the Ack Ratio, what a slow reader leaves of the window, limits of answers, and when an end is given up (RFC 4340; RFC
-//! 4341; RFC 6298; where these leave it open, own).
+//! The rules by which the owner of an end adapts to its path: round trips and timeouts, the waits of timers, the Ack
+//! Ratio, what a slow reader leaves of the window, limits of answers, and when an end is given up (RFC 4340; RFC 4341;
+//! RFC 6298; where these leave it open, own).
 //!
-//! All are functions of plain numbers, which take no memory and know no clock. Times are in milliseconds from any
-//! beginning; a time before one that was told counts as that one. Who keeps an end asks them (dccp_uses).
+//! All are functions of plain numbers, which take no memory and know no clock. Times are in milliseconds since any
+//! moment; a time before an earlier one counts as that one. The owner of an end calls them (dccp_uses).
 #![tactic(auto)]
 
 mod ack_ratio;

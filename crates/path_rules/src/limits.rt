@@ -13,16 +13,16 @@ pub struct Limit {
     pub burst: u16,
 }
 
-/// A bucket of tokens, one for each that may pass.
+/// A bucket of tokens, one for each answer that may pass.
 #[derive(Clone, Copy, Debug, PartialEq, Eq)]
 pub struct Bucket {
-    /// What it held at that time, in thousandths of a token.
+    /// What it held when it was last asked, in thousandths of a token.
     pub thousandths: u32,
-    /// When that was, in milliseconds.
+    /// When it was last asked, in milliseconds.
     pub since: u64,
 }
 
-/// What asking for a token comes to.
+/// The result of asking for a token.
 #[derive(Clone, Copy, Debug, PartialEq, Eq)]
 pub struct Taking {
     /// Whether there was one.
@@ -42,7 +42,7 @@ pub fn near_syncs() -> Limit
     }
 }
 
-/// Syncs to numbers far from it, as a sender that knows none of them would guess: one a second (own; RFC 4340, section
+/// Syncs to numbers far from it, as a sender would guess that knows none of them: one a second (own; RFC 4340, section
 /// 7.5.4).
 pub fn far_syncs() -> Limit
     ensures { result ≡ far_syncs }
@@ -63,7 +63,7 @@ pub fn resets_to_strangers() -> Limit
     }
 }
 
-// What is paid for what passes, in thousandths of a token.
+// The price of one answer, in thousandths of a token.
 fn price(granted: bool) -> u32
     ensures { result ≡ 1000 * tokens_for granted }
 {
@@ -99,7 +99,7 @@ impl Bucket {
         held.min(most) as u32
     }
 
-    /// Takes a token at `now`, where there is one. Where there is none the bucket goes on filling.
+    /// Takes a token at `now`, if there is one. If there is none, the bucket goes on filling.
     pub fn take(&self, limit: &Limit, now: u64) -> Taking
         ensures { result ≡ token_taken limit.now self.now now }
     {

@@ -2,7 +2,7 @@
 ghost use Rattle.std.specs.Prelude.{◌≡◌};
 ghost use Rattle.path_rules.specs.RoundTrip.{cut, first_round_trip, further_round_trip, longest_timeout, single_timeout, timeout, with_sample};
 
-/// What samples of a round trip have come to (RFC 6298, section 2).
+/// The round trip by its samples (RFC 6298, section 2).
 #[derive(Clone, Copy, Debug, PartialEq, Eq)]
 pub struct RoundTrip {
     /// SRTT, in microseconds.
@@ -63,9 +63,9 @@ fn single_timeout(path: &RoundTrip) -> u64
     (u64::from(path.smoothed) + variance) / 1_000
 }
 
-/// RTO, in milliseconds: how long a report is waited for before any timeout (RFC 6298, section 2). A second where there
-/// was no sample. 250 milliseconds are the least of the variance's part, and not of the whole, since an Ack waits at its
-/// sender for up to 200 (own). Each timeout doubles it, as `Wait::after` of `rto_wait` says.
+/// RTO, in milliseconds: how long a report is waited for before any timeout (RFC 6298, section 2). A second if there
+/// was no sample. 250 milliseconds are the minimum of the variance's part, and not of the whole, since the peer may
+/// hold back an Ack for up to 200 (own). Each timeout doubles it, as `Wait::after` of `rto_wait` says.
 pub fn timeout(path: Option<RoundTrip>) -> u64
     ensures { result ≡ timeout path }
 {

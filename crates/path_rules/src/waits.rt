@@ -32,8 +32,8 @@ pub fn request_wait() -> Wait
     }
 }
 
-/// An Ack of an end that has nothing else to say: after 50 milliseconds, up to 20 seconds, so that what is between
-/// the ends keeps the connection in mind (own; RFC 4340, section 8.1.5, has 200 for the client in PARTOPEN).
+/// An Ack of an end that has nothing else to say: after 50 milliseconds, up to 20 seconds, so that routers between the
+/// ends keep the connection in their tables (own; RFC 4340, section 8.1.5, has 200 for the client in PARTOPEN).
 pub fn ack_wait() -> Wait
     ensures { result ≡ ack_wait }
 {
@@ -54,7 +54,8 @@ pub fn negotiate_wait(path: Option<RoundTrip>) -> Wait
     }
 }
 
-/// A report on what is in flight: after a timeout, doubled by each that comes, up to 64 seconds (RFC 6298, section 5.5).
+/// A report on what is in flight: after a timeout, which each further timeout doubles, up to 64 seconds (RFC 6298,
+/// section 5.5).
 pub fn rto_wait(path: Option<RoundTrip>) -> Wait
     ensures { result ≡ rto_wait path }
 {
@@ -74,8 +75,8 @@ pub fn probing_wait(path: Option<RoundTrip>) -> Wait
     }
 }
 
-/// Another Close or CloseReq: after two round trips, of 100 milliseconds together at least, up to 64 seconds (RFC 4340,
-/// section 8.3); 400 milliseconds where there was no sample (own).
+/// Another Close or CloseReq: after two round trips, together at least 100 milliseconds, up to 64 seconds (RFC 4340,
+/// section 8.3); 400 milliseconds if there was no sample (own).
 pub fn close_wait(path: Option<RoundTrip>) -> Wait
     ensures { result ≡ close_wait path }
 {
