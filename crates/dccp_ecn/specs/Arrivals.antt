@@ -15,7 +15,7 @@ pub record Arrival : Type 0 where
 abbrev pub arrival_of : ℕ → Arrived → Arrival
 arrival_of n how = record { number = n; how = how }
 
--- how a number came by the first arrival of it in a list, or none where the list has none
+-- how a number came by its first arrival in a list, or none if the list has none
 abbrev pub how_in : List Arrival → ℕ → Option Arrived
 how_in [] n = None
 how_in (a ∷ rest) n = if a.number == n then Some a.how else how_in rest n
@@ -38,12 +38,12 @@ arrivals set first = record { set = set; first = first }
 abbrev pub none_arrived : ℕ → Arrivals
 none_arrived floor = arrivals (empty_from floor) []
 
--- what is known of how a number came; marked where nothing is, which is asked of no number of a set
+-- how a number came, as far as is known; "marked" if nothing is known, which is asked for no number of a set
 abbrev pub known_or_marked : Option Arrived → Arrived
 known_or_marked None = came.Marked
 known_or_marked (Some how) = how
 
--- A number that is new is marked, by which others may leave the set. It came as this arrival tells, and the others as
+-- A number that is new is marked, and others may leave the set by that. It came as this arrival says, and the others as
 -- before.
 abbrev pub with_arrival : Arrivals → ℕ → Arrived → Arrivals
 with_arrival e n how =

@@ -1,5 +1,5 @@
--- What a sender keeps of the nonces that it sent, and what it tells of a vector by them (RFC 4340, section 12.2; how
--- many it keeps is own).
+-- What a sender keeps of the nonces that it sent, and its verdict on a vector by them (RFC 4340, section 12.2; how many
+-- it keeps is own).
 use Rattle.std.specs.Prelude.{ℕ, ◌+◌, ◌%◌, ◌==◌, zero, suc, Bool, false, List, [], ◌∷◌, take, slice_get, slice_index_or, Option, Some, None, if◌then◌else◌}
 use Rattle.seq_circle.specs.Circle.{distance, down, residue}
 use Rattle.dccp_ecn.specs.declared.ledger.Check.{Check}
@@ -23,13 +23,13 @@ with_nonce_sent l nonce = ledger (residue (l.next + 1)) (take 4096 (nonce ∷ l.
 abbrev pub nonce_kept : Ledger → ℕ → Option Bool
 nonce_kept l n = slice_get l.nonces (distance n (down l.next 1))
 
--- what an exclusive or of kept nonces tells of a vector's type
+-- the verdict on a vector's type by an exclusive or of kept nonces
 abbrev pub check_verdict : ℕ → Option Bool → Check
 check_verdict kind None = Unknown
 check_verdict kind (Some sum) = if kind_of_sum (Some sum) == kind then Fits else Unfit
 
--- What the ledger tells of a vector: whether its type is that of the nonces of all numbers that it reports as received
--- unmarked, where they are kept (RFC 4340, section 12.2).
+-- The ledger's verdict on a vector: whether its type is that of the nonces of all numbers that it reports as received
+-- unmarked, if these are kept (RFC 4340, section 12.2).
 abbrev pub vector_checked : Ledger → ℕ → ℕ → List ℕ → Check
 vector_checked l ack kind bytes = check_verdict kind (sum_of (nonce_kept l) (zeros_in ack bytes))
 

@@ -29,13 +29,13 @@ xor_if_known (Some one) (Some other) = Some (nonce_xor one other)
 xor_if_known (Some one) None = None
 xor_if_known None other = None
 
--- The exclusive or of the nonces of numbers, or none where one of them is not known (RFC 4340, section 12.2).
+-- The exclusive or of the nonces of numbers, or none if one of them is not known (RFC 4340, section 12.2).
 abbrev pub sum_of : (ℕ → Option Bool) → List ℕ → Option Bool
 sum_of nonce [] = Some false
 sum_of nonce (n ∷ ns) = xor_if_known (nonce n) (sum_of nonce ns)
 
--- the type of an Ack Vector by its ECN Nonce Echo (RFC 4340, section 11.4); 38 too where it is not known, which no
--- vector's is that is written
+-- the type of an Ack Vector by its ECN Nonce Echo (RFC 4340, section 11.4); also 38 if the echo is not known, which is
+-- so for no vector that is written
 abbrev pub kind_of_sum : Option Bool → ℕ
 kind_of_sum None = ack_vector_0
 kind_of_sum (Some false) = ack_vector_0

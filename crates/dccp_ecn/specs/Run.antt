@@ -1,4 +1,4 @@
--- The run by itself: what was sent, what came, and what each report tells of, whatever the two ends keep (RFC 4340,
+-- The run by itself: what was sent, what came, and what each report covers, whatever the two ends keep (RFC 4340,
 -- section 12.2).
 use Rattle.std.specs.Prelude.{◌≡◌, ℕ, ◌+◌, ◌++◌, nat_le, Bool, List, [], ◌∷◌, length, map, slice_get, Option, Some, None, if◌then◌else◌}
 use Rattle.std.specs.List.{list_any}
@@ -49,12 +49,12 @@ greatest_from greatest (a ∷ rest) = greatest_from (greatest_came greatest a.nu
 abbrev pub greatest_of : List Arrival → Option ℕ
 greatest_of receipts = greatest_from None receipts
 
--- the number, or 0 where there is none
+-- the number, or 0 if there is none
 abbrev pub number_or_0 : Option ℕ → ℕ
 number_or_0 None = 0
 number_or_0 (Some n) = n
 
--- the report of these receipts: their vector at the greatest number, of which there is one where it is written
+-- the report of these receipts: their vector at the greatest number, which exists when a report is written
 abbrev pub report_by : List Arrival → EcnReport
 report_by receipts = report_at (received_after receipts) (number_or_0 (greatest_of receipts))
 
@@ -63,7 +63,7 @@ abbrev pub run_with_receipt : EcnRun → Option Arrival → EcnRun
 run_with_receipt r None = r
 run_with_receipt r (Some a) = ecn_run r.sent (r.receipts ++ a ∷ []) r.heard
 
--- a report joins the run, if there is a number at which it is written: it tells of the receipts so far
+-- a report joins the run, if there is a number at which it is written: it covers the receipts so far
 abbrev pub run_with_report : EcnRun → Option ℕ → EcnRun
 run_with_report r None = r
 run_with_report r (Some _) = ecn_run r.sent r.receipts (r.heard ++ r.receipts ∷ [])
@@ -86,7 +86,7 @@ run_goes_on_by r (e ∷ es) = run_goes_on_by (run_goes_on r e) es
 abbrev pub run_of_events : List EcnEvent → EcnRun
 run_of_events events = run_goes_on_by (ecn_run [] [] []) events
 
--- what the two ends have come to by a run
+-- the two ends after a run
 abbrev pub state_by : EcnRun → EcnState
 state_by r = ecn_state r.sent (ledger_by r.sent) (received_after r.receipts) (greatest_of r.receipts) (map report_by r.heard)
 
@@ -99,11 +99,11 @@ pub record IsRunOf (w : EcnState) : Type 0 where
 abbrev pub is_old : List Bool → ℕ → Bool
 is_old sent n = nat_le (n + 4096) (length sent)
 
--- a check is not possible where the report tells of such a packet that it came unmarked
+-- a check is not possible if the report says of such a packet that it came unmarked
 abbrev pub unless_old : List Bool → EcnReport → Check → Check
 unless_old sent report check = if list_any (is_old sent) (zeros_in report.ack report.bytes) then Unknown else check
 
--- Each report fits, and does not with the other nonce, unless it tells of packets that are too old (RFC 4340, section
+-- Each report fits, and does not with the other nonce, unless it covers packets that are too old (RFC 4340, section
 -- 12.2).
 abbrev pub AreHonest : EcnState → Type 0
 AreHonest w = (index : ℕ) (report : EcnReport) → slice_get w.reports index ≡ Some report

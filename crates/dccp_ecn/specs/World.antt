@@ -1,4 +1,4 @@
--- An ECN-capable sender and an ECN-capable receiver, and what an event makes of them (own).
+-- An ECN-capable sender and an ECN-capable receiver, and what an event does to them (own).
 use Rattle.std.specs.Prelude.{ℕ, ◌+◌, ◌^◌, ◌≤◌, ◌==◌, ◌++◌, nat_le, Bool, List, [], ◌∷◌, length, slice_get, Option, Some, None, Result, Ok, Err, if◌then◌else◌}
 use Rattle.seq_circle.specs.Circle.{later_of, residue}
 use Rattle.run_list.specs.MarkedSet.{answer_to}
@@ -43,7 +43,7 @@ ecn_begins = ecn_state [] (ledger 1 []) (none_arrived 1) None []
 abbrev pub packet_number : ℕ → ℕ
 packet_number index = residue (1 + index)
 
--- what arrives of the packet with this index and nonce, unmarked; nothing where no such packet was sent
+-- the arrival of the packet with this index and nonce, unmarked; nothing if no such packet was sent
 abbrev pub unmarked_at : ℕ → Option Bool → Option Arrival
 unmarked_at index None = None
 unmarked_at index (Some nonce) = Some (arrival_of (packet_number index) (came.Nonce nonce))
@@ -66,7 +66,7 @@ report_at received ack = record { ack = ack; kind = ecn_kind received ack; bytes
 abbrev pub other_kind : ℕ → ℕ
 other_kind kind = if kind == ack_vector_0 then ack_vector_1 else ack_vector_0
 
--- what the sender tells of a report
+-- the sender's verdict on a report
 abbrev pub checks : Ledger → EcnReport → Check
 checks l report = vector_checked l report.ack report.kind report.bytes
 
@@ -78,7 +78,7 @@ checks_forged l report = vector_checked l report.ack (other_kind report.kind) re
 abbrev pub most_sent : ℕ
 most_sent = 2 ^ 46
 
--- what an event makes of the two, and what is seen of it
+-- the two ends after an event, and its result
 pub record EcnStep : Type 0 where
   pub after : EcnState
   pub seen : EcnSeen
@@ -99,7 +99,7 @@ after_receipt w a = ecn_state w.sent w.ledger (taken_in w.received a.number a.ho
 abbrev pub keeps_report : EcnState → EcnReport → EcnState
 keeps_report w report = ecn_state w.sent w.ledger w.received w.greatest (w.reports ++ report ∷ [])
 
--- what a receipt makes of the two, which there is of a packet that was sent
+-- the two ends after a receipt, if the packet was sent
 abbrev pub receipt_step : EcnState → Option Arrival → Result EcnStep EcnFault
 receipt_step w None = Err fault.NoSuchFrame
 receipt_step w (Some a) = Ok (ecn_step (after_receipt w a) (seen.Took (answer_to w.received.set a.number)))
@@ -109,12 +109,12 @@ abbrev pub reports_to : EcnState → Option ℕ → Result EcnStep EcnFault
 reports_to w None = Ok (ecn_step w (seen.Reported None))
 reports_to w (Some ack) = Ok (ecn_step (keeps_report w (report_at w.received ack)) (seen.Reported (Some (length w.reports))))
 
--- what a check of a report tells, where there is such a report
+-- the verdict of a check, if there is such a report
 abbrev pub is_checked : EcnState → (EcnReport → Check) → Option EcnReport → Result EcnStep EcnFault
 is_checked w check None = Err fault.NoSuchFrame
 is_checked w check (Some report) = Ok (ecn_step w (seen.Checked (check report)))
 
--- What an event makes of the two, or why it does not take place (own).
+-- The two ends after an event, or why it does not take place (own).
 abbrev pub happens_by : EcnState → EcnEvent → Result EcnStep EcnFault
 happens_by w (event.Send nonce) = if nat_le most_sent (length w.sent) then Err fault.Full else Ok (ecn_step (after_send w nonce) seen.Sent)
 happens_by w (event.Deliver index) = receipt_step w (unmarked_at index (slice_get w.sent index))

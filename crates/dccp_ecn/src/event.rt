@@ -1,4 +1,4 @@
-//! What may happen between the two ends, and what is seen of it.
+//! What may happen between the two ends, and its results.
 use crate::Check;
 use run_list::Marked;
 
@@ -19,16 +19,16 @@ pub enum EcnEvent {
     Forge(u64),
 }
 
-/// What is seen of an event.
+/// The result of an event.
 #[derive(Clone, Copy, Debug, PartialEq, Eq)]
 pub enum EcnSeen {
     /// The packet was sent.
     Sent,
-    /// What the receiver answered to the packet's number.
+    /// The receiver's answer to the packet's number.
     Took(Marked),
-    /// The index of the report, or None where nothing came yet.
+    /// The index of the report, or None if nothing has come yet.
     Reported(Option<u64>),
-    /// What the sender tells of the report.
+    /// The sender's verdict on the report.
     Checked(Check),
 }
 

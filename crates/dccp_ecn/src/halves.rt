@@ -1,4 +1,4 @@
-//! The two ends together, and exactly what an event makes of them.
+//! The two ends together, and what an event does to them.
 ghost use Rattle.std.specs.Prelude.{◌≡◌, ◌≢◌, ◌≤◌, ◌^◌, ◌↔◌, ◌⊎◌, IfOk, OnErr, Ok, Err, Some, None, length, slice_get};
 ghost use Rattle.run_list.specs.MarkedSet.{answer_to};
 ghost use Rattle.dccp_ecn.specs.Arrivals.{arrival_of};

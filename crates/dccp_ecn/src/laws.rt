@@ -10,7 +10,7 @@ ghost use Rattle.dccp_ecn.specs.World.{after_events, ecn_begins};
 ghost use Rattle.dccp_ecn.specs.declared.event.EcnEvent.{EcnEvent};
 ghost use Rattle.dccp_ecn.specs.Run.{AreHonest, run_of_events, state_by};
 
-/// What a vector tells is read back, number by number from the acknowledgement down: state 0 for what came first
+/// What a vector reports is read back, number by number from the acknowledgement down: state 0 for what came first
 /// unmarked, 1 for what came first marked and 3 for what did not come, and nothing past its bytes. They fit an option,
 /// and reach the floor exactly where the vector is whole (RFC 4340, section 11.4).
 pub fn a_vector_with_marks_reads_back()
@@ -28,16 +28,16 @@ pub fn every_vector_has_its_nonce()
         → (nonce : Bool) × (sum_of (nonces_received e) (zeros_in ack (ecn_bytes e ack)) ≡ Some nonce) }
 {}
 
-/// After every list of events the two ends have come to what the run by itself tells: what was sent, what came, and for
-/// each report the packets that came before it, whatever the order in which they came. So each report is the vector of
-/// the receipts before it, at the greatest of their numbers.
+/// After every list of events the two ends are as the run by itself says: what was sent, what came, and for each report
+/// the packets that came before it, whatever their order. So each report is the vector of the receipts before it, at
+/// the greatest of their numbers.
 pub fn every_run_is_told()
     ensures { (events : List EcnEvent) → after_events ecn_begins events ≡ state_by (run_of_events events) }
 {}
 
-/// After every list of events every report is honest: its check answers Unknown exactly where it tells of a packet
-/// before the last 4,096 that were sent that it came unmarked, and otherwise Fits; with the other nonce it answers
-/// Unfit there (RFC 4340, section 12.2).
+/// After every list of events every report is honest: its check answers Unknown exactly if it says of a packet before
+/// the last 4,096 that it came unmarked, and otherwise Fits; with the other nonce that check answers Unfit (RFC 4340,
+/// section 12.2).
 pub fn every_report_is_honest()
     ensures { (events : List EcnEvent) → AreHonest (after_events ecn_begins events) }
 {}

@@ -11,7 +11,7 @@ use std::marker::Model;
 // How many nonces are kept (own). It divides the size of the circle.
 const KEPT: usize = 4_096;
 
-/// What a sender tells of a vector that its peer reported.
+/// A sender's verdict on a vector that its peer reported.
 #[derive(Clone, Copy, Debug, PartialEq, Eq)]
 pub enum Check {
     /// Its nonce is that of the packets that it reports as received unmarked.
@@ -25,7 +25,7 @@ pub enum Check {
 /// The nonces of the last 4,096 packets that an ECN-capable end sent (RFC 4340, section 12.2; the count is own).
 /// Contracts see the number of the next packet, and the nonces that are kept, the newest first.
 ///
-/// `sent` counts a packet, and `check` tells whether an Ack Vector of the peer can be honest. None takes memory.
+/// `sent` counts a packet, and `check` says whether an Ack Vector of the peer can be honest. No call takes memory.
 #[derive(Drop)]
 pub struct NonceLedger {
     next: Seq48,
@@ -53,7 +53,7 @@ fn place_in_ring(n: Seq48) -> usize
     (n.get() % KEPT as u64) as usize
 }
 
-// What an exclusive or of kept nonces tells of a vector's type.
+// The verdict on a vector's type by an exclusive or of kept nonces.
 fn check_verdict(kind: u8, sum: Option<bool>) -> Check
     ensures { result ≡ check_verdict kind sum }
 {
@@ -76,7 +76,7 @@ impl NonceLedger {
         }
     }
 
-    /// Counts a packet that is sent with this nonce, and answers its number: the next one. The nonces of the last 4,096
+    /// Counts a packet that is sent with this nonce, and returns its number: the next one. The nonces of the last 4,096
     /// packets are kept.
     pub fn sent(&mut self, nonce: bool) -> Seq48
         ensures value { self.new ≡ with_nonce_sent self.old nonce }
@@ -89,10 +89,10 @@ impl NonceLedger {
         number
     }
 
-    /// Tells whether the type `kind` of an Ack Vector from `ack` down, 38 or 39, is that of the nonces of all numbers
-    /// that its bytes report with state 0: `Unknown` exactly where one of these nonces is not kept, and otherwise
-    /// `Fits` exactly where their exclusive or is `kind` less 38 (RFC 4340, section 12.2). A number that is reported
-    /// twice, which takes more bytes than any packet has, counts twice.
+    /// Whether the type `kind` of an Ack Vector from `ack` down, 38 or 39, is that of the nonces of all numbers that
+    /// its bytes report with state 0: `Unknown` exactly if one of these nonces is not kept, and otherwise `Fits`
+    /// exactly if their exclusive or is `kind` less 38 (RFC 4340, section 12.2). A number that is reported twice, which
+    /// takes more bytes than any packet has, counts twice.
     pub fn check(&self, ack: Seq48, kind: u8, body: &[u8]) -> Check
         ensures value { result ≡ vector_checked self.now ack kind body.now }
         ensures unknown { (result ≡ Check.Unknown) ↔ IsTrue (list_any (λ n. not (is_some (nonce_kept self.now n))) (zeros_in ack body.now)) }

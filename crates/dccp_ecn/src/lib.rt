@@ -1,6 +1,6 @@
 //! ECN nonces: the two halves that an ECN-capable DCCP end has (RFC 4340, section 12). A receiver keeps which packets
-//! came unmarked, which marked and which not at all, and reports them by Ack Vectors with a nonce; a sender keeps the
-//! nonces that it sent, and tells a report that can be honest from one that hides a mark or a loss.
+//! came unmarked, which marked and which not at all, and reports them by Ack Vectors with a nonce. A sender keeps the
+//! nonces that it sent, and distinguishes a report that can be honest from one that hides a mark or a loss.
 //!
 //! Nothing here sets or reads the ECN bits of an IP header, or reads a packet. All memory is taken in
 //! `EcnReceived::new`; `EcnWorld`, in which both halves are played, takes some with each packet and report. The ends of

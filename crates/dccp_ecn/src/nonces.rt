@@ -16,7 +16,7 @@ pub(crate) trait Nonces {
     /// The nonce of each number, which contracts alone see.
     ghost nonce_of: { Self → ℕ → Option Bool };
 
-    /// The nonce of a number, or None where it is not known.
+    /// The nonce of a number, or None if it is not known.
     fn nonce(&self, n: Seq48) -> Option<bool>
         ensures { result ≡ nonce_of self.now n };
 }
@@ -62,8 +62,8 @@ fn sum_of_byte<N: Nonces>(nonces: &N, hi: Seq48, byte: u8) -> Option<bool>
     }
 }
 
-/// The exclusive or of the nonces of the numbers that the bytes of a vector report with state 0, or None where the
-/// nonce of one of them is not known.
+/// The exclusive or of the nonces of the numbers that the bytes of a vector report with state 0, or None if the nonce
+/// of one of them is not known.
 pub(crate) fn sum_of<N: Nonces>(nonces: &N, ack: Seq48, bytes: &[u8]) -> Option<bool>
     ensures { result ≡ sum_of (N.nonce_of nonces.now) (zeros_in ack bytes.now) }
 {

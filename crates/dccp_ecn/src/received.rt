@@ -21,7 +21,7 @@ const RECEIVED_MARKED: u8 = 1;
 
 const MISSING: u8 = 3;
 
-/// What was written of an Ack Vector beside its bytes.
+/// What belongs to an Ack Vector that was written, besides its bytes.
 #[derive(Clone, Copy, Debug, PartialEq, Eq)]
 pub struct EcnVector {
     /// The option's type, by the vector's ECN Nonce Echo: 38 for 0 and 39 for 1 (RFC 4340, section 11.4).
@@ -71,7 +71,7 @@ impl EcnReceived {
         self.ring.empty(first, PLACES);
     }
 
-    /// Takes in that `n` came, and how: `BelowFloor`, `Again` or `New` as `RunList::mark` answers. Only New changes
+    /// Notes that `n` came, and how: `BelowFloor`, `Again` or `New` as `RunList::mark` answers. Only New changes
     /// anything, so that the first receipt of a number counts.
     pub fn took(&mut self, n: Seq48, how: Arrived) -> Marked
         ensures value { self.new ≡ taken_in self.old n how }
@@ -93,7 +93,7 @@ impl EcnReceived {
         }
     }
 
-    /// The floor: lower numbers are told no more.
+    /// The floor: lower numbers are no longer reported.
     pub fn floor(&self) -> Seq48
         ensures value { result ≡ self.now.set.floor }
         ensures sound { IsSound self.now.set }
@@ -101,7 +101,7 @@ impl EcnReceived {
         self.set.floor()
     }
 
-    // How a number came first, or None where it is not in the set.
+    // How a number came first, or None if it is not in the set.
     fn how(&self, n: Seq48) -> Option<Arrived>
         ensures { result ≡ how_in self.now.first n }
     {
@@ -126,9 +126,9 @@ impl EcnReceived {
 
     /// Puts the bytes of the vector from `ack` down to the floor in place of what `out` had: state 0 for what came
     /// unmarked, 1 for what came marked and 3 for what did not come, runs of at most 64, and of these bytes the first
-    /// 253, which one option has room for (RFC 4340, section 11.4). It is whole exactly where there are no more. Its
-    /// type tells the exclusive or of the nonces of the numbers that these bytes report with state 0 (RFC 4340, section
-    /// 12.2). Where `ack` is below the floor the vector has no byte, is whole and has type 38.
+    /// 253, which one option has room for (RFC 4340, section 11.4). It is whole exactly if there are no more. Its type
+    /// gives the exclusive or of the nonces of the numbers that these bytes report with state 0 (RFC 4340, section
+    /// 12.2). If `ack` is below the floor, the vector has no byte, is whole and has type 38.
     pub fn write(&self, out: &mut VectorBytes, ack: Seq48) -> EcnVector
         ensures bytes { out.new.items ≡ ecn_bytes self.now ack }
         ensures fits { length out.new.items ≤ 253 }

@@ -72,14 +72,14 @@ impl Report {
         &self.bytes
     }
 
-    /// What the sender tells of it.
+    /// The sender's verdict on it.
     pub(crate) fn checked_by(&self, ledger: &NonceLedger) -> Check
         ensures { result ≡ checks ledger.now self.now }
     {
         ledger.check(self.ack, self.kind, &self.bytes)
     }
 
-    /// What the sender tells of it with the other nonce.
+    /// The sender's verdict on it with the other nonce.
     pub(crate) fn forged_by(&self, ledger: &NonceLedger) -> Check
         ensures { result ≡ checks_forged ledger.now self.now }
     {

@@ -10,7 +10,7 @@ use std::marker::Model;
 /// Numbers less than this above one floor have places of their own. It divides the size of the circle.
 pub(crate) const PLACES: u64 = 2_048;
 
-/// A place for each remainder of a number by 2,048: how the number came that it stands for, if any.
+/// A place for each remainder of a number by 2,048: how the number at this place came, if there is one.
 #[derive(Drop)]
 pub(crate) struct Ring {
     places: Vec<Option<Arrived>>,
@@ -51,7 +51,7 @@ impl Ring {
         self.places[place_of(n)]
     }
 
-    /// Lets the place of a number tell how it came.
+    /// Notes at the place of a number how it came.
     pub(crate) fn put(&mut self, n: Seq48, how: Arrived)
         ensures { IsPut n how self.old self.new }
     {
