@@ -1,10 +1,10 @@
--- Where the words of a line stand (own).
+-- The columns of the words of a line (own).
 use Rattle.std.specs.Prelude.{◌≡◌, ℕ, ◌+◌, ◌-◌, ◌≤◌, ◌==◌, not, true, List, length, take, drop, map, All}
 use Rattle.std.specs.List.{list_all}
 use Rattle.tool_text.specs.Words.{WordAt, WordsLeft}
 use Rattle.tool_text.specs.Words.{joined}
 
--- a word is in a line: from its column on, counted in bytes from 1, the line has its text, in which no space stands
+-- a word is in a line: from its column on, counted in bytes from 1, the line has its text, which has no space
 pub record StandsIn (line : List ℕ) (word : WordAt) : Type 0 where
   pub from_one : 1 ≤ word.column
   pub text : take (length word.text) (drop (word.column - 1) line) ≡ word.text

@@ -12,7 +12,7 @@ abbrev pub place_or_odd : List ℕ → Option ℕ → Option ℕ
 place_or_odd text (Some place) = Some place
 place_or_odd text None = if length text % 2 == 1 then Some (length text) else None
 
--- the place of the first byte that is no digit, or that after an odd number of digits
+-- the place of the first byte that is no digit, or the place after an odd number of digits
 abbrev pub digits_flaw : List ℕ → Option ℕ
 digits_flaw text = place_or_odd text (first_no_digit text)
 

@@ -1,4 +1,4 @@
--- What the tool's one call may leave written, and why it ends (own).
+-- What the tool's one call may have written, and why it ends (own).
 use Rattle.std.specs.Prelude.{◌≡◌, ◌⊎◌, ℕ, Bool, true, false, List, [], ◌++◌, take, drop, Option, Some}
 use Rattle.std.specs.Io.KnownBytes.{append_known}
 use Rattle.dccp_io.specs.Counts.{Rose}
@@ -8,7 +8,7 @@ use Rattle.tool_text.specs.declared.output.status.JobEnd.TheVariants as ended
 use Rattle.tool_text.specs.declared.output.status.Status.{Status}
 use Rattle.tool_text.specs.declared.output.status.Status.TheVariants as status
 
--- A sink that tells what it took has taken this text.
+-- A sink whose bytes are known has taken this text.
 abbrev pub HasTaken : Option (List ℕ) → Option (List ℕ) → List ℕ → Type 0
 HasTaken before after text = after ≡ append_known before text
 
@@ -16,7 +16,7 @@ HasTaken before after text = after ≡ append_known before text
 abbrev pub HasBegun : Option (List ℕ) → Option (List ℕ) → List ℕ → Type 0
 HasBegun before after text = (n : ℕ) × (after ≡ append_known before (take n text))
 
--- A front of the text was moved into what a sink has taken.
+-- A prefix of the text has gone to the sink, and is no longer in the text.
 abbrev pub IsMovedOut : Option (List ℕ) → Option (List ℕ) → List ℕ → List ℕ → Type 0
 IsMovedOut before after text kept = (moved : List ℕ) × (after ≡ append_known before moved) × (text ≡ moved ++ kept)
 
@@ -37,7 +37,7 @@ pub record IsWritten (text : List ℕ) (before after : Option (List ℕ)) (sink_
   pub front : HasBegun before after text
   pub whole : (sink_failed → ⊥) → HasTaken before after text
 
--- The status of a program whose job ended so.
+-- The status of a program whose job ended in this way.
 abbrev pub status_of : JobEnd → Status
 status_of ended.Done = status.Done
 status_of ended.Input = status.Input
@@ -45,7 +45,7 @@ status_of ended.Read = status.Read
 status_of ended.Write = status.Write
 status_of ended.Memory = status.Memory
 
--- A program ended as a job does for which this holds. No job ends with Words.
+-- A program ended as a job with this property does. No job ends with Words.
 abbrev pub OnJobEnd : Status → (JobEnd → Type 0) → Type 0
 OnJobEnd status.Done Holds = Holds ended.Done
 OnJobEnd status.Input Holds = Holds ended.Input
@@ -54,29 +54,29 @@ OnJobEnd status.Read Holds = Holds ended.Read
 OnJobEnd status.Write Holds = Holds ended.Write
 OnJobEnd status.Memory Holds = Holds ended.Memory
 
--- The whole job was done, or the input was refused: both write all that there is to write.
+-- The whole job was done, or the input was refused: in both cases all is written that there is to write.
 abbrev pub IsAnswered : JobEnd → Type 0
 IsAnswered result = (result ≡ ended.Done) ⊎ (result ≡ ended.Input)
 
--- A fault or want of memory ended the job.
+-- A fault or a lack of memory ended the job.
 abbrev pub IsCutOff : JobEnd → Type 0
 IsCutOff result = (result ≡ ended.Read) ⊎ ((result ≡ ended.Write) ⊎ (result ≡ ended.Memory))
 
--- Where an input is refused, at most so many bytes were read after those that were accepted.
+-- If an input is refused, at most so many bytes were read after those that were accepted.
 abbrev pub StopsWithin : ℕ → ℕ → List ℕ → JobEnd → Option (List ℕ) → Type 0
 StopsWithin most accepted bytes result left = result ≡ ended.Input → GivesAtMost most (Some (drop accepted bytes)) left
 
--- What a form that reads its input owes, where that input has this text and is refused or not: an answer is the whole
--- text, what was cut off is a front of it, Done leaves nothing to read, and Done and Input say whether the input was
--- refused.
+-- What a form that reads its input guarantees, for an input with this text that is refused or not. With Done or Input
+-- the whole text is written, and otherwise a prefix of it; Done leaves nothing to read; and Done and Input say whether
+-- the input was refused.
 pub record Answers (text : List ℕ) (is_refused : Bool) (result : JobEnd) (left before after : Option (List ℕ)) : Type 0 where
   pub whole : IsAnswered result → HasTaken before after text
   pub front : IsCutOff result → HasBegun before after text
   pub done : result ≡ ended.Done → (is_refused ≡ false) × (left ≡ Some [])
   pub input : result ≡ ended.Input → is_refused ≡ true
 
--- Why a form ends: with Read only where the source failed, with Write only where the sink did, and where neither failed
--- with an answer, if memory is found.
+-- Why a form ends: with Read only if the source failed, and with Write only if the sink did. If neither failed it ends
+-- with Done or Input, unless memory runs out.
 pub record EndsForCause (result : JobEnd) (source_failed sink_failed : Type 0) : Type 0 where
   pub read : result ≡ ended.Read → source_failed
   pub write : result ≡ ended.Write → sink_failed

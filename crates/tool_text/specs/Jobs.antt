@@ -1,4 +1,4 @@
--- What a job makes of the lines of an input, and what is written of it (own).
+-- What a job does with the lines of an input, and what it writes (own).
 use Rattle.std.specs.Prelude.{ℕ, ◌+◌, ◌++◌, Bool, true, false, is_some, List, [], ◌∷◌, length, flat_map, Option, Some, None, Result, Ok, Err, ◌≡◌}
 use Rattle.dccp_io.specs.Lines.{Next, End, Line, Long, Much, lines_of, next_in_lines, text_of}
 use Rattle.tool_text.specs.Ends.{Answers, IsAnswered, StopsWithin}
@@ -11,13 +11,13 @@ use Rattle.tool_text.specs.declared.lines.loops.LinesEnd.{LinesEnd}
 use Rattle.tool_text.specs.declared.lines.refusals.Refusal.{Refusal}
 use Rattle.tool_text.specs.declared.words.faults.LineWhy.TheVariants as why
 
--- What a line comes to: it is accepted, with what it does, if it does anything, and the state after it, or it is
+-- The result of a line: it is accepted, with what it does, if it does anything, and the state after it; or it is
 -- refused.
 pub data Verdict (P V : Type 0) : Type 0 where
   Accepted : (deed : Option P) (next : V) → Verdict P V
   Refused : (fault : LineFault) → Verdict P V
 
--- A job over lines: what a line without its newline comes to, by the state and its number; the text of what it does;
+-- A job over lines: the result of a line without its newline, by the state and its number; the text of what it does;
 -- and the text at the input's end.
 pub record Job (P V : Type 0) : Type 0 where
   pub judged : V → ℕ → List ℕ → Verdict P V
@@ -29,14 +29,14 @@ abbrev pub line_text : {P V : Type 0} → Job P V → Option P → List ℕ
 line_text job None = []
 line_text job (Some deed) = job.told deed
 
--- A line was judged so: an accepted one leaves its text at the text's end and leads on, a refused one leaves the text
--- as it was. Where memory was not found, any line may have been.
+-- A line was judged with this result: an accepted one adds its text at the text's end and leads on, a refused one
+-- leaves the text as it was. If memory ran out, nothing is known of the line.
 abbrev pub Judges : {P V : Type 0} → Job P V → Verdict P V → List ℕ → List ℕ → V → Result (Unit {0}) LineError → Type 0
 Judges job verdict old new after (Err line_error.NoMemory) = Unit {0}
 Judges job (Accepted deed next) old new after answer = (new ≡ old ++ line_text job deed) × (after ≡ next) × (answer ≡ Ok tt)
 Judges job (Refused fault) old new after answer = (new ≡ old) × (answer ≡ Err (line_error.Refused fault))
 
--- So many events a job over lines of events plays at most (own).
+-- The most events that a job over lines of events plays (own).
 abbrev pub most_events : ℕ
 most_events = 16384
 
@@ -44,15 +44,15 @@ most_events = 16384
 abbrev pub too_long : LineFault
 too_long = record { column = 4097; why = why.LineTooLong }
 
--- What comes next in an input comes to this: a line as the job judges it, and one that is too long, or too much for an
--- input, is refused. Where no line comes next, nothing is done.
+-- The result of what comes next in an input: a line is judged by the job, and one that is too long, or too much for an
+-- input, is refused. If no line comes next, nothing is done.
 abbrev pub by_next : {P V : Type 0} → Job P V → V → ℕ → Next → Verdict P V
 by_next job state number (Line line) = job.judged state number (text_of line)
 by_next job state number (Long front) = Refused too_long
 by_next job state number Much = Refused (whole_line why.TooMuchInput)
 by_next job state number End = Accepted None state
 
--- What the lines of an input come to: what they did, the state after them, the number of the line after the last that
+-- The result of the lines of an input: what they did, the state after them, the number of the line after the last that
 -- was accepted, how many bytes the accepted ones have, and why the line after them is refused, if it is.
 pub record Gone (P V : Type 0) : Type 0 where
   pub deeds : List P
@@ -66,7 +66,7 @@ abbrev pub deeds_of : {P : Type 0} → Option P → List P
 deeds_of None = []
 deeds_of (Some deed) = deed ∷ []
 
--- deeds in front of those of the lines that follow
+-- deeds before those of the lines that follow
 abbrev pub onto : {P V : Type 0} → List P → Gone P V → Gone P V
 onto deeds rest = record rest { deeds = deeds ++ rest.deeds }
 
@@ -79,22 +79,22 @@ abbrev pub gone_by : {P V : Type 0} → V → ℕ → ℕ → Verdict P V → (V
 gone_by state number given (Accepted deed next) rest = onto (deeds_of deed) (rest next)
 gone_by state number given (Refused fault) rest = gone_so_far state number given (Some fault)
 
--- What these lines come to, after so many bytes that were given; the first has this number.
+-- The result of these lines, after so many bytes that were given; the first has this number.
 abbrev pub gone_from : {P V : Type 0} → Job P V → V → ℕ → ℕ → List (List ℕ) → Gone P V
 gone_from job state number given [] = gone_so_far state number given None
 gone_from job state number given (line ∷ lines) =
     gone_by state number given (by_next job state number (next_in_lines given (line ∷ lines))) (λ next. gone_from job next (number + 1) (given + length line) lines)
 
--- What a whole input comes to, from the job's first state.
+-- The result of a whole input, from the job's first state.
 abbrev pub gone_through : {P V : Type 0} → Job P V → V → List ℕ → Gone P V
 gone_through job first input = gone_from job first 1 0 (lines_of input)
 
--- the line of a refusal, where it is not told apart from the output
+-- the line of a refusal, if refusals are written to the output
 abbrev pub refusal_in : Bool → ℕ → LineFault → List ℕ
 refusal_in true number fault = []
 refusal_in false number fault = refusal_line number fault
 
--- what comes last: the text at the input's end, or the line of the refusal, where it is not told apart
+-- what comes last: the text at the input's end, or the line of the refusal, if refusals are written to the output
 abbrev pub last_in : {P V : Type 0} → Bool → Job P V → V → ℕ → Option LineFault → List ℕ
 last_in apart job last number None = job.ending last
 last_in apart job last number (Some fault) = refusal_in apart number fault
@@ -103,7 +103,7 @@ last_in apart job last number (Some fault) = refusal_in apart number fault
 abbrev pub last_lines : {P V : Type 0} → Job P V → V → ℕ → Option LineFault → List ℕ
 last_lines job last number refusal = last_in false job last number refusal
 
--- What is written of an input, where the line of a refusal is told apart or not: the text of each deed, and what stands
+-- What is written of an input, if refusals are written to the output or not: the text of each deed, and what comes
 -- last.
 abbrev pub text_in : {P V : Type 0} → Bool → Job P V → Gone P V → List ℕ
 text_in apart job gone = flat_map job.told gone.deeds ++ last_in apart job gone.last gone.number gone.refusal
@@ -112,7 +112,8 @@ text_in apart job gone = flat_map job.told gone.deeds ++ last_in apart job gone.
 abbrev pub text_of_job : {P V : Type 0} → Job P V → Gone P V → List ℕ
 text_of_job job gone = text_in false job gone
 
--- What is written of an input whose refusal is told apart: the text of each deed, and the text at the input's end.
+-- What is written of an input if refusals are not written to the output: the text of each deed, and the text at the
+-- input's end.
 abbrev pub text_apart : {P V : Type 0} → Job P V → Gone P V → List ℕ
 text_apart job gone = text_in true job gone
 
@@ -121,19 +122,19 @@ abbrev pub refusal_at : ℕ → Option LineFault → Option Refusal
 refusal_at number None = None
 refusal_at number (Some fault) = Some (record { number = number; fault = fault })
 
--- The refusal that an input comes to, if it has one.
+-- The refusal of an input, if it has one.
 abbrev pub refusal_told : {P V : Type 0} → Gone P V → Option Refusal
 refusal_told gone = refusal_at gone.number gone.refusal
 
--- The lines of an input were gone through after a text that stood first: what was written and how it ended, how far
--- the input was read past the last accepted line where one was refused, and what holds of the last state.
+-- The lines of an input were gone through, after a text that comes first: what was written and how the job ended, how
+-- far the input was read past the last accepted line if one was refused, and what holds of the last state.
 pub record GoesThrough {P V : Type 0} (job : Job P V) (Keeps : V → ℕ → Type 0) (first : V) (front input : List ℕ) (result : JobEnd)
     (left before after : Option (List ℕ)) : Type 0 where
   pub answers : Answers (front ++ text_of_job job (gone_through job first input)) (is_some (gone_through job first input).refusal) result left before after
   pub past : StopsWithin 16384 (gone_through job first input).accepted input result left
   pub kept : IsAnswered result → (number : ℕ) × Keeps (gone_through job first input).last number
 
--- The same where the line of a refusal is told apart or not, with the refusal that the input comes to.
+-- The same if refusals are written to the output or not, with the refusal of the input.
 pub record GoesIn {P V : Type 0} (apart : Bool) (job : Job P V) (Keeps : V → ℕ → Type 0) (first : V) (front input : List ℕ) (ended : LinesEnd)
     (left before after : Option (List ℕ)) : Type 0 where
   pub answers : Answers (front ++ text_in apart job (gone_through job first input)) (is_some (gone_through job first input).refusal) ended.end left before after

@@ -83,7 +83,7 @@ found_or cause (Some x) = Ok x
 abbrev pub flaw_unless : Bool → Flaw → Option Flaw
 flaw_unless fits flaw = if fits then None else Some flaw
 
--- the words in which this finds something; any other has this flaw
+-- the words in which this function finds something; any other has this flaw
 abbrev pub found_kind : {A : Type 0} → LineWhy → (List ℕ → Option A) → (A → List ℕ → Type 0) → Kind A
 found_kind cause find Spells = record {
   reads = λ text. found_or cause (find text);

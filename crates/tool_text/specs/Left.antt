@@ -1,4 +1,4 @@
--- The words that are left, as the code keeps them.
+-- The words that are still to be read, as the code keeps them.
 use Rattle.std.specs.Prelude.{◌+◌}
 use Rattle.tool_text.specs.Words.{placed, WordAt, word_at_column, WordsLeft, words_left}
 use Rattle.tool_text.specs.Rest.{pieces_left, rest_length}

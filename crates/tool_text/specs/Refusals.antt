@@ -1,4 +1,4 @@
--- What is wrong with a line, and the line that says so (own).
+-- The faults of lines, and the line that reports one (own).
 use Rattle.std.specs.Prelude.{ℕ, ◌++◌, List, codes, decimal}
 use Rattle.tool_text.specs.declared.words.faults.LineFault.{LineFault}
 use Rattle.tool_text.specs.declared.words.faults.LineWhy.{LineWhy}

@@ -1,4 +1,4 @@
--- What follows a piece of a text, where something does.
+-- What follows a piece of a text, if anything does.
 use Rattle.std.specs.Prelude.{ℕ, ◌+◌, List, [], length, Option, Some, None}
 use Rattle.std.specs.Borrow.{Bor}
 use Rattle.tool_text.specs.Words.{parted_by}
@@ -8,7 +8,7 @@ abbrev pub pieces_left : ℕ → Option (Bor (List ℕ)) → List (List ℕ)
 pieces_left mark None = []
 pieces_left mark (Some rest) = parted_by mark rest.now
 
--- the bytes that are left, with the one that parted them from what was read
+-- the bytes that are left, with the separator before them
 abbrev pub rest_length : Option (Bor (List ℕ)) → ℕ
 rest_length None = 0
 rest_length (Some rest) = length rest.now + 1

@@ -23,13 +23,13 @@ abbrev pub ◌>>◌ : {B : Type 0} → Result (Unit {0}) LineFault → Result B 
 Ok _ >> next = next
 Err fault >> next = Err fault
 
--- a row of words: what those that are left say, their first fault, and which texts of words spell a value
+-- a row of words: what the words that are left say, their first fault, and which texts of words spell a value
 pub record Row (A : Type 0) : Type 1 where
   pub said : WordsLeft → Result A LineFault
   pub fault : WordsLeft → Option LineFault
   pub Spells : A → List (List ℕ) → Type 0
 
--- of two faults the first, if there is one
+-- the first of two faults, if there is one
 abbrev pub first_or : Option LineFault → Option LineFault → Option LineFault
 first_or None next = next
 first_or (Some fault) next = Some fault
@@ -108,7 +108,7 @@ row_as {A = A} make row = record {
   Spells = λ y words. (x : A) × (make x ≡ y) × row.Spells x words;
 }
 
--- the fault of the row that was chosen, where one was
+-- the fault of the row that was chosen, if one was
 abbrev pub chosen_fault : {A B : Type 0} → (A → Row B) → Result A Flaw → WordsLeft → Option LineFault
 chosen_fault rows (Ok which) left = (rows which).fault left
 chosen_fault rows (Err flaw) left = None
@@ -145,7 +145,7 @@ after_word name row other = record {
   Spells = AreAfter name row.Spells other.Spells;
 }
 
--- what is allowed, or else the fault of this cause at this column
+-- the value if it is allowed, or else the fault of this cause at this column
 abbrev pub allowed : {A : Type 0} → ℕ → A → Option LineWhy → Result A LineFault
 allowed column x None = Ok x
 allowed column x (Some cause) = Err (fault_at column cause)
@@ -160,7 +160,7 @@ abbrev pub refused_at : {A : Type 0} → ℕ → (A → Option LineWhy) → Resu
 refused_at column judge (Ok x) = cause_at column (judge x)
 refused_at column judge (Err fault) = None
 
--- a row whose whole is judged once all its words are read, with the fault at the word of this place, from 0
+-- a row that is judged as a whole once all its words are read, with the fault at the word of this place, from 0
 abbrev pub judged_row : {A : Type 0} → ℕ → (A → Option LineWhy) → Row A → Row A
 judged_row place judge row = record {
   said = λ left. row.said left >>= (λ x. allowed (word_at place left).column x (judge x));

@@ -2,7 +2,7 @@
 use Rattle.std.specs.Prelude.{◌≡◌, ℕ, List, [], ◌∷◌, ◌++◌, length, take, slice_index, codes, decimal, Vec}
 use Rattle.hex.specs.Hex.{encode_lower}
 
--- a text that was begun still begins a later one
+-- an earlier text is a prefix of a later one
 pub record Keeps (old new : List ℕ) : Type 0 where
   pub front : take (length old) new ≡ old
 

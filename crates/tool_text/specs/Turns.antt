@@ -1,4 +1,4 @@
--- What the turns of the loop over lines do (own).
+-- What the turns of the loop over lines do (own). A turn reads and judges one line.
 use Rattle.std.specs.Prelude.{◌≡◌, ℕ, ◌+◌, ◌≤◌, Bool, true, false, List, Option, Some, None, IfSome, Result, Ok, Err}
 use Rattle.dccp_io.specs.Fronts.{GivesAtMost}
 use Rattle.dccp_io.specs.Lines.{LinesState, Finds, next_in_bytes, rest_of_input, text_of}

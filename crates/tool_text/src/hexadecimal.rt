@@ -7,10 +7,10 @@ ghost use Rattle.hex.specs.Hex.{encode_lower, lower_digits};
 
 use std::simd::prelude::*;
 
-// How many bytes are between the figures and the letters.
+// How many bytes are between the digits 0 to 9 and the letters.
 const GAP: u8 = b'a' - b'9' - 1;
 
-// How far a value's digit follows the figures.
+// How far a value's digit is after that of 0.
 fn gap(value: u8) -> u8
     ensures { result ≡ (if nat_lt value 10 then 0 else 39) }
 {
@@ -42,8 +42,7 @@ fn encode_singly(bytes: &[u8], room: &mut [u8])
 // How many bytes are written at a time.
 const BLOCK: usize = 16;
 
-// The digits of values. They are worked out side by side, and not looked up in a table as those of the toolchain's
-// `hex`.
+// The digits of values. They are computed side by side, and not looked up in a table as in the toolchain's `hex`.
 fn digits_of(values: u8x16) -> u8x16
     requires { Each1 (λ value. value < 16) values }
     ensures { result ≡ map (λ value. slice_index lower_digits value) values }
@@ -76,8 +75,8 @@ fn encode_block(bytes: &[u8], room: &mut [u8], place: usize)
     second.copy_to_slice(&mut room[2 * place + BLOCK..]);
 }
 
-// Writes the digits of a block's bytes or more. The last block ends where the bytes do: it may begin within the one
-// before, whose digits are then written again.
+// Writes the digits of a block or more. The last block ends where the bytes do: it may overlap the one before, whose
+// digits are then written again.
 fn encode_blocks(bytes: &[u8], room: &mut [u8])
     requires some { 16 ≤ length bytes.now }
     requires sized { length room.old ≡ 2 * length bytes.now }

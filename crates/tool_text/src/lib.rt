@@ -1,8 +1,8 @@
 //! What the tool writes and reads as text (own): numbers, digits and names, the words of lines, output in blocks, and
 //! jobs over lines.
 //!
-//! Each function that puts a piece puts it at a text's end. After NoMemory all that stood there before still stands
-//! there first, so that a writer of a whole line cuts the text there again.
+//! Each function that puts a piece appends it to a text. After NoMemory the text still begins with all that it had
+//! before, so that the writer of a whole line cuts it back to that.
 #![tactic(auto)]
 
 mod hexadecimal;

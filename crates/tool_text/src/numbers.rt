@@ -26,7 +26,7 @@ fn digits_up_to(most: u64, text: &[u8]) -> Option<u64>
     Some(number)
 }
 
-/// The number that a text is, where it is a decimal number up to this one, without sign or leading zero (own).
+/// The number that a text spells, if it is a decimal number up to this one, without sign or leading zero (own).
 pub fn number_up_to(most: u64, text: &[u8]) -> Option<u64>
     ensures value { result ≡ number_below (most + 1) text.now }
     ensures within { IfSome result (λ number. number ≤ most) }

@@ -20,7 +20,7 @@ pub fn is_text(bytes: &[u8], text: &[u8]) -> bool
     bytes.len() == text.len() && bytes == text
 }
 
-/// Puts a piece at the text's end (own). NoMemory comes where the text could not grow, and leaves it as it was.
+/// Puts a piece at the text's end (own). NoMemory means that the text could not grow; it is then as it was.
 pub fn put(text: &mut Vec<u8>, piece: &[u8]) -> Result<(), NoMemory>
     ensures ok { OnOk result (text.new.items ≡ text.old.items ++ piece.now) }
     ensures err { OnErr result (SameText text.old text.new) }
@@ -30,7 +30,7 @@ pub fn put(text: &mut Vec<u8>, piece: &[u8]) -> Result<(), NoMemory>
     Ok(())
 }
 
-/// Puts a number in decimal (own). NoMemory comes where the text could not grow, and leaves it as it was.
+/// Puts a number in decimal (own). NoMemory means that the text could not grow; it is then as it was.
 pub fn put_number(text: &mut Vec<u8>, number: u64) -> Result<(), NoMemory>
     ensures ok { OnOk result (text.new.items ≡ text.old.items ++ decimal number) }
     ensures err { OnErr result (SameText text.old text.new) }
@@ -40,9 +40,9 @@ pub fn put_number(text: &mut Vec<u8>, number: u64) -> Result<(), NoMemory>
     put(text, buffer.format(number).as_bytes())
 }
 
-/// Puts a name after what is said of it, as `refused ` (own). NoMemory comes where the text could not grow; then what
-/// is said may be there alone.
-// What is said is mostly written out where this is called: inlined, it is put as bytes of a known number.
+/// Puts a name after what is said of it, such as `refused ` (own). NoMemory means that the text could not grow; then
+/// what is said may be there alone.
+// What is said is mostly a literal of the caller: inlined, it is put as a known number of bytes.
 #[inline(always)]
 pub fn put_named(text: &mut Vec<u8>, what: &[u8], name: &[u8]) -> Result<(), NoMemory>
     ensures ok { OnOk result (text.new.items ≡ text.old.items ++ (what.now ++ name.now)) }
@@ -52,8 +52,8 @@ pub fn put_named(text: &mut Vec<u8>, what: &[u8], name: &[u8]) -> Result<(), NoM
     put(text, name)
 }
 
-/// Puts a number in decimal after its word (own). NoMemory comes where the text could not grow; then the word may
-/// are there alone.
+/// Puts a number in decimal after its word (own). NoMemory means that the text could not grow; then the word may be
+/// there alone.
 // Inlined as `put_named` is.
 #[inline(always)]
 pub fn put_counted(text: &mut Vec<u8>, word: &[u8], number: u64) -> Result<(), NoMemory>
@@ -64,7 +64,7 @@ pub fn put_counted(text: &mut Vec<u8>, word: &[u8], number: u64) -> Result<(), N
     put_number(text, number)
 }
 
-/// Puts bytes in lower-case hexadecimal, and nothing for none (own). NoMemory comes where the text could not grow; then
+/// Puts bytes in lower-case hexadecimal, and nothing for none (own). NoMemory means that the text could not grow; then
 /// the digits of the first bytes may be there.
 pub fn put_hex(text: &mut Vec<u8>, bytes: &[u8]) -> Result<(), NoMemory>
     ensures ok { OnOk result (text.new.items ≡ text.old.items ++ encode_lower bytes.now) }
@@ -116,7 +116,7 @@ fn put_pair(text: &mut Vec<u8>, number: u8) -> Result<(), NoMemory>
     Ok(())
 }
 
-// Puts a byte's number. It has at most three digits, which cost less one by one than by way of a buffer.
+// Puts a byte's number. It has at most three digits, which are faster one by one than through a buffer.
 #[tactic(auto, using(crate::proofs::Keeping::keeps_itself, crate::proofs::Keeping::keeps_more, crate::proofs::Keeping::keeps_through))]
 fn put_byte(text: &mut Vec<u8>, number: u8) -> Result<(), NoMemory>
     ensures ok { OnOk result (text.new.items ≡ text.old.items ++ decimal number) }
@@ -139,7 +139,7 @@ fn put_dotted(text: &mut Vec<u8>, number: u8) -> Result<(), NoMemory>
     put_byte(text, number)
 }
 
-/// Puts an address of IPv4: four numbers, parted by dots (own). NoMemory comes where the text could not grow; then the
+/// Puts an address of IPv4: four numbers, parted by dots (own). NoMemory means that the text could not grow; then the
 /// first numbers may be there.
 pub fn put_v4(text: &mut Vec<u8>, address: [u8; 4]) -> Result<(), NoMemory>
     ensures ok { OnOk result (text.new.items ≡ text.old.items ++ v4_text address) }

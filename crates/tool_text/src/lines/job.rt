@@ -1,4 +1,4 @@
-//! What a job makes of lines.
+//! What a job does with lines.
 ghost use Rattle.std.specs.Prelude.{◌≡◌, ℕ, ◌+◌, ◌≤◌, ◌++◌, OnOk};
 ghost use Rattle.tool_text.specs.Jobs.{Job, Judges};
 
@@ -6,11 +6,11 @@ use crate::lines::error::LineError;
 use seq_circle::NoMemory;
 use std::alloc::Global;
 
-/// So many events a job over lines of events plays at most (own): what comes after is refused as TooManyEvents.
+/// The most events that a job over lines of events plays (own): the next one is refused as TooManyEvents.
 pub const MOST_EVENTS: u32 = 16_384;
 
-/// A job over the lines of an input (own). Contracts see what a line does, and what a job makes of lines: what each
-/// comes to by the job's state, the text of what it does, and the text at the input's end.
+/// A job over the lines of an input (own). Contracts see what a line does, and what the job does with lines: the result
+/// of each by the job's state, the text of what it does, and the text at the input's end.
 pub trait LineJob {
     // What a line does.
     ghost Deed: { Type 0 };
@@ -20,8 +20,8 @@ pub trait LineJob {
     ghost keeps: { Self → ℕ → Type 0 };
 
     /// Judges the line of this number, counted from 1, without its newline: at most 4,096 bytes. An accepted line
-    /// leaves the text of what it does at the text's end; a refused one leaves the text as it was. NoMemory comes where
-    /// no memory was left, and then nothing is told of state and text.
+    /// leaves the text of what it does at the text's end; a refused one leaves the text as it was. NoMemory means that
+    /// no memory was left; then nothing is known of state and text.
     fn judge(
         &mut self,
         alloc: Global,
@@ -34,7 +34,7 @@ pub trait LineJob {
         ensures verdict { Judges job (job.judged self.old number line.now) text.old.items text.new.items self.new result }
         ensures keeps_on { OnOk result (keeps self.new (number + 1)) };
 
-    /// Puts the text at the input's end. NoMemory comes where no memory was left.
+    /// Puts the text at the input's end. NoMemory means that no memory was left.
     fn finish(&mut self, alloc: Global, text: &mut Vec<u8>) -> Result<(), NoMemory>
         requires { (number : ℕ) × keeps self.old number }
         ensures { OnOk result (text.new.items ≡ text.old.items ++ job.ending self.old) };

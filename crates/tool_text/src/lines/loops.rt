@@ -14,8 +14,8 @@ use crate::words::LineFault;
 use dccp_io::{Lines, Sink, Source, write_all};
 use std::alloc::Global;
 
-// Writes the rest of the text, and answers Input where a line was refused, and Done otherwise. Write comes where the
-// sink failed.
+// Writes the rest of the text, and answers Input if a line was refused, and Done otherwise. Write means that the sink
+// failed.
 fn leave<K: Sink>(output: &mut K, text: &[u8], refused: bool) -> JobEnd
     ensures leaves { Leaves text.now refused result (K.taken output.old) (K.taken output.new) }
     ensures cause { EndsForCause result ⊥ (SinkFails K.faults K.empty_takes output.old output.new) }
@@ -26,8 +26,8 @@ fn leave<K: Sink>(output: &mut K, text: &[u8], refused: bool) -> JobEnd
     }
 }
 
-// Writes the rest of the text, and the line of a refusal after it, under the number of the line that is refused, where
-// it is not told apart.
+// Writes the rest of the text, and then the line of a refusal, under the number of the refused line, if refusals are
+// written to the output.
 fn refuse<K: Sink>(
     output: &mut K,
     text: &mut Vec<u8>,
@@ -68,7 +68,7 @@ pub struct LinesEnd {
     pub refusal: Option<Refusal>,
 }
 
-// The loop, which tells a refusal apart from the output or not. What it works on is lent, so that none of its ends has
+// The loop, which writes a refusal to the output or not. What it works on is lent, so that none of its exits has
 // anything to drop.
 fn go_through<J: LineJob, S: Source + Drop, K: Sink>(
     alloc: Global,
@@ -143,13 +143,13 @@ fn go_over<J: LineJob, S: Source, K: Sink>(
     ended
 }
 
-/// Does a job over the lines of an input, one by one as they are read (own): it writes the text that it is given, then
+/// Does a job over the lines of an input, one by one as they are read (own). It writes the text that it is given, then
 /// that of what each line does, and at last the text at the input's end or the line of the first refusal, under the
 /// number of the line. Text goes out in blocks of 65,536 bytes, and before the source is asked for more. A line of more
-/// than 4,096 bytes is refused at its 4,097th, as LineTooLong, and a line of which the newline or that byte does not
-/// lie within the input's first 16,777,216 bytes as TooMuchInput. With status 0 or 1 the output is that of the whole
-/// input, with another a front of it. Read comes where the source failed, Write where the sink did, and Memory where no
-/// memory was left.
+/// than 4,096 bytes is refused at its 4,097th, as LineTooLong. A line is refused as TooMuchInput if its newline, or
+/// that byte, is not within the input's first 16,777,216 bytes. With status 0 or 1 the output is that of the whole
+/// input; with another status it is a prefix of that. Read means that the source failed, Write that the sink did, and
+/// Memory that no memory was left.
 pub fn run_lines<J: LineJob, S: Source, K: Sink>(
     alloc: Global,
     job: &mut J,
@@ -165,8 +165,8 @@ pub fn run_lines<J: LineJob, S: Source, K: Sink>(
     go_over(alloc, job, text, input, output, false).end
 }
 
-/// Does a job over the lines of an input as [`run_lines`] does, but writes no line of a refusal (own): the refusal is
-/// answered, if there is one and all that comes before it was written.
+/// Does a job over the lines of an input as [`run_lines`] does, but writes no line of a refusal (own). It returns the
+/// refusal, if there is one and all that comes before it was written.
 pub fn run_lines_apart<J: LineJob, S: Source, K: Sink>(
     alloc: Global,
     job: &mut J,

@@ -24,7 +24,7 @@ pub struct Refusal {
     pub fault: LineFault,
 }
 
-/// Puts the line of a refusal, under the number of the line that is refused. NoMemory comes where the text could not
+/// Puts the line of a refusal, under the number of the line that is refused. NoMemory means that the text could not
 /// grow.
 pub fn put_refusal(text: &mut Vec<u8>, number: u64, fault: LineFault) -> Result<(), NoMemory>
     ensures { OnOk result (text.new.items ≡ text.old.items ++ refusal_line number fault) }

@@ -13,7 +13,7 @@ use crate::words::{LineFault, LineWhy, whole_line};
 use dccp_io::{Failed, Lines, Sink, Source, Stop};
 use std::alloc::Global;
 
-/// What one turn came to.
+/// The result of one turn.
 pub(crate) enum Turn {
     /// A line was accepted.
     Accepted,
@@ -49,8 +49,8 @@ fn judged_turn(answer: Result<(), LineError>) -> Turn
     }
 }
 
-/// Writes the text before the reader asks its source for more, and where it has a block's length. So whoever sends the
-/// lines has the answers to all that were read while more is waited for.
+/// Writes the text before the reader asks its source for more, and when it has a block's length. So the sender of the
+/// lines has the answers to all that were read before it has to send more.
 pub(crate) fn flush_if_due<S: Source + Drop, K: Sink>(
     lines: &Lines<S>,
     output: &mut K,
@@ -70,7 +70,7 @@ pub(crate) fn flush_if_due<S: Source + Drop, K: Sink>(
     }
 }
 
-/// Reads the next line and has it judged, under its number. Where that asks the source for more, nothing is unwritten.
+/// Reads the next line and has it judged, under its number. Before that asks the source for more, all text is written.
 pub(crate) fn judge_next<J: LineJob, S: Source + Drop>(
     alloc: Global,
     job: &mut J,

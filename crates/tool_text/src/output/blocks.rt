@@ -11,8 +11,8 @@ use dccp_io::{Failed, Sink, write_all};
 // A text of so many bytes is written.
 const BLOCK: usize = 65_536;
 
-/// Writes the text and lets it go (own). Failed comes only where the sink failed, or took no byte of a piece that was
-/// not empty; then a front was written, and the text is kept.
+/// Writes the text and empties it (own). Failed comes only if the sink failed, or took no byte of a piece that was not
+/// empty; then a prefix was written, and the text is kept.
 pub fn flush<K: Sink>(output: &mut K, text: &mut Vec<u8>) -> Result<(), Failed>
     ensures taken { OnOk result (K.taken output.new ≡ append_known (K.taken output.old) text.old.items) }
     ensures empty { OnOk result (text.new.items ≡ []) }
@@ -27,7 +27,7 @@ pub fn flush<K: Sink>(output: &mut K, text: &mut Vec<u8>) -> Result<(), Failed>
     Ok(())
 }
 
-/// Writes the text and lets it go where it has a block's length, 65,536 bytes (own). Failed comes as from `flush`.
+/// Writes the text and empties it if it has a block's length, 65,536 bytes (own). Failed comes as from `flush`.
 pub fn flush_if_full<K: Sink>(output: &mut K, text: &mut Vec<u8>) -> Result<(), Failed>
     ensures moved { OnOk result (IsMovedOut (K.taken output.old) (K.taken output.new) text.old.items text.new.items) }
     ensures full { block_length ≤ length text.old.items → OnOk result (text.new.items ≡ []) }
@@ -44,8 +44,8 @@ pub fn flush_if_full<K: Sink>(output: &mut K, text: &mut Vec<u8>) -> Result<(), 
     flush(output, text)
 }
 
-/// Writes the lines that are whole, so that none is lost where the job ends early, and answers why it does (own). All
-/// are written unless the sink failed.
+/// Writes the lines that are whole, so that none is lost if the job ends early, and returns why it does (own). All are
+/// written unless the sink failed.
 pub fn cut_off<K: Sink>(output: &mut K, text: &[u8], why: JobEnd) -> JobEnd
     ensures same { result ≡ why }
     ensures front { HasBegun (K.taken output.old) (K.taken output.new) text.now }

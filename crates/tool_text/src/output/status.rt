@@ -1,4 +1,4 @@
-//! How a job ended, and with what status the program ends.
+//! How a job ended, and the status of the program.
 ghost use Rattle.std.specs.Prelude.{◌≡◌, ◌≢◌, if◌then◌else◌};
 ghost use Rattle.tool_text.specs.Ends.{status_of};
 
@@ -18,7 +18,7 @@ pub enum JobEnd {
 }
 
 impl JobEnd {
-    /// The status of a program whose job ended so (own).
+    /// The status of a program whose job ended in this way (own).
     pub fn status(self) -> Status
         ensures value { result ≡ status_of self }
         ensures not_words { result ≢ Status.Words }
@@ -33,7 +33,7 @@ impl JobEnd {
     }
 }
 
-/// How a program ends (own): as the job that its words ask for, or with Words, where they ask for none.
+/// How a program ends (own): as the job that its words ask for, or with Words if they ask for none.
 #[derive(Clone, Copy, Debug, PartialEq, Eq)]
 pub enum Status {
     /// The whole job was done; an input that it has was read to its end.
@@ -71,7 +71,7 @@ impl Status {
     }
 }
 
-/// How a job ended that wrote all that there is to write (own): Input where its input was refused, and Done otherwise.
+/// How a job ended that wrote all that there is to write (own): Input if its input was refused, and Done otherwise.
 pub fn answered(refused: bool) -> JobEnd
     ensures { result ≡ (if refused then JobEnd.Input else JobEnd.Done) }
 {

@@ -1,13 +1,13 @@
-//! The first byte of a kind in a text.
+//! The first byte of some kind in a text.
 ghost use Rattle.std.specs.Prelude.{take, true, not, ℕ, Bool, ◌≡◌, ◌≤◌, ◌<◌, length, IfSome};
 ghost use Rattle.std.specs.List.{list_all, position_from};
 ghost use Rattle.tool_text.specs.Words.{IsPlaceOf};
 
-/// What is looked for in a text, byte by byte.
+/// The kind of bytes that is looked for in a text.
 pub(crate) trait ByteSearch {
     ghost sought: { Self → ℕ → Bool };
 
-    /// Tells whether a byte is looked for.
+    /// Whether a byte is of this kind.
     fn is_sought(&self, byte: u8) -> bool
         ensures { result ≡ sought self.now byte };
 }
@@ -15,7 +15,7 @@ pub(crate) trait ByteSearch {
 // Most words are shorter.
 const NEAR: usize = 10;
 
-// Whether a block has no such byte; none of its bytes ends the search.
+// Whether a block has no such byte. Its bytes do not end the search one by one.
 fn lacks<S: ByteSearch>(what: &S, block: &[u8]) -> bool
     ensures { result ≡ list_all (λ byte. not (S.sought what.now byte)) block.now }
 {
@@ -26,8 +26,8 @@ fn lacks<S: ByteSearch>(what: &S, block: &[u8]) -> bool
     lacks
 }
 
-// How many bytes without such a byte a text begins with, going on from so many by whole blocks. The bytes of a block
-// are judged side by side.
+// How many bytes before the first such byte a text begins with, counted on from so many by whole blocks. The bytes of a
+// block are judged side by side.
 #[tactic(auto, using(crate::proofs::BlockLaws::block_further))]
 fn blocks_from<const BLOCK: usize, S: ByteSearch>(what: &S, text: &[u8], front: usize) -> usize
     requires some { 0 < BLOCK }
@@ -75,7 +75,7 @@ fn far_from<S: ByteSearch>(what: &S, text: &[u8], front: usize) -> usize
     blocks_from::<16, S>(what, text, large)
 }
 
-/// The place of the first byte that is looked for, where it seldom stands anywhere.
+/// The place of the first byte that is looked for, if there is mostly none.
 pub(crate) fn first_far<S: ByteSearch>(what: &S, text: &[u8]) -> Option<usize>
     ensures first { result ≡ position_from (S.sought what.now) 0 text.now }
     ensures within { IfSome result (IsPlaceOf text.now) }
@@ -85,7 +85,7 @@ pub(crate) fn first_far<S: ByteSearch>(what: &S, text: &[u8]) -> Option<usize>
     first_behind(what, text, front)
 }
 
-/// The same, where it mostly stands near.
+/// The same, if it is mostly near.
 #[tactic(auto, using(crate::proofs::BlockLaws::none_there, crate::proofs::BlockLaws::some_near))]
 pub(crate) fn first_near<S: ByteSearch>(what: &S, text: &[u8]) -> Option<usize>
     ensures first { result ≡ position_from (S.sought what.now) 0 text.now }

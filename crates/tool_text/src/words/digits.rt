@@ -7,8 +7,8 @@ use crate::words::blocks::{ByteSearch, first_far};
 use dccp_packets::{Frame, MOST_FRAME_BYTES};
 use std::marker::Model;
 
-// A digit is past neither the figures nor the letters of either case. Many bytes side by side are judged so in the
-// fewest operations.
+// A digit is one of 0 to 9, or of a to f in either case. This form judges many bytes side by side in the fewest
+// operations.
 fn is_hex_digit(byte: u8) -> bool
     ensures { result ≡ is_hex_digit byte }
 {
@@ -66,7 +66,7 @@ fn decode(text: &[u8], room: &mut [u8])
     }
 }
 
-/// The bytes that digits of a line spell, which are decoded where they are put (own). There are at most 2,048 of them.
+/// The bytes that digits of a line spell, which are decoded when they are put (own). There are at most 2,048 of them.
 #[derive(Drop)]
 pub struct Digits<'a> {
     text: &'a [u8],
@@ -127,7 +127,7 @@ impl<'a> Digits<'a> {
         decode(self.text, room)
     }
 
-    /// The frame of the bytes, where they are not too many for one (own).
+    /// The frame of the bytes, if they are not too many for one (own).
     pub fn frame(&self) -> Frame
         requires { length self.now ≤ 2044 }
         ensures { result ≡ self.now }

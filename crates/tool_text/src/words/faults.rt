@@ -1,4 +1,4 @@
-//! What may be wrong with a line, and where.
+//! The faults of a line, and their columns.
 ghost use Rattle.std.specs.Prelude.{◌≡◌};
 ghost use Rattle.tool_text.specs.Refusals.{line_why_name, whole_line};
 
@@ -20,14 +20,14 @@ pub enum LineWhy {
     LineTooLong,
     /// A byte is none of 32 to 126: at the first such byte.
     NotText,
-    /// A word is empty or absent: at its place, which for an absent one is the line's length plus 2.
+    /// A word is empty or absent: at its column, which for an absent one is the line's length plus 2.
     Missing,
     /// A word is none of those that may be there: at that word.
     UnknownWord,
     /// A word should be a peer, an IPv4 address and a port, and is not: at that word.
     BadPeer,
-    /// A word should be a number, a feature or a list of numbers and is not, or the index of a name is none: at that
-    /// word.
+    /// A word should be a number, a feature or a list of numbers and is not, or the index of a name is no number: at
+    /// that word.
     BadNumber,
     /// A word should be digits of bytes and is not: at the first other byte, or after an odd number of digits.
     BadHex,

@@ -26,15 +26,15 @@ pub trait WordKind<'a> {
 
     ghost reads: { List ℕ → Result Self.Read Flaw };
 
-    /// What this word is read as, which is neither empty nor absent.
+    /// What this word, which is neither empty nor absent, is read as.
     fn read(word: &'a [u8]) -> Result<Self::Read, Flaw>
         requires short { length word.now ≤ 4096 }
         ensures value { result ≡ reads word.now }
         ensures within { IfErr result (λ flaw. flaw.place ≤ length word.now) };
 }
 
-/// What a word is read as, or its fault: Missing at its column where it is empty or absent, and otherwise its flaw,
-/// where that stands (own).
+/// What a word is read as, or its fault: Missing at its column if it is empty or absent, and otherwise its flaw, at the
+/// column of that (own).
 pub fn read_word<'a, K: WordKind<'a>>(word: Word<'a>) -> Result<K::Read, LineFault>
     requires short { length word.text.now ≤ 4096 }
     requires begins { word.column ≤ 4098 }
@@ -76,18 +76,18 @@ impl<'a, const LIMIT: u64> WordKind<'a> for Below<LIMIT> {
     }
 }
 
-// The number that a word is, where it is one below the limit.
+// The number that a word spells, if it is one below the limit.
 fn number_under(limit: u64, word: &[u8]) -> Option<u64>
     ensures { result ≡ number_below limit word.now }
 {
     number_up_to(limit.checked_sub(1)?, word)
 }
 
-/// What has a name that is a word (own).
+/// A type whose values have names that are words (own).
 pub trait Name: Drop {
     ghost named: { List ℕ → Option Self };
 
-    /// What this word names, if it names anything of its type.
+    /// The value that this word names, if it names one.
     fn of_name(word: &[u8]) -> Option<Self>
         ensures { result ≡ named word.now };
 }

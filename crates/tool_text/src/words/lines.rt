@@ -58,7 +58,7 @@ pub fn says_nothing(line: &[u8]) -> bool
     }
 }
 
-/// What a line says by a row of words, without its newline, or None where it is empty or a comment; or the first of its
+/// What a line without its newline says by a row of words, or None if it is empty or a comment; or the first of its
 /// faults (own): LineTooLong, then NotText, then the row's.
 pub fn read_line<'a, R: Row<'a>>(line: &'a [u8]) -> Result<Option<R::Said>, LineFault>
     ensures { result ≡ spec.line_read R.said line.now }

@@ -10,8 +10,8 @@ use crate::words::faults::{LineFault, LineWhy};
 use crate::words::kinds::{Flaw, WordKind, read_word};
 use crate::words::split::Words;
 
-/// A row of words, read from the left (own): a tuple of kinds that ends in `()`, as `(SideWord, (NumberWord, ()))`, or what a
-/// grammar makes of such rows.
+/// A row of words, read from the left (own): a tuple of kinds that ends in `()`, as `(SideWord, (NumberWord, ()))`, or
+/// a type that a grammar makes of such rows.
 pub trait Row<'a> {
     /// What the words say.
     type Said: Drop;
@@ -62,8 +62,7 @@ pub trait Flag {
         ensures { result ≡ bytes_eq word.now name };
 }
 
-/// The end of a row in which this word may stand (own): UnknownWord where another does, and Trailing where one stands
-/// after it.
+/// The end of a row that may have this word (own): UnknownWord if it has another, and Trailing if a word follows it.
 pub struct MaybeFlag<F>(F);
 
 // The word for a flag, as a kind of words.

@@ -5,14 +5,14 @@ ghost use Rattle.tool_text.specs.Rest.{pieces_left, rest_length};
 
 use crate::words::blocks::{ByteSearch, first_near};
 
-/// A word of a line, and the column of its first byte, from 1 (own). It has no bytes where the line has no such word.
+/// A word of a line, and the column of its first byte, from 1 (own). It has no bytes if the line has no such word.
 #[derive(Clone, Copy)]
 pub struct Word<'a> {
     pub column: u32,
     pub text: &'a [u8],
 }
 
-// The byte that parts a text.
+// The byte that separates the pieces of a text.
 #[derive(Drop)]
 struct Mark {
     byte: u8,
@@ -26,7 +26,7 @@ impl ByteSearch for Mark {
     }
 }
 
-/// The first piece of a text that this byte parts, and what follows that byte, if it is there (own).
+/// The first piece of a text whose pieces this byte separates, and what follows that byte, if it is there (own).
 #[tactic(auto, using(crate::proofs::Pieces::parted, crate::proofs::Pieces::not_parted))]
 pub fn first_piece(mark: u8, text: &[u8]) -> (&[u8], Option<&[u8]>)
     ensures pieces { parted_by mark text.now ≡ result.0.now ∷ pieces_left mark result.1 }
@@ -75,7 +75,7 @@ impl<'a> Words<'a> {
         }
     }
 
-    /// The next word, which is then read (own). It has no bytes where the line is over.
+    /// The next word, which then counts as read (own). It has no bytes if the line is over.
     pub fn next_word(&mut self) -> Word<'a>
         ensures first { word_of result ≡ first_word (left_of self.old) }
         ensures rest { left_of self.new ≡ later (left_of self.old) }
