@@ -1,7 +1,7 @@
 -- Circular numbers: 48-bit sequence numbers and their 24-bit short forms (RFC 4340, sections 3.1, 7.1 and 7.6).
 use Rattle.std.specs.Prelude.{ℕ, ◌+◌, ◌-◌, ◌*◌, ◌/◌, ◌%◌, ◌^◌, ◌<◌, ◌≤◌, Bool, false, ◌&&◌, nat_lt, nat_le, if◌then◌else◌, Option, Some, None}
 
--- the sequence number that a whole number stands for
+-- the sequence number of a whole number
 abbrev pub residue : ℕ → ℕ
 residue n = n % 2 ^ 48
 
@@ -53,8 +53,8 @@ short_distance from to = (to + 2 ^ 24 - from) % 2 ^ 24
 abbrev pub is_short_before : ℕ → ℕ → Bool
 is_short_before a b = nat_lt 0 (short_distance a b) && nat_lt (short_distance a b) (2 ^ 23)
 
--- The number near the reference that a short form stands for (RFC 4340, section 7.6): in the upper half's next turn,
--- in the one before, or in the same.
+-- The number near the reference with this short form (RFC 4340, section 7.6): in the next turn of the upper half, in
+-- the turn before, or in the same.
 abbrev pub extended : ℕ → ℕ → ℕ
 extended short reference =
     let low = reference % 2 ^ 24 in
@@ -63,8 +63,8 @@ extended short reference =
     else if is_short_before short low && nat_lt low short then (high + (2 ^ 24 - 1)) % 2 ^ 24 * 2 ^ 24 + short
     else high * 2 ^ 24 + short
 
--- A number that its short form need not tell: it lies 2^23 or more from the reference, up and down the circle (own; the
--- bound is that of RFC 4340, section 7.6).
+-- A number that its short form may not give back: it lies 2^23 or more from the reference, up and down the circle (own;
+-- the bound is that of RFC 4340, section 7.6).
 abbrev pub is_far : ℕ → ℕ → Bool
 is_far number reference = nat_le (2 ^ 23) (distance number reference) && nat_le (2 ^ 23) (distance reference number)
 

@@ -9,7 +9,7 @@ const SIZE: u64 = 1 << 48;
 
 const HALF: u64 = 1 << 47;
 
-// The numbers that 24 bits tell apart.
+// How many numbers 24 bits can distinguish.
 const SHORT_SIZE: u64 = 1 << 24;
 
 // Half of them lie up the circle from a number, and half down.
@@ -115,7 +115,7 @@ impl Seq48 {
     }
 
     /// The upper end of the interval that begins at this number and has no upper end: 2^47 - 1 steps up, so that
-    /// `is_from` and `within` tell the same (own).
+    /// `is_from` and `within` agree (own).
     pub fn open_end(self) -> Seq48
         ensures { result ≡ open_end self }
     {
@@ -132,7 +132,7 @@ impl Seq48 {
     }
 
     /// The low 24 bits, as short forms of packets carry them (RFC 4340, section 7.6). `extend` finds this number again
-    /// by a reference that it is not far from (`is_far`).
+    /// from a reference that is not far from it (`is_far`).
     pub fn low(self) -> Seq24
         ensures { result ≡ self % 2 ^ 24 }
     {

@@ -41,8 +41,8 @@ pub fn numbers_count_packets()
 {}
 
 /// A number fewer than 2^23 from the reference, up or down the circle, is found from its short form (`distance`, and by
-/// the test `near`; RFC 4340, section 7.6). In `counts` both are counted from some base, so that the circle's end is no
-/// border.
+/// the test `near`; RFC 4340, section 7.6). In `counts` both are counted from some base, so that the wrap of the circle
+/// does not matter.
 pub fn extension_finds_the_number()
     ensures counts { (n reference : ℕ) → n < reference + 2 ^ 23 → reference < n + 2 ^ 23
         → extended (residue n % 2 ^ 24) (residue reference) ≡ residue n }

@@ -1,7 +1,7 @@
-//! The one answer for want of memory.
+//! The one error for lack of memory.
 use std::alloc::{AllocError, AllocFailed};
 
-/// No memory was left for what a call needed (own). It is merged with no other refusal.
+/// No memory was left for what a call needed (own). No other refusal is reported as this.
 #[derive(Clone, Copy, Debug, PartialEq, Eq)]
 pub struct NoMemory;
 

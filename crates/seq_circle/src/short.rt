@@ -1,4 +1,4 @@
-//! 24-bit short forms, and what they stand for.
+//! 24-bit short forms, and the numbers that they shorten.
 ghost use Rattle.std.specs.Prelude.{◌≡◌, ℕ, ◌+◌, ◌-◌, ◌*◌, ◌/◌, ◌%◌, ◌^◌, ◌<◌, ◌≤◌, IsSome, IfSome, ◌↔◌};
 ghost use Rattle.seq_circle.specs.Circle.{extended, is_short_before};
 
@@ -61,7 +61,7 @@ fn is_ahead(a: u32, b: u32) -> bool
 }
 
 /// The 48-bit number near `reference` whose low 24 bits are `s`, by the three cases of RFC 4340, section 7.6. It is the
-/// number that was cut where that is fewer than 2^23 from the reference, in either direction
+/// number that was shortened, if that is fewer than 2^23 from the reference, in either direction
 /// (`extension_finds_the_number`).
 pub fn extend(s: Seq24, reference: Seq48) -> Seq48
     ensures { result ≡ extended s reference }
