@@ -87,9 +87,9 @@ fn is_same(a: u16, b: u16) -> bool
     a == b || (matches!(a, 0 | 0xffff) && matches!(b, 0 | 0xffff))
 }
 
-/// Checks a packet's checksum. Refused are, in this order: a coverage that passes the packet's end, exactly where
-/// `covered` answers None; and a checksum in bytes 6 and 7 that is not that of the packet, where the two spellings of
-/// zero, 0000 and ffff, count as equal (RFC 4340, section 9.1). The packet has 8 to 65,535 bytes.
+/// Checks a packet's checksum. It refuses, in this order: a coverage that passes the packet's end, exactly if `covered`
+/// returns None; and a checksum in bytes 6 and 7 that is not that of the packet. The two spellings of zero, 0000 and
+/// ffff, count as equal (RFC 4340, section 9.1). The packet has 8 to 65,535 bytes.
 pub fn check(pseudo: &Pseudo, bytes: &[u8]) -> Result<(), SumFault>
     requires low { 8 ≤ length bytes.now }
     requires high { length bytes.now ≤ 65535 }
@@ -117,8 +117,8 @@ fn write_checksum(bytes: &mut [u8], sum: u16)
     BigEndian::write_u16(&mut bytes[CHECKSUM..], sum);
 }
 
-/// Writes a packet's checksum into its bytes 6 and 7 and answers true; `check` then accepts the packet. Where `covered`
-/// answers None it changes nothing and answers false. The packet has 8 to 65,535 bytes.
+/// Writes a packet's checksum into its bytes 6 and 7 and returns true; `check` then accepts the packet. If `covered`
+/// returns None, it changes nothing and returns false. The packet has 8 to 65,535 bytes.
 pub fn seal(pseudo: &Pseudo, bytes: &mut [u8]) -> bool
     requires low { 8 ≤ length bytes.old }
     requires high { length bytes.old ≤ 65535 }

@@ -7,9 +7,9 @@
 ghost use Rattle.std.specs.Prelude.{◌≡◌, ◌+◌, ◌*◌, ◌^◌, ◌<◌, ◌≤◌, length};
 ghost use Rattle.dccp_sum.specs.Words.{word_sum, ones_complement, IsSameSum};
 
-// The sum with the words of the bytes added, where a word of 32 bits stands for the two of 16 bits in it: 2^16 is
-// congruent to 1 modulo 65,535, so carries need no care before the end, and a factor of 256 exchanges the bytes of each
-// word (RFC 1071, section 2).
+// The sum with the words of the bytes added. A word of 32 bits counts for its two words of 16 bits: 2^16 is congruent
+// to 1 modulo 65,535, so carries need no care before the end, and a factor of 256 exchanges the bytes of each word (RFC
+// 1071, section 2).
 pub(crate) fn add_words(start: u64, bytes: &[u8]) -> u64
     requires { start + 2 ^ 38 * length bytes.now < 2 ^ 64 }
     ensures value { IsSameSum result (start + word_sum bytes.now) }
