@@ -14,8 +14,7 @@ use Rattle.dccp_packets.specs.Kinds.{ack_of}
 abbrev pub may_be_short : PacketType → Bool
 may_be_short t = has_form false t
 
--- a number in full: a long one as it stands, a short one as the number near the reference that it stands for (section
--- 7.6)
+-- a number in full: a long one as it is, a short one as the number near the reference that it shortens (section 7.6)
 abbrev pub near : ℕ → Number → ℕ
 near reference (Long n) = n
 near reference (Short n) = extended n reference

@@ -79,7 +79,7 @@ packet_type (Reset ack code detail) = types.Reset
 packet_type (Sync ack) = types.Sync
 packet_type (SyncAck ack) = types.SyncAck
 
--- what X tells (RFC 4340, section 5.1)
+-- what X says (RFC 4340, section 5.1)
 abbrev pub is_long : Number → Bool
 is_long (Long n) = true
 is_long (Short n) = false
@@ -176,7 +176,7 @@ header_of kind long bytes = record {
   kind = kind_of kind long bytes;
 }
 
--- a packet without where its parts lie in memory
+-- a packet, apart from where its parts are in memory
 pub record Parts : Type 0 where
   pub header : Header
   pub options : List ℕ

@@ -12,7 +12,7 @@ pub record Outgoing : Type 0 where
 abbrev pub outgoing : Numbers → List ℕ → Outgoing
 outgoing numbers bytes = record { bytes = bytes; number = numbers.number; ack = numbers.ack }
 
--- bytes go out where they have numbers
+-- bytes go out if they have numbers
 abbrev pub outgoing_if : Option Numbers → List ℕ → Option Outgoing
 outgoing_if None bytes = None
 outgoing_if (Some numbers) bytes = Some (outgoing numbers bytes)

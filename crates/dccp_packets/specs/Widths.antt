@@ -1,5 +1,5 @@
--- Headers cut to the widths of their fields: what a spelling keeps of a header whose numbers may be too large (own).
--- The widths are those of RFC 4340, section 5.
+-- Headers cut to the widths of their fields: what is left of a header whose numbers may be too large, once it is
+-- written (own). The widths are those of RFC 4340, section 5.
 use Rattle.std.specs.Prelude.{◌≡◌, ◌%◌, ◌^◌, length}
 use Rattle.dccp_packets.specs.declared.header.Number.{Number}
 use Rattle.dccp_packets.specs.declared.header.Number.TheVariants.{Long, Short}
@@ -25,7 +25,7 @@ kind_in_widths (Reset ack code detail) = Reset (ack % 2 ^ 48) code detail
 kind_in_widths (Sync ack) = Sync (ack % 2 ^ 48)
 kind_in_widths (SyncAck ack) = SyncAck (ack % 2 ^ 48)
 
--- A header in the widths of its fields. CCVal and CsCov stand as they are, since a valid header has them below 16.
+-- A header in the widths of its fields. CCVal and CsCov stay as they are, since a valid header has them below 16.
 abbrev pub in_widths : Header → Header
 in_widths h = record {
   from = h.from % 2 ^ 16;

@@ -162,7 +162,7 @@ fn kind(packet_type: PacketType, long: bool, bytes: &[u8]) -> Kind
     }
 }
 
-// The header of a packet whose fixed part is there.
+// The header of a packet that has its whole fixed part.
 pub(crate) fn header(packet_type: PacketType, long: bool, bytes: &[u8]) -> Header
     requires { HoldsHeader long packet_type bytes.now }
     ensures { result ≡ header_of packet_type long bytes.now }

@@ -28,8 +28,8 @@ impl Number {
         }
     }
 
-    /// The number in full. What a short form stands for is judged by the reference: it is the number that was cut
-    /// where that is not far from it (`seq_circle::extend`; RFC 4340, section 7.6).
+    /// The number in full. The reference decides what a short form is read as: the number that was shortened, if that
+    /// is not far from the reference (`seq_circle::extend`; RFC 4340, section 7.6).
     pub fn near(&self, reference: Seq48) -> Seq48
         ensures { result ≡ near reference self.now }
     {
@@ -71,8 +71,8 @@ impl Kind {
     }
 
     /// The same type and fields beside a sequence number in a form: the acknowledgement number of an Ack or a DataAck
-    /// is cut to its low 24 bits where that is short. The other types have no short form, and stay (RFC 4340, section
-    /// 5.1).
+    /// is cut to its low 24 bits if the sequence number is short. The other types have no short form, and stay (RFC
+    /// 4340, section 5.1).
     pub fn in_form(&self, short: bool) -> Kind
         ensures value { result ≡ in_form short self.now }
         ensures same_type { packet_type result ≡ packet_type self.now }

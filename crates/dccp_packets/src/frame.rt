@@ -57,7 +57,7 @@ impl Frame {
         self.bytes.as_slice()
     }
 
-    /// The bytes, to be changed where they stand.
+    /// The bytes, to be changed in place.
     pub fn bytes_mut(&mut self) -> &mut [u8]
         ensures* writes_back { sem 𝓛 (LendsBytes self.entry result) }
         ensures value { result.now ≡ self.old }
@@ -106,10 +106,10 @@ pub struct Sent<'a> {
 /// see nothing, or the bytes and the numbers. Each call of an end that takes an Outbox empties it first. Its frame has
 /// room for the longest one and stays where it is, so an Outbox is made once and handed to many calls.
 ///
-/// The numbers are the word of who fills it: an end's calls say that they are those of the frame.
+/// The caller that fills it answers for the numbers: an end's calls guarantee that they are those of the frame.
 #[derive(Debug, Drop)]
 pub struct Outbox {
-    // of an earlier call, where there are no numbers
+    // those of an earlier call, if there are no numbers
     frame: Frame,
     numbers: Option<Numbers>,
 }
@@ -178,8 +178,8 @@ impl Outbox {
         self.numbers = Some(numbers);
     }
 
-    /// Holds a frame of no bytes alone, with these numbers, to be written where it stands: a frame has room for 2,044
-    /// bytes, and moving one copies them all.
+    /// Holds a frame of no bytes alone, with these numbers, to be written in place: a frame has room for 2,044 bytes,
+    /// and moving one copies them all.
     pub fn begin(&mut self, numbers: Numbers) -> &mut Frame
         ensures* writes_back { sem 𝓛 (LendsFrame numbers self.entry result) }
         ensures empty { result.now ≡ [] }

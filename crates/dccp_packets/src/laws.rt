@@ -20,10 +20,10 @@ pub fn what_is_spelled_is_read()
         → decoded (spelling h options payload) ≡ Ok (record { header = h; options = padded options; payload = payload }) }
 {}
 
-/// What is spelled is read again also where numbers are too large for their fields: each is cut to the width of its
-/// field (`read`), which keeps a header whose fields fit (`kept`). So whatever needs only the type, the options or the
-/// data, or numbers that are below 2^48 anyway, needs no premise on the other fields (RFC 4340, section 5; the widths
-/// of section 5.1).
+/// What is written is read again even if numbers are too large for their fields: each is cut to the width of its field
+/// (`read`), which does not change a header whose fields fit (`kept`). So a proof that needs only the type, the options
+/// or the data, or numbers that are below 2^48 anyway, needs no premise on the other fields (RFC 4340, section 5; the
+/// widths of section 5.1).
 pub fn what_is_spelled_is_read_in_widths()
     ensures read { (h : Header) (options payload : List ℕ) → HasDetail h.kind → IsTrue (is_valid h)
         → header_length h + length (padded options) ≤ 1020
@@ -40,7 +40,7 @@ pub fn what_is_read_is_the_table()
         → IsPacket h options payload bytes → decoded bytes ≡ Ok (record { header = h; options = options; payload = payload }) }
 {}
 
-/// Each fault is answered exactly where it holds and none before it does, in the order of `Malformed`.
+/// Each fault is answered exactly if it holds and none before it does, in the order of `Malformed`.
 pub fn the_first_fault_is_answered()
     ensures short { (bytes : List ℕ) → (decoded bytes ≡ Err Malformed.Short) ↔ (length bytes < 12) }
     ensures reserved_type { (bytes : List ℕ) → 12 ≤ length bytes
@@ -66,8 +66,8 @@ pub fn one_spelling_has_no_reserved_bit()
         → bytes ≡ spelling h options payload }
 {}
 
-/// A number that is put into a form is read again in full: as it is in the long form, and in the short one by a
-/// reference that it is not far from (`number`). So is the acknowledgement number of a packet whose type may have the
+/// A number that is put into a form is read again in full: in the long form always, and in the short one from a
+/// reference that is not far from it (`number`). So is the acknowledgement number of a packet whose type may have the
 /// form (`ack`); its numbers are then both in this form (`form`; RFC 4340, sections 5.1 and 7.6).
 pub fn numbers_in_a_form_are_read_in_full()
     ensures number { (short : Bool) (n reference : ℕ) → n < 2 ^ 48 → reference < 2 ^ 48

@@ -37,7 +37,7 @@ pub enum Malformed {
 // The generic header with a short number.
 const SHORTEST: usize = 12;
 
-// Whether the Data Offset ends before the fixed part does: a function of its own, so that an edit of it can be tried
+// Whether the Data Offset ends before the fixed part does: a separate function, so that an edit of it can be tried
 // without the whole decoder.
 fn ends_before(offset: usize, fixed: usize) -> bool
     ensures { result ≡ nat_lt offset fixed }
