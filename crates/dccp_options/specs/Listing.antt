@@ -5,7 +5,7 @@ use Rattle.dccp_options.specs.declared.option.OptFault.{OptFault}
 use Rattle.dccp_options.specs.declared.option.OptFault.TheVariants.{MandatoryTwice}
 use Rattle.dccp_options.specs.Grammar.{Entry, at_end, is_ignored_on_data}
 
--- after a type byte stands no length, one below 2, or one beyond the area
+-- after a type byte there is no length, one below 2, or one beyond the area
 abbrev pub IsCut : List ℕ → Type 0
 IsCut [] = Unit {0}
 IsCut (count ∷ rest) = (count < 2) ⊎ (length rest + 2 < count)

@@ -42,7 +42,7 @@ entries_at place (item ∷ rest) =
     }
     ∷ entries_at (place + length (spelled item.mandatory item.kind item.body)) rest
 
--- the option that an entry is, wherever it stands
+-- the option that an entry is, wherever it is
 abbrev pub item_at : Entry → Item
 item_at entry = record { mandatory = entry.mandatory; kind = entry.kind; body = entry.body }
 

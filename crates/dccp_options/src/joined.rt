@@ -13,8 +13,9 @@ pub(crate) struct JoinedBytes<'a> {
     options: Cursor<'a>,
 }
 
-// The first Ack Vector among the options, and those after it. It stands apart, so that a next byte of the same vector
-// costs no call; and the options go in and out by value, so that a walk over bytes keeps its place in registers.
+// The first Ack Vector among the options, and those after it. It is a separate function, so that a next byte of the
+// same vector costs no call; and the options go in and out by value, so that a walk over bytes keeps its place in
+// registers.
 #[inline(never)]
 fn next_vector<'a>(mut options: Cursor<'a>) -> Option<(&'a [u8], Cursor<'a>)>
     ensures { MatchOption result (ack_vectors (entries_left false options.entry) ≡ [])

@@ -43,8 +43,8 @@ pub fn entries_keep_what_was_written()
         ≡ map {B = ℕ × List ℕ} (λ (item : Item). (item.kind, item.body)) items }
 {}
 
-/// An option whose length is below 2 or beyond the area ends the list just as the area's end does: what comes before
-/// it is listed, and nothing tells of it (RFC 4340, section 5.8).
+/// An option whose length is below 2 or beyond the area ends the list just as the area's end does: what comes before it
+/// is listed, and nothing reports it (RFC 4340, section 5.8).
 pub fn a_cut_option_ends_the_list()
     ensures { (items : List Item) (kind : ℕ) (rest : List ℕ) → All IsWritable items → 32 ≤ kind → IsCut rest
         → options_of (written items ++ kind ∷ rest) false ≡ options_of (written items) false }

@@ -27,7 +27,7 @@ impl<'a> OptList<'a> {
     ghost use Rattle.std.specs.Prelude.{false};
     ghost use Rattle.dccp_options.specs.Left.{entries_left};
 
-    /// The options that are still to come, once more: for whoever goes over them many times, since a list is not
+    /// A copy of the options that are still to come, for a reader that goes over them many times, since a list is not
     /// `Copy`.
     pub fn again(&self) -> OptList<'a>
         ensures { result ≡ self.now }
@@ -37,7 +37,7 @@ impl<'a> OptList<'a> {
         }
     }
 
-    /// Where the list stands.
+    /// The list's place in the area.
     pub(crate) fn cursor(self) -> Cursor<'a>
         ensures { entries_left false result ≡ self.entry }
     {

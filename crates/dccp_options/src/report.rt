@@ -75,8 +75,8 @@ fn run_length(byte: u8) -> u8
 
 impl<'a> AckReport<'a> {
     /// What the Ack Vectors among the options of a packet report, whose acknowledgement number this is. None exactly
-    /// where no Ack Vector is there; one without a byte is a report that gives no number a state. Where a fault
-    /// ends the list, the vectors before it still count; the end resets on the fault anyway.
+    /// where no Ack Vector is there; one without a byte is a report that gives no number a state. If a fault ends the
+    /// list, the vectors before it still count; the end answers the fault by a Reset anyway.
     pub fn of(ack: Seq48, options: OptList<'a>) -> Option<AckReport<'a>>
         ensures none { IsNone result ↔ (ack_vectors options.entry ≡ []) }
         ensures value { result ≡ report_of ack options.entry }

@@ -38,8 +38,8 @@ impl OptWriter {
         }
     }
 
-    /// Writes an option of a type from 32 on, with at most 253 bytes of data: a Mandatory before it where it is to be
-    /// marked, its type, its length and its data (RFC 4340, section 5.8). OptFull exactly where that does not fit; then
+    /// Writes an option of a type from 32 on, with at most 253 bytes of data: a Mandatory before it if it is to be
+    /// marked, its type, its length and its data (RFC 4340, section 5.8). OptFull exactly if that does not fit; then
     /// nothing is written.
     pub fn put(&mut self, mandatory: bool, kind: u8, body: &[u8]) -> Result<(), OptFull>
         requires has_length { 32 ≤ kind }
