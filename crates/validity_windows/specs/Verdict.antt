@@ -30,12 +30,12 @@ abbrev pub by_window : Marks → ℕ → Option ℕ → Verdict
 by_window m number ack =
     if is_in_window m number && is_ack_within (ack_low m) (ack_high m) ack then Valid else SyncFor number
 
--- after GSR, and acknowledging from GAR on; what else comes is answered by a Sync for this number
+-- after GSR, and acknowledging from GAR on; anything else is answered by a Sync for this number
 abbrev pub by_greatest : Marks → ℕ → Option ℕ → ℕ → Verdict
 by_greatest m number ack answer =
     if is_after_greatest m number && is_ack_within m.gar (ack_high m) ack then Valid else SyncFor answer
 
--- from SWL on; what else comes is dropped
+-- from SWL on; anything else is dropped
 abbrev pub by_low_end : Marks → ℕ → Option ℕ → Verdict
 by_low_end m number ack =
     if is_not_old m number && is_ack_within (ack_low m) (ack_high m) ack then Valid else Drop

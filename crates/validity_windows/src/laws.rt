@@ -13,7 +13,7 @@ ghost use Rattle.validity_windows.specs.Whole.{residues, IsWhole, unrolled, resi
 /// number of the circle: counted on from the first within one turn, just those between the two ends lie in a window
 /// (RFC 4340, section 7.5.1), just those after GSR and up to SWH are valid on what ends a connection, just those from
 /// GAR to AWH are acknowledged by it, and just those from SWL on, fewer than 2^47 of them, are valid on Sync and
-/// SyncAck (section 7.5.3). So the circle's end is no border.
+/// SyncAck (section 7.5.3). So the wrap of the circle does not matter.
 pub fn windows_are_intervals_of_counts()
     ensures sequence { (m : Marks) (isr gsr n : ℕ) → InRange m → m.isr ≡ residue isr → m.gsr ≡ residue gsr
         → isr ≤ gsr → gsr < isr + 2 ^ 47 → isr ≤ n → n < isr + 2 ^ 48

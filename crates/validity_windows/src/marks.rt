@@ -8,8 +8,8 @@ use dccp_packets::PacketType;
 use seq_circle::Seq48;
 
 /// The numbers that an end keeps of its connection (RFC 4340, section 7.1), and the widths of both windows, each in 32
-/// to 2^46 - 1. They begin with `new`, and `begin` takes the first packet received. What a packet of its own is
-/// numbered is the caller's to count in `gss`. The fields are public, so the widths' range is a condition of the calls;
+/// to 2^46 - 1. They begin with `new`, and `begin` takes the first packet received. The caller numbers the packets that
+/// it sends, and counts them in `gss`. The fields are public, so the range of the widths is a condition of the calls;
 /// an end keeps it in its invariant.
 #[derive(Clone, Copy, Debug, PartialEq, Eq)]
 pub struct Marks {

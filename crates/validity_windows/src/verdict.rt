@@ -70,7 +70,7 @@ impl Marks {
         }
     }
 
-    // The rule for what ends a connection, where the Sync acknowledges this answer.
+    // The rule for what ends a connection. A Sync for numbers that are not valid acknowledges `answer`.
     fn by_greatest(&self, number: Seq48, ack: Option<Seq48>, answer: Seq48) -> Verdict
         requires { InRange self.now }
         ensures { result ≡ by_greatest self.now number ack answer }
@@ -85,7 +85,7 @@ impl Marks {
         }
     }
 
-    // The rule for what brings the numbers back in step.
+    // The rule for Sync and SyncAck, which bring the numbers back in step.
     fn by_low_end(&self, number: Seq48, ack: Option<Seq48>) -> Verdict
         requires { InRange self.now }
         ensures { result ≡ by_low_end self.now number ack }
@@ -113,7 +113,7 @@ impl Marks {
 
     /// The verdict on a packet of this type with these numbers (RFC 4340, section 7.5.3). The widths are in range,
     /// `ack` is there exactly for the types that have an acknowledgement number (`PacketType::has_ack`), and at least
-    /// one packet was sent and one received, this one perhaps.
+    /// one packet was sent and one received, possibly this one.
     ///
     /// | Types | Valid where | Otherwise |
     /// |---|---|---|
