@@ -1,4 +1,4 @@
--- By which name the refusal of a call is seen (own).
+-- The name of the refusal of a call (own).
 use Rattle.dccp_states.specs.declared.calls.SendFault.{SendFault}
 use Rattle.dccp_states.specs.declared.calls.SendFault.TheVariants as send
 use Rattle.feature_lists.specs.declared.wishes.PreferFault.{PreferFault}

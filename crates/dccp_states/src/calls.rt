@@ -45,7 +45,7 @@ pub enum UserCall<'a> {
     Send(&'a [u8]),
     /// `Endpoint::send_early`: the data of a client that speaks first, at most 1,024 bytes (section 8.1.5).
     SendEarly(&'a [u8]),
-    /// `Endpoint::prefer`: these values are wanted of a feature at a place, best first (section 6).
+    /// `Endpoint::prefer`: these values are wanted for a feature at a place, best first (section 6).
     Prefer {
         feature: Feature,
         place: Place,
@@ -59,7 +59,7 @@ pub enum UserCall<'a> {
     Timer(Timer),
 }
 
-/// The timers of an end. Their times are the user's, who tells the end that one has run out.
+/// The timers of an end. The user keeps their times, and tells the end that one has run out.
 #[derive(Clone, Copy, Debug, PartialEq, Eq)]
 pub enum Timer {
     /// No answer to the Request has come (RFC 4340, section 8.1.1).

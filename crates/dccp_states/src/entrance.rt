@@ -14,9 +14,9 @@ pub enum Entrance {
     Stray,
     /// A Request that may open a connection.
     Accept,
-    /// An answer to the client's Request: its acknowledgement number is judged.
+    /// A packet that may answer the client's Request: its acknowledgement number is judged.
     InRequest,
-    /// A packet that no answer to a Request may be: it gets a Reset 4, Packet Error.
+    /// A packet that cannot answer a Request: it gets a Reset 4, Packet Error.
     PacketError,
     /// The packet's numbers are judged by the windows.
     Check,

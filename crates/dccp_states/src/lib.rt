@@ -3,7 +3,7 @@
 //! end's user, the timers that they name, and why a call was refused (sections 7 and 8).
 //!
 //! Nothing here looks at a packet's numbers or options, sends anything or takes memory: each function is one table.
-//! Calls and answers are types alone, so that who reads or prints them needs no end.
+//! Calls and answers are types alone, so that a crate that reads or prints them needs no end.
 #![tactic(auto)]
 
 mod calls;

@@ -37,7 +37,7 @@ pub enum Outcome {
     SentReset { code: u8, detail: [u8; 3] },
 }
 
-/// What a Reset tells of the packet that it answers: its code and the bytes Data 1 to 3 (RFC 4340, section 5.6).
+/// What a Reset says about the packet that it answers: its code and the bytes Data 1 to 3 (RFC 4340, section 5.6).
 #[derive(Clone, Copy, Debug, PartialEq, Eq)]
 pub struct Fault {
     /// The Reset Code.

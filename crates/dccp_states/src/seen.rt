@@ -1,4 +1,4 @@
-//! What is seen of whatever an end does, in one type.
+//! The results of all that an end does, in one type.
 use crate::{Outcome, SendFault};
 use feature_lists::PreferFault;
 
@@ -55,7 +55,7 @@ impl From<PreferFault> for Refusal {
     }
 }
 
-/// What is seen of a call, a timer or a packet that arrived.
+/// The result of a call, a timer or a packet that arrived.
 #[derive(Clone, Copy, Debug, PartialEq, Eq)]
 pub enum Seen {
     /// A call, and whether its end refused it.
