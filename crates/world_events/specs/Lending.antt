@@ -1,4 +1,4 @@
--- What data that are to be sent end as, where a `&mut` into them is returned.
+-- What data to be sent are once a `&mut` into them, which was returned, is given back.
 use Rattle.std.specs.Prelude.{ℕ, List, length}
 use Rattle.std.specs.Borrow.{Lends, MutBor, Fml, Array, u8}
 use Rattle.std.specs.List.{refill}

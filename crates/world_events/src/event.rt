@@ -110,9 +110,9 @@ pub enum WorldFault {
     NoSuchFrame,
     /// The side that would act has sent 2^47 - 1 frames.
     Full,
-    /// The frame has short numbers, which the end that takes them could not tell: its number lies 2^23 or more from
-    /// that end's greatest number received, or the one that it acknowledges from the greatest number sent, up and down
-    /// the circle (RFC 4340, section 7.6).
+    /// The frame has short numbers that are ambiguous for the end that takes it: its number lies 2^23 or more from that
+    /// end's greatest number received, or the one that it acknowledges from the greatest number sent, up and down the
+    /// circle (RFC 4340, section 7.6).
     FarShort,
     /// No memory was left for what the step may have to keep.
     NoMemory,
@@ -145,8 +145,8 @@ impl Event {
     }
 
     /// Makes it the arrival of a frame (own): of the one with this index, from 0, among all that the side `from` ever
-    /// sent. An event is large, for it has room for data. One of the same kind is changed where it stands, and its room
-    /// is not cleared again.
+    /// sent. An event is large, since it has room for data. One of the same kind is changed in place, and its room is
+    /// not cleared again.
     pub fn become_delivery(&mut self, from: Side, index: u64)
         ensures { self.new ≡ Event.Deliver from index }
     {

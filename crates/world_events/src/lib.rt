@@ -1,5 +1,5 @@
-//! What may happen to two ends of a connection, and what is seen of it (own). The world that plays it is two_ends, and
-//! its text schedule_text; neither needs the other. An event and its data take no memory: they have room within.
+//! What may happen to two ends of a connection, and its results (own). two_ends plays these events, and schedule_text
+//! is their text; neither needs the other. An event and its data take no memory: their room is in the value.
 #![tactic(auto)]
 
 mod event;

@@ -74,8 +74,8 @@ impl Payload {
         self.bytes.as_slice()
     }
 
-    /// Makes it so many bytes, at most 2,048, which are to be written where they stand: what they are until then is
-    /// left open. Where there are as many already, nothing is moved and nothing cleared.
+    /// Makes it so many bytes, at most 2,048, which are to be written in place; until then it is open what they are. If
+    /// there are as many already, nothing is moved or cleared.
     pub fn resize(&mut self, size: usize)
         requires { size ≤ 2048 }
         ensures { length self.new ≡ size }
@@ -86,7 +86,7 @@ impl Payload {
         }
     }
 
-    /// The bytes, to be changed where they stand.
+    /// The bytes, to be changed in place.
     pub fn bytes_mut(&mut self) -> &mut [u8]
         ensures* writes_back { sem 𝓛 (LendsPayload self.entry result) }
         ensures value { result.now ≡ self.old }
