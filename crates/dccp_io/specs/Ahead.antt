@@ -9,7 +9,7 @@ pub record BytesAhead : Type 0 where
   pub pending : List ℕ
   pub size : ℕ
 
--- all that is still to come: what is pending, and then what the source has left, where it tells that
+-- all that is still to come: what is pending, and then what the source has left, if that is known
 abbrev pub ahead_of : BytesAhead → Option (List ℕ) → Option (List ℕ)
 ahead_of ahead left = prepend_known ahead.pending left
 

@@ -1,7 +1,7 @@
 -- The counts that sources and sinks keep (own).
 use Rattle.std.specs.Prelude.{◌≡◌, ℕ, ◌+◌, ◌-◌, ◌^◌, ◌<◌, ◌⊎◌, Result, Ok, Err, nat_lt, ◌==◌, ◌&&◌, if◌then◌else◌}
 
--- A count rose in a call. One that is at its end, 2^64 - 1, is read as risen.
+-- A count rose in a call. A count at its end, 2^64 - 1, also counts as risen.
 abbrev pub Rose : ℕ → ℕ → Type 0
 Rose before after = (before < after) ⊎ (after ≡ 2 ^ 64 - 1)
 

@@ -1,4 +1,4 @@
--- What was taken or given of bytes that are known, where a call ended early (own).
+-- What was taken or given of bytes that are known, if a call ended early (own).
 use Rattle.std.specs.Prelude.{◌≡◌, ℕ, ◌<◌, ◌≤◌, List, length, take, drop, Option, option_map}
 use Rattle.std.specs.Io.KnownBytes.{prepend_known, append_known}
 

@@ -24,7 +24,7 @@ one_too_many = 4097
 abbrev pub most_input_bytes : ℕ
 most_input_bytes = 16777216
 
--- How many bytes come before the first newline, or before the end where there is none.
+-- How many bytes come before the first newline, or before the end if there is none.
 abbrev pub text_length : List ℕ → ℕ
 text_length [] = 0
 text_length (byte ∷ rest) = if byte == newline then 0 else suc (text_length rest)
@@ -37,8 +37,8 @@ first_line bytes = take (suc (text_length bytes)) bytes
 abbrev pub text_of : List ℕ → List ℕ
 text_of line = take (text_length line) line
 
--- After so many bytes, those of a line up to its newline, to the end of the input or to the byte at which it is too
--- long lie within those that an input may have.
+-- After so many bytes, the bytes of a line up to its newline, to the end of the input, or to the byte at which it is
+-- too long are within those that an input may have.
 abbrev pub ends_within : ℕ → List ℕ → Bool
 ends_within given line = nat_le (given + min (length line) one_too_many) most_input_bytes
 
@@ -50,12 +50,12 @@ pub data Next : Type 0 where
   Long : (front : List ℕ) → Next
   Much : Next
 
--- A first line whose text has so many bytes: it comes next, or its front where it is too long.
+-- A first line whose text has so many bytes: it comes next, or its front if it is too long.
 abbrev pub by_length : List ℕ → ℕ → Next
 by_length bytes n = if nat_le one_too_many n then Long (take one_too_many bytes) else Line (first_line bytes)
 
--- Of the bytes that are left of an input after so many that were given: a line is judged for too much input before its
--- length.
+-- What comes next among the bytes that are left of an input, after so many that were given: a line is judged for too
+-- much input before its length.
 abbrev pub next_in_bytes : ℕ → List ℕ → Next
 next_in_bytes given [] = End
 next_in_bytes given (byte ∷ bytes) =
@@ -124,7 +124,7 @@ pub record LinesState (S : Type 0) : Type 0 where
 abbrev pub holds_next : {S : Type 0} → LinesState S → Bool
 holds_next l = is_some l.stop || is_line_settled (enough l.given) l.pending
 
--- what is left of the input after the lines that were given, where the source tells its bytes
+-- what is left of the input after the lines that were given, if the source's bytes are known
 abbrev pub rest_of_input : {S : Type 0} → (S → Option (List ℕ)) → LinesState S → Option (List ℕ)
 rest_of_input left l = prepend_known l.pending (left l.source)
 

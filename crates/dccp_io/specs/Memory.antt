@@ -1,4 +1,4 @@
--- Sources and sinks in memory, whose calls fail where it was said beforehand (own).
+-- Sources and sinks in memory, of which chosen calls fail (own).
 use Rattle.std.specs.Prelude.{ℕ, ◌+◌, ◌-◌, ◌^◌, Bool, List, length, take, drop, ◌++◌, min, Result, Ok, Err, nat_lt, ◌==◌, ◌&&◌, if◌then◌else◌}
 use Rattle.std.specs.List.{list_any}
 use Rattle.dccp_io.specs.Counts.{one_more}

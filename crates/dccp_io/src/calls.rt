@@ -1,4 +1,4 @@
-//! Calls that fail where it was said beforehand.
+//! Calls of which chosen ones fail.
 ghost use Rattle.std.specs.Prelude.{◌≡◌, IsTrue};
 ghost use Rattle.dccp_io.specs.Counts.{Rose};
 ghost use Rattle.dccp_io.specs.Memory.{is_failing_call, next_fails, counted_call};
@@ -47,7 +47,7 @@ impl CallCount {
         self.faults
     }
 
-    // Counts a call, and tells whether it is one that fails.
+    // Counts a call. True exactly if it is one that fails.
     pub(crate) fn count(&mut self) -> bool
         ensures answer { result ≡ next_fails self.old }
         ensures after { self.new ≡ counted_call self.old }

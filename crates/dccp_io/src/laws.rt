@@ -8,8 +8,8 @@ pub fn lines_follow_one_another()
         → lines_of bytes ≡ first_line bytes ∷ lines_of (drop (length (first_line bytes)) bytes) }
 {}
 
-/// What comes next goes by the first of the lines that are left: the end where there is none, too much where that line
-/// does not end in time, too long where it has a 4,097th byte, and else that line.
+/// The first of the lines that are left decides what comes next: the end if there is none, too much if that line does
+/// not end in time, too long if it has a 4,097th byte, and otherwise that line.
 pub fn the_first_line_stands_next()
     ensures { (given : ℕ) (bytes : List ℕ) → next_in_bytes given bytes ≡ next_in_lines given (lines_of bytes) }
 {}

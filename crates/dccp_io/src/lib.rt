@@ -1,8 +1,8 @@
 //! Where bytes come from and where they go: sources and sinks that may fail, and count how often they did, in counts
 //! that never fall (own).
 //!
-//! Nothing here knows packets, or what a line says. A source that tells its bytes and a sink that tells what it took
-//! are what contracts above speak of; the adapters over standard input and output tell nothing but their counts. Lines,
+//! Nothing here knows packets, or what a line says. Contracts above are about a source whose bytes are known, and a
+//! sink that shows what it took. Of the adapters over standard input and output only their counts are known. Lines,
 //! blocks that are read ahead and a sink in memory take what they need when they are made; a text that is read whole
 //! takes memory on the way.
 #![tactic(auto)]

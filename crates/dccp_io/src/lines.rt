@@ -1,8 +1,8 @@
 //! The lines of an input, one by one.
 //!
-//! A line that was given is let go at the next call and not before, so lending needs no second block. One that is too
-//! long or too much is never let go. Why no further line comes is kept all the same, so that each further call reads
-//! nothing.
+//! A line that was given is dropped at the next call and not before, so lending needs no second block. A line that is
+//! too long or too much is never dropped. The reader also keeps why no further line comes, so that each further call
+//! reads nothing.
 ghost use Rattle.std.specs.Prelude.{◌≡◌, ◌+◌, ◌≤◌, ◌<◌, ◌==◌, [], length, take, drop, not, true, None, IfOk, OnErr, IfSome};
 ghost use Rattle.std.specs.List.{list_all};
 ghost use Rattle.dccp_io.specs.Counts.{Rose};
@@ -343,8 +343,8 @@ impl<S: Source + Drop> Lines<S> {
         }
     }
 
-    /// Tells that the next call of `find` reads nothing: what was read already settles its answer, or no further line
-    /// comes.
+    /// Whether the next call of `find` certainly reads nothing: what was read already settles its answer, or no further
+    /// line comes.
     pub fn holds_next(&self) -> bool
         ensures { result ≡ holds_next self.now }
     {
@@ -391,7 +391,7 @@ impl<S: Source + Drop> Lines<S> {
         }
     }
 
-    /// The source, as it then stands.
+    /// The source, in its present state.
     pub fn into_source(self) -> S
         ensures { result ≡ self.source }
     {

@@ -9,7 +9,7 @@ use seq_circle::NoMemory;
 use std::alloc::Global;
 use std::marker::Model;
 
-/// A source over bytes in memory (own). It tells its bytes. It fails exactly at the calls whose numbers it was given,
+/// A source over bytes in memory (own). Its bytes are known. It fails exactly at the calls whose numbers it was given,
 /// and every other call gives as many bytes as its limit, the slice and the bytes that are left allow.
 #[derive(Drop)]
 pub struct MemorySource {
@@ -81,7 +81,7 @@ impl Source for MemorySource {
     }
 }
 
-/// A sink that keeps what it takes, in memory that it was given beforehand (own). It tells its bytes. It fails exactly
+/// A sink that keeps what it takes, in memory that it was given beforehand (own). Its bytes are known. It fails exactly
 /// at the calls whose numbers it was given, and every other call takes as many bytes as its limit, the piece and its
 /// room allow.
 #[derive(Drop)]

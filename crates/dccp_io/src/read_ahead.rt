@@ -29,7 +29,7 @@ impl Model for ReadAhead {
     ghost invariant = { λ a. (a.from ≤ a.to) × (a.to ≤ vec_len a.block) };
 }
 
-// Moves the pending bytes to the block's front where they end at its end; answers where they stand then. That is at
+// Moves the pending bytes to the block's front if they end at its end, and returns their place then. That happens at
 // most once for each block that was filled.
 fn make_room(block: &mut Vec<u8>, from: usize, to: usize) -> (usize, usize)
     requires order { from ≤ to }
@@ -94,7 +94,7 @@ impl ReadAhead {
         self.to - self.from
     }
 
-    /// Lets the first bytes go.
+    /// Drops the first bytes.
     pub fn pass(&mut self, count: usize)
         requires { count ≤ length self.old.pending }
         ensures { self.new ≡ record { pending = drop count self.old.pending; size = self.old.size } }

@@ -1,7 +1,7 @@
 //! Sources and sinks over the readers and writers of the standard library.
 //!
-//! They try an interrupted call again and count it as no fault. No clause says so, since they tell no bytes; tests do.
-//! The sink does not flush: the toolchain's standard output has no buffer.
+//! They try an interrupted call again, and do not count it as a fault. No clause says so, since their bytes are not
+//! known; tests do. The sink does not flush: the toolchain's standard output has no buffer.
 ghost use Rattle.std.specs.Prelude.{◌≡◌, ◌<◌, ◌≤◌, length, is_ok, IfSome, IfOk, OnErr, None, if◌then◌else◌};
 ghost use Rattle.dccp_io.specs.Counts.{Rose, one_more, counted_write};
 
@@ -23,8 +23,8 @@ fn read_retrying<R: Read>(reader: &mut R, into: &mut [u8]) -> Option<usize>
     None
 }
 
-/// A source over a reader, such as standard input (own). It does not tell its bytes. It counts each error of the reader
-/// as a fault, but a read that was interrupted is tried again. Contracts see that count, which stops at 2^64 - 1.
+/// A source over a reader, such as standard input (own). Its bytes are not known. It counts each error of the reader as
+/// a fault, but a read that was interrupted is tried again. Contracts see that count, which stops at 2^64 - 1.
 #[derive(Drop)]
 pub struct StdSource<R: Drop> {
     reader: R,
@@ -81,8 +81,8 @@ fn write_retrying<W: Write>(writer: &mut W, piece: &[u8]) -> Option<usize>
     None
 }
 
-/// A sink over a writer, such as standard output (own). It does not tell what it took. It counts each error of the
-/// writer as a fault, but a write that was interrupted is tried again, and it counts the pieces of which the writer
+/// A sink over a writer, such as standard output (own). The bytes that it took are not known. It counts each error of
+/// the writer as a fault, but a write that was interrupted is tried again, and it counts the pieces of which the writer
 /// took nothing. Contracts see these two counts, which stop at 2^64 - 1.
 #[derive(Drop)]
 pub struct StdSink<W: Drop> {

@@ -1,6 +1,6 @@
 //! Where bytes come from and where they go, as contracts see it.
 //!
-//! A stream that does not tell its bytes never starts to: the clauses are equations between optional lists.
+//! A stream whose bytes are not known stays so: the clauses are equations between optional lists.
 ghost use Rattle.std.specs.Prelude.{◌≡◌, ℕ, ◌<◌, ◌≤◌, ◌↔◌, List, [], length, take, Option, IfOk, OnErr, IfSome};
 ghost use Rattle.std.specs.Io.KnownBytes.{prepend_known, append_known};
 ghost use Rattle.dccp_io.specs.Counts.{Rose};
@@ -9,19 +9,19 @@ ghost use Rattle.dccp_io.specs.Counts.{Rose};
 #[derive(Clone, Copy, Debug, PartialEq, Eq)]
 pub struct Failed;
 
-/// Where bytes come from (own). Contracts see the bytes that a source has left, where it tells them, and how often it
+/// Where bytes come from (own). Contracts see the bytes that a source has left, if these are known, and how often it
 /// has failed.
 pub trait Source {
-    // The bytes that are left, where the source tells them.
+    // The bytes that are left, if they are known.
     ghost left: { Self → Option (List ℕ) };
     // How often it has failed.
     ghost faults: { Self → ℕ };
-    // Which loan it reads through, where it is one: so that who lent a source knows it again when it comes back.
+    // Which loan it reads through, if it is one, so that the owner who lent a source knows it again when it comes back.
     ghost lender: { Self → ℕ } = { λ _. 0 };
 
-    /// Reads the next bytes into the front of the slice and answers how many. Ok(0) is the end of the input; where the
-    /// source tells its bytes, it comes exactly where none is left. Failed comes only where the count of faults rose
-    /// in this call, and then no byte that it tells was taken.
+    /// Reads the next bytes into the front of the slice and returns how many. Ok(0) is the end of the input; if the
+    /// source's bytes are known, it comes exactly if none is left. Failed comes only if the count of faults rose in
+    /// this call; then none of the known bytes was taken.
     fn read(&mut self, into: &mut [u8]) -> Result<usize, Failed>
         requires { 0 < length into.old }
         ensures fits { IfOk result (λ n. n ≤ length into.new) }
@@ -33,19 +33,19 @@ pub trait Source {
         ensures same_lender { lender self.new ≡ lender self.old };
 }
 
-/// Where bytes go (own). Contracts see the bytes that a sink has taken, where it tells them, how often it has failed,
+/// Where bytes go (own). Contracts see the bytes that a sink has taken, if these are known, how often it has failed,
 /// and how often it took none of a piece that was not empty.
 pub trait Sink {
-    // The bytes that were taken, where the sink tells them.
+    // The bytes that were taken, if they are known.
     ghost taken: { Self → Option (List ℕ) };
     // How often it has failed.
     ghost faults: { Self → ℕ };
     // How often it took no byte of a piece that was not empty.
     ghost empty_takes: { Self → ℕ };
 
-    /// Takes the first bytes of the piece and answers how many. Of a piece that is not empty it takes none only where
-    /// the count of empty takes rose in this call. Failed comes only where the count of faults rose in this call, and
-    /// then no byte that it tells was taken.
+    /// Takes the first bytes of the piece and returns how many. It takes none of a piece that is not empty only if the
+    /// count of empty takes rose in this call. Failed comes only if the count of faults rose in this call; then none of
+    /// the known bytes was taken.
     fn write(&mut self, piece: &[u8]) -> Result<usize, Failed>
         ensures fits { IfOk result (λ n. n ≤ length piece.now) }
         ensures first { IfOk result (λ n. taken self.new ≡ append_known (taken self.old) (take n piece.now)) }

@@ -4,7 +4,7 @@ ghost use Rattle.std.specs.Prelude.{◌≡◌, ◌<◌, ◌≤◌, ◌++◌, tak
 use crate::{Failed, Sink, Source};
 use std::marker::Model;
 
-/// A source over bytes in memory that never fails (own). It tells its bytes, and contracts see those that are left.
+/// A source over bytes in memory that never fails (own). Its bytes are known, and contracts see those that are left.
 #[derive(Drop)]
 pub struct SureSource {
     bytes: Vec<u8>,
@@ -48,7 +48,7 @@ impl Source for SureSource {
     }
 }
 
-/// A sink that takes every piece whole, never fails and keeps nothing (own). It does not tell what it took.
+/// A sink that takes every piece whole, never fails and keeps nothing (own). The bytes that it took are not known.
 #[derive(Drop)]
 pub struct SureSink;
 

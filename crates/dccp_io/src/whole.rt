@@ -19,8 +19,8 @@ pub enum InputFault {
     Memory,
 }
 
-/// Writes on until the piece is taken whole. Failed comes only where the sink failed, or took no byte of what was left;
-/// then it took the front of the piece, and not all of it.
+/// Writes on until the piece is taken whole. Failed comes only if the sink failed, or took no byte of what was left;
+/// then it took a prefix of the piece, and not all of it.
 pub fn write_all<K: Sink>(sink: &mut K, piece: &[u8]) -> Result<(), Failed>
     ensures whole { OnOk result (K.taken sink.new ≡ append_known (K.taken sink.old) piece.now) }
     ensures front { OnErr result (TakesFront (K.taken sink.old) (K.taken sink.new) piece.now) }
@@ -42,8 +42,8 @@ pub fn write_all<K: Sink>(sink: &mut K, piece: &[u8]) -> Result<(), Failed>
     Ok(())
 }
 
-/// Reads the input to its end, but no more than `most` bytes of it: fewer come only where none is left. Read comes only
-/// where the source failed; after a fault the front that was read is lost.
+/// Reads the input to its end, but no more than `most` bytes of it: fewer come only if no more are left. Read comes
+/// only if the source failed; after a fault the bytes that were read are lost.
 pub fn read_all<S: Source>(
     alloc: Global,
     source: &mut S,
