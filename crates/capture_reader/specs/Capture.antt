@@ -7,7 +7,7 @@ use Rattle.capture_reader.specs.declared.format.Format.{Format}
 use Rattle.capture_reader.specs.Format.{opened, ordered_number_at}
 use Rattle.capture_reader.specs.Records.{RecordParts, most_bytes, most_captured}
 
--- the length of a record's captured bytes, as its header tells it
+-- the length of a record's captured bytes, as its header says
 abbrev pub captured_length : Format → List ℕ → ℕ
 captured_length format bytes = ordered_number_at format.order 8 4 bytes
 
@@ -30,7 +30,7 @@ pub record IsRecord (format : Format) (number given : ℕ) (entry : RecordParts)
   pub fits : length body ≤ most_captured
   pub counts : given + (16 + length body) ≤ most_bytes
 
--- of `needed` bytes from here on the input has not all that count
+-- the input does not have all those of `needed` bytes from here on that count
 abbrev pub IsShortOf : ℕ → ℕ → List ℕ → Type 0
 IsShortOf needed given bytes = (length bytes < needed) × (given + length bytes < most_bytes)
 
@@ -42,7 +42,7 @@ IsLarge needed given bytes = (most_bytes < given + needed) × (most_bytes ≤ gi
 abbrev pub HasHeader : ℕ → List ℕ → Type 0
 HasHeader given bytes = (16 ≤ length bytes) × (given + 16 ≤ most_bytes)
 
--- what ends a capture where a record begins
+-- what ends a capture at the place of a record
 abbrev pub IsWrong : Format → ℕ → List ℕ → CaptureFault → Type 0
 IsWrong format given bytes CutShort =
     IsShortOf 16 given bytes

@@ -31,7 +31,7 @@ magic_in order bytes = ordered_number_at order 0 4 bytes
 abbrev pub is_version : Order → List ℕ → Bool
 is_version order bytes = ordered_number_at order 4 2 bytes == 2 && ordered_number_at order 6 2 bytes == 4
 
--- the link types of which a reader of captures takes one: 1 is Ethernet, 101 raw IP
+-- the link types that a reader of captures takes: 1 is Ethernet, 101 raw IP
 abbrev pub shown_links : List ℕ
 shown_links = 1 ∷ 101 ∷ []
 

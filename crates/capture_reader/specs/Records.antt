@@ -47,13 +47,13 @@ record_header order bytes = record {
   original = ordered_number_at order 12 4 bytes;
 }
 
--- What is wrong where `count` bytes are needed, `size` are there, and only the next `room` count: the input is cut
--- short where it ends before a needed byte that counts, and too large where a needed byte does not count.
+-- What is wrong if `count` bytes are needed, `size` are there, and only the next `room` count: the input is cut short
+-- if it ends before a needed byte that counts, and too large if a needed byte does not count.
 abbrev pub missing : ℕ → ℕ → ℕ → Option CaptureFault
 missing count room size =
     if nat_lt size (min count room) then Some CutShort else if nat_lt room count then Some TooLarge else None
 
--- what is wrong comes before what is there
+-- a fault comes before what is there
 abbrev pub unless_faulty : {A : Type 0} → Option CaptureFault → A → Result A CaptureFault
 unless_faulty None there = Ok there
 unless_faulty (Some why) there = Err why
@@ -88,8 +88,8 @@ holds_behind size (Ok (Some header)) = holds_body header.captured size
 holds_behind size (Ok None) = true
 holds_behind size (Err why) = true
 
--- The bytes that are pending settle what comes next, where `room` bytes count: a record is whole, or its header tells
--- what is wrong.
+-- The bytes that are pending settle what comes next, if `room` bytes count: a record is whole, or its header shows what
+-- is wrong.
 abbrev pub is_record_settled : Order → ℕ → List ℕ → Bool
 is_record_settled order room pending = nat_le 16 (length pending) && holds_behind (length pending - 16) (header_in order room pending)
 

@@ -21,7 +21,7 @@ pub record CapturesState (S : Type 0) : Type 0 where
   pub number : ℕ
   pub fault : Option CaptureFault
 
--- what is left of the input, where the source tells its bytes
+-- what is left of the input, if the source's bytes are known
 abbrev pub rest : {S : Type 0} → (S → Option (List ℕ)) → CapturesState S → Option (List ℕ)
 rest left c = prepend_known c.pending (left c.source)
 
@@ -122,7 +122,7 @@ RefusesHeader left faults source handed ReadFault = Rose (faults source) (faults
 RefusesHeader left faults source handed NoMemory = handed ≡ source
 RefusesHeader left faults source handed why = IfSome (left source) (λ bytes. opened bytes ≡ Err why)
 
--- no reader was made, and the source is handed back as it then stands, with at most one block taken
+-- no reader was made, and the source is handed back in its present state, with at most one block taken
 pub record Declines {S : Type 0} (left : S → Option (List ℕ)) (faults lender : S → ℕ) (source handed : S) (why : CaptureFault) : Type 0 where
   pub never_falls : faults source ≤ faults handed
   pub same_lender : lender handed ≡ lender source

@@ -18,7 +18,7 @@ use dccp_io::{ReadAhead, Source};
 use std::alloc::Global;
 use std::marker::Model;
 
-// The bytes of the block: a record's bytes fit it, since its header is let go first.
+// The bytes of the block: a record's bytes fit it, since its header is dropped first.
 const BLOCK: usize = 262_144;
 
 /// A reader of a capture's records over a source (own). Contracts see the source, what was read of it and not given
@@ -153,7 +153,7 @@ fn read_record<S: Source>(
     }
 }
 
-// The bytes that are pending settle what comes next: a record is whole, or its header tells what is wrong.
+// The bytes that are pending settle what comes next: a record is whole, or its header shows what is wrong.
 fn is_record_settled(order: Order, room: u64, pending: &[u8]) -> bool
     ensures { result ≡ is_record_settled order room pending.now }
 {
@@ -177,9 +177,9 @@ impl<S: Source + Drop> Captures<S> {
     ghost use Rattle.capture_reader.specs.contracts.captures.Captures.{the_row};
 
     /// A reader over this source, after the file header, which it reads. All memory is taken here. At most 262,144
-    /// bytes are read, and where the capture is refused the source is handed back. The faults, in this order: NoMemory,
-    /// where the block is not found, and then nothing was read; ReadFault, only where the source failed; CutShort,
-    /// exactly where fewer than 24 bytes come; and of these, in this order, BadMagic, BadVersion and BadLink.
+    /// bytes are read, and if the capture is refused the source is handed back. The faults, in this order: NoMemory if
+    /// there is none for the block, and then nothing was read; ReadFault, only if the source failed; CutShort, exactly
+    /// if fewer than 24 bytes come; and for these bytes, in this order, BadMagic, BadVersion and BadLink.
     pub fn new(alloc: Global, source: S) -> Result<Captures<S>, (CaptureFault, S)>
         ensures { MatchResult result
             (λ captures. Opens S.left S.faults S.lender source captures)
@@ -237,10 +237,10 @@ impl<S: Source + Drop> Captures<S> {
     }
 
     /// The next record, whole however the reads were cut, or None exactly at the end of the input between two records.
-    /// It takes no memory. The faults: ReadFault, only where the source failed; and where that did not happen, exactly
-    /// the first that the bytes have: CutShort and TooLarge in the record's header, RecordTooLong, and CutShort and
-    /// TooLarge in its bytes. After a fault each further call answers the same, and does nothing. Where `holds_next` is
-    /// true the source is not read.
+    /// It takes no memory. The faults: ReadFault, only if the source failed; and if it did not, exactly the first that
+    /// the bytes have: CutShort and TooLarge in the record's header, RecordTooLong, and CutShort and TooLarge in its
+    /// bytes. After a fault each further call answers the same, and does nothing. Where `holds_next` is true the source
+    /// is not read.
     pub fn next(&mut self) -> Result<Option<Record<'_>>, CaptureFault>
         ensures* after { sem 𝓛 (Rests (the_row S.row) self.entry (λ captures. Advances S.left S.faults S.lender self.old captures (read_of result))) }
     {
@@ -264,8 +264,8 @@ impl<S: Source + Drop> Captures<S> {
         }
     }
 
-    /// Tells that the next call of `next` reads nothing: what was read already settles its answer, or a fault ended the
-    /// capture.
+    /// Whether the next call of `next` certainly reads nothing: what was read already settles its answer, or a fault
+    /// ended the capture.
     pub fn holds_next(&self) -> bool
         ensures { result ≡ holds_record self.now }
     {
@@ -276,7 +276,7 @@ impl<S: Source + Drop> Captures<S> {
         is_record_settled(self.format.order, MOST_BYTES - self.given, pending)
     }
 
-    /// The source, as it then stands.
+    /// The source, in its present state.
     pub fn into_source(self) -> S
         ensures { result ≡ self.source }
     {

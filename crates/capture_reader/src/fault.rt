@@ -8,7 +8,7 @@ pub enum FormatFault {
     BadMagic,
     /// The version is not 2.4.
     BadVersion,
-    /// The link type is none of those that whoever reads the capture knows.
+    /// The link type is none of those that the reader of the capture knows.
     BadLink,
 }
 
@@ -37,7 +37,7 @@ pub enum CaptureFault {
     /// No memory was left for the block.
     #[error("no memory is left")]
     NoMemory,
-    /// A byte after the first 4,294,967,296 is needed, also where the input ends just there. One that ends there
+    /// A byte after the first 4,294,967,296 is needed, even if the input ends just there. An input that ends there
     /// between two records is whole.
     #[error("the capture goes on behind its first 4294967296 bytes")]
     TooLarge,

@@ -14,7 +14,7 @@ pub enum Order {
     Little,
 }
 
-/// What a capture's file header tells of its records.
+/// What a capture's file header says about its records.
 #[derive(Clone, Copy, Debug, PartialEq, Eq)]
 pub struct Format {
     /// The byte order of the header's fields.
@@ -80,7 +80,7 @@ impl Order {
     }
 }
 
-// The byte order in which the first four bytes are a magic number, and whether it tells of nanoseconds.
+// The byte order in which the first four bytes are a magic number, and whether it means nanoseconds.
 fn magic_of(bytes: &[u8]) -> Option<(Order, bool)>
     requires { 4 ≤ length bytes.now }
     ensures { result ≡ magic_of bytes.now }
@@ -123,7 +123,7 @@ impl Format {
         Ok(Format { order, nanos, link })
     }
 
-    /// The format that the 24 bytes of a file header tell, whose link type has to be one of `links`; or the first fault
+    /// The format that the 24 bytes of a file header give, whose link type has to be one of `links`; or the first fault
     /// in them (the savefile format of libpcap).
     pub fn read(links: &[u32], bytes: &[u8]) -> Result<Format, FormatFault>
         requires { 24 ≤ length bytes.now }

@@ -13,7 +13,7 @@ pub fn a_capture_has_one_list_of_records()
         → IsCapture bytes records end ↔ (captured bytes ≡ record { records = records; end = end }) }
 {}
 
-/// A needed byte that is not there is missed before one that does not count (own), by values. The first of three
+/// A needed byte that is not there is reported before one that does not count (own), by values. The first of three
 /// numbers is how many bytes are needed, the second how many count, and the third how many are there.
 pub fn cut_short_comes_before_too_large()
     ensures whole { missing 16 4294967272 16 ≡ None }

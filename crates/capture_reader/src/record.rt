@@ -25,7 +25,7 @@ pub struct Record<'a> {
     pub bytes: &'a [u8],
 }
 
-/// What a record's header tells (the savefile format of libpcap).
+/// What a record's header says (the savefile format of libpcap).
 #[derive(Clone, Copy, Debug, PartialEq, Eq)]
 pub struct RecordHeader {
     /// When it was captured, in seconds since 1970.
@@ -39,7 +39,7 @@ pub struct RecordHeader {
 }
 
 impl RecordHeader {
-    /// What the 16 bytes of a header in this byte order tell.
+    /// What the 16 bytes of a header in this byte order say.
     pub fn read(order: Order, bytes: &[u8]) -> RecordHeader
         requires { 16 ≤ length bytes.now }
         ensures { result ≡ record_header order bytes.now }
@@ -78,7 +78,7 @@ const CAPTURED: usize = 8;
 
 const ORIGINAL: usize = 12;
 
-// What is wrong where so many bytes are needed, so many are there, and so many more count.
+// What is wrong if so many bytes are needed, so many are there, and so many more count.
 pub(crate) fn missing(count: usize, room: u64, size: usize) -> Option<CaptureFault>
     requires { count ≤ 2 ^ 32 }
     ensures value { result ≡ missing count room size }
@@ -94,7 +94,7 @@ pub(crate) fn missing(count: usize, room: u64, size: usize) -> Option<CaptureFau
     None
 }
 
-// The header of the record that begins here, where `room` bytes count; None where nothing begins.
+// The header of the record that begins here, if `room` bytes count; None if nothing begins.
 pub(crate) fn header_in(
     order: Order,
     room: u64,
