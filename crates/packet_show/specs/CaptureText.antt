@@ -53,7 +53,7 @@ counts_line tally =
     labelled_number (codes "records ") (tally.shown + tally.skipped) ++ labelled_number (codes " shown ") tally.shown
     ++ labelled_number (codes " skipped ") tally.skipped ++ labelled_number (codes " flows ") (length tally.flows) ++ codes "\n"
 
--- a fault's line tells how many whole records come before it
+-- a fault's line says how many whole records come before it
 abbrev pub fault_line : Tally → CaptureFault → List ℕ
 fault_line tally why =
     codes "capture " ++ fault_name why ++ codes " after " ++ labelled_number (codes "record ") (tally.shown + tally.skipped) ++ codes "\n"

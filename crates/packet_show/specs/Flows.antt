@@ -44,11 +44,11 @@ flow_between version a b = if is_lesser_end b a then (version, b, a) else (versi
 abbrev pub flow_of : Pseudo → ℕ → ℕ → Flow
 flow_of pseudo from to = flow_between (version_of pseudo) (from_end pseudo from) (to_end pseudo to)
 
--- two ends are one where both the address and the port agree
+-- two ends are one if both the address and the port agree
 abbrev pub same_end : AddressAndPort → AddressAndPort → Bool
 same_end a b = a.0 == b.0 && a.1 == b.1
 
--- two flows are one where the version of IP and both ends agree
+-- two flows are one if the version of IP and both ends agree
 abbrev pub same_flow : Flow → Flow → Bool
 same_flow a b = (a.0 == b.0 && same_end a.1 b.1) && same_end a.2 b.2
 
@@ -69,13 +69,13 @@ with_flow flow seen = if list_any (same_flow flow) seen then seen else seen ++ f
 abbrev pub blended : ℕ → ℕ → ℕ → ℕ
 blended number factor more = (number * factor % 2 ^ 64 + more) % 2 ^ 64
 
--- a number that is worked out from both ends by 64 bits, and seldom the same for two flows
+-- a number of 64 bits that is computed from both ends, and is seldom the same for two flows
 abbrev pub mixed : Flow → ℕ
 mixed flow =
     blended (flow.1.0 % 2 ^ 64) 11400714819323198485
     (blended (flow.2.0 % 2 ^ 64) 7640891576956012809 (blended flow.1.1 65536 flow.2.1))
 
--- what a flow is found under: its mixed number, both ports and the version, and both addresses
+-- the key under which a flow is found: its mixed number, both ports and the version, and both addresses
 abbrev pub FlowKey : Type 0
 FlowKey = ℕ × (ℕ × ℕ × ℕ) × (ℕ × ℕ)
 

@@ -20,7 +20,7 @@ use Rattle.packet_show.specs.Text.{fraction_text, from_text, to_text, number_tex
 abbrev pub parts_by : Packet → Parts
 parts_by p = record { header = p.header; options = p.options.now; payload = p.payload.now }
 
--- what a record comes to: the text that is written, whether there is a line, and the flows that were seen
+-- the result of a record: the text that is written, whether there is a line, and the flows that were seen
 pub record Showing : Type 0 where
   pub text : List ℕ
   pub shown : Shown
@@ -85,12 +85,12 @@ abbrev pub shows_packet : List Flow → RecordParts → DatagramParts → Parts 
 shows_packet seen entry there packet flow =
     record { text = packet_line entry there packet (flow_number flow seen); shown = Line; flows = with_flow flow seen }
 
--- a whole packet that is none has a line too, and no flow; where bytes are missing it is skipped
+-- bytes that are complete but no packet have a line too, and no flow; if bytes are missing, the record is skipped
 abbrev pub shows_malformed : List Flow → RecordParts → Bool → Malformed → Showing
 shows_malformed seen entry true why = record { text = malformed_line entry why; shown = Line; flows = seen }
 shows_malformed seen entry false why = skips seen
 
--- what DCCP bytes come to, which may be a packet or not
+-- the result of DCCP bytes, which may be a packet or not
 abbrev pub shows_decoded : List Flow → RecordParts → DatagramParts → Result Parts Malformed → Showing
 shows_decoded seen entry there (Ok packet) =
     shows_packet seen entry there packet (flow_of there.pseudo packet.header.from packet.header.to)
@@ -101,6 +101,6 @@ abbrev pub shows_carried : List Flow → RecordParts → Option DatagramParts �
 shows_carried seen entry None = skips seen
 shows_carried seen entry (Some there) = shows_decoded seen entry there (decoded there.bytes)
 
--- what a record comes to, where these flows were seen before
+-- the result of a record, after these flows were seen
 abbrev pub shows : List Flow → RecordParts → Showing
 shows seen entry = shows_carried seen entry (carried entry.link entry.bytes)

@@ -34,14 +34,14 @@ pub type FlowEnd = (u128, u16);
 /// A flow: the version of IP, and both ends, the lesser first.
 pub(crate) type Flow = (u8, FlowEnd, FlowEnd);
 
-// So many flows are in the set of the first ones.
+// How many flows are in the set of the first ones.
 const MOST_FIRST: usize = 4_096;
 
 /// The flows that were seen, in the order in which they were first seen (own). A flow is the pair of both ends, in
 /// either direction. Contracts see the list of flows.
 ///
-/// The first 4,096 are in a set that is hashed by a rule which everybody knows, so whoever chose the ends can have
-/// each found among all of them, and no more. Further ones are found in an order.
+/// The first 4,096 are in a set that is hashed by a public rule. So an attacker who chooses the ends can make a look-up
+/// compare all of these, and no more. Further flows are in an ordered map.
 #[derive(Drop)]
 pub struct Flows {
     first: IndexSet<Flow>,
@@ -155,7 +155,7 @@ impl Flows {
         }
     }
 
-    // The number of a flow, if it was seen, and that which its next packet has, also where it was not.
+    // The number of a flow, if it was seen, and the number that its next packet has in any case.
     #[tactic(auto, using(crate::proofs::Numbered::numbered_so, crate::proofs::Numbered::next_so))]
     fn look_up(&self, flow: &Flow) -> (Option<u64>, u64)
         ensures known { result.0 ≡ number_if_seen flow.now self.now }
@@ -254,12 +254,11 @@ impl Flows {
         Ok(Shown::Line)
     }
 
-    /// Writes the line of a record at the text's end: of a DCCP packet over IPv4 or IPv6, or of bytes that are none
-    /// though they are there to the IP length. It is skipped, and nothing is written, exactly where there is no such
-    /// packet: the record is no IP, a fragment, of another protocol, has no whole IP header or one that does not hold
-    /// together, or bytes are missing to the IP length and those that are there are no packet. A packet's line has the
-    /// number of its flow, which is the next one where the flow was not seen before. After NoMemory flows and text are
-    /// as before.
+    /// Writes the line of a record at the text's end: of a DCCP packet over IPv4 or IPv6, or of bytes that are complete
+    /// to the IP length but no packet. It is skipped, and nothing is written, exactly if there is no such packet: the
+    /// record is no IP, a fragment, of another protocol, has no whole IP header or one that contradicts itself, or
+    /// bytes are missing to the IP length and those that are there are no packet. A packet's line has the number of its
+    /// flow, which is the next one where the flow was not seen before. After NoMemory flows and text are as before.
     pub fn show(&mut self, item: &Record<'_>, to: &mut Vec<u8>) -> Result<Shown, NoMemory>
         ensures ok { IfOk result (λ shown. Shows (shows self.old (entry_of item.now)) to.old.items to.new.items self.new shown) }
         ensures unchanged { OnErr result (self.new ≡ self.old) }

@@ -8,7 +8,7 @@ use std::alloc::Global;
 use std::collections::BTreeMap;
 use std::marker::Model;
 
-// Under which a flow is found: its mixed number, both ports and the version, and both addresses.
+// The key under which a flow is found: its mixed number, both ports and the version, and both addresses.
 type FlowKey = (u64, (u16, u16, u8), (u128, u128));
 
 // Odd numbers without a pattern: the fractions of the golden ratio and of the square root of two, times 2^64.
@@ -23,10 +23,9 @@ const FIRST: u64 = 4_097;
 
 /// The flows past the first 4,096, in the order in which they were first seen (own). Contracts see the list of them.
 ///
-/// A flow is found by comparing with others, as many as the logarithm of how many there are. So whoever chose the ends
-/// cannot make that slow, as they could in a table that hashes them by a rule which they know. What is compared begins
-/// with a number that is mixed from both ends, which mostly decides at once; where ends were chosen so that it does
-/// not, the rest does.
+/// A flow is found by comparing with others, as many as the logarithm of how many there are. So an attacker who chooses
+/// the ends cannot make that slow, as in a table with a public hash. What is compared begins with a number that is
+/// mixed from both ends, which mostly decides at once; if ends were chosen so that it does not, the rest decides.
 #[derive(Drop)]
 pub(crate) struct FurtherFlows {
     seen: Vec<Flow>,
@@ -57,7 +56,7 @@ fn blended(number: u64, factor: u64, more: u64) -> u64
     number.wrapping_mul(factor).wrapping_add(more)
 }
 
-// A number that seldom is the same for two flows.
+// A number that is seldom the same for two flows.
 fn mixed(flow: &Flow) -> u64
     ensures { result ≡ mixed flow.now }
 {

@@ -219,7 +219,7 @@ fn in_ethernet(bytes: &[u8]) -> Option<Datagram<'_>>
 }
 
 /// The DCCP packet in a record of this link type, 1 (Ethernet) or 101 (raw IP), or None exactly where there is none: it
-/// is no IPv4 or IPv6 of protocol 33, a fragment, or an IP header that was not captured whole or does not hold together
+/// is no IPv4 or IPv6 of protocol 33, a fragment, or an IP header that was not captured whole or contradicts itself
 /// (RFC 791, section 3.1; RFC 8200, section 3).
 pub fn carried(link: u32, bytes: &[u8]) -> Option<Datagram<'_>>
     ensures value { parts_in result ≡ carried link bytes.now }

@@ -55,7 +55,7 @@ impl Tally {
     }
 }
 
-// What one turn of the loop came to.
+// The result of one turn of the loop.
 pub(crate) enum Turn {
     // A record was shown or skipped.
     Shown,
@@ -85,7 +85,7 @@ fn flush_if_due<S: Source + Drop, K: Sink>(
     }
 }
 
-// Reads the next record and shows it. Where that asks the source for more, nothing is unwritten.
+// Reads the next record and shows it. Before that asks the source for more, all text is written.
 fn show_next<S: Source + Drop>(
     captures: &mut Captures<S>,
     tally: &mut Tally,
@@ -129,7 +129,7 @@ fn finish<K: Sink>(
     }
 }
 
-// The loop over the records. What it works on is lent, so that none of its ends has anything to drop.
+// The loop over the records. What it works on is lent, so that none of its exits has anything to drop.
 fn show_all<S: Source + Drop, K: Sink>(
     captures: &mut Captures<S>,
     output: &mut K,
@@ -192,10 +192,10 @@ fn refuse_header<K: Sink>(alloc: Global, why: CaptureFault, output: &mut K) -> J
     }
 }
 
-/// Shows a capture (own): a line for each record that carries DCCP, and a last line that counts them or tells the fault
-/// that ended them. The lines are written in blocks as the records are read, and before the source is asked for more.
-/// It keeps one record of the input, the flows and one block of text. Input comes where the capture has a fault, Read
-/// where the source failed, Write where the sink did, and Memory where no memory was left.
+/// Shows a capture (own): a line for each record that carries DCCP, and a last line with their counts or the fault that
+/// ended them. The lines are written in blocks as the records are read, and before the source is asked for more. It
+/// keeps one record of the input, the flows and one block of text. Input means that the capture has a fault, Read that
+/// the source failed, Write that the sink did, and Memory that no memory was left.
 pub fn show_capture<S: Source, K: Sink>(alloc: Global, input: &mut S, output: &mut K) -> JobEnd
     ensures text { (bytes : List ℕ) → S.left input.old ≡ Some bytes
         → Answers (capture_text bytes) (is_faulty bytes) result (S.left input.new) (K.taken output.old) (K.taken output.new) }
