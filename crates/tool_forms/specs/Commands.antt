@@ -1,7 +1,7 @@
--- The commands of `clap` that read the words of a form (own), and what is made of their matches.
+-- The commands of `clap` that read the words of a form (own), and what their matches mean.
 --
--- The commands (`command_of`) are opened only where a proof says so. Written out, a check of the code gave no answer in
--- the minutes that it had; now it takes less than two.
+-- The commands (`command_of`) are opened only where a proof says so. With all of them written out, a check of the code
+-- did not end in minutes; now it takes less than two.
 use Rattle.std.specs.Prelude.{◌≡◌, ◌≢◌, ℕ, Bool, true, false, List, [], ◌∷◌, map, codes, Option, Some, None, option_and_then, String, string_bytes}
 use Rattle.std.specs.Str.{bytes_eq}
 use Rattle.std.specs.List.{list_any}

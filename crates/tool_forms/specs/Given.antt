@@ -3,7 +3,7 @@ use Rattle.std.specs.Prelude.{ℕ}
 use Rattle.world_events.specs.declared.event.Side.{Side as EndSide}
 use Rattle.tool_forms.specs.declared.settings.Setting.{Setting}
 
--- what a setting is given: a number within its bounds, one of both sides, or nothing but its name
+-- what a setting is given: a number within its bounds, a side, or only its name
 pub data Value : Type 0 where
   Number : (number : ℕ) → Value
   End : (side : EndSide) → Value

@@ -1,8 +1,8 @@
 -- The settings that words give to a form (own): in any order, each a name and its value, as two words or as one with
 -- `=` between them, except for a mark, which has no value.
 --
--- One table has them: whose each is, its name, how it is given, and the least and the most of its number. They are
--- looked up one by one: what words mean is a list and a question to it, and a second time is refused.
+-- One table has them: the form of each, its name, how it is given, and the bounds of its number. Words are read as a
+-- list of settings, in which each setting is looked up; one that is given twice is refused.
 use Rattle.std.specs.Prelude.{ℕ, ◌+◌, ◌-◌, ◌^◌, ◌++◌, Bool, true, false, ◌==◌, nat_lt, if◌then◌else◌, List, [], ◌∷◌, length, map, codes, Option, Some, None, option_and_then, option_map, String, string_bytes}
 use Rattle.std.specs.List.{position_or_len, before_first, after_first}
 use Rattle.std.specs.Option.{option_map_or}
@@ -59,7 +59,7 @@ least Most = 1
 least Flow = 1
 least _ = 0
 
--- the greatest that a number may be, itself allowed; a setting that is none has 0
+-- the greatest that a number may be, itself allowed; 0 for a setting that is no number
 abbrev pub most : Setting → ℕ
 most First = 2 ^ 64 - 1
 most Seeds = 100000

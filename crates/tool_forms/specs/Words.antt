@@ -16,7 +16,7 @@ use Rattle.tool_forms.specs.declared.words.Form.TheVariants as form
 abbrev pub is_word : String Global → List ℕ → Bool
 is_word word text = bytes_eq (string_bytes word) text
 
--- the words say this, where there was memory to read them
+-- the words say this, if there was memory to read them
 abbrev pub WordsSay : {A E : Type 0} → Result A E → A → Type 0
 WordsSay result said = IfOk result (λ read. read ≡ said)
 
@@ -53,7 +53,7 @@ campaigns words = option_and_then (λ campaign. Some (form.Campaign campaign)) (
 abbrev pub listener_for : Option ℕ → Option Form
 listener_for most = option_and_then (λ most. Some (form.Listen most)) most
 
--- The words after `listen`: how many flows may stand, once.
+-- The words after `listen`: how many flows there may be, once.
 abbrev pub listen_of : List (String Global) → Option Form
 listen_of words = listener_for (given_once table.Listen setting.Most words)
 
@@ -93,6 +93,6 @@ has_settings (first ∷ words) = is_word first (codes "replay") || (is_word firs
 abbrev pub usage : List ℕ
 usage = codes "usage: dccp run | replay --side server|client [--plain] [--buffer C] | campaign --first F --seeds N --events E --workers W | show | listen --most M | ecn\n"
 
--- For `run`, over a source that tells its bytes, something holds of them.
+-- For `run`, over a source whose bytes are known, something holds of these bytes.
 abbrev pub OnRun : List (String Global) → Option (List ℕ) → (List ℕ → Type 0) → Type 0
 OnRun words told Holds = form_of words ≡ Some form.Run → (bytes : List ℕ) → told ≡ Some bytes → Holds bytes

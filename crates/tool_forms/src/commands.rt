@@ -117,7 +117,7 @@ fn is_for_memory(error: &Error) -> bool
     matches!(error.kind(), ErrorKind::OutOfMemory)
 }
 
-// What a command reads of these words, or None where they are not its own.
+// What a command reads of these words, or None if they are not its words.
 fn read_by<'a>(
     command: Command<'a>,
     words: &'a [String],
@@ -139,7 +139,7 @@ fn read_by<'a>(
     }
 }
 
-/// What the words of a form give to its settings, or None where they are not its own.
+/// What the words of a form give to its settings, or None if they are not its words.
 pub(crate) fn read<'a>(
     alloc: Global,
     table: Table,

@@ -1,5 +1,5 @@
-//! What the words after the tool's name ask for, and the settings of the second program's words (own). Settings are
-//! read in memory of their own, which is given back; `NoMemory` says that it was wanting.
+//! What the words after the tool's name ask for, and the settings of the second program's words (own). Reading settings
+//! takes memory, which is given back; `NoMemory` means that there was not enough.
 #![tactic(auto)]
 
 mod bridge_words;

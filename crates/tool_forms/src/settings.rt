@@ -1,8 +1,8 @@
 //! The settings that words give to a form.
 //!
 //! One table has the settings of `replay`, `campaign` and `listen`, and those of the second program's `seed`, `seeds`
-//! and `frames`: whose each is, its name, how it is given, and the least and the most of its number. A further setting
-//! is a line in each function of the table.
+//! and `frames`: the form of each, its name, how it is given, and the bounds of its number. A further setting is a line
+//! in each function of the table.
 ghost use Rattle.std.specs.Prelude.{◌≡◌, ◌≤◌, IfSome};
 ghost use Rattle.tool_forms.specs.Settings.{bare_name, least, most, number_for, settings_of, side_in, way_of};
 
@@ -22,7 +22,7 @@ pub(crate) fn side_in(text: &[u8]) -> Option<Side>
     None
 }
 
-/// Whose settings words are.
+/// The form whose settings words are.
 #[derive(Clone, Copy)]
 pub(crate) enum Table {
     Replay,

@@ -36,14 +36,14 @@ pub enum Form {
     },
     /// `campaign` runs seeds and counts.
     Campaign(Campaign),
-    /// `show` tells the packets of a capture.
+    /// `show` prints the packets of a capture.
     Show,
     /// `listen` hands what many peers send to one listener, of at most this many flows: 1 to 1,024.
     Listen {
         /// The most flows.
         most: u16,
     },
-    /// `ecn` lets events take place between an ECN-capable sender and an ECN-capable receiver.
+    /// `ecn` plays events between an ECN-capable sender and an ECN-capable receiver.
     Ecn,
 }
 
