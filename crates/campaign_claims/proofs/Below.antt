@@ -20,18 +20,11 @@ is_other x y other = grind (arith, nat_tests)
 pub times-cons : (x y : ℕ) (ys : List ℕ) → times x (y ∷ ys) ≡ is x y + times x ys
 times-cons x y ys = sum_by-cons (is x) y ys
 
-pub once_at_most : (x m : ℕ) → once_below x m ≤ 1
-once_at_most x m = grind (arith, nat_tests)
-
 pub once_is_below : (x m : ℕ) → 1 ≤ once_below x m → x < m
 once_is_below x m some = grind (arith, nat_tests)
 
 once_of_below : (x m : ℕ) → x < m → once_below x m ≡ 1
 once_of_below x m near = grind (arith, nat_tests)
-
--- one number more below the bound
-pub once_below-suc : (x m : ℕ) → once_below x (m + 1) ≡ once_below x m + is x m
-once_below-suc x m = grind (arith, nat_tests)
 
 pub once_below-min : (x n m : ℕ) → once_below x (min n m) ≤ once_below x m
 once_below-min x n m = grind (arith, nat_tests)
