@@ -156,20 +156,11 @@ out_from n m entries later all =
     let same : n + (m - n) ≡ m = omega arith in
     subst (λ k. AllOut (drop k entries)) same (subst AllOut (drop-drop (m - n) n entries) rest)
 
-none_here : (n : ℕ) (told : States) → AllUnheard told (drop n [])
-none_here zero told = refl
-none_here (suc n) told = refl
-
 out_push : (xs : List Entry) (entry : Entry) → AllOut xs → is_out entry.standing ≡ true → AllOut (xs ++ entry ∷ [])
 out_push [] entry all is = ap (λ r. r && true) is
 out_push (x ∷ xs) entry all is =
     let parts = and_parts (is_out x.standing) (list_all (λ e. is_out e.standing) xs) all in
     ap (λ b. b && list_all (λ e. is_out e.standing) (xs ++ entry ∷ [])) parts.0 ∙ out_push xs entry parts.1 is
-
-pub none_from : (n : ℕ) (told : States) (entries : List Entry) → length entries ≤ n → AllUnheard told (drop n entries)
-none_from n told [] past = none_here n told
-none_from zero told (entry ∷ later) past = absurd (omega arith)
-none_from (suc n) told (entry ∷ later) past = none_from n told later (omega arith)
 
 length-states : (bytes : List ℕ) → length (states bytes) ≤ 64 * length bytes
 length-states [] = omega arith
