@@ -1,7 +1,7 @@
 -- The bytes of a report, run by run of its codes.
 use Rattle.std.proofs.lemmas.Bool.{cases_lt, eqb-false, eqb-true, lt-leb}
-use Rattle.std.proofs.Common.{◌==◌, Bool, true, false, nat_le, suc, append-nil, length-append, ◌≡◌, ℕ, ◌+◌, ◌<◌, ◌≤◌, List, [], ◌∷◌, ◌++◌, length, take, drop, get_or, replicate, Option, None, inl, inr, ap, sym, ◌∙◌, arith, append_assoc}
-use Rattle.std.proofs.lemmas.List.{drop_all, drop_more, replicate_more, take_all, take_at}
+use Rattle.std.proofs.Common.{◌==◌, Bool, true, false, nat_le, suc, append-nil, length-append, ◌≡◌, ℕ, ◌+◌, ◌<◌, ◌≤◌, List, [], ◌∷◌, ◌++◌, length, take, drop, get_or, Option, None, inl, inr, ap, sym, ◌∙◌, arith, append_assoc}
+use Rattle.std.proofs.lemmas.List.{drop_all, take_all, take_at}
 use Rattle.ack_vectors.specs.Coding.{coded_bytes}
 use Rattle.ack_vectors.proofs.Coded.{bytes-first}
 use Rattle.data_dropped.specs.Drops.{drop_byte, drop_coding, most_numbers}
@@ -14,20 +14,6 @@ pub bytes_from-run : (codes : List (Option ℕ)) (place count : ℕ) → 1 ≤ c
 bytes_from-run codes place count some few run =
     ap (λ (rest : List (Option ℕ)). coded_bytes drop_coding rest) run.same
     ∙ bytes-first drop_coding IsCode drop_lawful (get_or codes place None) count (drop (place + count) codes) some few run.ends
-
--- a run of one, and of one more
-pub run-first : (codes : List (Option ℕ)) (place : ℕ) → place < length codes
-    → drop place codes ≡ replicate 1 (get_or codes place None) ++ drop (place + 1) codes
-run-first codes place inside = drop_more codes place None inside
-
-pub run-more : (codes : List (Option ℕ)) (place count : ℕ) (code : Option ℕ) → place + count < length codes → get_or codes (place + count) None ≡ code
-    → drop place codes ≡ replicate count code ++ drop (place + count) codes → drop place codes ≡ replicate (count + 1) code ++ drop (place + (count + 1)) codes
-run-more codes place count code inside is run =
-    run ∙ ap (λ (rest : List (Option ℕ)). replicate count code ++ rest) (drop_more codes (place + count) None inside)
-    ∙ ap (λ (here : Option ℕ). replicate count code ++ (here ∷ drop (place + count + 1) codes)) is
-    ∙ sym (append_assoc (replicate count code) (code ∷ []) (drop (place + count + 1) codes))
-    ∙ ap (λ (front : List (Option ℕ)). front ++ drop (place + count + 1) codes) (replicate_more count code)
-    ∙ ap (λ (k : ℕ). replicate (count + 1) code ++ drop k codes) (omega arith)
 
 -- an option that is not full
 pub below_from : (n most : ℕ) (full : Bool) → full ≡ (n == most) → full ≡ false → n ≤ most → n < most
