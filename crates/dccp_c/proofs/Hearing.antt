@@ -10,7 +10,7 @@ use Rattle.dccp_server.specs.FlowInboxes.{Inboxes, begun_fresh, flow_speaks}
 use Rattle.dccp_server.specs.Meeting.{IsMet, may_meet}
 use Rattle.dccp_server.specs.Rooms.{told_of_arrival}
 use Rattle.dccp_server.specs.declared.meeting.Way.{Way}
-use Rattle.dccp_c.specs.Listening.{Forgets, HandsHeard, HasTakenIn, HearsAtServer, HearsDatagram, HearsIfOpen, Holding, IsShutOut, MayDeliver, holds_forgotten, holds_met, inboxes_begun}
+use Rattle.dccp_c.specs.Listening.{Forgets, HandsHeard, HasTakenIn, HearsAtServer, HearsDatagram, HearsIfOpen, Holding, MayDeliver, holds_forgotten, holds_met, inboxes_begun}
 use Rattle.dccp_c.specs.Framing.{Handed}
 use Rattle.dccp_c.specs.declared.told.Told.{Told}
 
@@ -50,13 +50,6 @@ met_for_c now s h f peer first bytes had left out heard evicted gone made_room a
       maker = maker;
       handed = subst (λ (o : Option Outgoing). HandsHeard heard f.arrival o handed code old new) sent hands;
     }))
-
--- and where it is not
-pub shut_for_c : (now : ℕ) (s t : Holding) (peer : Peer) (first : ℕ) (bytes : List ℕ) (evicted : Option Peer) (way : Way) (left : Handed) (code : ℕ)
-    (old new : Told) → is_shut_out s.watched peer bytes ≡ true → IsShutOut now s t peer bytes left code old new
-    → HearsIfOpen now s t peer first bytes (is_shut_out s.watched peer bytes) left evicted way code old new
-shut_for_c now s t peer first bytes evicted way left code old new shut is =
-    subst (λ (x : Bool). HearsIfOpen now s t peer first bytes x left evicted way code old new) (sym shut) is
 
 -- and as it is once the server has been taken out of its handle and put back
 pub hears_so : (now : ℕ) (before after : Option Holding) (s t : Holding) (peer whose : Peer) (first number : ℕ) (bytes : List ℕ) (refusal : Option ℕ)
