@@ -29,11 +29,6 @@ xor-nothing : (a : Option Bool) → xor_if_known (Some false) a ≡ a
 xor-nothing None = refl
 xor-nothing (Some a) = refl
 
--- what is added up once nothing is left
-pub xor-end : (sum : Bool) → xor_if_known (Some sum) (Some false) ≡ Some sum
-xor-end true = refl
-xor-end false = refl
-
 pub sum-append : (f : ℕ → Option Bool) (xs ys : List ℕ) → sum_of f (xs ++ ys) ≡ xor_if_known (sum_of f xs) (sum_of f ys)
 sum-append f [] ys = sym (xor-nothing (sum_of f ys))
 sum-append f (x ∷ xs) ys = ap (λ s. xor_if_known (f x) s) (sum-append f xs ys) ∙ sym (xor-assoc (f x) (sum_of f xs) (sum_of f ys))
@@ -55,13 +50,6 @@ down-more f sum nonce left n goal h is e =
     sum-more sum nonce rest goal
     (ap (λ a. xor_if_known (Some sum) (xor_if_known a rest)) is
     ∙ ap (λ ns. xor_if_known (Some sum) (sum_of f ns)) (sym (downwards-first left n h)) ∙ e)
-
-pub down-lost : (f : ℕ → Option Bool) (sum : Bool) (left n : ℕ) (goal : Option Bool) → 0 < left → None ≡ f n
-    → xor_if_known (Some sum) (sum_of f (downwards left n)) ≡ goal → None ≡ goal
-down-lost f sum left n goal h is e =
-    let rest : Option Bool = sum_of f (downwards (left - 1) (down n 1)) in
-    ap (λ a. xor_if_known (Some sum) (xor_if_known a rest)) is
-    ∙ ap (λ ns. xor_if_known (Some sum) (sum_of f ns)) (sym (downwards-first left n h)) ∙ e
 
 -- the run that a byte is, from its highest number down
 abbrev pub byte_run : ℕ → ℕ → Run

@@ -1,10 +1,8 @@
 -- What one more packet makes of the set, and of the places that tell how its numbers came.
-use Rattle.std.proofs.Common.{◌≡◌, ℕ, ◌+◌, ◌%◌, ◌^◌, ◌<◌, ◌≤◌, ◌==◌, nat_lt, Bool, true, false, List, [], ◌∷◌, min, length, refl, ap, sym, subst, ◌∙◌, arith, inl, inr}
-use Rattle.std.specs.Prelude.{Option, Some, None, is_some, slice_set, if◌then◌else◌}
-use Rattle.std.proofs.lemmas.Bool.{cases_Bool, cases_eq, cases_lt, both_ways, eq-eqb, ne_eqb, eqb-true, eqb-false, lt-ltb, le-ltb, or_cases, or_left, or_right}
-use Rattle.std.proofs.lemmas.List.{get_or-set_other}
-use Rattle.std.proofs.lemmas.Grind.{get_or-set_at}
-use Rattle.seq_circle.specs.Circle.{residue, distance}
+use Rattle.std.proofs.Common.{◌≡◌, ℕ, ◌%◌, ◌^◌, ◌<◌, ◌≤◌, ◌==◌, nat_lt, Bool, true, false, List, [], ◌∷◌, refl, ap, sym, subst, ◌∙◌, arith, inl, inr}
+use Rattle.std.specs.Prelude.{Option, Some, None, is_some, if◌then◌else◌}
+use Rattle.std.proofs.lemmas.Bool.{cases_Bool, cases_lt, both_ways, eq-eqb, ne_eqb, eqb-true, eqb-false, lt-ltb, le-ltb, or_cases, or_left, or_right}
+use Rattle.seq_circle.specs.Circle.{distance}
 use Rattle.run_list.specs.declared.answers.Marked.{Marked}
 use Rattle.run_list.specs.declared.answers.Marked.TheVariants.{New}
 use Rattle.run_list.specs.MarkedSet.{MarkedSet, IsSound, AreFalling, answer_to, has, is_from, marked}
@@ -52,55 +50,6 @@ near-kept f g m p q r up above near = omega arith
 pub far-emptied : (f g m : ℕ) → f < 2 ^ 48 → g < 2 ^ 48 → m < 2 ^ 48 → distance f g < 2 ^ 47 → distance g m < 2048 → 2048 ≤ distance f m
     → distance f m % 2048 < distance f g
 far-emptied f g m p q r up above far = omega arith
-
--- a place that was written
-pub put-at : (ring : List (Option Arrived)) (n place : ℕ) (how : Arrived) → length ring ≡ 2048 → place ≡ n % 2048
-    → IsPut n how ring (slice_set ring place (Some how))
-put-at ring n place how size placed m =
-    elim (cases_eq (m % 2048) (n % 2048)) [
-      | inl same ↦ rw (eq-eqb (m % 2048) (n % 2048) same) (get_or-set_at ring place (m % 2048) (Some how) None (same ∙ sym placed) (omega arith))
-      | inr other ↦ rw (ne_eqb (m % 2048) (n % 2048) other) (get_or-set_other ring place (m % 2048) (Some how) None (λ e. other (e ∙ placed)))
-    ]
-
--- no place was emptied yet
-pub emptied-none : (f : ℕ) (ring : List (Option Arrived)) → IsEmptied f 0 ring ring
-emptied-none f ring n fits = rw (le-ltb (distance f n % 2048) 0 (omega arith)) refl
-
--- one more place was emptied
-pub emptied-more : (f k place : ℕ) (old mid : List (Option Arrived)) → f < 2 ^ 48 → k < 2048 → length mid ≡ 2048 → place ≡ residue (f + k) % 2048
-    → IsEmptied f k old mid → IsEmptied f (k + 1) old (slice_set mid place None)
-emptied-more f k place old mid p few size placed e n fits =
-    elim (cases_eq (n % 2048) (residue (f + k) % 2048)) [
-      | inl same ↦
-          let is : distance f n % 2048 ≡ k = omega arith in
-          rw (lt-ltb (distance f n % 2048) (k + 1) (omega arith)) (get_or-set_at mid place (n % 2048) None None (same ∙ sym placed) (omega arith))
-      | inr other ↦
-          let apart : (distance f n % 2048 ≡ k) → ⊥ = λ is. other (omega arith) in
-          get_or-set_other mid place (n % 2048) None None (λ is. other (is ∙ placed)) ∙ e n fits
-          ∙ ap (λ b. if b then None else at_place old n) (same_test (distance f n % 2048) apart)
-    ]
-  where
-    same_test : (d : ℕ) → ((d ≡ k) → ⊥) → nat_lt d k ≡ nat_lt d (k + 1)
-    same_test d apart = elim (cases_lt d k) [
-      | inl lt ↦ lt-ltb d k lt ∙ sym (lt-ltb d (k + 1) (omega arith))
-      | inr ge ↦
-          let above : k + 1 ≤ d = elim (cases_lt k d) [
-            | inl lt ↦ omega arith
-            | inr le ↦ absurd (apart (omega arith))
-          ] in
-          le-ltb d k ge ∙ sym (le-ltb d (k + 1) above)
-    ]
-
--- 2,048 places are all
-pub emptied-all : (f rise some : ℕ) (old new : List (Option Arrived)) → some ≡ min rise 2048 → IsEmptied f some old new → IsEmptied f rise old new
-emptied-all f rise some old new is e n fits =
-    e n fits ∙ ap (λ b. if b then None else at_place old n) (same_test (distance f n % 2048) (omega arith))
-  where
-    same_test : (d : ℕ) → d < 2048 → nat_lt d some ≡ nat_lt d rise
-    same_test d few = elim (cases_lt d rise) [
-      | inl lt ↦ lt-ltb d some (omega arith) ∙ sym (lt-ltb d rise lt)
-      | inr ge ↦ le-ltb d some (omega arith) ∙ sym (le-ltb d rise ge)
-    ]
 
 -- what the ring tells of a number near the floor, and of another
 pub how-near : (set : MarkedSet) (ring : List (Option Arrived)) (n : ℕ) → n < 2 ^ 48 → distance set.floor n < 2048 → IsMirror set ring
