@@ -24,11 +24,6 @@ use Rattle.dccp_states.specs.declared.outcome.Fault.{Fault}
 abbrev pub ListItem : Type 0
 ListItem = Result Entry OptFault
 
--- it is a Change or a Confirm with a feature number
-abbrev negotiates_item : ListItem → Bool
-negotiates_item (Ok entry) = negotiates_by entry
-negotiates_item (Err fault) = false
-
 -- An option that counts, with its feature number and what follows it.
 record Spoken (count : Bool) (entry : Entry) (number : ℕ) (list : List ℕ) : Type 0 where
   on : count ≡ true

@@ -1,10 +1,10 @@
 -- Rows by their keys: which keys are among others, which rows are due, which have a Confirm, and what a row hears of turns that stand
 -- for keys.
-use Rattle.std.proofs.Common.{◌≡◌, ◌≢◌, ◌↔◌, ◌==◌, ◌&&◌, ◌||◌, ◌≤◌, not, refl, sym, ap, ◌∙◌, arith, ℕ, suc, Bool, true, false, List, [], ◌∷◌, length, get_or, map, Some, None, cond, eqb-true}
+use Rattle.std.proofs.Common.{◌≡◌, ◌≢◌, ◌==◌, ◌&&◌, ◌||◌, ◌≤◌, not, refl, sym, ap, ◌∙◌, arith, ℕ, suc, Bool, true, false, List, [], ◌∷◌, length, get_or, map, Some, None, cond, eqb-true}
 use Rattle.std.specs.Prelude.{if◌then◌else◌, filter, All, AllPairs, Contains}
-use Rattle.std.proofs.lemmas.Bool.{and_from, and_parts, and_right, cond-false, eq-eqb, false_from_ne_true, false≢true, ne_eqb, not-true, or_parts, true_from_ne_false}
+use Rattle.std.proofs.lemmas.Bool.{and_from, and_parts, and_right, cond-false, eq-eqb, false_from_ne_true, false≢true, ne_eqb, or_parts, true_from_ne_false}
 use Rattle.std.proofs.lemmas.List.{length-map}
-use Rattle.std.proofs.lemmas.List.Elements.{All-contains, All-weaker, filter_passes}
+use Rattle.std.proofs.lemmas.List.Elements.{All-contains}
 use Rattle.std.proofs.lemmas.List.Folds.{list_any_at, list_any_none}
 use Rattle.std.proofs.lemmas.Map.Views.{Contains-from_any}
 use Rattle.std.proofs.lemmas.List.Kept.{AllPairs-filter}
@@ -165,10 +165,6 @@ none-confirmed (due ∷ rest) k is = by (is_for k due) is (λ later. none-confir
   by true is later = cc is
   by false is later = later is
 
--- and only such
-pub confirmed-so : (confirms : List Due) (k : Key) → (is_confirmed confirms k ≡ false) ↔ (confirm_for k confirms ≡ None)
-confirmed-so confirms k = (confirm-none confirms k, none-confirmed confirms k)
-
 -- a key with a Confirm has one
 pub confirmed-some : (confirms : List Due) (k : Key) (body : List ℕ) → confirm_for k confirms ≡ Some body → is_confirmed confirms k ≡ true
 confirmed-some confirms k body some = true_from_ne_false (is_confirmed confirms k) (λ is. cc (confirm-none confirms k is, some))
@@ -211,12 +207,6 @@ has-one k key = by (is_key k key) where
 pub apart-so : (confirms : List Due) (keys : List Key) (k : Key) → All (λ (key : Key). is_confirmed confirms key ≡ false) keys → has_key k keys ≡ true
     → is_confirmed confirms k ≡ false
 apart-so confirms keys k apart has = All-contains (λ (key : Key). is_confirmed confirms key ≡ false) keys k apart (has-contains k keys has)
-
--- no row that is left has a Confirm
-pub unconfirmed-apart : (confirms : List Due) (keys : List Key) → All (λ (key : Key). is_confirmed confirms key ≡ false) (unconfirmed confirms keys)
-unconfirmed-apart confirms keys =
-    All-weaker (λ (key : Key). not (is_confirmed confirms key) ≡ true) (λ (key : Key). is_confirmed confirms key ≡ false)
-    (λ key is. not-true (is_confirmed confirms key) is) (unconfirmed confirms keys) (filter_passes (λ (key : Key). not (is_confirmed confirms key)) keys)
 
 -- what a row hears where each of these rows hears one thing
 pub events-each : (event : Key → RowEvent) (k : Key) (keys : List Key) → AreDistinct keys

@@ -13,22 +13,15 @@ use Rattle.dccp_options.specs.declared.option.OptFault.{OptFault}
 use Rattle.feature_lists.specs.Features.{feature_number}
 use Rattle.feature_lists.specs.declared.features.Place.{Place}
 use Rattle.feature_lists.specs.declared.features.Place.TheVariants.{Here, There}
-use Rattle.feature_machine.specs.Negotiating.{IsNegotiation, every_place, row_at, opposite}
-use Rattle.feature_machine.specs.Turns.{Turn, turned}
+use Rattle.feature_machine.specs.Negotiating.{row_at, opposite}
 use Rattle.feature_machine.specs.Rows.{RowEvent, Change, Confirm}
 use Rattle.feature_machine.specs.declared.row.Row.{Row}
 use Rattle.run_list.specs.MarkedSet.{MarkedSet, has}
-use Rattle.dccp_endpoint.specs.Causes.{AreHeard, AreTurns, Came, Deaf, Heeds, Occasion, Offering, Plain, PrefersLater, PrefersNow, Repeating, counts_in}
-use Rattle.dccp_endpoint.specs.Effects.{Hearing}
-use Rattle.dccp_endpoint.specs.End.{EndState}
-use Rattle.dccp_endpoint.specs.Incoming.{Incoming}
-use Rattle.dccp_endpoint.specs.Inputs.{Input}
 use Rattle.dccp_endpoint.specs.Heeding.{Due, event_of, is_change, is_left, is_of_negotiation}
-use Rattle.dccp_endpoint.specs.Saying.{changes_among, OwnPacketsSayOfARow, OwnPacketsSpeakOnce, body_if, change_if, confirm_for, event_in, has_key, is_key, once_if, own_options, said_of, said_to, speaks_to, times_confirmed, times_said_to}
+use Rattle.dccp_endpoint.specs.Saying.{OwnPacketsSayOfARow, OwnPacketsSpeakOnce, body_if, change_if, confirm_for, event_in, has_key, is_key, once_if, own_options, said_of, said_to, speaks_to, times_confirmed, times_said_to}
 use Rattle.dccp_endpoint.specs.Speaking.{change_item, change_items, change_type, confirm_item, confirm_items, confirm_type, is_confirmed, is_for, is_of_place, wish_bytes}
-use Rattle.dccp_endpoint.specs.Turns.{Key, offerings}
-use Rattle.dccp_endpoint.proofs.Keys.{AreDistinct, apart-so, asking-distinct, due-distinct, first-apart, key-so, none-distinct, one-distinct, rest-distinct, times-none}
-use Rattle.dccp_endpoint.proofs.OneConfirm.{confirms_are_single}
+use Rattle.dccp_endpoint.specs.Turns.{Key}
+use Rattle.dccp_endpoint.proofs.Keys.{AreDistinct, first-apart, key-so, rest-distinct, times-none}
 
 -- the row of the peer
 abbrev theirs : Key → Key
@@ -248,32 +241,3 @@ own_packets_speak = λ has_vector vectors set greatest confirms rows keys k sing
     by confirms keys k single apart false is times =
         let none : once_if (has_key k keys) ≡ 0 = ap once_if is in
         omega (arith, single, none, times)
-
--- The rows whose Changes go out in one step are distinct.
-pub keys-distinct : (e : EndState) (given : Input) (heard offered preferred : List Turn) (confirms : List Due) (keys : List Key)
-    → IsNegotiation e.rows → IsNegotiation (turned e.rows (heard ++ offered)) → Occasion e given heard confirms offered preferred keys
-    → AreDistinct keys
-keys-distinct e given heard _ _ confirms _ sound later Plain = none-distinct
-keys-distinct e given heard _ _ confirms _ sound later Offering =
-    asking-distinct (turned e.rows (heard ++ offerings (is_confirmed confirms) every_place)) confirms later
-keys-distinct e given heard _ _ confirms _ sound later (Repeating in_flight fired no_turns no_confirms) = due-distinct e.rows sound
-keys-distinct e given heard _ _ confirms _ sound later (PrefersNow k values wish is wants now no_turns no_confirms) = one-distinct k
-keys-distinct e given heard _ _ confirms _ sound later (PrefersLater k values wish is wants waits no_turns no_confirms) = none-distinct
-
--- No row has two of the Confirms that are due in one step.
-pub confirms-single : (e : EndState) (given : Input) (hearing : Hearing) (heard : List Turn) (confirms : List Due) (k : Key) → IsNegotiation e.rows
-    → ((a : Incoming) → Came e given a → changes_among a.options ≤ 64) → AreHeard e given hearing heard confirms → times_confirmed k confirms ≤ 1
-confirms-single e given hearing _ _ k sound few Deaf = omega arith
-confirms-single e given hearing _ _ k sound few (Heeds a h taken heeded) =
-    confirms_are_single (counts_in e a) a.ack e.rows a.options h k sound (few a taken.came) heeded
-
--- So what goes out in one step speaks to a row of the peer once at most, where no packet has more than 64 Changes.
-pub spoken-once : (e : EndState) (given : Input) (hearing : Hearing) (turns : List Turn) (its : AreTurns e given hearing turns) → IsNegotiation e.rows
-    → IsNegotiation (turned e.rows (its.heard ++ its.offered)) → ((a : Incoming) → Came e given a → changes_among a.options ≤ 64)
-    → (has_vector : Bool) (vectors : Vectors) (set : MarkedSet) (greatest : ℕ) (rows : List Row) (k : Key)
-    → times_said_to (k.0, opposite k.1) (map Ok (entries_at 0 (own_options has_vector vectors set greatest its.confirms rows its.keys))) ≤ 1
-spoken-once e given hearing turns its sound later few has_vector vectors set greatest rows k =
-    own_packets_speak has_vector vectors set greatest its.confirms rows its.keys k
-    (confirms-single e given hearing its.heard its.confirms k sound few its.hears)
-    (keys-distinct e given its.heard its.offered its.preferred its.confirms its.keys sound later its.occasion)
-    (apart-so its.confirms its.keys k its.apart)
