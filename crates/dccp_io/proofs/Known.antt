@@ -1,18 +1,9 @@
 -- Bytes that are known, given or taken in pieces.
-use Rattle.std.proofs.Common.{◌≡◌, ℕ, ◌+◌, ◌-◌, List, [], ◌++◌, length, take, drop, refl, sym, ap, None, Some}
-use Rattle.std.proofs.lemmas.List.{append_assoc, append-nil, take_rest}
+use Rattle.std.proofs.Common.{◌≡◌, ℕ, ◌+◌, ◌-◌, List, ◌++◌, length, take, drop, refl, sym, ap, None, Some}
+use Rattle.std.proofs.lemmas.List.{append_assoc, take_rest}
 use Rattle.std.proofs.Math.Seq.{take-add}
 use Rattle.std.specs.Io.KnownBytes.{prepend_known, append_known}
 use Rattle.std.specs.Prelude.{Option}
-
--- nothing was taken yet
-pub append_known-nil : (known : Option (List ℕ)) → known ≡ append_known known []
-append_known-nil None = refl
-append_known-nil (Some bytes) = ap (λ (xs : List ℕ). Some xs) (sym (append-nil bytes))
-
-pub prepend_known-nil : (known : Option (List ℕ)) → known ≡ prepend_known [] known
-prepend_known-nil None = refl
-prepend_known-nil (Some bytes) = refl
 
 -- two pieces one after the other
 pub append_known-append : (known : Option (List ℕ)) (first second : List ℕ)

@@ -7,7 +7,7 @@ use Rattle.std.proofs.lemmas.List.{append-nil, drop-drop, take-append-le, take_m
 use Rattle.std.proofs.lemmas.Option.{none-some}
 use Rattle.std.proofs.Math.Seq.{drop-append_seam}
 use Rattle.std.specs.Io.KnownBytes.{prepend_known}
-use Rattle.dccp_io.specs.Lines.{newline, one_too_many, most_input_bytes, text_length, first_line, ends_within, by_length, next_in_bytes, Next, End, Line, Long, Much, IsSought}
+use Rattle.dccp_io.specs.Lines.{newline, one_too_many, most_input_bytes, text_length, first_line, ends_within, by_length, next_in_bytes, Next, Line, Long, Much, IsSought}
 
 -- no newline is among the first bytes
 past-by : (test : Bool) (n m k t : ℕ) → (if test then 0 else suc n) ≡ suc k → (n ≡ k → m ≡ k + t) → (if test then 0 else suc m) ≡ suc k + t
@@ -181,11 +181,6 @@ next-line given n bytes is some inside short =
     ∙ sym (ap (λ (b : Bool). if b then Long (take one_too_many bytes) else Line (first_line bytes)) (is-short (text_length bytes) short))
     ∙ sym (ap (λ (b : Bool). if b then by_length bytes (text_length bytes) else Much) (is-inside given (first_line bytes) (omega (arith, inside, is))))
     ∙ sym (next-some given bytes more)
-
--- nothing is pending
-pub next-end : (given n : ℕ) (bytes : List ℕ) → n ≡ length (first_line bytes) → n ≡ 0 → End ≡ next_in_bytes given bytes
-next-end given n [] is none = refl
-next-end given n (byte ∷ bytes) is none = let size = first_line_length (byte ∷ bytes) in absurd (omega (arith, is, none, size))
 
 -- what was scanned goes on after it
 pub scanned : (before got pending : List ℕ) (seen : ℕ) → seen ≡ text_length before → length before ≤ seen → pending ≡ before ++ got
