@@ -18,10 +18,6 @@ pub listing-padding : (on_data marked : Bool) (place : ℕ) (rest : List ℕ)
 listing-padding false marked place rest = refl
 listing-padding true marked place rest = refl
 
-pub listing-on_data : (marked : Bool) (place : ℕ) (rest : List ℕ)
-    → listing true marked place (1 ∷ rest) ≡ listing true marked (place + 1) rest
-listing-on_data marked place rest = refl
-
 -- an option of this type that is not ignored on the packet is listed
 pub listed-first : (on_data marked : Bool) (place kind : ℕ) (body : List ℕ) (rest : List RawOption) → part_of kind ≡ Listed
     → (on_data ≡ true → is_ignored_on_data kind ≡ false)

@@ -1,5 +1,5 @@
 -- The states that the bytes of Ack Vectors give.
-use Rattle.std.proofs.Common.{◌≡◌, ℕ, zero, suc, ◌+◌, ◌-◌, ◌*◌, ◌/◌, ◌^◌, ◌≤◌, ◌<◌, Bool, true, false, nat_lt, List, [], ◌∷◌, ◌++◌, length, replicate, slice_get, Some, if◌then◌else◌, refl, ap, sym, ◌∙◌, arith, append_assoc, length-append, slice_index_or}
+use Rattle.std.proofs.Common.{◌≡◌, ℕ, zero, suc, ◌+◌, ◌-◌, ◌*◌, ◌^◌, ◌≤◌, ◌<◌, Bool, true, false, nat_lt, List, [], ◌∷◌, ◌++◌, length, replicate, slice_get, Some, if◌then◌else◌, refl, ap, sym, ◌∙◌, arith, append_assoc, length-append, slice_index_or}
 use Rattle.std.specs.List.{Contains}
 use Prim.Native.Nat.compare
 use Rattle.std.proofs.lemmas.List.{length-replicate}
@@ -7,15 +7,6 @@ use Rattle.std.proofs.lemmas.Grind.{common_steps}
 use Rattle.seq_circle.specs.Circle.{distance, down}
 use Rattle.dccp_options.specs.declared.report.Run.{Run}
 use Rattle.dccp_options.specs.Vectors.{state_of, run_length, states, state_at, runs_of, is_in_run, state_in}
-
--- a byte of this state and this many numbers gives both back
-pub state_of-byte : (state count : ℕ) → state < 4 → 1 ≤ count → count ≤ 64
-    → state_of (state * 64 + count - 1) ≡ (if nat_lt state 2 then state else 3)
-state_of-byte state count s low high =
-    let q : (state * 64 + count - 1) / 64 ≡ state = omega arith in rw q (grind (arith, common_steps))
-
-pub run_length-byte : (state count : ℕ) → 1 ≤ count → count ≤ 64 → run_length (state * 64 + count - 1) ≡ count
-run_length-byte state count low high = omega arith
 
 -- vectors that continue each other give their states one after the other
 pub states-append : (front behind : List ℕ) → states (front ++ behind) ≡ states front ++ states behind
