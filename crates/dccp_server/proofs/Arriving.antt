@@ -1,20 +1,18 @@
 -- What comes of a datagram, put together from what each step of hearing it did.
-use Rattle.std.proofs.Common.{◌≡◌, refl, sym, ap, ◌∙◌, subst, ℕ, List, Bool, true, false, if◌then◌else◌, Option, Some, None, IfOk, Result, Ok, Err, OnOk, OnErr, not, ◌&&◌, is_some}
+use Rattle.std.proofs.Common.{◌≡◌, refl, sym, ap, ◌∙◌, subst, ℕ, List, Bool, true, false, if◌then◌else◌, Option, Some, None, IfOk, Result, Ok, Err, OnOk, OnErr}
 use Rattle.dccp_packets.specs.Outgoing.{Outgoing}
 use Rattle.dccp_listener.specs.Chain.{Arrives}
 use Rattle.dccp_listener.specs.Listens.{listens}
 use Rattle.dccp_listener.specs.Runs.{CallTold, Stepped, WasBusy, told_of}
 use Rattle.dccp_listener.specs.declared.calls.Heard.{Heard}
 use Rattle.dccp_listener.specs.declared.calls.Heard.TheVariants as heard
-use Rattle.dccp_listener.specs.Peers.{end_of_peer}
 use Rattle.dccp_listener.specs.declared.peer.Peer.{Peer}
 use Rattle.dccp_states.specs.declared.outcome.Outcome.{Outcome}
 use Rattle.seq_circle.specs.declared.memory.NoMemory.{NoMemory}
 use Rattle.dccp_states.specs.declared.seen.Seen.TheVariants.{Received}
 use Rattle.dccp_server.specs.Lives.{life_of, signs_in}
-use Rattle.dccp_server.specs.Rooms.{Coming, HasArrived, HasHeard, IsJudged, IsRoomMade, IsServed, Reception, Room, Ruled, reply_spared, begun_anew, comes_by, comes_heard, comes_if, counted_room, forgets, heard_or_fault, heard_plainly, is_to_be_heard, is_to_stranger, left_out, left_without_memory, moved_on, reception_of, room_does, room_made, told_of_arrival, unless_fault, who_leaves}
+use Rattle.dccp_server.specs.Rooms.{Coming, HasArrived, HasHeard, IsJudged, IsRoomMade, Room, begun_anew, comes_by, comes_heard, comes_if, counted_room, forgets, heard_or_fault, heard_plainly, is_to_be_heard, left_out, left_without_memory, room_does, room_made, unless_fault, who_leaves}
 use Rattle.dccp_server.specs.Serving.{Does}
-use Rattle.dccp_server.specs.Strangers.{frame_if_goes, spared_if}
 use Rattle.dccp_server.specs.Rules.{begins_anew}
 use Rattle.dccp_server.specs.declared.life.Life.{Life}
 use Rattle.dccp_server.specs.declared.life.Signs.{Signs}
@@ -151,42 +149,3 @@ module _ (now : ℕ) (rules : Rules) (r : Room) (peer : Peer) (iss : ℕ) (bytes
       (subst (λ (e : Option Peer). HasArrived now rules r after peer iss bytes (unless_fault result left) (heard_or_fault result) e anew') (sym evicted-is)
       (subst (λ (b : Bool). HasArrived now rules r after peer iss bytes (unless_fault result left) (heard_or_fault result) evicted b) (sym anew-is)
       (come-by upkeep_counted after left result evicted anew is heard has))))
-
--- nothing that does not go out is an answer to a stranger
-none-goes : (a b : Bool) → (not a && (not b && false)) ≡ false
-none-goes true b = refl
-none-goes false true = refl
-none-goes false false = refl
-
-none-left : (goes : Bool) → frame_if_goes goes None ≡ None
-none-left true = refl
-none-left false = refl
-
-abbrev reception : Ruled → Option Outgoing → Option CallTold → Option Peer → Bool → Reception
-reception server frame told evicted anew = record { server = server; frame = frame; told = told; evicted = evicted; anew = anew }
-
--- so the limits for strangers apply to what came
-pub served_as : (now : ℕ) (s after : Ruled) (mid : Room) (peer : Peer) (iss : ℕ) (bytes : List ℕ) (left frame : Option Outgoing)
-    (heard : Result (Option Heard) NoMemory) (evicted : Option Peer) (anew answers : Bool)
-    → HasArrived now s.rules s.room mid peer iss bytes left heard evicted anew → answers ≡ is_to_stranger s.room mid peer left
-    → after ≡ moved_on s mid (spared_if now s.rules s.strangers answers (told_of_arrival heard)).strangers
-    → frame ≡ frame_if_goes (spared_if now s.rules s.strangers answers (told_of_arrival heard)).goes left
-    → IsServed now s after peer iss bytes frame heard evicted anew
-served_as now s after mid peer iss bytes left frame (Ok it) evicted anew answers has is-answer after-is frame-is =
-    let told : Option CallTold = told_of_arrival (Ok it) in
-    ap (λ (x : Ruled). reception x frame told evicted anew)
-    (after-is ∙ ap (λ (b : Bool). moved_on s mid (spared_if now s.rules s.strangers b told).strangers) is-answer)
-    ∙ ap (λ (f : Option Outgoing). reception (moved_on s mid (reply_spared now s peer mid left told).strangers) f told evicted anew)
-    (frame-is ∙ ap (λ (b : Bool). frame_if_goes (spared_if now s.rules s.strangers b told).goes left) is-answer)
-    ∙ ap (λ (c : Coming). reception_of now s peer c) has
-served_as now s after mid peer iss bytes left frame (Err fault) evicted anew answers has is-answer after-is frame-is =
-    let none : answers ≡ false =
-    is-answer ∙ ap (λ (f : Option Outgoing). is_to_stranger s.room mid peer f) has.1
-    ∙ none-goes (is_some (end_of_peer s.room.served.listening.flows peer)) (is_some (end_of_peer mid.served.listening.flows peer))
-    in (
-      after-is ∙ ap (λ (b : Bool). moved_on s mid (spared_if now s.rules s.strangers b None).strangers) none
-          ∙ ap (λ (r : Room). moved_on s r s.strangers) has.0,
-      frame-is ∙ ap (λ (f : Option Outgoing). frame_if_goes (spared_if now s.rules s.strangers answers None).goes f) has.1
-          ∙ none-left (spared_if now s.rules s.strangers answers None).goes,
-      has.2,
-    )
