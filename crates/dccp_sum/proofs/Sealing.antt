@@ -1,5 +1,5 @@
 -- What is sealed is accepted.
-use Rattle.std.proofs.Common.{◌≡◌, ℕ, ◌+◌, ◌*◌, ◌%◌, ◌/◌, ◌<◌, ◌≤◌, List, ◌∷◌, length, Some, Ok, true, refl, arith, ◌∙◌, rules}
+use Rattle.std.proofs.Common.{◌≡◌, ℕ, ◌<◌, ◌≤◌, List, ◌∷◌, length, Some, Ok, true, refl, arith, ◌∙◌, rules}
 use Rattle.dccp_sum.specs.Coverage.{covered}
 use Rattle.dccp_sum.specs.Checksum.{with_checksum, checksum, checked, same_checksum, stated}
 use Rattle.dccp_sum.specs.declared.pseudo_header.Pseudo.{Pseudo}
@@ -7,10 +7,6 @@ use Rattle.dccp_sum.specs.declared.pseudo_header.Pseudo.{Pseudo}
 -- a checksum is its own spelling
 same_checksum-same : (a b : ℕ) → a ≡ b → same_checksum a b ≡ true
 same_checksum-same a b e = search rules
-
--- two bytes spell a checksum
-bytes-spell : (sum : ℕ) → sum < 65536 → sum / 256 % 256 * 256 + sum % 256 ≡ sum
-bytes-spell sum small = omega arith
 
 pub checked-sealed : (pseudo : Pseudo) (bytes : List ℕ) (count sum : ℕ) → 8 ≤ length bytes → covered bytes ≡ Some count
     → sum ≡ checksum pseudo bytes count → sum < 65536 → checked pseudo (with_checksum sum bytes) ≡ Ok tt
