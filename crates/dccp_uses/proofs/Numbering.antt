@@ -1,7 +1,7 @@
 -- The numbers that a report is read for, one after another.
 use Rattle.std.proofs.Common.{◌≡◌, refl, sym, subst, ap, ◌∙◌, ℕ, ◌+◌, ◌-◌, ◌<◌, ◌≤◌, ◌==◌, suc, Bool, true, false, cond, ◌&&◌, ◌||◌, List, [], ◌∷◌, ◌++◌, length, take, get_or, slice_get, count_by, Option, Some, None, Result, Ok, Err, arith, if◌then◌else◌}
 use Rattle.std.specs.List.{concat, list_any}
-use Rattle.std.proofs.Math.Bool.{or-false, or_assoc}
+use Rattle.std.proofs.Math.Bool.{or_assoc}
 use Rattle.std.proofs.lemmas.List.{take_more}
 use Rattle.std.proofs.lemmas.List.Sums.{sum_by-cons}
 use Rattle.std.proofs.lemmas.Option.{get_or_from_slice_get, slice_get_within}
@@ -18,7 +18,7 @@ use Rattle.dccp_packets.specs.Grammar.{Parts, decoded, packet_type}
 use Rattle.dccp_packets.specs.Kinds.{is_data}
 use Rattle.dccp_packets.specs.declared.reading.Malformed.{Malformed}
 use Rattle.seq_circle.specs.Circle.{down}
-use Rattle.dccp_uses.specs.DropRecord.{all_recorded, packet_recorded, record_after, recorded_if, report_recorded}
+use Rattle.dccp_uses.specs.DropRecord.{all_recorded, packet_recorded, record_after, report_recorded}
 use Rattle.dccp_uses.specs.Notice.{drops_told, is_as_marked, is_code, new_reach, no_drops, drops_with_code}
 use Rattle.dccp_uses.specs.declared.notice.Drops.{Drops}
 use Rattle.dccp_uses.specs.declared.reader.Reader.{Reader}
@@ -73,13 +73,6 @@ counted_one_more whole mark code drops left n some it =
       few = few-by (is_code 2 (code n)) drops.full left some it.few;
     }
 
-same-drops : (a b : Drops) → a.full ≡ b.full → a.refused ≡ b.refused → a.stopped ≡ b.stopped → a.marked ≡ b.marked → a ≡ b
-same-drops a b full refused stopped marked =
-    ap (λ (x : ℕ). record { full = x; refused = a.refused; stopped = a.stopped; marked = a.marked }) full
-    ∙ ap (λ (x : Bool). record { full = b.full; refused = x; stopped = a.stopped; marked = a.marked }) refused
-    ∙ ap (λ (x : Bool). record { full = b.full; refused = b.refused; stopped = x; marked = a.marked }) stopped
-    ∙ ap (λ (x : Bool). record { full = b.full; refused = b.refused; stopped = b.stopped; marked = x }) marked
-
 module _ (reader : Reader) (report : Report) where
   -- nothing is counted yet
   abbrev IsCountedThere : Drops → ℕ → ℕ → Type 0
@@ -95,21 +88,6 @@ module _ (reader : Reader) (report : Report) where
       subst (λ (d : Drops). IsCountedThere d left ack) (sym none)
       (subst (λ (a : ℕ). IsCountedThere no_drops left a) same
       (subst (λ (k : ℕ). IsCountedThere no_drops k report.ack) (sym there) (counted-first (subst (λ (k : ℕ). k ≤ 2048) there few))))
-
--- nothing is left
-pub counted_all : (whole : Drops) (mark : Option ℕ) (code : ℕ → Option ℕ) (drops : Drops) (left n : ℕ) → left ≡ 0 → IsCounted whole mark code drops left n
-    → drops ≡ whole
-counted_all whole mark code drops left n none it =
-    let last : IsCounted whole mark code drops 0 n = subst (λ (k : ℕ). IsCounted whole mark code drops k n) none it in
-    let full : drops.full + 0 ≡ whole.full = last.full in
-    same-drops drops whole (omega (arith, full)) (sym (or-false drops.refused) ∙ last.refused) (sym (or-false drops.stopped) ∙ last.stopped)
-    (sym (or-false drops.marked) ∙ last.marked)
-
--- a drop is recorded, and those that are left
-pub recorded_one_more : {R : Type 0} (one : ℕ → ℕ → R → R) (code : ℕ → Option ℕ) (left n : ℕ) (drops whole : R) → 0 < left
-    → all_recorded one code (numbers_down left n) drops ≡ whole
-    → all_recorded one code (numbers_down (left - 1) (down n 1)) (recorded_if one n (code n) drops) ≡ whole
-recorded_one_more one code left n drops whole some it = subst (λ (xs : List ℕ). all_recorded one code xs drops ≡ whole) (one_more left n some) it
 
 -- nothing is recorded of a report that reaches no new number
 module _ {R : Type 0} (one : ℕ → ℕ → R → R) (counted : Option ℕ) (ack : ℕ) (drops : R) (none : new_reach counted ack ≡ 0) where

@@ -133,10 +133,6 @@ abbrev pub ack_hurried_by : Waits → Alarms → Bool → Alarms
 ack_hurried_by waits alarms true = record alarms { ack = first_again alarms.ack waits.ack.first }
 ack_hurried_by waits alarms false = alarms
 
--- the alarm of a timer with the waits of an end that knows nothing of its path
-abbrev pub arranged_alarm : Alarms → Timer → Condition → ℕ → Option Alarm
-arranged_alarm alarms timer c now = arranged_alarm_by classic_waits alarms timer c now
-
 -- all alarms, with these waits
 abbrev pub arranged : Alarms → Condition → ℕ → Alarms
 arranged alarms c now = arranged_by classic_waits alarms c now
