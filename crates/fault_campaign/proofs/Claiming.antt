@@ -6,12 +6,12 @@ use Rattle.seq_circle.specs.declared.memory.NoMemory.{NoMemory}
 use Rattle.campaign_claims.specs.Numbers.{AreOnceBelow, sum_below}
 use Rattle.campaign_claims.specs.Views.{Held, held, with_claimed, with_none}
 use Rattle.campaign_claims.specs.declared.rule.View.{View}
-use Rattle.fault_campaign.specs.Reports.{nothing, plus, size}
+use Rattle.fault_campaign.specs.Reports.{plus, size}
 use Rattle.fault_campaign.specs.Seeded.{seeded_report}
 use Rattle.fault_campaign.specs.Totals.{CanWork, HaveWorked, IsWholeReport, claimed_report, totals}
 use Rattle.fault_campaign.specs.declared.report.Report.{Report}
 use Rattle.fault_campaign.specs.declared.workers.Job.{Job}
-use Rattle.fault_campaign.proofs.Fields.{all-once, none, one-more, size-of}
+use Rattle.fault_campaign.proofs.Fields.{all-once, one-more, size-of}
 use Rattle.fault_campaign.proofs.Short.{report-size}
 
 -- No claim was in vain yet, and the numbers rise: a bound of all of them is no less than how many they are.
@@ -32,22 +32,6 @@ each-size job some most seed = omega (arith, report-size seed job.events some)
 pub sum-size : (job : Job) (numbers : List ℕ) → 1 ≤ job.events → job.events ≤ 4096 → length numbers ≤ 1600000
     → size (claimed_report job.first job.events numbers) < 2 ^ 62
 sum-size job numbers some most few = omega (arith, size-of job.first job.events (each-size job some most) numbers)
-
-pub at-start : (job : Job) (claims : TableId) (view : View) (now : Held) → CanWork 1 job view → now.claims ≡ claims → now.view ≡ view
-    → IsClaiming job claims view now nothing
-at-start job claims view now can same is =
-    record {
-      can = can;
-      same = same;
-      share = ap (λ (v : View). v.share) is;
-      limit = ap (λ (v : View). v.limit) is;
-      drawn = ap (λ (v : View). v.drawn) is ∙ can.undrawn ∙ ap length (sym numbers);
-      rising = λ k all. omega (arith, ap length numbers);
-      most = omega (arith, ap length numbers);
-      sum = none job.first job.events ∙ ap (claimed_report job.first job.events) (sym numbers);
-    } where
-      numbers : now.view.numbers ≡ []
-      numbers = ap (λ (v : View). v.numbers) is ∙ can.none
 
 above-last : (numbers : List ℕ) (index k : ℕ) → All (λ x. x < k) (numbers ++ index ∷ []) → index < k
 above-last [] index k all = All-head (λ x. x < k) index [] all
@@ -92,20 +76,6 @@ in-vain job claims view now last report before is =
       limit = before.limit;
       few = omega (arith, before.most, before.can.few);
       whole = record { sum = before.sum; in_vain = omega (arith, before.drawn) };
-    })
-
-pub out-of-memory : (job : Job) (claims : TableId) (view : View) (now last : Held) (report : Report) (index : ℕ) (lacks : NoMemory)
-    → IsClaiming job claims view now report
-    → last ≡ held now.claims (with_claimed now.view index) → index < now.view.limit → All (λ x. x < index) now.view.numbers
-    → HaveWorked 1 job claims view last (Err lacks)
-out-of-memory job claims view now last report index lacks before is below greater =
-    subst (λ (h : Held). HaveWorked 1 job claims view h (Err lacks)) (sym is)
-    (record {
-      same = before.same;
-      share = before.share;
-      limit = before.limit;
-      few = let low = before.rising index greater in omega (arith, length-append now.view.numbers (index ∷ []), before.limit, before.can.few);
-      whole = tt;
     })
 
 -- what workers have counted fits
