@@ -17,7 +17,3 @@ due_cons row rest false e = cc
 pub due_taken : (rows : List Row) (index : ℕ) (row : Row) → index < length rows → slice_get rows index ≡ Some row → is_due row ≡ true
     → due_keys (drop index rows) ≡ (row.feature, row.place) ∷ due_keys (drop (index + 1) rows)
 due_taken rows index row inside is due = ap (λ l. due_keys l) (drop_at rows index row inside is) ∙ due_cons row (drop (index + 1) rows) true due
-
-pub due_passed : (rows : List Row) (index : ℕ) (row : Row) → index < length rows → slice_get rows index ≡ Some row → is_due row ≡ false
-    → due_keys (drop index rows) ≡ due_keys (drop (index + 1) rows)
-due_passed rows index row inside is due = ap (λ l. due_keys l) (drop_at rows index row inside is) ∙ due_cons row (drop (index + 1) rows) false due

@@ -107,10 +107,6 @@ sending_leaves row s number opened = grind arith
 late_stays : (row : Row) (s : Stand) → ((row_line row s (Confirmed c.Late)).row.stand ≡ row.stand) × ((row_line row s (Confirmed c.Late)).answer ≢ Settled)
 late_stays row s = grind arith
 
-confirmed_stays : (row : Row) (s : Stand) (confirms : Confirmation) → s ≢ stand.Changing
-    → ((row_line row s (Confirmed confirms)).row.stand ≡ row.stand) × ((row_line row s (Confirmed confirms)).answer ≢ Settled)
-confirmed_stays row s confirms busy = grind arith
-
 confirmed_settles : (row : Row) (s : Stand) (confirms : Confirmation) → (row_line row s (Confirmed confirms)).answer ≡ Settled
     → (row_line row s (Confirmed confirms)).row.stand ≡ stand.Stable
 confirmed_settles row s confirms settles = grind arith

@@ -41,11 +41,6 @@ pub put_same : (rows : List Row) (feature : Feature) (place : Place) (row new : 
     → put rows feature place new ≡ rows
 put_same rows feature place row new is same = ap (λ r. put rows feature place r) (same ∙ is) ∙ set-get_or rows (index_of feature place) _
 
-pub stepped_stays : (rows : List Row) (feature : Feature) (place : Place) (event : RowEvent) → IsRefusal (stepped rows feature place event).answer
-    → (stepped rows feature place event).rows ≡ rows
-stepped_stays rows feature place event refused =
-    ap (λ row. put rows feature place row) (step_stays (row_at rows feature place) event refused) ∙ set-get_or rows (index_of feature place) _
-
 -- a Confirm that does not settle its row is refused
 line_refuses : (row : Row) (s : Stand) (k : Confirmation) → settling_of (row_line row s (Confirmed k)).answer ≢ settling.Settled
     → IsRefusal (row_line row s (Confirmed k)).answer
