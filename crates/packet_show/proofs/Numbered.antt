@@ -1,8 +1,7 @@
 -- A map that is ordered by keys has the number of each flow that was seen: what is the same to the order is the key of the same flow, and
 -- one more is found under the next number, and all others as before.
-use Rattle.std.proofs.Common.{◌≡◌, refl, sym, ap, ◌∙◌, subst, arith, ℕ, suc, ◌+◌, ◌≤◌, ◌<◌, ◌==◌, nat_lt, Bool, true, false, ◌&&◌, ◌||◌, cond, if◌then◌else◌, List, [], ◌∷◌, ◌++◌, length, Option, Some, None, Result, Ok, Err, OnOk, eqb-true, eq-eqb, append_assoc, length-append}
+use Rattle.std.proofs.Common.{◌≡◌, refl, sym, ap, ◌∙◌, subst, arith, ℕ, suc, ◌+◌, ◌==◌, nat_lt, Bool, true, false, ◌&&◌, ◌||◌, cond, if◌then◌else◌, List, [], ◌∷◌, ◌++◌, length, Option, Some, None, Result, Ok, Err, OnOk, eqb-true, eq-eqb, append_assoc}
 use Rattle.std.proofs.lemmas.Bool.{and_parts, ltb-false, ltb-true}
-use Rattle.std.proofs.lemmas.List.{append-nil}
 use Rattle.std.proofs.lemmas.Iterator.Adapters.{position_from-zero}
 use Rattle.std.specs.Prelude.{is_some, position}
 use Rattle.std.specs.BTreeMap.{is_at}
@@ -248,31 +247,6 @@ pub none_further : (flow : Flow) (first further : List Flow) → IsSplit first f
 none_further flow first further split none =
     sym (numbers-go-on flow first further (nat_lt (length first) most_first) refl split)
     ∙ sym (found-behind (same_flow flow) 1 first further (not-in-front (same_flow flow) 1 first further none)) ∙ none
-
--- what comes of a flow that is put into the set
-pub record IsPutFirst (flow : Flow) (first further put : List Flow) : Type 0 where
-  pub split : IsSplit put further
-  pub noted : put ++ further ≡ with_flow flow (first ++ further)
-
-pub put_first : (flow : Flow) (first further put : List Flow) → IsSplit first further → length first < most_first → number_if_seen flow (first ++ further) ≡ None
-    → put ≡ (if list_any (same_flow flow) first then first else first ++ flow ∷ []) → IsPutFirst flow first further put
-put_first flow first further put split room none is =
-    let empty : further ≡ [] = split.full room in
-    let front = not-in-front (same_flow flow) 1 first further none in
-    let absent : list_any (same_flow flow) first ≡ false = sym (any-found (same_flow flow) 1 first) ∙ ap is_some front in
-    let last : put ≡ first ++ flow ∷ [] = is ∙ ap (λ (b : Bool). if b then first else first ++ flow ∷ []) absent in
-    let size : length put ≡ length first + 1 = ap length last ∙ length-append first (flow ∷ []) in
-    record {
-      split = record { few = omega (arith, size, room); full = λ _. empty };
-      noted =
-          ap (λ (fs : List Flow). put ++ fs) empty ∙ append-nil put ∙ last
-          ∙ ap (λ (fs : List Flow). fs ++ flow ∷ []) (sym (append-nil first) ∙ ap (λ (fs : List Flow). first ++ fs) (sym empty))
-          ∙ noted_now flow (first ++ further) none;
-    }
-
-pub put_further : (flow : Flow) (first further : List Flow) → most_first ≤ length first → length first ≤ most_first
-    → IsSplit first (further ++ flow ∷ [])
-put_further flow first further full few = record { few = few; full = λ less. absurd (omega (arith, full, less)) }
 
 -- what comes of a flow that is put after the set
 pub noted_further : {A E : Type 0} (result : Result A E) (flow : Flow) (first further more seen : List Flow) → first ++ further ≡ seen

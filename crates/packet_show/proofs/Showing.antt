@@ -12,7 +12,6 @@ use Rattle.capture_reader.specs.Records.{before as before_others}
 use Rattle.capture_reader.specs.State.{CapturesState, rest, Passed, Advances, Blames}
 use Rattle.capture_reader.specs.State as header
 use Rattle.capture_reader.specs.declared.fault.CaptureFault.TheVariants.{BadMagic, BadVersion, BadLink, CutShort, RecordTooLong, ReadFault, NoMemory, TooLarge}
-use Rattle.dccp_io.specs.Counts.{Rose}
 use Rattle.capture_reader.proofs.Capture.{records-next, records-wrong}
 use Rattle.packet_show.specs.declared.flows.Shown.{Shown}
 use Rattle.packet_show.specs.declared.flows.Shown.TheVariants.{Line, Skipped}
@@ -25,7 +24,7 @@ use Rattle.tool_text.specs.declared.output.status.JobEnd.TheVariants as ended
 use Rattle.packet_show.specs.CaptureText.{first_tally, counted_record, tallied, record_text, last_line, fault_line, text_from, size_of, end_of_records, capture_text, is_faulty, records_end}
 use Rattle.packet_show.specs.Show.{Turns, Closes, ShowsHeaderFault, ShowsRecords, shown_text}
 use Rattle.tool_text.specs.Ends.{HasBegun, IsCutOff, Answers, IsMovedOut}
-use Rattle.tool_text.proofs.Ending.{append-none, append-twice, begun-longer, begun-behind, none-left, not-both, answers-early, on-ok, unwritten}
+use Rattle.tool_text.proofs.Ending.{append-twice, begun-longer, begun-behind, none-left, not-both, answers-early, on-ok, unwritten}
 
 -- the text of what is left
 abbrev pub rest_text : Tally → Captured → List ℕ
@@ -41,18 +40,6 @@ pub record Along (format : Format) (number given : ℕ) (left : Option (List ℕ
   pub text_is : shown_text whole ≡ written ++ (text ++ rest_text tally (records_from format 0 number given (drop done input)))
   pub size_is : size_of whole.records ≡ done + size_of (records_from format 0 number given (drop done input)).records
   pub end_is : whole.end ≡ (records_from format 0 number given (drop done input)).end
-
-pub along-start : (format : Format) (left : Option (List ℕ)) (before : Option (List ℕ)) (input : List ℕ) → left ≡ Some input
-    → Along format 0 24 left first_tally [] before before (records_from format 0 0 24 input) input
-along-start format left before input is = record {
-  done = 0;
-  written = [];
-  rest_is = is;
-  taken_is = append-none before;
-  text_is = refl;
-  size_is = omega arith;
-  end_is = refl;
-}
 
 -- where a record or a fault is, there are bytes
 some-for : (format : Format) (number given : ℕ) (bytes : List ℕ) (entry : RecordParts) → next_of format number given bytes ≡ Ok (Some entry) → 0 < length bytes
@@ -215,12 +202,6 @@ shown-early format number given left known tally text before after later whole i
 captured-behind : (bytes : List ℕ) (format : Format) → opened bytes ≡ Ok format → captured bytes ≡ records_from format 0 0 24 (drop 24 bytes)
 captured-behind bytes format told = ap (λ (o : Result Format CaptureFault). captured_by o bytes) told
 
-pub shown-whole : (bytes : List ℕ) (format : Format) (result : JobEnd) (left before after : Option (List ℕ)) → opened bytes ≡ Ok format
-    → ShowsRecords (records_from format 0 0 24 (drop 24 bytes)) (drop 24 bytes) result left before after
-    → Answers (capture_text bytes) (is_faulty bytes) result left before after
-shown-whole bytes format result left before after told shows =
-    subst (λ (c : Captured). Answers (shown_text c) (is_some c.end) result left before after) (sym (captured-behind bytes format told)) shows.answers
-
 passed-in : (records : List RecordParts) (bytes : List ℕ) (left : Option (List ℕ)) → Passed 262160 (Some (drop (size_of records) (drop 24 bytes))) left
     → Passed 524288 (Some (drop (end_of_records records) bytes)) left
 passed-in [] bytes left (n, most, is) = (24 + n, omega arith, is ∙ ap Some (drop-drop n 24 bytes))
@@ -268,16 +249,6 @@ pub faulted : {S : Type 0} (left : S → Option (List ℕ)) (faults lender : S �
 faulted left faults lender old new tally text before after later whole input why result unended other along advances closes =
     shown-fault old.format old.number old.given (rest left old) (left new.source) tally text before after later whole input why result along
     (blamed left faults old new why unended other advances.answer.cause) advances.past closes
-
-rose-by : {S : Type 0} (left : S → Option (List ℕ)) (faults : S → ℕ) (old new : CapturesState S) → old.fault ≡ None
-    → ((old.fault ≡ Some ReadFault) × (new ≡ old)) ⊎ ((old.fault ≡ None) × Blames left faults old new ReadFault) → Rose (faults old.source) (faults new.source)
-rose-by left faults old new unended (inl (was, same)) = cc (was, unended)
-rose-by left faults old new unended (inr (is, inl (read, rose))) = rose
-rose-by left faults old new unended (inr (is, inr (not, stands))) = absurd (not refl)
-
-pub source-failed : {S : Type 0} (left : S → Option (List ℕ)) (faults lender : S → ℕ) (old new : CapturesState S) → old.fault ≡ None
-    → Advances left faults lender old new (Err ReadFault) → Rose (faults old.source) (faults new.source)
-source-failed left faults lender old new unended advances = rose-by left faults old new unended advances.answer.cause
 
 -- the last line was not written whole
 pub closes-cut : (text more : List ℕ) (end : Option CaptureFault) (before middle after : Option (List ℕ)) → middle ≡ append_known before text
