@@ -38,13 +38,6 @@ length-upwards (suc count) at = ap suc (length-upwards count (at + 1))
 abbrev pub chain_up : ℕ → List ℕ
 chain_up free = upwards (1024 - free) free
 
--- the nodes of a chain have no number, with one more below them that has none
-pub idle_first : (nodes : List Node) (free : ℕ) → 1024 ≤ free → AreIdle (runs_at nodes (chain_up free))
-idle_first nodes free h =
-    let none : 1024 - free ≡ 0 = omega arith in
-    let R : ℕ → Type 0 = λ c. AreIdle (runs_at nodes (upwards c free)) in
-    subst R (sym none) tt
-
 pub idle_below : (nodes : List Node) (free next : ℕ) (x : Node) → length nodes ≡ 1024 → next + 1 ≡ free → free ≤ 1024 → x.count ≡ 0
     → AreIdle (runs_at nodes (chain_up free)) → AreIdle (runs_at (set nodes next x) (chain_up next))
 idle_below nodes free next x s h k z idle =
@@ -71,12 +64,6 @@ chain_more nodes free next x s e h k p =
     let Q : ℕ → Type 0 = λ i. IsPath (set nodes next x) (node_at (set nodes next x) next).next (upwards (1024 - free) i) 1024 in
     let R : ℕ → Type 0 = λ c. IsPath (set nodes next x) next (upwards c next) 1024 in
     subst R (sym count) (refl, omega arith, subst Q (sym e) there)
-
-pub chain_end : (nodes : List Node) (free : ℕ) → 1024 ≤ free → free ≤ 1024 → IsPath nodes free (chain_up free) 1024
-chain_end nodes free h k =
-    let none : 1024 - free ≡ 0 = omega arith in
-    let R : ℕ → Type 0 = λ c. IsPath nodes free (upwards c free) 1024 in
-    subst R (sym none) (omega arith)
 
 pub chain_linked : (nodes : List Node) (free : ℕ) → length nodes ≡ 1024 → free ≡ 0 → IsPath nodes free (chain_up free) 1024
     → AreIdle (runs_at nodes (chain_up free)) → IsLinked nodes 1024 free

@@ -40,9 +40,6 @@ idle_apart nodes i (j ∷ js) some idle =
 pub linked_chained : (nodes : List Node) (first free : ℕ) → IsLinked nodes first free → IsChained nodes first
 linked_chained nodes first free l = let all = l.all in record { chain = l.used; size = l.size; path = l.used_path; few = omega arith }
 
-pub linked_runs : (nodes : List Node) (first free : ℕ) (l : IsLinked nodes first free) → runs_from nodes first ≡ runs_at nodes l.used
-linked_runs nodes first free l = let all = l.all in from-path nodes first l.used l.size (omega arith) l.used_path
-
 -- the used nodes are those before a place and those from it on
 pub linked_place : (nodes : List Node) (first free before at : ℕ) (l : IsLinked nodes first free) (p : IsPlace nodes first before at)
     → l.used ≡ p.passed ++ p.rest

@@ -5,12 +5,8 @@ use Rattle.seq_circle.specs.Circle.{distance}
 use Rattle.run_list.specs.declared.walking.Stretch.{Stretch}
 use Rattle.run_list.specs.declared.linked.Node.{Node}
 use Rattle.run_list.specs.Runs.{bound_below, bound_after, Touches}
-use Rattle.run_list.specs.Linked.{node_at, run_of, runs_at, runs_from, IsChained, IsPlace, IsBegin, IsPassed, IsPlaceFor}
+use Rattle.run_list.specs.Linked.{node_at, run_of, runs_at, runs_from, IsPlace, IsBegin, IsPassed, IsPlaceFor}
 use Rattle.run_list.proofs.Paths.{path-more, last-more, last-none, front, last-front, behind, path-head, runs-append, length-runs, from-path}
-
--- before the first node
-abbrev pub place_first : (nodes : List Node) (first : ℕ) → IsChained nodes first → IsPlace nodes first 1024 first
-place_first nodes first k = record { passed = []; rest = k.chain; few = (let few = k.few in omega arith); passed_path = refl; rest_path = k.path; last = refl }
 
 -- one node further
 pub place_lengths : (nodes : List Node) (first before at : ℕ) (p : IsPlace nodes first before at) → at < 1024

@@ -265,27 +265,6 @@ set_same one other s t e h =
     let numbers : one.numbers ≡ other.numbers = falling_same one.floor 2048 one.numbers other.numbers s.floor_fits s.falling (rw e t.falling) h in
     ap (λ (f : ℕ). record { floor = f; numbers = one.numbers }) e ∙ ap (λ (ns : List ℕ). record { floor = other.floor; numbers = ns }) numbers
 
--- what each answer tells of the number
-pub below_iff : (set : MarkedSet) (n : ℕ) → (answer_to set n ≡ BelowFloor) ↔ ¬ IsFrom set.floor n
-below_iff set n =
-    elim (cases_Bool (is_from set.floor n)) [
-      | inl holds ↦ from_above holds
-      | inr fails ↦ from_below fails
-    ]
-  where
-    from_above : is_from set.floor n ≡ true → (answer_to set n ≡ BelowFloor) ↔ ¬ IsFrom set.floor n
-    from_above holds = (
-      λ e. elim (cases_Bool (has set.numbers n)) [
-        | inl there ↦ let bad : Again ≡ BelowFloor = rw (holds, there) at e in cc
-        | inr absent ↦ let bad : New ≡ BelowFloor = rw (holds, absent) at e in cc
-      ],
-      λ k. absurd (k (ltb-true (distance set.floor n) (2 ^ 47) holds)),
-    )
-
-    from_below : is_from set.floor n ≡ false → (answer_to set n ≡ BelowFloor) ↔ ¬ IsFrom set.floor n
-    from_below fails =
-        (λ e k. both_ways (is_from set.floor n) fails (lt-ltb (distance set.floor n) (2 ^ 47) k), λ k. rw fails refl)
-
 pub again_iff : (set : MarkedSet) (n : ℕ) → (answer_to set n ≡ Again) ↔ (IsFrom set.floor n × IsTrue (has set.numbers n))
 again_iff set n = (
   λ e. elim (cases_Bool (is_from set.floor n)) [

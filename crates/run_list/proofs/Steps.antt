@@ -16,9 +16,6 @@ distance-down f n p q h = omega arith
 pub up-down : (n : ℕ) → n < 2 ^ 48 → residue (down n + 1) ≡ n
 up-down n p = omega arith
 
-pub down-up : (n : ℕ) → n < 2 ^ 48 → down (residue (n + 1)) ≡ n
-down-up n p = omega arith
-
 pub same_place : (f m n : ℕ) → f < 2 ^ 48 → m < 2 ^ 48 → n < 2 ^ 48 → distance f m ≡ distance f n → m ≡ n
 same_place f m n p q r h = omega arith
 
