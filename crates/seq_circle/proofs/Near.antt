@@ -23,14 +23,6 @@ all_to P k [] x there all = cc
 all_to P zero (y ∷ ys) x there all = subst P (some_is y x there) all.0
 all_to P (suc k) (y ∷ ys) x there all = all_to P k ys x there all.1
 
-pub near_more : (span step : ℕ) (xs : List ℕ) → AreNear span xs → AreNear (span + step) xs
-near_more span step [] near = tt
-near_more span step (x ∷ xs) near = (
-  near.0,
-  all_more (λ y. distance x y ≤ span) (λ y. distance x y ≤ span + step) xs (λ y h. omega arith) near.1,
-  near_more span step xs near.2,
-)
-
 pub near_drop : (span n : ℕ) (xs : List ℕ) → AreNear span xs → AreNear span (drop n xs)
 near_drop span zero xs near = near
 near_drop span (suc n) [] near = tt

@@ -38,12 +38,6 @@ unturned from to is =
       | inr not_less ↦ NotLess (ltb-false to from not_less)
     ]
 
--- which of the three cases of a short form is taken, once both tests are known
-picked : (a b : Bool) (up down level : ℕ) (first second : Bool) → a ≡ first → b ≡ second
-    → (if a then up else if b then down else level) ≡ (if first then up else if second then down else level)
-picked a b up down level first second is_first is_second =
-    ap (λ t. if t then up else if b then down else level) is_first ∙ ap (λ t. if first then up else if t then down else level) is_second
-
 abbrev IsNear : ℕ → ℕ → Type 0
 IsNear n reference = (distance n reference < 2 ^ 23) ⊎ (distance reference n < 2 ^ 23)
 
@@ -99,10 +93,6 @@ few-below n reference few =
 pub few-above : (n reference : ℕ) → distance reference n < 2 ^ 23 → is_far n reference ≡ false
 few-above n reference few =
     and_right (nat_le (2 ^ 23) (distance n reference)) (nat_le (2 ^ 23) (distance reference n)) (lt-leb (2 ^ 23) (distance reference n) few)
-
--- no number is far from itself
-pub self-near : (n : ℕ) → n < 2 ^ 48 → is_far n n ≡ false
-self-near n fits = few-below n n (omega arith)
 
 pub finds-near : (n reference : ℕ) → n < 2 ^ 48 → reference < 2 ^ 48 → is_far n reference ≡ false → extended (n % 2 ^ 24) reference ≡ n
 finds-near n reference fits within not_far = finds n reference fits within (near-either n reference not_far)
