@@ -1,5 +1,5 @@
 -- The flow at a place is that of the peer who is there.
-use Rattle.std.proofs.Common.{◌≡◌, refl, sym, ap, ◌∙◌, ℕ, zero, suc, ◌+◌, ◌≤◌, List, [], ◌∷◌, ◌++◌, length, drop, append_assoc, append-nil, Option, Some, None, arith}
+use Rattle.std.proofs.Common.{◌≡◌, refl, sym, ap, ◌∙◌, ℕ, zero, suc, ◌+◌, List, [], ◌∷◌, ◌++◌, drop, append_assoc, Option, Some, None, arith}
 use Rattle.std.specs.Prelude.{flat_map, option_map, slice_get}
 use Rattle.std.specs.Map.{keys_of}
 use Rattle.dccp_listener.specs.Listens.{AreInOrder}
@@ -13,14 +13,6 @@ keys-at [] zero = refl
 keys-at [] (suc place) = refl
 keys-at (flow ∷ flows) zero = refl
 keys-at (flow ∷ flows) (suc place) = keys-at flows place
-
-none-by : (found : Option (Peer × FlowEnd)) → option_map (λ (flow : Peer × FlowEnd). flow.0) found ≡ None → flow_line_if found ≡ []
-none-by None key = refl
-none-by (Some flow) key = cc key
-
--- no peer is at the place
-pub none_there : (flows : Flows) (place : ℕ) → slice_get (keys_of flows) place ≡ None → flow_line_if (slice_get flows place) ≡ []
-none_there flows place key = none-by (slice_get flows place) (sym (keys-at flows place) ∙ key)
 
 flow-by : (flows : Flows) (place : ℕ) (peer : Peer) (e : Option FlowEnd) (found : Option (Peer × FlowEnd)) → AreInOrder flows → slice_get flows place ≡ found
     → option_map (λ (flow : Peer × FlowEnd). flow.0) found ≡ Some peer → end_of_peer flows peer ≡ e → (e ≡ None → ⊥)
@@ -69,14 +61,3 @@ flow_put flows place before after whole put same =
     ∙ append_assoc before (flow_line_if (slice_get flows place)) (flat_map flow_line (drop (place + 1) flows))
     ∙ ap (λ (behind : List ℕ). before ++ behind) (sym (flow_further flows place))
     ∙ same
-
--- no place is left
-none-left : (flows : Flows) (place : ℕ) → length flows ≤ place → flat_map flow_line (drop place flows) ≡ []
-none-left [] zero past = refl
-none-left [] (suc place) past = refl
-none-left (flow ∷ flows) zero past = absurd (omega arith)
-none-left (flow ∷ flows) (suc place) past = none-left flows place (omega arith)
-
-pub flows_put : (flows : Flows) (place : ℕ) (text whole : List ℕ) → length flows ≤ place → text ++ flat_map flow_line (drop place flows) ≡ whole → text ≡ whole
-flows_put flows place text whole past same =
-    sym (append-nil text) ∙ ap (λ (behind : List ℕ). text ++ behind) (sym (none-left flows place past)) ∙ same
