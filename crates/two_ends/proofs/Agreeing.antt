@@ -11,23 +11,20 @@ use Rattle.two_ends.specs.FeatureAgreement.IsGiven.{Initial as AsBefore, Ruled}
 use Rattle.two_ends.specs.FeatureAgreement.IsToldValue.{Untold, Told as ToldIn}
 use Rattle.two_ends.specs.EachFeature.{agree_by, given_by}
 use Rattle.two_ends.specs.FeatureMoves.{Reached}
-use Rattle.two_ends.specs.FeatureRows.{location_of, pair_of, row_pair}
+use Rattle.two_ends.specs.FeatureRows.{pair_of}
 use Rattle.two_ends.specs.FeatureView as view
 use Rattle.two_ends.specs.FeatureView.{carried_at, change_of, has_change, last_change, last_wish, wish_carried}
 use Rattle.two_ends.specs.FeatureView.Carried.{Change}
 use Rattle.two_ends.proofs.ByFeature.{reached_agrees, reached_is_given}
 use Rattle.feature_lists.specs.Features.{described, initial_of}
 use Rattle.feature_lists.specs.Lists.{reconciled}
-use Rattle.feature_lists.specs.declared.features.Place.{Place}
-use Rattle.feature_machine.specs.Negotiating.{AreRowsOf, row_at}
-use Rattle.feature_machine.specs.declared.row.Row.{Row}
 use Rattle.feature_machine.specs.declared.stands.Role2.{Role2}
 use Rattle.feature_machine.specs.declared.stands.Role2.TheVariants as end
 use Rattle.world_events.specs.declared.event.Side.{Side}
 use Rattle.world_events.specs.declared.event.Side.TheVariants.{Client, Server}
 use Rattle.two_ends.specs.Negotiated.{Agree, AgreeOn, Given, HasSent, HasTold, IsNotNegotiable, IsServerPriority, IsSettled, Origin, Initial, Reconciled, Told, says_change, last_list_sent, last_value, list_said, side_changed, value_said, pair_was_negotiated}
 use Rattle.two_ends.specs.Pairs.{FeatureAt, held_at, place_at}
-use Rattle.two_ends.specs.World.{WorldState, half_of}
+use Rattle.two_ends.specs.World.{WorldState}
 use Rattle.world_events.specs.Actors.{other}
 use Rattle.two_ends.proofs.Acting.{Party, config_of, party_of}
 use Rattle.two_ends.proofs.Carrying.{any-logged, frame-at, frame-says, last-logged, says}
@@ -58,40 +55,6 @@ pub record AreReached (w : WorldState) (logs : Side → List Logged) (pair : Fea
   pub servers : ℕ
   pub clients : ℕ
   pub reached : Reached (pair_of pair.feature (end_at pair.location)) (view_at w logs servers pair Server) (view_at w logs clients pair Client)
-
--- Where a side sees a feature tells where it is located, so the row of either side is of the pair.
-location-is : (side location : Side) → location_of (end_at side) (place_at side location) ≡ end_at location
-location-is Client Client = refl
-location-is Client Server = refl
-location-is Server Client = refl
-location-is Server Server = refl
-
--- a side's row and the other's are the rows of one pair
-pub row-pair : (side : Side) (rows : List Row) (pair : FeatureAt) → AreRowsOf (end_at side) rows
-    → row_pair (row_at rows pair.feature (place_at side pair.location)) ≡ pair_of pair.feature (end_at pair.location)
-row-pair side rows pair are =
-    let place : Place = place_at side pair.location in
-    let row : Row = row_at rows pair.feature place in
-    let is = are.sound.each pair.feature place in
-    ap (λ feature. pair_of feature (location_of row.role row.place)) is.feature_is
-    ∙ ap (λ role. pair_of pair.feature (location_of role row.place)) (are.roles pair.feature place)
-    ∙ ap (λ seen. pair_of pair.feature (location_of (end_at side) seen)) is.place_is
-    ∙ ap (pair_of pair.feature) (location-is side pair.location)
-
--- the pair of a row is reached as it is seen from either side
-pub reached-by-row : (w : WorldState) (logs : Side → List Logged) (pair : FeatureAt) (side : Side) (servers clients : ℕ)
-    → AreRowsOf (end_at side) (half_of w side).end.rows
-    → Reached (row_pair (row_at (half_of w side).end.rows pair.feature (place_at side pair.location)))
-    (view_at w logs servers pair Server) (view_at w logs clients pair Client)
-    → AreReached w logs pair
-reached-by-row w logs pair side servers clients are reached =
-    record {
-      servers = servers;
-      clients = clients;
-      reached =
-          subst (λ p. Reached p (view_at w logs servers pair Server) (view_at w logs clients pair Client))
-          (row-pair side (half_of w side).end.rows pair are) reached;
-    }
 
 only-is : (o : Option ℕ) (value : ℕ) → Some (only value) ≡ option_map only o → o ≡ Some value
 only-is None value is = cc is

@@ -3,7 +3,6 @@ use Rattle.std.proofs.Common.{◌≡◌, ◌⊎◌, inl, inr, refl, ap, sym, ◌
 use Rattle.std.proofs.lemmas.Option.{slice_get_within}
 use Rattle.seq_circle.specs.Circle.{residue, is_before}
 use Rattle.dccp_states.specs.declared.entrance.Entrance.TheVariants as entrance
-use Rattle.dccp_states.specs.declared.phase.Phase.{Phase}
 use Rattle.dccp_states.specs.declared.phase.Phase.TheVariants as phases
 use Rattle.dccp_states.specs.declared.phase.Role.{Role}
 use Rattle.dccp_states.specs.declared.phase.Role.TheVariants as role
@@ -57,12 +56,6 @@ pub newest-is : (e : EndState) (given : Input) (a : Incoming) → Came e given a
 newest-is e given a came =
     let number : a.number ≡ came.number = ap (λ (x : Incoming). x.number) came.same in
     ap (λ (x : Incoming). x.newest) came.same ∙ ap (is_newest e) (sym number)
-
--- who waits for a first packet is not live
-waiting-dead : (ph : Phase) → is_waiting ph ≡ true → is_live ph ≡ false
-waiting-dead phases.Listen is = refl
-waiting-dead phases.Request is = refl
-waiting-dead _ is = cc
 
 -- a number by its place after ISS, and its count
 pub is-number : (iss place number : ℕ) → iss < 2 ^ 48 → place < 2 ^ 47 → number ≡ residue (iss + place)

@@ -165,11 +165,6 @@ other-preference e proper k j values step (Takes _ wish keys is rows taken) none
     by true same = absurd (none (key-so j k same) taken)
     by false differs = others-keep e proper k wish values is keys j differs
 
--- one side of the world takes another state
-half-set : (w : WorldState) (side : Side) (half : Half) → half_of (with_half w side half) side ≡ half
-half-set w Client half = refl
-half-set w Server half = refl
-
 other-set : (w : WorldState) (acting side : Side) (half : Half) (k : Key)
     → (acting ≡ side → latest (row_at half.end.rows k.0 k.1) ≡ latest (row_of w side k.0 k.1))
     → latest (row_of (with_half w acting half) side k.0 k.1) ≡ latest (row_of w side k.0 k.1)

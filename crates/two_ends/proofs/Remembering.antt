@@ -36,9 +36,6 @@ floor-inside : (iss first floor greatest isr low gsr : ℕ) → iss < 2 ^ 48 →
 floor-inside iss first floor greatest isr low gsr fits some above below few isr_is low_is gsr_is taken =
     omega (arith, fits, some, above, below, few, isr_is, low_is, gsr_is, taken)
 
-floor-unset : (gsr : ℕ) → distance 0 0 ≤ distance 0 gsr
-floor-unset gsr = omega arith
-
 between-so : (iss floor greatest n low gsr : ℕ) → iss < 2 ^ 48 → 1 ≤ floor → floor ≤ greatest + 1 → 1 ≤ greatest → greatest < 2 ^ 47 → n < 2 ^ 48
     → low ≡ number_of iss floor → gsr ≡ number_of iss greatest → IsFrom low n → IsFrom n gsr
     → (n ≡ number_of iss (floor + distance low n)) × (floor + distance low n ≤ greatest)
