@@ -8,7 +8,7 @@ ghost use Rattle.ack_vectors.specs.declared.room.Vectors.TheVariants.{Two};
 ghost use Rattle.ack_vectors.specs.ByRuns.{bytes_by_runs};
 
 use crate::room::VectorBytes;
-use run_list::Walk;
+use run_list::RunWalk;
 use seq_circle::Seq48;
 
 // The states of an Ack Vector that are written (RFC 4340, section 11.4).
@@ -61,7 +61,7 @@ fn put_both(out: &mut VectorBytes, room: usize, missing: u64, received: u64) -> 
 pub(crate) fn put_runs(
     out: &mut VectorBytes,
     room: usize,
-    runs: Walk<'_>,
+    runs: RunWalk<'_>,
     floor: Seq48,
     left: u64,
 ) -> bool

@@ -6,7 +6,7 @@
 -- the chains that a state has, and the place that a walk found, are in records as lists of indices.
 use Rattle.std.specs.Prelude.{◌≡◌, ℕ, ◌+◌, ◌<◌, ◌≤◌, ◌==◌, nat_lt, List, [], ◌∷◌, zero, suc, length, slice_index_or, if◌then◌else◌}
 use Rattle.run_list.specs.declared.walking.Stretch.{Stretch}
-use Rattle.run_list.specs.declared.linked.Linked.{Linked}
+use Rattle.run_list.specs.declared.linked.NodeList.{NodeList}
 use Rattle.run_list.specs.declared.linked.Node.{Node}
 use Rattle.run_list.specs.Runs.{Touches, bound_after}
 use Rattle.seq_circle.specs.Circle.{distance}
@@ -91,7 +91,7 @@ pub record IsLinked (nodes : List Node) (first free : ℕ) : Type 0 where
   pub idle : AreIdle (runs_at nodes spare)
 
 -- the same of a set's nodes
-abbrev pub AreLinked : Linked → Type 0
+abbrev pub AreLinked : NodeList → Type 0
 AreLinked runs = IsLinked runs.nodes.items runs.first runs.free
 
 -- a place in the chain: the links lead from the first node to `at`, after `before`, and from there on to no node

@@ -7,7 +7,7 @@ ghost use Rattle.std.specs.Prelude.{◌≡◌, ◌+◌, ◌<◌, IfSome};
 ghost use Rattle.seq_circle.specs.Circle.{distance};
 ghost use Rattle.run_list.specs.Linked.{AreLinked, IsBegin, IsPlace, node_at};
 
-use crate::linked::{Linked, NONE, Place};
+use crate::linked::{ChainPlace, NONE, NodeList};
 use seq_circle::Seq48;
 
 // So many successive numbers share a hint (own).
@@ -44,7 +44,7 @@ impl Hints {
 }
 
 // The place after a node, where that has a run that lies above `n` with a gap.
-fn place_after(runs: &Linked, node: u16, floor: Seq48, n: Seq48) -> Option<Place>
+fn place_after(runs: &NodeList, node: u16, floor: Seq48, n: Seq48) -> Option<ChainPlace>
     requires linked { AreLinked runs.now }
     ensures { IfSome result (λ place. IsBegin floor n runs.now.nodes.items runs.now.first place.before place.at) }
 {
@@ -56,7 +56,7 @@ fn place_after(runs: &Linked, node: u16, floor: Seq48, n: Seq48) -> Option<Place
     if run.count == 0 || above <= u64::from(run.count) {
         return None;
     }
-    Some(Place {
+    Some(ChainPlace {
         before: node,
         at: run.next,
     })
@@ -64,11 +64,11 @@ fn place_after(runs: &Linked, node: u16, floor: Seq48, n: Seq48) -> Option<Place
 
 // Where the walk to a number begins: after a hint for its own numbers or for those right above them, and else at the
 // first node.
-pub(crate) fn begin(runs: &Linked, hints: &Hints, floor: Seq48, n: Seq48) -> Place
+pub(crate) fn begin(runs: &NodeList, hints: &Hints, floor: Seq48, n: Seq48) -> ChainPlace
     requires linked { AreLinked runs.now }
     ensures begins { IsBegin floor n runs.now.nodes.items runs.now.first result.before result.at }
 {
-    let first = Place {
+    let first = ChainPlace {
         before: NONE,
         at: runs.first,
     };

@@ -29,7 +29,7 @@ pub struct Node {
 
 // The nodes, with the first used one and the first free one.
 #[derive(Drop)]
-pub struct Linked {
+pub struct NodeList {
     pub nodes: Vec<Node>,
     pub first: u16,
     pub free: u16,
@@ -37,13 +37,13 @@ pub struct Linked {
 
 // A place in the chain of used nodes: the node that is there, and the one before it.
 #[derive(Clone, Copy)]
-pub struct Place {
+pub struct ChainPlace {
     pub before: u16,
     pub at: u16,
 }
 
 // All nodes are free.
-pub(crate) fn all_free(alloc: Global, zero: Seq48) -> Result<Linked, NoMemory>
+pub(crate) fn all_free(alloc: Global, zero: Seq48) -> Result<NodeList, NoMemory>
     ensures linked { IfOk result (λ made. AreLinked made) }
     ensures empty { IfOk result (λ made. runs_from made.nodes.items made.first ≡ []) }
 {
@@ -63,7 +63,7 @@ pub(crate) fn all_free(alloc: Global, zero: Seq48) -> Result<Linked, NoMemory>
         };
         free = next;
     }
-    Ok(Linked {
+    Ok(NodeList {
         nodes,
         first: NONE,
         free,
@@ -71,14 +71,14 @@ pub(crate) fn all_free(alloc: Global, zero: Seq48) -> Result<Linked, NoMemory>
 }
 
 // The place of the first run that `n` touches, is in, or is above.
-fn place_for(runs: &Linked, hints: &mut Hints, floor: Seq48, n: Seq48) -> Place
+fn place_for(runs: &NodeList, hints: &mut Hints, floor: Seq48, n: Seq48) -> ChainPlace
     requires near { distance floor n < 2048 }
     requires linked { AreLinked runs.now }
     requires laid { AreLaid floor 2048 (runs_from runs.now.nodes.items runs.now.first) }
     ensures place { IsPlaceFor floor n runs.now.nodes.items runs.now.first result.before result.at }
 {
     let place = floor.distance(n);
-    let Place { mut before, mut at } = begin(runs, hints, floor, n);
+    let ChainPlace { mut before, mut at } = begin(runs, hints, floor, n);
     while at < NONE {
         let node = runs.nodes[usize::from(at)];
         if floor.distance(node.hi) <= place + u64::from(node.count) {
@@ -88,16 +88,16 @@ fn place_for(runs: &Linked, hints: &mut Hints, floor: Seq48, n: Seq48) -> Place
         before = at;
         at = node.next;
     }
-    Place { before, at }
+    ChainPlace { before, at }
 }
 
 // The place of the first run that ends below a number.
-fn place_below(runs: &Linked, hints: &mut Hints, floor: Seq48, to: Seq48) -> Place
+fn place_below(runs: &NodeList, hints: &mut Hints, floor: Seq48, to: Seq48) -> ChainPlace
     requires linked { AreLinked runs.now }
     ensures place { IsPlaceBelow floor (distance floor to) runs.now.nodes.items runs.now.first result.before result.at }
 {
     let rise = floor.distance(to);
-    let Place { mut before, mut at } = begin(runs, hints, floor, to);
+    let ChainPlace { mut before, mut at } = begin(runs, hints, floor, to);
     while at < NONE {
         let node = runs.nodes[usize::from(at)];
         if floor.distance(node.hi) < rise {
@@ -107,11 +107,11 @@ fn place_below(runs: &Linked, hints: &mut Hints, floor: Seq48, to: Seq48) -> Pla
         before = at;
         at = node.next;
     }
-    Place { before, at }
+    ChainPlace { before, at }
 }
 
 // Lets the node `to` follow `before`, or come first where that is none.
-fn point(runs: &mut Linked, before: u16, to: u16)
+fn point(runs: &mut NodeList, before: u16, to: u16)
     requires size { length runs.old.nodes.items ≡ 1024 }
     requires within { before ≤ 1024 }
     ensures points { Points runs.old.nodes.items runs.new.nodes.items runs.old.first runs.new.first before to }
@@ -125,7 +125,7 @@ fn point(runs: &mut Linked, before: u16, to: u16)
 }
 
 // Links a run of `n` alone between `before` and `at`.
-fn link(runs: &mut Linked, floor: Seq48, before: u16, at: u16, n: Seq48)
+fn link(runs: &mut NodeList, floor: Seq48, before: u16, at: u16, n: Seq48)
     requires linked { AreLinked runs.old }
     requires laid { AreLaid floor 2048 (runs_from runs.old.nodes.items runs.old.first) }
     requires place { IsPlaceFor floor n runs.old.nodes.items runs.old.first before at }
@@ -144,7 +144,7 @@ fn link(runs: &mut Linked, floor: Seq48, before: u16, at: u16, n: Seq48)
 }
 
 // Puts `n` on top of the run at `at`, which ends right below it.
-fn extend_up(runs: &mut Linked, floor: Seq48, before: u16, at: u16, n: Seq48)
+fn extend_up(runs: &mut NodeList, floor: Seq48, before: u16, at: u16, n: Seq48)
     requires linked { AreLinked runs.old }
     requires laid { AreLaid floor 2048 (runs_from runs.old.nodes.items runs.old.first) }
     requires place { IsPlaceFor floor n runs.old.nodes.items runs.old.first before at }
@@ -163,7 +163,7 @@ fn extend_up(runs: &mut Linked, floor: Seq48, before: u16, at: u16, n: Seq48)
 
 // Puts `n` under the run at `at`, which begins right above it, and joins that with the next run where it ends right
 // below.
-fn extend_down(runs: &mut Linked, floor: Seq48, before: u16, at: u16, n: Seq48)
+fn extend_down(runs: &mut NodeList, floor: Seq48, before: u16, at: u16, n: Seq48)
     requires linked { AreLinked runs.old }
     requires laid { AreLaid floor 2048 (runs_from runs.old.nodes.items runs.old.first) }
     requires place { IsPlaceFor floor n runs.old.nodes.items runs.old.first before at }
@@ -198,7 +198,7 @@ fn extend_down(runs: &mut Linked, floor: Seq48, before: u16, at: u16, n: Seq48)
 }
 
 // Adds `n` where it is not there; tells whether it was added.
-pub(crate) fn put(runs: &mut Linked, hints: &mut Hints, floor: Seq48, n: Seq48) -> bool
+pub(crate) fn put(runs: &mut NodeList, hints: &mut Hints, floor: Seq48, n: Seq48) -> bool
     requires near { distance floor n < 2048 }
     requires laid { AreLaid floor 2048 (runs_from runs.old.nodes.items runs.old.first) }
     requires linked { AreLinked runs.old }
@@ -207,7 +207,7 @@ pub(crate) fn put(runs: &mut Linked, hints: &mut Hints, floor: Seq48, n: Seq48) 
     ensures there { OnFalse result (has (numbers_of (runs_from runs.old.nodes.items runs.old.first)) n ≡ true) }
     ensures stays { OnFalse result (runs_from runs.new.nodes.items runs.new.first ≡ runs_from runs.old.nodes.items runs.old.first) }
 {
-    let Place { before, at } = place_for(runs, hints, floor, n);
+    let ChainPlace { before, at } = place_for(runs, hints, floor, n);
     if at == NONE {
         link(runs, floor, before, at, n);
         return true;
@@ -228,7 +228,7 @@ pub(crate) fn put(runs: &mut Linked, hints: &mut Hints, floor: Seq48, n: Seq48) 
 }
 
 // Frees the nodes from one on.
-fn release(runs: &mut Linked, from: u16)
+fn release(runs: &mut NodeList, from: u16)
     requires parted { IsParted runs.old.nodes.items runs.old.first runs.old.free from }
     ensures linked { AreLinked runs.new }
     ensures stays { runs_from runs.new.nodes.items runs.new.first ≡ runs_from runs.old.nodes.items runs.old.first }
@@ -247,7 +247,7 @@ fn release(runs: &mut Linked, from: u16)
 }
 
 // Frees all nodes.
-pub(crate) fn clear(runs: &mut Linked)
+pub(crate) fn clear(runs: &mut NodeList)
     requires linked { AreLinked runs.old }
     ensures linked { AreLinked runs.new }
     ensures empty { runs_from runs.new.nodes.items runs.new.first ≡ [] }
@@ -258,7 +258,7 @@ pub(crate) fn clear(runs: &mut Linked)
 }
 
 // Takes the numbers below `to` from the runs above `floor`.
-pub(crate) fn cut(runs: &mut Linked, hints: &mut Hints, floor: Seq48, to: Seq48)
+pub(crate) fn cut(runs: &mut NodeList, hints: &mut Hints, floor: Seq48, to: Seq48)
     requires before { IsBefore floor to }
     requires laid { AreLaid floor 2048 (runs_from runs.old.nodes.items runs.old.first) }
     requires linked { AreLinked runs.old }
@@ -267,7 +267,7 @@ pub(crate) fn cut(runs: &mut Linked, hints: &mut Hints, floor: Seq48, to: Seq48)
     ensures numbers { numbers_of (runs_from runs.new.nodes.items runs.new.first) ≡ filter (is_from to) (numbers_of (runs_from runs.old.nodes.items runs.old.first)) }
 {
     let rise = floor.distance(to);
-    let Place { before, at } = place_below(runs, hints, floor, to);
+    let ChainPlace { before, at } = place_below(runs, hints, floor, to);
     if before == NONE {
         runs.first = NONE;
     } else {

@@ -7,8 +7,8 @@ ghost use Rattle.run_list.specs.Stretches.{stretches};
 
 use crate::answers::Marked;
 use crate::hints::Hints;
-use crate::linked::{Linked, all_free, clear, cut, put};
-use crate::walking::Walk;
+use crate::linked::{NodeList, all_free, clear, cut, put};
+use crate::walking::RunWalk;
 use seq_circle::{NoMemory, Seq48};
 use std::alloc::Global;
 use std::marker::Model;
@@ -24,7 +24,7 @@ const REACH: u64 = 2_047;
 #[derive(Drop)]
 pub struct RunList {
     floor: Seq48,
-    runs: Linked,
+    runs: NodeList,
     hints: Hints,
 }
 
@@ -117,9 +117,9 @@ impl RunList {
     }
 
     /// The set's maximal runs of successive numbers, from the newest down.
-    pub fn walk(&self) -> Walk<'_>
+    pub fn walk(&self) -> RunWalk<'_>
         ensures { result ≡ stretches self.now.numbers }
     {
-        Walk::over(&self.runs.nodes, self.runs.first)
+        RunWalk::over(&self.runs.nodes, self.runs.first)
     }
 }
