@@ -32,7 +32,7 @@ use Rattle.dccp_states.specs.declared.reply.Reply.TheVariants as reply
 use Rattle.feature_lists.specs.declared.features.Feature.TheVariants.{ShortSeqnos}
 use Rattle.feature_lists.specs.declared.features.Place.TheVariants.{There}
 use Rattle.feature_machine.specs.Negotiating.{first_rows}
-use Rattle.feature_machine.specs.declared.offers.Listed.{Listed}
+use Rattle.feature_machine.specs.declared.offers.RowSetup.{RowSetup}
 use Rattle.feature_machine.specs.declared.row.Row.{Row}
 use Rattle.feature_machine.specs.declared.stands.Role2.TheVariants as end
 use Rattle.run_list.specs.MarkedSet.{answer_to}
@@ -341,7 +341,7 @@ reads_options x a = heeds (a.newest && counts x.phase a.kind) a.ack (unheeded x.
 
 -- The same of a Request for its service that reaches a server's end in LISTEN: what it makes of the option area depends
 -- on its lists alone. The end has left LISTEN by then (step 3).
-abbrev pub reads_request : List Listed → List ℕ → Result Heeding Fault
+abbrev pub reads_request : List RowSetup → List ℕ → Result Heeding Fault
 reads_request lists area = heeds true None (unheeded (first_rows end.Server lists)) (options_of area false)
 
 -- the fault, if there is one

@@ -8,7 +8,7 @@ use Rattle.feature_lists.specs.declared.features.Feature.TheVariants as f
 use Rattle.feature_lists.specs.declared.features.Place.{Place}
 use Rattle.feature_lists.specs.declared.features.Place.TheVariants as located
 use Rattle.feature_machine.specs.declared.stands.Role2.{Role2}
-use Rattle.feature_machine.specs.declared.offers.Listed.{Listed}
+use Rattle.feature_machine.specs.declared.offers.RowSetup.{RowSetup}
 use Rattle.feature_machine.specs.Lists.{index_of, usual_listed, usual_lists, listed_at, unoffered, without_offers, IsListedFor, IsLists}
 use Rattle.feature_machine.specs.Negotiating.{first_row, first_rows, IsNegotiation}
 use Rattle.feature_lists.specs.Features.{initial_of, is_permitted}
@@ -38,10 +38,10 @@ usual_is_listed f.CheckDataChecksum located.There = record { feature_is = refl; 
 pub usual_are_lists : IsLists usual_lists
 usual_are_lists = record { size = refl; each = usual_is_listed }
 
-unoffered_is_listed : (feature : Feature) (place : Place) (listed : Listed) → IsListedFor feature place listed → IsListedFor feature place (unoffered listed)
+unoffered_is_listed : (feature : Feature) (place : Place) (listed : RowSetup) → IsListedFor feature place listed → IsListedFor feature place (unoffered listed)
 unoffered_is_listed feature place listed its = record { feature_is = its.feature_is; place_is = its.place_is; wish = its.wish; offer = λ ours. refl }
 
-pub without_offers_are_lists : (lists : List Listed) → IsLists lists → IsLists (without_offers lists)
+pub without_offers_are_lists : (lists : List RowSetup) → IsLists lists → IsLists (without_offers lists)
 without_offers_are_lists lists its =
     record {
       size = length-map lists unoffered ∙ its.size;
@@ -56,7 +56,7 @@ or_true : (a b : Bool) → a ≡ true → (a || b) ≡ true
 or_true true b h = refl
 or_true false b h = cc
 
-first_is_row : (r : Role2) (feature : Feature) (place : Place) (listed : Listed) → IsListedFor feature place listed → IsRowOf feature place (first_row r listed)
+first_is_row : (r : Role2) (feature : Feature) (place : Place) (listed : RowSetup) → IsListedFor feature place listed → IsRowOf feature place (first_row r listed)
 first_is_row r feature place listed its =
     let initial : (initial_of listed.feature == initial_of listed.feature) ≡ true = eq-eqb (initial_of listed.feature) (initial_of listed.feature) refl in
     record {
@@ -75,7 +75,7 @@ first_is_row r feature place listed its =
       };
     }
 
-pub first_are_rows : (r : Role2) (lists : List Listed) → IsLists lists → IsNegotiation (first_rows r lists)
+pub first_are_rows : (r : Role2) (lists : List RowSetup) → IsLists lists → IsNegotiation (first_rows r lists)
 first_are_rows r lists its =
     record {
       size = length-map lists (first_row r) ∙ its.size;

@@ -9,7 +9,7 @@ use Rattle.feature_lists.specs.declared.features.Feature.{Feature}
 use Rattle.feature_lists.specs.declared.features.Feature.TheVariants as f
 use Rattle.feature_lists.specs.declared.features.Place.{Place}
 use Rattle.feature_lists.specs.declared.features.Place.TheVariants as located
-use Rattle.feature_machine.specs.declared.offers.Listed.{Listed}
+use Rattle.feature_machine.specs.declared.offers.RowSetup.{RowSetup}
 use Rattle.feature_machine.specs.declared.row.Row.{Row}
 use Rattle.feature_machine.specs.declared.stands.Role2.{Role2}
 use Rattle.feature_machine.specs.Lists.{index_of, usual_listed, listed_at, list_put, IsLists}
@@ -114,26 +114,26 @@ pub turned-joined : (rows : List Row) (earlier later : List Turn) → turned row
 turned-joined rows [] later = refl
 turned-joined rows (first ∷ rest) later = turned-joined (stepped rows first.feature first.place first.event).rows rest later
 
-pub first-fresh : (role : Role2) (lists : List Listed) → IsLists lists → (feature : Feature) (place : Place)
+pub first-fresh : (role : Role2) (lists : List RowSetup) → IsLists lists → (feature : Feature) (place : Place)
     → row_at (first_rows role lists) feature place ≡ first_row role (listed_at lists feature place)
 first-fresh role lists its feature place =
     let inside : index_of feature place < length lists = (let below = index_below feature place in let size = its.size in omega arith) in
     get_or-map (first_row role) lists (index_of feature place) (usual_listed f.Ccid located.Here) _ inside
 
-pub first-role : (role : Role2) (lists : List Listed) → IsLists lists → AreRowsOf role (first_rows role lists)
+pub first-role : (role : Role2) (lists : List RowSetup) → IsLists lists → AreRowsOf role (first_rows role lists)
 first-role role lists its = record {
   sound = first_are_rows role lists its;
   roles = λ feature place. ap (λ row. row.role) (first-fresh role lists its feature place);
 }
 
 -- what is listed
-pub listed_there : (lists : List Listed) (feature : Feature) (place : Place) (listed : Listed) → length lists ≡ 18
+pub listed_there : (lists : List RowSetup) (feature : Feature) (place : Place) (listed : RowSetup) → length lists ≡ 18
     → listed_at (list_put lists feature place listed) feature place ≡ listed
 listed_there lists feature place listed size =
     let inside : index_of feature place < length lists = (let below = index_below feature place in omega arith) in
     get_or-set_same lists (index_of feature place) listed _ inside
 
-pub listed_others : (lists : List Listed) (feature other : Feature) (place there : Place) (listed : Listed)
+pub listed_others : (lists : List RowSetup) (feature other : Feature) (place there : Place) (listed : RowSetup)
     → index_of other there ≢ index_of feature place
     → listed_at (list_put lists feature place listed) other there ≡ listed_at lists other there
 listed_others lists feature other place there listed differs =

@@ -9,7 +9,7 @@ use Rattle.feature_lists.specs.declared.features.Place.TheVariants as located
 use Rattle.feature_lists.specs.declared.wishes.Wanted.{Wanted}
 use Rattle.feature_machine.specs.declared.offers.Offer.{Offer}
 use Rattle.feature_machine.specs.declared.offers.Offer.TheVariants as offer
-use Rattle.feature_machine.specs.declared.offers.Listed.{Listed}
+use Rattle.feature_machine.specs.declared.offers.RowSetup.{RowSetup}
 use Rattle.feature_machine.specs.Sound.{is_active}
 
 -- the place of a row among the eighteen: by features, here before there
@@ -24,12 +24,12 @@ usual_offer f.SendAckVector located.There = offer.Mandatory
 usual_offer _ _ = offer.Nothing
 
 -- what an end that was told nothing wants and offers for one feature at one place
-abbrev pub usual_listed : Feature → Place → Listed
+abbrev pub usual_listed : Feature → Place → RowSetup
 usual_listed feature place =
     record { feature = feature; place = place; wish = usual_of feature place; offer = usual_offer feature place }
 
 -- for each feature at each place, in the order of the rows
-abbrev pub usual_lists : List Listed
+abbrev pub usual_lists : List RowSetup
 usual_lists =
     usual_listed f.Ccid located.Here
     ∷ usual_listed f.Ccid located.There
@@ -52,15 +52,15 @@ usual_lists =
     ∷ []
 
 -- what is there for a row
-abbrev pub listed_at : List Listed → Feature → Place → Listed
+abbrev pub listed_at : List RowSetup → Feature → Place → RowSetup
 listed_at lists feature place = slice_index_or lists (index_of feature place) (usual_listed f.Ccid located.Here)
 
 -- the same lists with this for that row
-abbrev pub list_put : List Listed → Feature → Place → Listed → List Listed
+abbrev pub list_put : List RowSetup → Feature → Place → RowSetup → List RowSetup
 list_put lists feature place listed = slice_set lists (index_of feature place) listed
 
 -- this wish takes the place of the row's, and its offer stays
-abbrev pub with_wish : List Listed → Feature → Place → Wanted → List Listed
+abbrev pub with_wish : List RowSetup → Feature → Place → Wanted → List RowSetup
 with_wish lists feature place wish = list_put lists feature place (record (listed_at lists feature place) { wish = Some wish })
 
 -- an offer's Change is sent plain or after Mandatory
@@ -69,26 +69,26 @@ offer_of true = offer.Mandatory
 offer_of false = offer.Plain
 
 -- the row is offered, and its wish stays
-abbrev pub with_offer : List Listed → Feature → Place → Bool → List Listed
+abbrev pub with_offer : List RowSetup → Feature → Place → Bool → List RowSetup
 with_offer lists feature place mandatory =
     list_put lists feature place (record (listed_at lists feature place) { offer = offer_of mandatory })
 
 -- an entry that keeps its wish, but is not offered
-abbrev pub unoffered : Listed → Listed
+abbrev pub unoffered : RowSetup → RowSetup
 unoffered listed = record listed { offer = offer.Nothing }
 
 -- the same wishes, none of which is offered
-abbrev pub without_offers : List Listed → List Listed
+abbrev pub without_offers : List RowSetup → List RowSetup
 without_offers lists = map unoffered lists
 
 -- what every row's entry keeps
-pub record IsListedFor (feature : Feature) (place : Place) (listed : Listed) : Type 0 where
+pub record IsListedFor (feature : Feature) (place : Place) (listed : RowSetup) : Type 0 where
   pub feature_is : listed.feature ≡ feature
   pub place_is : listed.place ≡ place
   pub wish : is_active feature place listed.wish ≡ true
   pub offer : is_ours feature place ≡ false → listed.offer ≡ offer.Nothing
 
 -- there is one for each row
-pub record IsLists (lists : List Listed) : Type 0 where
+pub record IsLists (lists : List RowSetup) : Type 0 where
   pub size : length lists ≡ 18
   pub each : (feature : Feature) (place : Place) → IsListedFor feature place (listed_at lists feature place)

@@ -11,7 +11,7 @@ use Rattle.feature_machine.specs.declared.stands.Role2.TheVariants as role
 use Rattle.feature_machine.specs.declared.stands.Stand.{Stand}
 use Rattle.feature_machine.specs.declared.stands.Stand.TheVariants as stand
 use Rattle.feature_machine.specs.declared.stands.Held.{Held}
-use Rattle.feature_machine.specs.declared.offers.Listed.{Listed}
+use Rattle.feature_machine.specs.declared.offers.RowSetup.{RowSetup}
 use Rattle.feature_machine.specs.declared.offers.Offer.{Offer}
 use Rattle.feature_machine.specs.declared.offers.Offer.TheVariants as offer
 use Rattle.feature_machine.specs.declared.row.Row.{Row}
@@ -20,7 +20,7 @@ use Rattle.feature_machine.specs.Rows.{RowEvent, Change, Confirm, RowAnswer, Con
 use Rattle.feature_machine.specs.Sound.{IsRowOf}
 
 -- a row before anything was negotiated
-abbrev pub first_row : Role2 → Listed → Row
+abbrev pub first_row : Role2 → RowSetup → Row
 first_row role listed =
     record {
       role = role;
@@ -36,7 +36,7 @@ first_row role listed =
     }
 
 -- the rows of an end before anything was negotiated
-abbrev pub first_rows : Role2 → List Listed → List Row
+abbrev pub first_rows : Role2 → List RowSetup → List Row
 first_rows role lists = map (first_row role) lists
 
 -- the row of a feature at a place

@@ -7,7 +7,7 @@ ghost use Rattle.feature_lists.specs.declared.wishes.PreferFault.TheVariants.{Ba
 ghost use Rattle.feature_machine.specs.Lists.{usual_listed, usual_offer, usual_lists, listed_at, list_put, with_wish, with_offer, without_offers, offer_of, IsListedFor, IsLists};
 
 use crate::negotiation::index_of;
-use crate::offers::{Listed, Offer};
+use crate::offers::{Offer, RowSetup};
 use feature_lists::{Feature, Place, PreferFault, Wanted, usual, wish};
 use std::marker::Model;
 
@@ -15,14 +15,14 @@ use std::marker::Model;
 /// Contracts see what is listed for the rows in their order.
 #[derive(Clone, Copy, Debug, PartialEq, Eq)]
 pub struct Lists {
-    listed: [Listed; 18],
+    listed: [RowSetup; 18],
 }
 
 impl Model for Lists {
     ghost use Rattle.std.specs.Prelude.{List};
-    ghost use Rattle.feature_machine.specs.declared.offers.Listed.{Listed};
+    ghost use Rattle.feature_machine.specs.declared.offers.RowSetup.{RowSetup};
 
-    ghost Value = { List Listed };
+    ghost Value = { List RowSetup };
 
     ghost use Rattle.feature_machine.specs.Lists.{IsLists};
 
@@ -33,7 +33,7 @@ impl Model for Lists {
     ghost inverse = { λ listed. record { listed = listed } };
 }
 
-fn usual_listed(feature: Feature, place: Place) -> Listed
+fn usual_listed(feature: Feature, place: Place) -> RowSetup
     ensures { result ≡ usual_listed feature place }
 {
     let offer = match (feature, place) {
@@ -41,7 +41,7 @@ fn usual_listed(feature: Feature, place: Place) -> Listed
         (Feature::SendAckVector, Place::There) => Offer::Mandatory,
         _ => Offer::Nothing,
     };
-    Listed {
+    RowSetup {
         feature,
         place,
         wish: usual(feature, place),
@@ -49,7 +49,7 @@ fn usual_listed(feature: Feature, place: Place) -> Listed
     }
 }
 
-fn all_usual() -> [Listed; 18]
+fn all_usual() -> [RowSetup; 18]
     ensures { result ≡ usual_lists }
 {
     [
@@ -75,7 +75,7 @@ fn all_usual() -> [Listed; 18]
 }
 
 // Takes the offers away.
-fn unoffer(listed: &mut [Listed])
+fn unoffer(listed: &mut [RowSetup])
     ensures { listed.new ≡ without_offers listed.old }
 {
     for one in listed.iter_mut() {
@@ -106,7 +106,7 @@ impl Lists {
     }
 
     // What is listed for a row.
-    pub(crate) fn at(&self, feature: Feature, place: Place) -> Listed
+    pub(crate) fn at(&self, feature: Feature, place: Place) -> RowSetup
         ensures value { result ≡ listed_at self.now feature place }
         ensures its { IsListedFor feature place result }
         ensures lists { IsLists self.now }
@@ -115,14 +115,14 @@ impl Lists {
     }
 
     // All of it, in the order of the rows.
-    pub(crate) fn all(&self) -> &[Listed; 18]
+    pub(crate) fn all(&self) -> &[RowSetup; 18]
         ensures value { result.now ≡ self.now }
         ensures lists { IsLists self.now }
     {
         &self.listed
     }
 
-    fn put(&mut self, feature: Feature, place: Place, listed: Listed)
+    fn put(&mut self, feature: Feature, place: Place, listed: RowSetup)
         requires { IsListedFor feature place listed }
         ensures { self.new ≡ list_put self.old feature place listed }
     {

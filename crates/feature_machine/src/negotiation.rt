@@ -13,7 +13,7 @@ ghost use Rattle.feature_machine.specs.declared.stands.Stand.TheVariants.{Stable
 ghost use Rattle.feature_machine.specs.declared.answers.Settling.TheVariants.{Fatal, Ignored, Settled};
 
 use crate::due::Due;
-use crate::offers::{Listed, Offer};
+use crate::offers::{Offer, RowSetup};
 use crate::row::{Reply, Row};
 use crate::{Answer, ConfirmOut, Held, Lists, Opening, Role2, Settling, Stand};
 use arrayvec::ArrayVec;
@@ -73,7 +73,7 @@ fn place_of(left: bool) -> Place
 }
 
 // Fills each row with its feature's initial value and what is listed for it.
-fn fill(rows: &mut [Row], role: Role2, listed: &[Listed])
+fn fill(rows: &mut [Row], role: Role2, listed: &[RowSetup])
     requires { length rows.old ≡ length listed.now }
     ensures { rows.new ≡ first_rows role listed.now }
 {

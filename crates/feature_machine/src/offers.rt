@@ -15,7 +15,7 @@ pub enum Offer {
 
 /// What an end starts with for a feature at a place.
 #[derive(Clone, Copy, Debug, PartialEq, Eq)]
-pub struct Listed {
+pub struct RowSetup {
     pub feature: Feature,
     pub place: Place,
     /// The wish; None for a non-negotiable feature at the peer.

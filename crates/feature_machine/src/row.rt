@@ -23,7 +23,7 @@ ghost use Rattle.feature_machine.specs.declared.offers.Offer.TheVariants.{Nothin
 ghost use Rattle.feature_machine.specs.declared.stands.Stand.TheVariants.{Stable};
 
 use crate::judging::{Confirmation, Proposal};
-use crate::offers::{Listed, Offer};
+use crate::offers::{Offer, RowSetup};
 use crate::{Opening, Role2, Settling, Stand};
 use arrayvec::ArrayVec;
 use byteorder::{BigEndian, ByteOrder};
@@ -86,7 +86,7 @@ fn number_bytes(feature: Feature, value: u64) -> ArrayVec<u8, 9>
 
 impl Row {
     // A row before anything was negotiated.
-    pub(crate) fn first(role: Role2, listed: &Listed) -> Row
+    pub(crate) fn first(role: Role2, listed: &RowSetup) -> Row
         ensures { result ≡ first_row role listed.now }
     {
         Row {

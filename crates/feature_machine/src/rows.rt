@@ -7,20 +7,20 @@ ghost use Rattle.feature_machine.specs.Negotiating.{first_row, first_rows, row_a
 ghost use Rattle.feature_machine.specs.Rows.{RowEvent};
 ghost use Rattle.feature_machine.specs.Sound.{IsEventFor};
 ghost use Rattle.feature_machine.specs.Turns.{Turn, turned, row_turned, events_of, AreLawful};
-ghost use Rattle.feature_machine.specs.declared.offers.Listed.{Listed};
+ghost use Rattle.feature_machine.specs.declared.offers.RowSetup.{RowSetup};
 ghost use Rattle.feature_machine.specs.declared.row.Row.{Row};
 ghost use Rattle.feature_machine.specs.declared.stands.Role2.{Role2};
 
 /// An end begins with fresh rows: each is STABLE at its feature's initial value, with the wish and the offer that are
 /// listed for it.
 pub fn rows_begin_fresh()
-    ensures { (role : Role2) (lists : List Listed) → IsLists lists → (feature : Feature) (place : Place)
+    ensures { (role : Role2) (lists : List RowSetup) → IsLists lists → (feature : Feature) (place : Place)
         → row_at (first_rows role lists) feature place ≡ first_row role (listed_at lists feature place) }
 {}
 
 /// The rows of an end are sound and of its role: at first, and whatever happens to one of them.
 pub fn rows_keep_their_role()
-    ensures first { (role : Role2) (lists : List Listed) → IsLists lists → AreRowsOf role (first_rows role lists) }
+    ensures first { (role : Role2) (lists : List RowSetup) → IsLists lists → AreRowsOf role (first_rows role lists) }
     ensures stepped { (role : Role2) (rows : List Row) (feature : Feature) (place : Place) (event : RowEvent)
         → AreRowsOf role rows
         → IsEventFor (row_at rows feature place) event → AreRowsOf role (stepped rows feature place event).rows }
@@ -52,9 +52,9 @@ pub fn due_rows_are_those_that_ask()
 
 /// What is listed for a row is read there, and for no other row.
 pub fn lists_stand_apart()
-    ensures there { (lists : List Listed) (feature : Feature) (place : Place) (listed : Listed) → length lists ≡ 18
+    ensures there { (lists : List RowSetup) (feature : Feature) (place : Place) (listed : RowSetup) → length lists ≡ 18
         → listed_at (list_put lists feature place listed) feature place ≡ listed }
-    ensures others { (lists : List Listed) (feature other : Feature) (place there : Place) (listed : Listed)
+    ensures others { (lists : List RowSetup) (feature other : Feature) (place there : Place) (listed : RowSetup)
         → index_of other there ≢ index_of feature place
         → listed_at (list_put lists feature place listed) other there ≡ listed_at lists other there }
 {}

@@ -19,7 +19,7 @@ use Rattle.feature_machine.specs.declared.answers.Opening.{Opening}
 use Rattle.feature_machine.specs.declared.answers.Opening.TheVariants as opening
 use Rattle.feature_machine.specs.declared.answers.Settling.{Settling}
 use Rattle.feature_machine.specs.declared.answers.Settling.TheVariants as settling
-use Rattle.feature_machine.specs.declared.offers.Listed.{Listed}
+use Rattle.feature_machine.specs.declared.offers.RowSetup.{RowSetup}
 use Rattle.feature_machine.specs.declared.row.Row.{Row}
 use Rattle.feature_machine.specs.declared.stands.Role2.{Role2}
 use Rattle.feature_machine.specs.declared.stands.Role2.TheVariants.{Client, Server}
@@ -64,11 +64,11 @@ abbrev confirm_r : ℕ → String → Told
 confirm_r feature digits = Answers (Confirming false feature (spelled digits))
 
 -- the lists after a wish and an offer, and what these answer
-abbrev wished : List Listed → Feature → Place → Result Wanted PreferFault → List Listed
+abbrev wished : List RowSetup → Feature → Place → Result Wanted PreferFault → List RowSetup
 wished lists feature place (Ok wish) = with_wish lists feature place wish
 wished lists feature place (Err fault) = lists
 
-abbrev offered : List Listed → Feature → Place → Bool → Bool → List Listed
+abbrev offered : List RowSetup → Feature → Place → Bool → Bool → List RowSetup
 offered lists feature place mandatory true = with_offer lists feature place mandatory
 offered lists feature place mandatory false = lists
 
@@ -91,7 +91,7 @@ opened true opens = Unfit
 opened false true = Opens
 opened false false = Stays
 
-abbrev told : List Listed → List Row → List Word → List Told
+abbrev told : List RowSetup → List Row → List Word → List Told
 told lists rows [] = []
 told lists rows (Plain ∷ rest) = told (without_offers lists) rows rest
 told lists rows (Begins role ∷ rest) = told lists (first_rows role lists) rest

@@ -17,7 +17,7 @@ use Rattle.feature_machine.proofs.Listing.{without_offers_are_lists}
 use Rattle.feature_machine.proofs.Places.{same_feature, same_number, same_place}
 use Rattle.feature_machine.proofs.Turning.{listed_others, listed_there}
 use Rattle.feature_machine.specs.Lists.{IsListedFor, IsLists, index_of, list_put, listed_at, offer_of, with_offer, with_wish, without_offers}
-use Rattle.feature_machine.specs.declared.offers.Listed.{Listed}
+use Rattle.feature_machine.specs.declared.offers.RowSetup.{RowSetup}
 use Rattle.schedule_text.proofs.LineForms.{line-spelled}
 use Rattle.schedule_text.specs.Reading.{read_line}
 use Rattle.schedule_text.specs.declared.line.Line as words
@@ -37,7 +37,7 @@ use Rattle.world_events.specs.declared.event.Side.TheVariants.{Client, Server}
 
 -- lists in which one row has another entry that it may have
 
-lists-put : (lists : List Listed) (feature : Feature) (place : Place) (listed : Listed) → IsLists lists → IsListedFor feature place listed
+lists-put : (lists : List RowSetup) (feature : Feature) (place : Place) (listed : RowSetup) → IsLists lists → IsListedFor feature place listed
     → IsLists (list_put lists feature place listed)
 lists-put lists feature place listed are its =
     record {
@@ -52,20 +52,20 @@ lists-put lists feature place listed are its =
           let places : place ≡ there = sym (same_place other feature there place one) in
           subst (λ (x : Feature). IsListedFor x there (listed_at (list_put lists feature place listed) x there)) features
           (subst (λ (y : Place). IsListedFor feature y (listed_at (list_put lists feature place listed) feature y)) places
-          (subst (λ (l : Listed). IsListedFor feature place l) (sym (listed_there lists feature place listed are.size)) its))
+          (subst (λ (l : RowSetup). IsListedFor feature place l) (sym (listed_there lists feature place listed are.size)) its))
       by other there false is =
-          subst (λ (l : Listed). IsListedFor other there l)
+          subst (λ (l : RowSetup). IsListedFor other there l)
           (sym (listed_others lists feature other place there listed (eqb-false (index_of other there) (index_of feature place) is)))
           (are.each other there)
 
-wish-lists : (lists : List Listed) (feature : Feature) (place : Place) (wish : Wanted) → IsLists lists → is_wish feature place wish ≡ true
+wish-lists : (lists : List RowSetup) (feature : Feature) (place : Place) (wish : Wanted) → IsLists lists → is_wish feature place wish ≡ true
     → IsLists (with_wish lists feature place wish)
 wish-lists lists feature place wish are lawful =
     let its = are.each feature place in
     lists-put lists feature place (record (listed_at lists feature place) { wish = Some wish }) are
     (record { feature_is = its.feature_is; place_is = its.place_is; wish = lawful; offer = its.offer })
 
-offer-lists : (lists : List Listed) (feature : Feature) (place : Place) (mandatory : Bool) → IsLists lists → is_ours feature place ≡ true
+offer-lists : (lists : List RowSetup) (feature : Feature) (place : Place) (mandatory : Bool) → IsLists lists → is_ours feature place ≡ true
     → IsLists (with_offer lists feature place mandatory)
 offer-lists lists feature place mandatory are ours =
     let its = are.each feature place in
@@ -74,7 +74,7 @@ offer-lists lists feature place mandatory are ours =
 
 -- a configuration with other lists
 
-fits-with : (config : Config) (lists : List Listed) → Fits config → IsLists lists → Fits (record config { lists = lists })
+fits-with : (config : Config) (lists : List RowSetup) → Fits config → IsLists lists → Fits (record config { lists = lists })
 fits-with config lists fits are =
     record { own_port = fits.own_port; peer_port = fits.peer_port; service = fits.service; iss = fits.iss; lists = are }
 
