@@ -6,12 +6,12 @@ use Rattle.feature_machine.specs.declared.answers.Settling.{Settling}
 use Rattle.feature_machine.specs.declared.answers.Settling.TheVariants as settling
 use Rattle.feature_machine.specs.declared.answers.Opening.{Opening}
 use Rattle.feature_machine.specs.declared.answers.Opening.TheVariants as opening
-use Rattle.feature_machine.specs.declared.row.Reply.{Reply}
-use Rattle.feature_machine.specs.declared.row.Reply.TheVariants as reply
+use Rattle.feature_machine.specs.declared.row.RowReply.{RowReply}
+use Rattle.feature_machine.specs.declared.row.RowReply.TheVariants as reply
 use Rattle.feature_machine.specs.Rows.{RowAnswer, Confirms, Ignored, Settled, Fatal, Opens}
 
 -- a row's reply to a Change
-abbrev pub reply_of : Reply → RowAnswer
+abbrev pub reply_of : RowReply → RowAnswer
 reply_of (reply.Confirm body) = Confirms body.items
 reply_of reply.Ignored = Ignored
 reply_of reply.Fatal = Fatal 6

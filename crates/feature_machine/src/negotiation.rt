@@ -14,7 +14,7 @@ ghost use Rattle.feature_machine.specs.declared.answers.Settling.TheVariants.{Fa
 
 use crate::due::Due;
 use crate::offers::{Offer, RowSetup};
-use crate::row::{Reply, Row};
+use crate::row::{Row, RowReply};
 use crate::{Answer, ConfirmOut, Held, Lists, Opening, Role2, Settling, Stand};
 use arrayvec::ArrayVec;
 use feature_lists::{Feature, Place, Wanted};
@@ -124,7 +124,7 @@ impl Negotiation {
         self.rows[index_of(feature, place)] = row;
     }
 
-    fn change(&mut self, feature: Feature, place: Place, body: &[u8], mandatory: bool) -> Reply
+    fn change(&mut self, feature: Feature, place: Place, body: &[u8], mandatory: bool) -> RowReply
         ensures rows { self.new ≡ (stepped self.old feature place (Change body.now mandatory)).rows }
         ensures reply { reply_of result ≡ (stepped self.old feature place (Change body.now mandatory)).answer }
         ensures stays { IsRefusal (reply_of result) → self.new ≡ self.old }
@@ -217,13 +217,13 @@ impl Negotiation {
             });
         };
         match self.change(known, place_of(left), body, mandatory) {
-            Reply::Confirm(body) => Answer::Confirm(ConfirmOut {
+            RowReply::Confirm(body) => Answer::Confirm(ConfirmOut {
                 left: !left,
                 feature,
                 body,
             }),
-            Reply::Ignored => Answer::Ignored,
-            Reply::Fatal => Answer::Fatal,
+            RowReply::Ignored => Answer::Ignored,
+            RowReply::Fatal => Answer::Fatal,
         }
     }
 

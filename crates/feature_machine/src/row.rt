@@ -54,7 +54,7 @@ pub struct Row {
 
 /// What a row replies to a Change.
 #[derive(Drop)]
-pub enum Reply {
+pub enum RowReply {
     /// A Confirm with this data after the feature number.
     Confirm(ArrayVec<u8, 9>),
     Ignored,
@@ -139,7 +139,7 @@ impl Row {
     }
 
     // A Change comes.
-    pub(crate) fn change(&mut self, body: &[u8], mandatory: bool) -> Reply
+    pub(crate) fn change(&mut self, body: &[u8], mandatory: bool) -> RowReply
         requires { IsSoundRow self.old }
         ensures row { self.new ≡ (row_step self.old (Change body.now mandatory)).row }
         ensures reply { reply_of result ≡ (row_step self.old (Change body.now mandatory)).answer }
@@ -148,26 +148,26 @@ impl Row {
         match (proposal, self.stand) {
             (Proposal::Invalid, _) => {
                 if mandatory {
-                    Reply::Fatal
+                    RowReply::Fatal
                 } else {
-                    Reply::Confirm(ArrayVec::new())
+                    RowReply::Confirm(ArrayVec::new())
                 }
             }
-            (_, Stand::Unstable) => Reply::Ignored,
+            (_, Stand::Unstable) => RowReply::Ignored,
             (Proposal::Shared(value), _) => {
                 self.value = u64::from(value);
-                Reply::Confirm(self.confirm_body())
+                RowReply::Confirm(self.confirm_body())
             }
             (Proposal::Unshared, _) => {
                 if mandatory {
-                    Reply::Fatal
+                    RowReply::Fatal
                 } else {
-                    Reply::Confirm(self.confirm_body())
+                    RowReply::Confirm(self.confirm_body())
                 }
             }
             (Proposal::Told(value), _) => {
                 self.value = value;
-                Reply::Confirm(self.confirm_body())
+                RowReply::Confirm(self.confirm_body())
             }
         }
     }
