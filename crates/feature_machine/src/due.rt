@@ -11,12 +11,12 @@ use std::marker::Model;
 
 /// The rows in CHANGING or UNSTABLE, in the order of the features, Here before There.
 #[derive(Debug, Drop)]
-pub struct Due<'a> {
+pub struct DueRows<'a> {
     rows: &'a [Row],
     next: usize,
 }
 
-impl<'a> Model for Due<'a> {
+impl<'a> Model for DueRows<'a> {
     ghost use Rattle.std.specs.Prelude.{List, drop, length, ◌≡◌, ◌≤◌};
     ghost use Rattle.feature_lists.specs.declared.features.Feature.{Feature};
     ghost use Rattle.feature_lists.specs.declared.features.Place.{Place};
@@ -30,12 +30,12 @@ impl<'a> Model for Due<'a> {
     ghost invariant = { λ d. (d.next ≤ 18) × (length d.rows.now ≡ 18) };
 }
 
-impl<'a> Due<'a> {
-    pub(crate) fn of(rows: &'a [Row]) -> Due<'a>
+impl<'a> DueRows<'a> {
+    pub(crate) fn of(rows: &'a [Row]) -> DueRows<'a>
         requires { length rows.now ≡ 18 }
         ensures { result ≡ due_keys rows.now }
     {
-        Due { rows, next: 0 }
+        DueRows { rows, next: 0 }
     }
 }
 
@@ -55,7 +55,7 @@ fn first_due(rows: &[Row], from: usize) -> usize
     18
 }
 
-impl<'a> Iterator for Due<'a> {
+impl<'a> Iterator for DueRows<'a> {
     type Item = (Feature, Place);
 
     ghost use Rattle.std.specs.Iterator.{YieldsFirst, item_count};

@@ -17,7 +17,7 @@ mod rows;
 mod stands;
 
 pub use crate::answers::{Answer, ConfirmOut, Opening, Settling};
-pub use crate::due::Due;
+pub use crate::due::DueRows;
 pub use crate::laws::{
     both_ends_reconcile_alike, causes_of_resets, changes_move_no_stand, late_confirms_are_ignored,
     only_its_confirm_settles, openings_keep_their_number, refusals_change_nothing,

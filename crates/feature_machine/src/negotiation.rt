@@ -12,7 +12,7 @@ ghost use Rattle.feature_machine.specs.Sound.{IsRowOf, IsRefusal};
 ghost use Rattle.feature_machine.specs.declared.stands.Stand.TheVariants.{Stable};
 ghost use Rattle.feature_machine.specs.declared.answers.Settling.TheVariants.{Fatal, Ignored, Settled};
 
-use crate::due::Due;
+use crate::due::DueRows;
 use crate::offers::{Offer, RowSetup};
 use crate::row::{Row, RowReply};
 use crate::{Answer, ConfirmOut, Held, Lists, Opening, Role2, Settling, Stand};
@@ -177,10 +177,10 @@ impl Negotiation {
     }
 
     /// The rows whose Change is due: those in CHANGING or UNSTABLE, in the order of the features, Here before There.
-    pub fn due(&self) -> Due<'_>
+    pub fn due(&self) -> DueRows<'_>
         ensures { result ≡ due_keys self.now }
     {
-        Due::of(&self.rows)
+        DueRows::of(&self.rows)
     }
 
     /// Whether the rows have nothing to send by themselves, as nearly always once the connection has started: no offer
