@@ -11,16 +11,16 @@ use Rattle.seq_circle.specs.Circle.{residue}
 use Rattle.run_list.specs.MarkedSet.{IsSound, raised}
 use Rattle.run_list.proofs.Sets.{sound-raised}
 use Rattle.ack_vectors.specs.Kept.{Kept, recorded, raised_by, acked, is_whole_at, newest_from, newest_whole}
-use Rattle.ack_vectors.specs.declared.received.Record.{Record}
+use Rattle.ack_vectors.specs.declared.received.VectorRecord.{VectorRecord}
 
 -- the newest record of a whole vector, and that there is one
-pub newest_from-last : (n : ℕ) (found : Option Record) (rs : List Record) (r : Record)
+pub newest_from-last : (n : ℕ) (found : Option VectorRecord) (rs : List VectorRecord) (r : VectorRecord)
     → newest_from n found (rs ++ r ∷ []) ≡ (if is_whole_at n r then Some r else newest_from n found rs)
 newest_from-last n found [] r = refl
 newest_from-last n found (q ∷ rs) r = newest_from-last n (if is_whole_at n q then Some q else found) rs r
 
 -- of the records up to one, that one counts if it fits, and else those before it
-pub newest_whole-step : (n k : ℕ) (rs : List Record) (r : Record) → slice_get rs k ≡ Some r
+pub newest_whole-step : (n k : ℕ) (rs : List VectorRecord) (r : VectorRecord) → slice_get rs k ≡ Some r
     → newest_whole n (take (k + 1) rs) ≡ (if is_whole_at n r then Some r else newest_whole n (take k rs))
 newest_whole-step n k rs r there =
     let next : suc k ≡ k + 1 = omega arith in
@@ -29,7 +29,7 @@ newest_whole-step n k rs r there =
     (take-suc rs k r (slice_get_within rs k r there) ∙ ap (λ x. take k rs ++ x ∷ []) (get_or_from_slice_get rs k r r there)) in
     ap (newest_whole n) more ∙ newest_from-last n None (take k rs) r
 
-pub newest_from-some : (n : ℕ) (found : Option Record) (rs : List Record) → is_some (newest_from n found rs) ≡ is_some found || list_any (is_whole_at n) rs
+pub newest_from-some : (n : ℕ) (found : Option VectorRecord) (rs : List VectorRecord) → is_some (newest_from n found rs) ≡ is_some found || list_any (is_whole_at n) rs
 newest_from-some n found [] = elim (is_some found) as (λ b. b ≡ b || false) [ true ↦ refl | false ↦ refl ]
 newest_from-some n found (r ∷ rs) =
     elim (cases_Bool (is_whole_at n r)) [
@@ -38,18 +38,18 @@ newest_from-some n found (r ∷ rs) =
     ]
 
 -- a record that counts is the first, or follows it
-found_first : (n : ℕ) (q : Record) (rs : List Record) (r : Record) → is_whole_at n q ≡ true → ◌≡◌ {A = Option Record} (Some q) (Some r)
+found_first : (n : ℕ) (q : VectorRecord) (rs : List VectorRecord) (r : VectorRecord) → is_whole_at n q ≡ true → ◌≡◌ {A = Option VectorRecord} (Some q) (Some r)
     → Contains (q ∷ rs) r × (is_whole_at n r ≡ true)
 found_first n q rs r fits same =
     let is : q ≡ r = cc in
     ((0, omega arith, is), ap (is_whole_at n) (sym is) ∙ fits)
 
-found_behind : (n : ℕ) (q : Record) (rs : List Record) (r : Record) → Contains rs r × (is_whole_at n r ≡ true)
+found_behind : (n : ℕ) (q : VectorRecord) (rs : List VectorRecord) (r : VectorRecord) → Contains rs r × (is_whole_at n r ≡ true)
     → Contains (q ∷ rs) r × (is_whole_at n r ≡ true)
 found_behind n q rs r k = (Contains-append_right (q ∷ []) rs r k.0, k.1)
 
 -- the record that counts was kept, or found before
-pub newest_from-there : (n : ℕ) (found : Option Record) (rs : List Record) (r : Record) → newest_from n found rs ≡ Some r
+pub newest_from-there : (n : ℕ) (found : Option VectorRecord) (rs : List VectorRecord) (r : VectorRecord) → newest_from n found rs ≡ Some r
     → (found ≡ Some r) ⊎ (Contains rs r × (is_whole_at n r ≡ true))
 newest_from-there n found [] r h = inl h
 newest_from-there n found (q ∷ rs) r h =
@@ -63,23 +63,23 @@ newest_from-there n found (q ∷ rs) r h =
           ⊎_elim (λ before. inl before) (λ later. inr (found_behind n q rs r later)) (newest_from-there n found rs r rest)
     ]
 
-pub newest_whole-there : (n : ℕ) (rs : List Record) (r : Record) → newest_whole n rs ≡ Some r
+pub newest_whole-there : (n : ℕ) (rs : List VectorRecord) (r : VectorRecord) → newest_whole n rs ≡ Some r
     → Contains rs r × (r.number ≡ n) × (r.whole ≡ true)
 newest_whole-there n rs r h =
     elim (newest_from-there n None rs r h) [
-      | inl none ↦ let bad : ◌≡◌ {A = Option Record} None (Some r) = none in absurd cc
+      | inl none ↦ let bad : ◌≡◌ {A = Option VectorRecord} None (Some r) = none in absurd cc
       | inr there ↦
           let parts = and_parts r.whole (r.number == n) there.1 in
           (there.0, eqb-true r.number n parts.1, parts.0)
     ]
 
 -- of records one more is kept at most
-pub recorded-there : (kept : Kept) (number ack : ℕ) (whole : Bool) (r : Record) → Contains (recorded kept number ack whole).records r
-    → Contains kept.records r ⊎ (◌≡◌ {A = Record} r (record { number = number; ack = ack; whole = whole }))
+pub recorded-there : (kept : Kept) (number ack : ℕ) (whole : Bool) (r : VectorRecord) → Contains (recorded kept number ack whole).records r
+    → Contains kept.records r ⊎ (◌≡◌ {A = VectorRecord} r (record { number = number; ack = ack; whole = whole }))
 recorded-there kept number ack whole r h =
-    let new : Record = record { number = number; ack = ack; whole = whole } in
-    let all : List Record = kept.records ++ new ∷ [] in
-    let P : List Record → Type 0 = λ rs. Contains rs r in
+    let new : VectorRecord = record { number = number; ack = ack; whole = whole } in
+    let all : List VectorRecord = kept.records ++ new ∷ [] in
+    let P : List VectorRecord → Type 0 = λ rs. Contains rs r in
     let there : Contains all r = subst P (take-append-drop (length all - 64) all)
     (Contains-append_right (take (length all - 64) all) (drop (length all - 64) all) r h) in
     elim (Contains-push_cases kept.records new r there) [
@@ -91,15 +91,15 @@ recorded-there kept number ack whole r h =
 pub acked-none : (kept : Kept) (n : ℕ) → newest_whole n kept.records ≡ None → acked kept n ≡ kept
 acked-none kept n h = ap (raised_by kept) h
 
-pub acked-some : (kept : Kept) (n : ℕ) (r : Record) → newest_whole n kept.records ≡ Some r
+pub acked-some : (kept : Kept) (n : ℕ) (r : VectorRecord) → newest_whole n kept.records ≡ Some r
     → acked kept n ≡ record { set = raised kept.set (residue (r.ack + 1)); records = kept.records }
 acked-some kept n r h = ap (raised_by kept) h
 
-pub raised_by-records : (kept : Kept) (found : Option Record) → (raised_by kept found).records ≡ kept.records
+pub raised_by-records : (kept : Kept) (found : Option VectorRecord) → (raised_by kept found).records ≡ kept.records
 raised_by-records kept None = refl
 raised_by-records kept (Some r) = refl
 
-pub raised_by-sound : (kept : Kept) (found : Option Record) → IsSound kept.set → IsSound (raised_by kept found).set
+pub raised_by-sound : (kept : Kept) (found : Option VectorRecord) → IsSound kept.set → IsSound (raised_by kept found).set
 raised_by-sound kept None s = s
 raised_by-sound kept (Some r) s = sound-raised kept.set (residue (r.ack + 1)) s (omega arith)
 

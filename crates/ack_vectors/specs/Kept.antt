@@ -3,12 +3,12 @@ use Rattle.std.specs.Prelude.{ℕ, ◌+◌, ◌==◌, ◌&&◌, Bool, List, [], 
 use Rattle.circular_buffer.specs.Buffer.{keep_last}
 use Rattle.seq_circle.specs.Circle.{residue}
 use Rattle.run_list.specs.MarkedSet.{MarkedSet, empty_from, marked, raised}
-use Rattle.ack_vectors.specs.declared.received.Record.{Record}
+use Rattle.ack_vectors.specs.declared.received.VectorRecord.{VectorRecord}
 
 -- the set of received numbers with its floor, and the records from the oldest on
 pub record Kept : Type 0 where
   pub set : MarkedSet
-  pub records : List Record
+  pub records : List VectorRecord
 
 -- nothing received, and no record
 abbrev pub fresh : ℕ → Kept
@@ -24,20 +24,20 @@ recorded kept number ack whole =
     record { set = kept.set; records = keep_last 64 (kept.records ++ record { number = number; ack = ack; whole = whole } ∷ []) }
 
 -- a record of a whole vector under this number
-abbrev pub is_whole_at : ℕ → Record → Bool
+abbrev pub is_whole_at : ℕ → VectorRecord → Bool
 is_whole_at n r = r.whole && (r.number == n)
 
 -- the last such record of a list, or else the one found before
-abbrev pub newest_from : ℕ → Option Record → List Record → Option Record
+abbrev pub newest_from : ℕ → Option VectorRecord → List VectorRecord → Option VectorRecord
 newest_from n found [] = found
 newest_from n found (r ∷ rs) = newest_from n (if is_whole_at n r then Some r else found) rs
 
 -- the newest record of a whole vector under this number
-abbrev pub newest_whole : ℕ → List Record → Option Record
+abbrev pub newest_whole : ℕ → List VectorRecord → Option VectorRecord
 newest_whole n records = newest_from n None records
 
 -- the floor after what a record's vector told
-abbrev pub raised_by : Kept → Option Record → Kept
+abbrev pub raised_by : Kept → Option VectorRecord → Kept
 raised_by kept None = kept
 raised_by kept (Some r) = record { set = raised kept.set (residue (r.ack + 1)); records = kept.records }
 

@@ -8,7 +8,7 @@ ghost use Rattle.ack_vectors.specs.Vector.{vector_under, is_whole_under, numbers
 ghost use Rattle.ack_vectors.specs.declared.room.Vectors.{Vectors};
 ghost use Rattle.ack_vectors.specs.declared.room.Vectors.TheVariants.{One, Two};
 ghost use Rattle.ack_vectors.specs.Kept.{Kept, fresh, marked_by, recorded, acked, is_whole_at, newest_whole};
-ghost use Rattle.ack_vectors.specs.declared.received.Record.{Record};
+ghost use Rattle.ack_vectors.specs.declared.received.VectorRecord.{VectorRecord};
 
 /// What a vector tells is read back, number by number from the acknowledgement down: state 0 exactly for the numbers of
 /// the set and 3 for the others, and nothing past its bytes. They reach no number below the floor, and reach the floor
@@ -108,20 +108,20 @@ pub fn two_options_tell_more()
 /// Of the records of whole vectors under a number the newest counts, and there is one exactly where any record is such.
 /// The one that counts was kept, under that number, of a whole vector (`kept`).
 pub fn the_newest_whole_record_counts()
-    ensures newest { (n : ℕ) (records : List Record) (last : Record)
+    ensures newest { (n : ℕ) (records : List VectorRecord) (last : VectorRecord)
         → newest_whole n (records ++ last ∷ []) ≡ (if is_whole_at n last then Some last else newest_whole n records) }
-    ensures any { (n : ℕ) (records : List Record)
+    ensures any { (n : ℕ) (records : List VectorRecord)
         → is_some (newest_whole n records) ≡ list_any (is_whole_at n) records }
-    ensures kept { (n : ℕ) (records : List Record) (one : Record) → newest_whole n records ≡ Some one
+    ensures kept { (n : ℕ) (records : List VectorRecord) (one : VectorRecord) → newest_whole n records ≡ Some one
         → Contains records one × (one.number ≡ n) × (one.whole ≡ true) }
 {}
 
 /// Records only go: one that is kept after a packet was recorded is that packet's, or was kept before; marks and
 /// acknowledgements leave all as they were (own).
 pub fn records_only_forget()
-    ensures recorded { (kept : Kept) (number ack : ℕ) (whole : Bool) (one : Record)
+    ensures recorded { (kept : Kept) (number ack : ℕ) (whole : Bool) (one : VectorRecord)
         → Contains (recorded kept number ack whole).records one
-        → Contains kept.records one ⊎ (◌≡◌ {A = Record} one (record { number = number; ack = ack; whole = whole })) }
+        → Contains kept.records one ⊎ (◌≡◌ {A = VectorRecord} one (record { number = number; ack = ack; whole = whole })) }
     ensures marked { (kept : Kept) (n : ℕ) → (marked_by kept n).records ≡ kept.records }
     ensures acked { (kept : Kept) (n : ℕ) → (acked kept n).records ≡ kept.records }
 {}
@@ -129,7 +129,7 @@ pub fn records_only_forget()
 /// An acknowledged number raises the floor to the number after what the record that counts acknowledged, and without
 /// such a record changes nothing (own).
 pub fn acknowledging_raises_the_floor()
-    ensures some { (kept : Kept) (n : ℕ) (one : Record) → newest_whole n kept.records ≡ Some one
+    ensures some { (kept : Kept) (n : ℕ) (one : VectorRecord) → newest_whole n kept.records ≡ Some one
         → (acked kept n).set ≡ raised kept.set (residue (one.ack + 1)) }
     ensures none { (kept : Kept) (n : ℕ) → newest_whole n kept.records ≡ None → acked kept n ≡ kept }
 {}

@@ -17,5 +17,5 @@ pub use crate::laws::{
     the_newest_whole_record_counts, the_options_of_a_vector_hold_it, two_options_tell_more,
     what_is_told_was_there,
 };
-pub use crate::received::{Received, Record};
+pub use crate::received::{Received, VectorRecord};
 pub use crate::room::{VectorBytes, Vectors};

@@ -21,7 +21,7 @@ const RECORDS: usize = 64;
 
 /// A sent packet with an Ack Vector, as it is remembered (own). No call gives one out; contracts speak of them.
 #[derive(Clone, Copy, Debug, PartialEq, Eq)]
-pub struct Record {
+pub struct VectorRecord {
     /// The packet's number.
     pub number: Seq48,
     /// The number that it acknowledged.
@@ -39,7 +39,7 @@ pub struct Record {
 #[derive(Drop)]
 pub struct Received {
     set: RunList,
-    records: HeapCircularBuffer<Record>,
+    records: HeapCircularBuffer<VectorRecord>,
     // Below 2^48, no record's number is more steps up from that of an earlier one.
     span: u64,
 }
@@ -56,7 +56,7 @@ impl Model for Received {
 }
 
 // The record is of a whole vector under the number.
-fn is_whole_at(sent: &Record, n: Seq48) -> bool
+fn is_whole_at(sent: &VectorRecord, n: Seq48) -> bool
     ensures { result ≡ is_whole_at n sent.now }
 {
     sent.number == n && sent.whole
@@ -64,7 +64,11 @@ fn is_whole_at(sent: &Record, n: Seq48) -> bool
 
 // The newest record of a whole vector under the number. What the peer acknowledges is mostly the last of them, or data
 // that were sent after it. So the search ends at a record that the number is further below than any earlier one can be.
-fn newest_whole(records: &HeapCircularBuffer<Record>, span: u64, n: Seq48) -> Option<Record>
+fn newest_whole(
+    records: &HeapCircularBuffer<VectorRecord>,
+    span: u64,
+    n: Seq48,
+) -> Option<VectorRecord>
     requires { span < 2 ^ 48 → AreNear span (record_numbers records.now.items) }
     ensures { result ≡ newest_whole n records.now.items }
 {
@@ -82,7 +86,7 @@ fn newest_whole(records: &HeapCircularBuffer<Record>, span: u64, n: Seq48) -> Op
 }
 
 // How many steps up a number is from the newest record's.
-fn step_from_newest(records: &HeapCircularBuffer<Record>, number: Seq48) -> u64
+fn step_from_newest(records: &HeapCircularBuffer<VectorRecord>, number: Seq48) -> u64
     ensures near { (span : ℕ) → AreNear span (record_numbers records.now.items)
         → AreNear (span + result) (record_numbers records.now.items ++ number ∷ []) }
 {
@@ -169,7 +173,7 @@ impl Received {
         ensures { self.new ≡ recorded self.old number ack whole }
     {
         let step = step_from_newest(&self.records, number);
-        self.records.push_back(Record { number, ack, whole });
+        self.records.push_back(VectorRecord { number, ack, whole });
         self.span = with_step(self.span, step);
     }
 

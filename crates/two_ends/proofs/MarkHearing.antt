@@ -5,7 +5,7 @@ use Rattle.std.proofs.lemmas.List.Elements.{All-cons, All-nil}
 use Rattle.std.proofs.lemmas.Option.{slice_get_within}
 use Rattle.std.specs.List.{All, Contains}
 use Rattle.ack_vectors.specs.Kept.{Kept as KeptNumbers}
-use Rattle.ack_vectors.specs.declared.received.Record.{Record}
+use Rattle.ack_vectors.specs.declared.received.VectorRecord.{VectorRecord}
 use Rattle.dccp_endpoint.specs.Causes.{Came, IsHearing, Keeps as KeepsHeard, Starts, Raises, entrance_of, is_waiting}
 use Rattle.dccp_endpoint.specs.Effects.{Effect, Hearing, Unheard, Heard, Passing, Refused, Shut, Taken, count_by, end_after, first_by, heard_by}
 use Rattle.dccp_endpoint.specs.End.{EndState, is_live}
@@ -50,7 +50,7 @@ pub record IsTaking (act : Act) (view peer : MarkSide) (received : KeptNumbers) 
   pub newly : newly_processed (end_of act.side) act.arrived (end_after (end_of act.side) act.effect) ≡ numbers
   pub marked : count_by (end_of act.side).marked (end_of act.side).received act.effect.hearing ≡ (end_of act.side).marked + length numbers
   pub packets : All (IsPacketOf (config_of act.peer).iss act.peer.log) numbers
-  pub records : (r : Record) → Contains received.records r → Contains (end_of act.side).received.records r
+  pub records : (r : VectorRecord) → Contains received.records r → Contains (end_of act.side).received.records r
   pub some : (is_first : Bool) (number : ℕ) (how : Passing) → act.effect.hearing ≡ Heard is_first number how → 1 ≤ after.first
 
 closed-not : (b : Bool) → (b ≡ true → ⊥) → b ≡ false
@@ -322,7 +322,7 @@ module _ (act : Act) (peer_ordered : IsOrdered act.peer) (view peer : MarkSide) 
         subst (λ (h : Hearing). IsMarked iss (heard_by e.received h).set after) is
         (subst (λ (x : MarkedSet). IsMarked iss x after) (sym same) are)
 
-    records-at : (how : Passing) → Heard false a.number how ≡ f.hearing → (r : Record) → Contains (heard_by e.received f.hearing).records r
+    records-at : (how : Passing) → Heard false a.number how ≡ f.hearing → (r : VectorRecord) → Contains (heard_by e.received f.hearing).records r
         → Contains e.received.records r
     records-at Taken is r = subst (λ (h : Hearing). Contains (heard_by e.received h).records r → Contains e.received.records r) is (λ there. there)
     records-at Refused is r = subst (λ (h : Hearing). Contains (heard_by e.received h).records r → Contains e.received.records r) is (λ there. there)

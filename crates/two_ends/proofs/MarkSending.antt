@@ -7,7 +7,7 @@ use Rattle.std.specs.List.{All, Contains}
 use Rattle.ack_vectors.proofs.Records.{newest_whole-there, recorded-there}
 use Rattle.ack_vectors.specs.Kept.{Kept as KeptNumbers, acked, newest_whole, raised_by}
 use Rattle.ack_vectors.specs.Vector.{is_whole_under}
-use Rattle.ack_vectors.specs.declared.received.Record.{Record}
+use Rattle.ack_vectors.specs.declared.received.VectorRecord.{VectorRecord}
 use Rattle.ack_vectors.specs.declared.room.Vectors.{Vectors}
 use Rattle.dccp_endpoint.proofs.OwnPackets.{vector_parts}
 use Rattle.dccp_endpoint.specs.Causes.{HasFrame, IsLooking, LooksNowhere, Looks, IsSending, Rests, Acks, Others, Refuses, Says, SaysAll, WasTaken, vector_of}
@@ -94,7 +94,7 @@ module _ (act : Act) (own : IsOrdered act.side) (peer_ordered : IsOrdered act.pe
 
   -- a record that is looked up: the floor rises after what its vector told
   module _ (old : KeptNumbers) (t : IsTaking act view peer old) (a : Incoming) (was : WasTaken e act.given f.hearing a) (acking : is_acking a.kind ≡ true)
-      (number : ℕ) (acks : a.ack ≡ Some number) (r : Record) (found : newest_whole number old.records ≡ Some r) where
+      (number : ℕ) (acks : a.ack ≡ Some number) (r : VectorRecord) (found : newest_whole number old.records ≡ Some r) where
     abbrev its : IsRecorded own_iss iss view.frames r
     its = here.records r (t.records r (newest_whole-there number old.records r found).0)
 
@@ -169,7 +169,7 @@ module _ (act : Act) (own : IsOrdered act.side) (peer_ordered : IsOrdered act.pe
       → IsTaking act view peer (looked_by old looked)
   looks-by old t _ LooksNowhere = t
   looks-by old t _ (Looks number a was acking acks) = by (newest_whole number old.records) refl where
-    by : (found : Option Record) → newest_whole number old.records ≡ found → IsTaking act view peer (acked old number)
+    by : (found : Option VectorRecord) → newest_whole number old.records ≡ found → IsTaking act view peer (acked old number)
     by None none = subst (IsTaking act view peer) (sym (ap (raised_by old) none)) t
     by (Some r) found = subst (IsTaking act view peer) (sym (ap (raised_by old) found)) (raised-taking old t a was acking number acks r found)
 
@@ -206,10 +206,10 @@ module _ (act : Act) (own : IsOrdered act.side) (peer_ordered : IsOrdered act.pe
       pub frames : List Frame
       pub moves : MarkMoves peer.frames t.after (record t.after { frames = frames })
       are : AreFrames iss setting (act.side.log ++ logged_by (length (processed_by act.side.half act.arrived f)) (floor_of (end_after e f)) s) frames
-      records : (r : Record) → Contains (recorded_by (is_acking_sent s && has-vector) setting kept-numbers (next_number e) greatest).records r
+      records : (r : VectorRecord) → Contains (recorded_by (is_acking_sent s && has-vector) setting kept-numbers (next_number e) greatest).records r
           → IsRecorded own_iss iss frames r
 
-    records-now : (r : Record) → Contains kept-numbers.records r → IsRecorded own_iss iss t.after.frames r
+    records-now : (r : VectorRecord) → Contains kept-numbers.records r → IsRecorded own_iss iss t.after.frames r
     records-now r has_it = subst (λ (fs : List Frame). IsRecorded own_iss iss fs r) (sym t.frames) (here.records r (t.records r has_it))
 
     frames-now : AreFrames iss setting act.side.log t.after.frames
@@ -318,7 +318,7 @@ module _ (act : Act) (own : IsOrdered act.side) (peer_ordered : IsOrdered act.pe
               whole = λ is. refl;
             }
 
-        its-record : (r : Record) → has-vector ≡ true
+        its-record : (r : VectorRecord) → has-vector ≡ true
             → r ≡ record {
               number = next_number e;
               ack = greatest;
@@ -333,19 +333,19 @@ module _ (act : Act) (own : IsOrdered act.side) (peer_ordered : IsOrdered act.pe
               place = length t.after.frames;
               there = omega (arith, length-append t.after.frames (frame ∷ []));
               number =
-                  ap (λ (x : Record). x.number) is
+                  ap (λ (x : VectorRecord). x.number) is
                   ∙ omega (arith, own.greatest, size);
               has_vector = ap (λ (g : Frame). g.has_vector) last ∙ vector;
               is_whole =
                   ap (λ (g : Frame). g.is_whole) last
                   ∙ ap (λ (n : ℕ). is_whole_under (has kept-numbers.set.numbers) kept-numbers.set.floor n setting) (sym greatest-is)
-                  ∙ ap (λ (x : Record). x.whole) (sym is);
-              ack = ap (λ (x : Record). x.ack) is ∙ greatest-is ∙ ap (λ (g : Frame). number_of iss g.acknowledged) (sym last);
+                  ∙ ap (λ (x : VectorRecord). x.whole) (sym is);
+              ack = ap (λ (x : VectorRecord). x.ack) is ∙ greatest-is ∙ ap (λ (g : Frame). number_of iss g.acknowledged) (sym last);
               some = subst (λ (g : Frame). 1 ≤ g.acknowledged) (sym last) some;
               early = subst (λ (g : Frame). g.acknowledged < 2 ^ 47) (sym last) (omega (arith, t.heard.within, few));
             }
 
-        records-by : (b : Bool) → has-vector ≡ b → (r : Record) → Contains (recorded_by b setting kept-numbers (next_number e) greatest).records r
+        records-by : (b : Bool) → has-vector ≡ b → (r : VectorRecord) → Contains (recorded_by b setting kept-numbers (next_number e) greatest).records r
             → IsRecorded own_iss iss (with_sent_frame t.after frame).frames r
         records-by false vector r has_it = recorded-before own_iss iss t.after.frames frame r (records-now r has_it)
         records-by true vector r has_it =

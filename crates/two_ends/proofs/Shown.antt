@@ -4,7 +4,7 @@ use Rattle.std.proofs.lemmas.Map.Keys.{IsDistinct-from_apart}
 use Rattle.std.proofs.lemmas.Map.Steps.{length-le_from_distinct_below}
 use Rattle.std.specs.List.{All, Contains, list_any}
 use Rattle.std.specs.Prelude.{slice_index_or}
-use Rattle.ack_vectors.specs.declared.received.Record.{Record}
+use Rattle.ack_vectors.specs.declared.received.VectorRecord.{VectorRecord}
 use Rattle.dccp_endpoint.specs.End.{floor_of}
 use Rattle.dccp_packets.specs.Grammar.{packet_type}
 use Rattle.dccp_packets.specs.declared.header.PacketType.TheVariants as types
@@ -42,7 +42,7 @@ pub record IsShown (x y : Party) (view : MarkSide) : Type 0 where
   pub marked : (end_of x).marked ≡ length x.half.processed
   pub packets : All (IsPacketOf (config_of y).iss y.log) x.half.processed
   pub frames : AreFrames (config_of y).iss (config_of x).vectors x.log view.frames
-  pub records : (r : Record) → Contains (end_of x).received.records r → IsRecorded (config_of x).iss (config_of y).iss view.frames r
+  pub records : (r : VectorRecord) → Contains (end_of x).received.records r → IsRecorded (config_of x).iss (config_of y).iss view.frames r
 
 -- moves keep the facts
 pub moves-keep : (peer : MarkSide) {side after : MarkSide} → MarkMoves peer.frames side after → Kept side peer → Kept after peer

@@ -4,7 +4,7 @@ use Rattle.std.proofs.lemmas.List.Elements.{All-head, All-tail}
 use Rattle.std.proofs.lemmas.Option.{same_Some}
 use Rattle.std.specs.List.{All}
 use Rattle.ack_vectors.specs.Vector.{is_whole_under}
-use Rattle.ack_vectors.specs.declared.received.Record.{Record}
+use Rattle.ack_vectors.specs.declared.received.VectorRecord.{VectorRecord}
 use Rattle.ack_vectors.specs.declared.room.Vectors.{Vectors}
 use Rattle.dccp_endpoint.proofs.OwnPackets.{parts-are, vector_parts}
 use Rattle.dccp_endpoint.specs.Heeding.{is_of_negotiation}
@@ -111,7 +111,7 @@ frame-last [] frame = refl
 frame-last (first ∷ rest) frame = frame-last rest frame
 
 -- A record is of a frame that carries its vector.
-pub record IsRecorded (own peer : ℕ) (frames : List Frame) (r : Record) : Type 0 where
+pub record IsRecorded (own peer : ℕ) (frames : List Frame) (r : VectorRecord) : Type 0 where
   pub place : ℕ
   pub there : place < length frames
   pub number : r.number ≡ number_of own (suc place)
@@ -122,7 +122,7 @@ pub record IsRecorded (own peer : ℕ) (frames : List Frame) (r : Record) : Type
   pub early : (frame_at frames (suc place)).acknowledged < 2 ^ 47
 
 -- a record stays with one frame more
-pub recorded-before : (own peer : ℕ) (frames : List Frame) (frame : Frame) (r : Record) → IsRecorded own peer frames r
+pub recorded-before : (own peer : ℕ) (frames : List Frame) (frame : Frame) (r : VectorRecord) → IsRecorded own peer frames r
     → IsRecorded own peer (frames_with frames frame) r
 recorded-before own peer frames frame r is =
     let same : frame_at frames (suc is.place) ≡ frame_at (frames_with frames frame) (suc is.place) = sym (frame-before frames frame is.place is.there) in

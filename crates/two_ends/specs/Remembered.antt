@@ -2,7 +2,7 @@
 -- 11.4).
 use Rattle.std.specs.Prelude.{◌≡◌, ◌≢◌, ◌⊎◌, ◌↔◌, ℕ, ◌+◌, ◌^◌, ◌<◌, ◌≤◌, true, length, slice_get, Some, Contains}
 use Rattle.ack_vectors.specs.Vector.{is_whole_under}
-use Rattle.ack_vectors.specs.declared.received.Record.{Record}
+use Rattle.ack_vectors.specs.declared.received.VectorRecord.{VectorRecord}
 use Rattle.dccp_endpoint.specs.End.{floor_of, is_live, marked_of}
 use Rattle.dccp_endpoint.specs.Reporting.{is_acking}
 use Rattle.dccp_packets.specs.Grammar.{Parts, packet_type}
@@ -44,7 +44,7 @@ NewestIsProcessed w side = (index : ℕ) (frame : SentFrame) (packet : Parts) �
 
 -- A record is of an Ack or a DataAck of its end, with that frame's number and acknowledgement number, and whether its
 -- vector was whole; and the end's floor is not before that frame's.
-pub record IsRecordOf (w : WorldState) (side : Side) (r : Record) : Type 0 where
+pub record IsRecordOf (w : WorldState) (side : Side) (r : VectorRecord) : Type 0 where
   pub index : ℕ
   pub frame : SentFrame
   pub packet : Parts
@@ -58,4 +58,4 @@ pub record IsRecordOf (w : WorldState) (side : Side) (r : Record) : Type 0 where
 
 -- No record of an end says what its frames do not.
 abbrev pub AreRecordsHonest : WorldState → Side → Type 0
-AreRecordsHonest w side = (r : Record) → Contains (half_of w side).end.received.records r → IsRecordOf w side r
+AreRecordsHonest w side = (r : VectorRecord) → Contains (half_of w side).end.received.records r → IsRecordOf w side r

@@ -2,7 +2,7 @@
 //! weaker one.
 ghost use Rattle.std.specs.Prelude.{◌≡◌, ◌≢◌, ◌⊎◌, ◌↔◌, ℕ, ◌+◌, ◌-◌, ◌^◌, ◌<◌, ◌≤◌, List, [], length, true, false, Some, None, Contains, take, slice_get};
 ghost use Rattle.ack_vectors.specs.Vector.{is_whole_under};
-ghost use Rattle.ack_vectors.specs.declared.received.Record.{Record};
+ghost use Rattle.ack_vectors.specs.declared.received.VectorRecord.{VectorRecord};
 ghost use Rattle.dccp_endpoint.specs.End.{floor_of, is_live, marked_of};
 ghost use Rattle.dccp_endpoint.specs.Receiving.{receives};
 ghost use Rattle.dccp_endpoint.specs.Reporting.{is_acking};
@@ -104,7 +104,7 @@ pub fn the_newest_acknowledgement_was_processed()
 /// Each record of an Ack Vector is of a frame of the own side, an Ack or a DataAck, with that frame's number and the one
 /// that it acknowledges, and tells whether the vector of what was processed then was whole (RFC 4340, section 11.4.2).
 pub fn records_are_of_own_frames()
-    ensures { (w : WorldState) → Facts w → (side : Side) (r : Record) → Contains (half_of w side).end.received.records r
+    ensures { (w : WorldState) → Facts w → (side : Side) (r : VectorRecord) → Contains (half_of w side).end.received.records r
         → (index : ℕ) × (frame : SentFrame) × (packet : Parts) × (slice_get (half_of w side).frames index ≡ Some frame)
         × (packet_of frame.bytes ≡ Some packet) × (is_acking (packet_type packet.header.kind) ≡ true)
         × (frame.number ≡ r.number) × (frame.ack ≡ Some r.ack)

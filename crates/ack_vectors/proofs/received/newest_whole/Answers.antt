@@ -2,7 +2,7 @@ use Rattle.std.proofs.Common.{rules, ◌≡◌, ◌<◌, ◌^◌, ℕ, suc, ◌+
 use Rattle.std.proofs.lemmas.Option.{slice_get_cases}
 use Rattle.seq_circle.specs.Circle.{distance}
 use Rattle.ack_vectors.specs.Kept.{is_whole_at, newest_whole}
-use Rattle.ack_vectors.specs.declared.received.Record.{Record}
+use Rattle.ack_vectors.specs.declared.received.VectorRecord.{VectorRecord}
 use Rattle.ack_vectors.proofs.Records.{newest_whole-step}
 use Rattle.ack_vectors.proofs.Near.{none_to}
 use Rattle.ack_vectors.proofs.received.newest_whole.Goals as goal
@@ -41,8 +41,8 @@ returns-then-span-distance c =
 -- a record is at every index below their number
 pub loop-index-preserved : goal.loop-index-preserved
 loop-index-preserved c =
-    let none : ◌≡◌ {A = Option Record} (slice_get c.args.records.now.items (c.loop-index.index - 1)) None = search rules in
+    let none : ◌≡◌ {A = Option VectorRecord} (slice_get c.args.records.now.items (c.loop-index.index - 1)) None = search rules in
     elim ((slice_get_cases c.args.records.now.items (c.loop-index.index - 1)).1) [
-      | inl found ↦ let bad : ◌≡◌ {A = Option Record} (Some found.0) None = sym found.2 ∙ none in absurd cc
+      | inl found ↦ let bad : ◌≡◌ {A = Option VectorRecord} (Some found.0) None = sym found.2 ∙ none in absurd cc
       | inr past ↦ absurd omega (arith, past.0)
     ]

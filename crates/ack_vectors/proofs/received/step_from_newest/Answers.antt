@@ -1,13 +1,13 @@
 use Rattle.std.proofs.Common.{rules}
 use Rattle.seq_circle.proofs.Near.{near_first, near_after}
-use Rattle.ack_vectors.specs.declared.received.Record.{Record}
+use Rattle.ack_vectors.specs.declared.received.VectorRecord.{VectorRecord}
 use Rattle.ack_vectors.proofs.received.step_from_newest.Goals as goal
 
 pub returns-in-Some : goal.returns-in-Some
 returns-in-Some c = record {
   near = λ span near. rw c.distance.ensures.value
-      (near_after (λ (one : Record). one.number) span c.args.number c.args.records.now.items c.in-Some.newest.now (search rules) (search rules) near);
+      (near_after (λ (one : VectorRecord). one.number) span c.args.number c.args.records.now.items c.in-Some.newest.now (search rules) (search rules) near);
 }
 
 pub returns-in-None : goal.returns-in-None
-returns-in-None c = record { near = λ span _. near_first (λ (one : Record). one.number) span c.args.number c.args.records.now.items (search rules) (search rules) }
+returns-in-None c = record { near = λ span _. near_first (λ (one : VectorRecord). one.number) span c.args.number c.args.records.now.items (search rules) (search rules) }

@@ -1,6 +1,6 @@
 use Rattle.std.proofs.Common.{◌++◌, ◌∷◌, [], arith, ap, ◌∙◌, rules}
 use Rattle.circular_buffer.specs.Buffer.{keep_last}
-use Rattle.ack_vectors.specs.declared.received.Record.{Record}
+use Rattle.ack_vectors.specs.declared.received.VectorRecord.{VectorRecord}
 use Rattle.ack_vectors.proofs.Near.{near_recorded}
 use Rattle.ack_vectors.proofs.received.Received.sent.Goals as goal
 
@@ -8,7 +8,7 @@ pub invariant_of-self : goal.invariant_of-self
 invariant_of-self c =
     let old = c.self.inside.records.items in
     let kept = c.self.invariant in
-    let new : Record = record { number = c.args.number; ack = c.args.ack; whole = c.args.whole } in
+    let new : VectorRecord = record { number = c.args.number; ack = c.args.ack; whole = c.args.whole } in
     let items = ap (λ b. b.items) c.push_back.ensures.items ∙ ap (λ n. keep_last n (old ++ new ∷ [])) kept.holds in
     record {
       holds = search rules;
