@@ -10,7 +10,7 @@ use Rattle.std.proofs.lemmas.List.Elements.{Contains-append_right, Contains-push
 use Rattle.seq_circle.specs.Circle.{residue}
 use Rattle.run_list.specs.MarkedSet.{IsSound, raised}
 use Rattle.run_list.proofs.Sets.{sound-raised}
-use Rattle.ack_vectors.specs.Kept.{Kept, recorded, raised_by, acked, is_whole_at, newest_from, newest_whole}
+use Rattle.ack_vectors.specs.Kept.{ReceivedState, recorded, raised_by, acked, is_whole_at, newest_from, newest_whole}
 use Rattle.ack_vectors.specs.declared.received.VectorRecord.{VectorRecord}
 
 -- the newest record of a whole vector, and that there is one
@@ -74,7 +74,7 @@ newest_whole-there n rs r h =
     ]
 
 -- of records one more is kept at most
-pub recorded-there : (kept : Kept) (number ack : ℕ) (whole : Bool) (r : VectorRecord) → Contains (recorded kept number ack whole).records r
+pub recorded-there : (kept : ReceivedState) (number ack : ℕ) (whole : Bool) (r : VectorRecord) → Contains (recorded kept number ack whole).records r
     → Contains kept.records r ⊎ (◌≡◌ {A = VectorRecord} r (record { number = number; ack = ack; whole = whole }))
 recorded-there kept number ack whole r h =
     let new : VectorRecord = record { number = number; ack = ack; whole = whole } in
@@ -88,20 +88,20 @@ recorded-there kept number ack whole r h =
     ]
 
 -- what acknowledging does to the set
-pub acked-none : (kept : Kept) (n : ℕ) → newest_whole n kept.records ≡ None → acked kept n ≡ kept
+pub acked-none : (kept : ReceivedState) (n : ℕ) → newest_whole n kept.records ≡ None → acked kept n ≡ kept
 acked-none kept n h = ap (raised_by kept) h
 
-pub acked-some : (kept : Kept) (n : ℕ) (r : VectorRecord) → newest_whole n kept.records ≡ Some r
+pub acked-some : (kept : ReceivedState) (n : ℕ) (r : VectorRecord) → newest_whole n kept.records ≡ Some r
     → acked kept n ≡ record { set = raised kept.set (residue (r.ack + 1)); records = kept.records }
 acked-some kept n r h = ap (raised_by kept) h
 
-pub raised_by-records : (kept : Kept) (found : Option VectorRecord) → (raised_by kept found).records ≡ kept.records
+pub raised_by-records : (kept : ReceivedState) (found : Option VectorRecord) → (raised_by kept found).records ≡ kept.records
 raised_by-records kept None = refl
 raised_by-records kept (Some r) = refl
 
-pub raised_by-sound : (kept : Kept) (found : Option VectorRecord) → IsSound kept.set → IsSound (raised_by kept found).set
+pub raised_by-sound : (kept : ReceivedState) (found : Option VectorRecord) → IsSound kept.set → IsSound (raised_by kept found).set
 raised_by-sound kept None s = s
 raised_by-sound kept (Some r) s = sound-raised kept.set (residue (r.ack + 1)) s (omega arith)
 
-pub acked-sound : (kept : Kept) (n : ℕ) → IsSound kept.set → IsSound (acked kept n).set
+pub acked-sound : (kept : ReceivedState) (n : ℕ) → IsSound kept.set → IsSound (acked kept n).set
 acked-sound kept n s = raised_by-sound kept (newest_whole n kept.records) s

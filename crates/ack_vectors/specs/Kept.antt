@@ -6,20 +6,20 @@ use Rattle.run_list.specs.MarkedSet.{MarkedSet, empty_from, marked, raised}
 use Rattle.ack_vectors.specs.declared.received.VectorRecord.{VectorRecord}
 
 -- the set of received numbers with its floor, and the records from the oldest on
-pub record Kept : Type 0 where
+pub record ReceivedState : Type 0 where
   pub set : MarkedSet
   pub records : List VectorRecord
 
 -- nothing received, and no record
-abbrev pub fresh : ℕ → Kept
+abbrev pub fresh : ℕ → ReceivedState
 fresh floor = record { set = empty_from floor; records = [] }
 
 -- after a number was marked
-abbrev pub marked_by : Kept → ℕ → Kept
+abbrev pub marked_by : ReceivedState → ℕ → ReceivedState
 marked_by kept n = record { set = marked kept.set n; records = kept.records }
 
 -- one more record; of all the last 64 are kept
-abbrev pub recorded : Kept → ℕ → ℕ → Bool → Kept
+abbrev pub recorded : ReceivedState → ℕ → ℕ → Bool → ReceivedState
 recorded kept number ack whole =
     record { set = kept.set; records = keep_last 64 (kept.records ++ record { number = number; ack = ack; whole = whole } ∷ []) }
 
@@ -37,10 +37,10 @@ abbrev pub newest_whole : ℕ → List VectorRecord → Option VectorRecord
 newest_whole n records = newest_from n None records
 
 -- the floor after what a record's vector told
-abbrev pub raised_by : Kept → Option VectorRecord → Kept
+abbrev pub raised_by : ReceivedState → Option VectorRecord → ReceivedState
 raised_by kept None = kept
 raised_by kept (Some r) = record { set = raised kept.set (residue (r.ack + 1)); records = kept.records }
 
 -- after the peer acknowledged a number
-abbrev pub acked : Kept → ℕ → Kept
+abbrev pub acked : ReceivedState → ℕ → ReceivedState
 acked kept n = raised_by kept (newest_whole n kept.records)

@@ -7,7 +7,7 @@ ghost use Rattle.run_list.specs.MarkedSet.{IsSound, raised};
 ghost use Rattle.ack_vectors.specs.Vector.{vector_under, is_whole_under, numbers_told_under, most_options, option_data, state_told, numbers_between, vector_within, is_whole_within, numbers_told_within};
 ghost use Rattle.ack_vectors.specs.declared.room.Vectors.{Vectors};
 ghost use Rattle.ack_vectors.specs.declared.room.Vectors.TheVariants.{One, Two};
-ghost use Rattle.ack_vectors.specs.Kept.{Kept, fresh, marked_by, recorded, acked, is_whole_at, newest_whole};
+ghost use Rattle.ack_vectors.specs.Kept.{ReceivedState, fresh, marked_by, recorded, acked, is_whole_at, newest_whole};
 ghost use Rattle.ack_vectors.specs.declared.received.VectorRecord.{VectorRecord};
 
 /// What a vector tells is read back, number by number from the acknowledgement down: state 0 exactly for the numbers of
@@ -119,26 +119,26 @@ pub fn the_newest_whole_record_counts()
 /// Records only go: one that is kept after a packet was recorded is that packet's, or was kept before; marks and
 /// acknowledgements leave all as they were (own).
 pub fn records_only_forget()
-    ensures recorded { (kept : Kept) (number ack : ℕ) (whole : Bool) (one : VectorRecord)
+    ensures recorded { (kept : ReceivedState) (number ack : ℕ) (whole : Bool) (one : VectorRecord)
         → Contains (recorded kept number ack whole).records one
         → Contains kept.records one ⊎ (◌≡◌ {A = VectorRecord} one (record { number = number; ack = ack; whole = whole })) }
-    ensures marked { (kept : Kept) (n : ℕ) → (marked_by kept n).records ≡ kept.records }
-    ensures acked { (kept : Kept) (n : ℕ) → (acked kept n).records ≡ kept.records }
+    ensures marked { (kept : ReceivedState) (n : ℕ) → (marked_by kept n).records ≡ kept.records }
+    ensures acked { (kept : ReceivedState) (n : ℕ) → (acked kept n).records ≡ kept.records }
 {}
 
 /// An acknowledged number raises the floor to the number after what the record that counts acknowledged, and without
 /// such a record changes nothing (own).
 pub fn acknowledging_raises_the_floor()
-    ensures some { (kept : Kept) (n : ℕ) (one : VectorRecord) → newest_whole n kept.records ≡ Some one
+    ensures some { (kept : ReceivedState) (n : ℕ) (one : VectorRecord) → newest_whole n kept.records ≡ Some one
         → (acked kept n).set ≡ raised kept.set (residue (one.ack + 1)) }
-    ensures none { (kept : Kept) (n : ℕ) → newest_whole n kept.records ≡ None → acked kept n ≡ kept }
+    ensures none { (kept : ReceivedState) (n : ℕ) → newest_whole n kept.records ≡ None → acked kept n ≡ kept }
 {}
 
 /// What begins sound stays so.
 pub fn received_stays_sound()
     ensures fresh { (floor : ℕ) → floor < 2 ^ 48 → IsSound (fresh floor).set }
-    ensures marked { (kept : Kept) (n : ℕ) → IsSound kept.set → n < 2 ^ 48 → IsSound (marked_by kept n).set }
-    ensures recorded { (kept : Kept) (number ack : ℕ) (whole : Bool) → IsSound kept.set
+    ensures marked { (kept : ReceivedState) (n : ℕ) → IsSound kept.set → n < 2 ^ 48 → IsSound (marked_by kept n).set }
+    ensures recorded { (kept : ReceivedState) (number ack : ℕ) (whole : Bool) → IsSound kept.set
         → IsSound (recorded kept number ack whole).set }
-    ensures acked { (kept : Kept) (n : ℕ) → IsSound kept.set → IsSound (acked kept n).set }
+    ensures acked { (kept : ReceivedState) (n : ℕ) → IsSound kept.set → IsSound (acked kept n).set }
 {}

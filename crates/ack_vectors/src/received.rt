@@ -3,7 +3,7 @@ ghost use Rattle.std.specs.Prelude.{◌≡◌, ◌≢◌, ◌≤◌, ◌<◌, �
 ghost use Rattle.std.specs.Bool.{OnFalse};
 ghost use Rattle.std.specs.List.{list_any};
 ghost use Rattle.run_list.specs.MarkedSet.{has, answer_to, IsFrom, IsSound};
-ghost use Rattle.ack_vectors.specs.Kept.{Kept, fresh, marked_by, recorded, acked, is_whole_at, newest_whole};
+ghost use Rattle.ack_vectors.specs.Kept.{ReceivedState, fresh, marked_by, recorded, acked, is_whole_at, newest_whole};
 ghost use Rattle.ack_vectors.specs.Near.{record_numbers};
 ghost use Rattle.seq_circle.specs.Near.{AreNear};
 ghost use Rattle.ack_vectors.specs.Vector.{vector_under, is_whole_under, room_of};
@@ -45,10 +45,10 @@ pub struct Received {
 }
 
 impl Model for Received {
-    ghost use Rattle.ack_vectors.specs.Kept.{Kept};
+    ghost use Rattle.ack_vectors.specs.Kept.{ReceivedState};
     ghost use Rattle.ack_vectors.specs.Near.{KeptInvariant};
 
-    ghost Value = { Kept };
+    ghost Value = { ReceivedState };
 
     ghost view = { λ r. record { set = r.set; records = r.records.items } };
 

@@ -1,7 +1,7 @@
 -- What one step of an end does, as plain data: a part for each part of the end (own). Why each part is what it is,
 -- is in Causes.
 use Rattle.std.specs.Prelude.{◌&&◌, ℕ, Bool, true, false, List, [], Option, Some, None}
-use Rattle.ack_vectors.specs.Kept.{Kept, marked_by}
+use Rattle.ack_vectors.specs.Kept.{ReceivedState, marked_by}
 use Rattle.ack_vectors.specs.Kept as kept
 use Rattle.seq_circle.specs.Circle.{later_of}
 use Rattle.congestion_trait.specs.Calls.{Call}
@@ -149,29 +149,29 @@ abbrev pub rows_by : List Row → Effect → List Row
 rows_by rows f = turned rows f.turns
 
 -- the set and its records begin anew with a first number
-abbrev pub begun_or : Bool → ℕ → Kept → Kept
+abbrev pub begun_or : Bool → ℕ → ReceivedState → ReceivedState
 begun_or true number old = kept.fresh number
 begun_or false number old = old
 
 -- the number of a packet that was taken is marked
-abbrev pub marked_as : Passing → Kept → ℕ → Kept
+abbrev pub marked_as : Passing → ReceivedState → ℕ → ReceivedState
 marked_as Taken old number = marked_by old number
 marked_as Refused old number = old
 marked_as Shut old number = old
 
 -- what is kept begins anew with a first number, and then marks a packet that was taken
-abbrev pub heard_by : Kept → Hearing → Kept
+abbrev pub heard_by : ReceivedState → Hearing → ReceivedState
 heard_by old Unheard = old
 heard_by old (Heard first number how) = marked_as how (begun_or first number old) number
 
 -- how many numbers were taken, by what the mark answers
-abbrev pub count_as : Passing → ℕ → Kept → ℕ → ℕ
+abbrev pub count_as : Passing → ℕ → ReceivedState → ℕ → ℕ
 count_as Taken count old number = one_more_taken count (is_new (answer_to old.set number))
 count_as Refused count old number = count
 count_as Shut count old number = count
 
 -- how many numbers were taken, by what was heard; at a first number the set has just begun
-abbrev pub count_by : ℕ → Kept → Hearing → ℕ
+abbrev pub count_by : ℕ → ReceivedState → Hearing → ℕ
 count_by count old Unheard = count
 count_by count old (Heard first number how) = count_as how count (begun_or first number old) number
 
@@ -187,7 +187,7 @@ last_by old Unheard = old
 last_by old (Heard first number how) = last_as how old number
 
 -- What was marked and looked up: the Ack Vector of a packet that goes out tells of this.
-abbrev pub told_by : Kept → Effect → Kept
+abbrev pub told_by : ReceivedState → Effect → ReceivedState
 told_by old f = looked_by (heard_by old f.hearing) f.looked_up
 
 -- an Ack or a DataAck goes out
@@ -198,7 +198,7 @@ is_acking_sent (WithoutConnection number packet) = false
 
 -- What is kept of received numbers: the set begins, a number is marked, one is looked up, and the packet's own Ack
 -- Vector is recorded.
-abbrev pub received_by : EndState → Effect → Kept
+abbrev pub received_by : EndState → Effect → ReceivedState
 received_by e f =
     recorded_by (is_acking_sent f.sending && sends_vectors (rows_by e.rows f)) e.config.vectors (told_by e.received f) (next_number e)
     (greatest_by e.marks.gsr f.hearing)

@@ -1,6 +1,6 @@
 -- The state of one end of a connection (RFC 4340, sections 7.1, 8 and 11.4).
 use Rattle.std.specs.Prelude.{◌≡◌, ℕ, Bool, true, false, List}
-use Rattle.ack_vectors.specs.Kept.{Kept}
+use Rattle.ack_vectors.specs.Kept.{ReceivedState}
 use Rattle.ack_vectors.specs.Kept as kept
 use Rattle.feature_lists.specs.Features.{initial_of}
 use Rattle.feature_lists.specs.declared.features.Feature.{Feature}
@@ -33,7 +33,7 @@ pub record EndState : Type 0 where
   pub opened : Bool
   pub marks : Marks
   pub rows : List Row
-  pub received : Kept
+  pub received : ReceivedState
   pub marked : ℕ
   pub owed : Bool
   pub unacked : ℕ

@@ -1,7 +1,7 @@
 -- What an end marks of the packets that it takes, and how it reports them by Ack Vectors (RFC 4340, sections 11.2 to
 -- 11.5).
 use Rattle.std.specs.Prelude.{map, ◌==◌, ◌&&◌, not, nat_le, min, if◌then◌else◌, ℕ, ◌+◌, ◌-◌, ◌^◌, Bool, true, false, List, [], ◌++◌, Option, Some, None}
-use Rattle.ack_vectors.specs.Kept.{Kept, acked, marked_by, recorded}
+use Rattle.ack_vectors.specs.Kept.{ReceivedState, acked, marked_by, recorded}
 use Rattle.ack_vectors.specs.Vector.{is_whole_under, option_data, vector_under}
 use Rattle.ack_vectors.specs.declared.room.Vectors.{Vectors}
 use Rattle.dccp_options.specs.Kinds as options
@@ -72,7 +72,7 @@ abbrev pub looked_up : PacketType → Option ℕ → Option ℕ
 looked_up kind ack = if is_acking kind then ack else None
 
 -- where the number is that of a record, the floor rises after what its vector told
-abbrev pub looked_by : Kept → Option ℕ → Kept
+abbrev pub looked_by : ReceivedState → Option ℕ → ReceivedState
 looked_by old None = old
 looked_by old (Some number) = acked old number
 
@@ -116,7 +116,7 @@ vector_items true vectors set ack = map vector_item (option_data (vector_under (
 vector_items false vectors set ack = []
 
 -- the record of it, under the packet's number: whole where its options hold all of it
-abbrev pub recorded_by : Bool → Vectors → Kept → ℕ → ℕ → Kept
+abbrev pub recorded_by : Bool → Vectors → ReceivedState → ℕ → ℕ → ReceivedState
 recorded_by true vectors kept number ack = recorded kept number ack (is_whole_under (has kept.set.numbers) kept.set.floor ack vectors)
 recorded_by false vectors kept number ack = kept
 

@@ -1,7 +1,7 @@
 -- Worked Ack Vectors and records, computed from the definitions (RFC 4340, section 11.4; the floor, the records and their room are own). The bytes
 -- are the standard's or follow by hand from its coding.
 use Rattle.std.specs.Prelude.{◌≡◌, refl, ℕ, ◌+◌, ◌-◌, ◌%◌, ◌==◌, ◌||◌, nat_lt, zero, suc, Bool, true, false, List, [], ◌∷◌, ◌++◌, length, drop, map, is_some}
-use Rattle.ack_vectors.specs.Kept.{Kept, acked, fresh, marked_by, newest_whole, recorded}
+use Rattle.ack_vectors.specs.Kept.{ReceivedState, acked, fresh, marked_by, newest_whole, recorded}
 use Rattle.ack_vectors.specs.Vector.{is_whole_under, vector_under}
 use Rattle.ack_vectors.specs.declared.room.Vectors.{Vectors}
 use Rattle.ack_vectors.specs.declared.room.Vectors.TheVariants.{One, Two}
@@ -16,22 +16,22 @@ from zero n = []
 from (suc count) n = n ∷ from count (n + 1)
 
 -- these numbers are taken, in this order; how many of them are New
-abbrev took : Kept → List ℕ → Kept
+abbrev took : ReceivedState → List ℕ → ReceivedState
 took old [] = old
 took old (n ∷ ns) = took (marked_by old n) ns
 
-abbrev news : Kept → List ℕ → ℕ
+abbrev news : ReceivedState → List ℕ → ℕ
 news old numbers = count_of_new (map Mark numbers) old.set
 
 -- a vector and whether it is whole: of a set that a test gives, and of the numbers that are kept
 abbrev vector : (ℕ → Bool) → ℕ → ℕ → Vectors → List ℕ × Bool
 vector set floor ack vectors = (vector_under set floor ack vectors, is_whole_under set floor ack vectors)
 
-abbrev told : Kept → ℕ → List ℕ × Bool
+abbrev told : ReceivedState → ℕ → List ℕ × Bool
 told old ack = vector (has old.set.numbers) old.set.floor ack One
 
 -- whether a whole vector is recorded under the number
-abbrev is_recorded : Kept → ℕ → Bool
+abbrev is_recorded : ReceivedState → ℕ → Bool
 is_recorded old number = is_some (newest_whole number old.records)
 
 -- 88 to 98 and 100 were taken: 0 for 100, 3 for 99, and 0 for eleven numbers. At the floor one number is told, and below it none.
@@ -50,10 +50,10 @@ full_run_of_64 :
 full_run_of_64 = (refl, refl, refl)
 
 -- 12 is missing. The vector of 13 went out under the number 50, and the floor rises after it once 50 is acknowledged.
-abbrev missing_12 : Kept
+abbrev missing_12 : ReceivedState
 missing_12 = took (fresh 10) (10 ∷ 11 ∷ 13 ∷ [])
 
-abbrev vector_went_out : Kept
+abbrev vector_went_out : ReceivedState
 vector_went_out = recorded missing_12 50 13 true
 
 floor_rises_by_record :
@@ -106,7 +106,7 @@ vectors_at_the_edges :
 vectors_at_the_edges = (refl, refl, refl, refl, refl, refl, refl, refl, refl, refl, refl, refl, refl, refl)
 
 -- Of the even numbers up to 4,094 the first and the last are taken here, so the floor is 2,047: the vector of all is cut, and a record of it raises no floor.
-abbrev cut_went_out : Kept
+abbrev cut_went_out : ReceivedState
 cut_went_out = recorded (took (fresh 0) (0 ∷ 4094 ∷ [])) 9 4094 false
 
 vector_cut_at_253 :
@@ -136,10 +136,10 @@ run_cut_at_506 :
 run_cut_at_506 = (refl, refl, refl, refl)
 
 -- what one option cuts raises no floor, and two options hold it whole
-abbrev one_went_out : Kept
+abbrev one_went_out : ReceivedState
 one_went_out = recorded (fresh 0) 7 504 (is_whole_under even 0 504 One)
 
-abbrev two_went_out : Kept
+abbrev two_went_out : ReceivedState
 two_went_out = recorded (acked one_went_out 7) 8 504 (is_whole_under even 0 504 Two)
 
 floor_rises_by_two_options :
@@ -151,18 +151,18 @@ floor_rises_by_two_options :
 floor_rises_by_two_options = (refl, refl, refl, refl, refl)
 
 -- Records over the wrap of numbers: a 65th drops the oldest, of two under one number the newer counts, and no record is kept over a start.
-abbrev last_and_first : Kept
+abbrev last_and_first : ReceivedState
 last_and_first = took (fresh 281474976710655) (281474976710655 ∷ 0 ∷ [])
 
 -- whole vectors at one number went out under each of these
-abbrev all_recorded : Kept → ℕ → List ℕ → Kept
+abbrev all_recorded : ReceivedState → ℕ → List ℕ → ReceivedState
 all_recorded old ack [] = old
 all_recorded old ack (number ∷ numbers) = all_recorded (recorded old number ack true) ack numbers
 
-abbrev full_ring : Kept
+abbrev full_ring : ReceivedState
 full_ring = all_recorded last_and_first 281474976710655 (from 65 0)
 
-abbrev newer_under_64 : Kept
+abbrev newer_under_64 : ReceivedState
 newer_under_64 = recorded (acked full_ring 1) 64 0 true
 
 records_in_the_ring :

@@ -1,6 +1,6 @@
 -- Worked marks and Ack Vectors, computed from the definitions: what is received, what a vector tells of it, and what an end's Acks carry.
 use Rattle.std.proofs.Common.{◌≡◌, refl, ℕ, ◌+◌, zero, suc, Bool, true, false, List, [], ◌∷◌, ◌++◌, Some, None}
-use Rattle.ack_vectors.specs.Kept.{Kept, acked, marked_by, newest_whole, recorded}
+use Rattle.ack_vectors.specs.Kept.{ReceivedState, acked, marked_by, newest_whole, recorded}
 use Rattle.ack_vectors.specs.Kept as kept
 use Rattle.ack_vectors.specs.Vector.{is_whole_under, vector_under}
 use Rattle.ack_vectors.specs.declared.room.Vectors.TheVariants.{One}
@@ -19,7 +19,7 @@ use Rattle.tests_ends.proofs.RowsOffers.{usual_open, usual_part_open, usual_vect
 use Rattle.tests_ends.proofs.RowsSeen.{arrives, open_client, requesting, response, seen, sent}
 
 -- these numbers were taken, in this order
-abbrev took : Kept → List ℕ → Kept
+abbrev took : ReceivedState → List ℕ → ReceivedState
 took old [] = old
 took old (number ∷ rest) = took (marked_by old number) rest
 
@@ -29,7 +29,7 @@ from zero number = []
 from (suc count) number = number ∷ from count (1 + number)
 
 -- the vector in one option at an acknowledgement, and whether it is whole
-abbrev told : Kept → ℕ → List ℕ × Bool
+abbrev told : ReceivedState → ℕ → List ℕ × Bool
 told old ack = (vector_under (has old.set.numbers) old.set.floor ack One, is_whole_under (has old.set.numbers) old.set.floor ack One)
 
 -- 88 to 98 and 100 were taken: 0 for 100, 3 for 99, and 0 for eleven numbers
@@ -43,10 +43,10 @@ full-run-of-64 :
 full-run-of-64 = (refl, refl)
 
 -- The number 12 is missing. The vector of 13 went out under the number 50, and the floor rises after it once 50 is acknowledged.
-abbrev missing_12 : Kept
+abbrev missing_12 : ReceivedState
 missing_12 = took (kept.fresh 10) (10 ∷ 11 ∷ 13 ∷ [])
 
-abbrev vector_went_out : Kept
+abbrev vector_went_out : ReceivedState
 vector_went_out = recorded missing_12 50 13 true
 
 floor-rises-by-record :

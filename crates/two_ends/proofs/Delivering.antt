@@ -7,7 +7,7 @@ use Rattle.std.proofs.lemmas.Option.{same_Some}
 use Rattle.std.specs.List.{Contains}
 use Rattle.std.specs.Prelude.{slice_index}
 use Rattle.std.specs.Result.{result_ok}
-use Rattle.ack_vectors.specs.Kept.{Kept as KeptNumbers}
+use Rattle.ack_vectors.specs.Kept.{ReceivedState as KeptNumbers}
 use Rattle.congestion_trait.specs.Control.{Control}
 use Rattle.dccp_endpoint.proofs.Deriving.{Told}
 use Rattle.dccp_endpoint.proofs.Phases.{accept-so, answer-so, check-live}

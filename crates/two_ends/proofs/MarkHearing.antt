@@ -4,7 +4,7 @@ use Rattle.std.proofs.lemmas.List.{append-nil, length-map, map-append}
 use Rattle.std.proofs.lemmas.List.Elements.{All-cons, All-nil}
 use Rattle.std.proofs.lemmas.Option.{slice_get_within}
 use Rattle.std.specs.List.{All, Contains}
-use Rattle.ack_vectors.specs.Kept.{Kept as KeptNumbers}
+use Rattle.ack_vectors.specs.Kept.{ReceivedState as KeptNumbers}
 use Rattle.ack_vectors.specs.declared.received.VectorRecord.{VectorRecord}
 use Rattle.dccp_endpoint.specs.Causes.{Came, IsHearing, Keeps as KeepsHeard, Starts, Raises, entrance_of, is_waiting}
 use Rattle.dccp_endpoint.specs.Effects.{Effect, Hearing, Unheard, Heard, Passing, Refused, Shut, Taken, count_by, end_after, first_by, heard_by}

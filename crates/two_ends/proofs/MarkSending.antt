@@ -5,7 +5,7 @@ use Rattle.std.proofs.lemmas.List.Elements.{All-append}
 use Rattle.std.proofs.lemmas.Option.{same_Some}
 use Rattle.std.specs.List.{All, Contains}
 use Rattle.ack_vectors.proofs.Records.{newest_whole-there, recorded-there}
-use Rattle.ack_vectors.specs.Kept.{Kept as KeptNumbers, acked, newest_whole, raised_by}
+use Rattle.ack_vectors.specs.Kept.{ReceivedState as KeptNumbers, acked, newest_whole, raised_by}
 use Rattle.ack_vectors.specs.Vector.{is_whole_under}
 use Rattle.ack_vectors.specs.declared.received.VectorRecord.{VectorRecord}
 use Rattle.ack_vectors.specs.declared.room.Vectors.{Vectors}
