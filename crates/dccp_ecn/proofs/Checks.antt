@@ -8,7 +8,7 @@ use Rattle.std.specs.List.{list_any}
 use Rattle.dccp_ecn.specs.declared.arrived.Arrived.{Arrived}
 use Rattle.dccp_ecn.specs.declared.arrived.Arrived.TheVariants as came
 use Rattle.dccp_ecn.specs.declared.ledger.Check.TheVariants.{Fits, Unfit, Unknown}
-use Rattle.dccp_ecn.specs.Arrivals.{Arrival, Arrivals, how_in, none_arrived}
+use Rattle.dccp_ecn.specs.Arrivals.{Receipt, Arrivals, how_in, none_arrived}
 use Rattle.dccp_ecn.specs.EcnVector.{ecn_bytes, ecn_states, nonce_told_of, nonces_received, state_told_of}
 use Rattle.dccp_ecn.specs.Ledger.{nonce_kept, check_verdict}
 use Rattle.dccp_ecn.specs.Nonces.{kind_of_sum, nonce_xor, sum_of, xor_if_known, zeros_in}
@@ -89,7 +89,7 @@ verdict-unfit true false = refl
 verdict-unfit false true = refl
 verdict-unfit false false = refl
 
-pub report-honest : (sent : List Bool) (receipts : List Arrival) → length sent ≤ 2 ^ 46 → EachArrival (IsSent sent) receipts
+pub report-honest : (sent : List Bool) (receipts : List Receipt) → length sent ≤ 2 ^ 46 → EachArrival (IsSent sent) receipts
     → (checks (ledger_by sent) (report_by receipts) ≡ unless_old sent (report_by receipts) Fits)
     × (checks_forged (ledger_by sent) (report_by receipts) ≡ unless_old sent (report_by receipts) Unfit)
 report-honest sent receipts few each =

@@ -9,22 +9,22 @@ use Rattle.run_list.specs.declared.answers.Marked.TheVariants as answer
 use Rattle.run_list.specs.MarkedSet.{IsSound, answer_to, has, is_from, marked}
 use Rattle.run_list.proofs.Sets.{has-marked, sound-marked}
 use Rattle.dccp_ecn.specs.declared.arrived.Arrived.{Arrived}
-use Rattle.dccp_ecn.specs.Arrivals.{Arrival, Arrivals, arrival_of, how_in, known_or_marked, none_arrived, taken_in, taken_as}
+use Rattle.dccp_ecn.specs.Arrivals.{Receipt, Arrivals, arrival_of, how_in, known_or_marked, none_arrived, taken_in, taken_as}
 use Rattle.dccp_ecn.specs.World.{greatest_came}
 use Rattle.dccp_ecn.specs.Run.{greatest_from, number_or_0, received_from}
 use Rattle.dccp_ecn.proofs.Taking.{how_in-all}
 
 -- a fact of each receipt
-abbrev pub EachArrival : (ℕ → Arrived → Type 0) → List Arrival → Type 0
+abbrev pub EachArrival : (ℕ → Arrived → Type 0) → List Receipt → Type 0
 EachArrival P [] = Unit {0}
 EachArrival P (a ∷ rest) = (a.number < 2 ^ 48) × P a.number a.how × EachArrival P rest
 
-pub each_arrival-push : (P : ℕ → Arrived → Type 0) (rs : List Arrival) (n : ℕ) (how : Arrived) → n < 2 ^ 48 → P n how → EachArrival P rs
+pub each_arrival-push : (P : ℕ → Arrived → Type 0) (rs : List Receipt) (n : ℕ) (how : Arrived) → n < 2 ^ 48 → P n how → EachArrival P rs
     → EachArrival P (rs ++ arrival_of n how ∷ [])
 each_arrival-push P [] n how fits p each = (fits, p, tt)
 each_arrival-push P (r ∷ rs) n how fits p each = (each.0, each.1, each_arrival-push P rs n how fits p each.2)
 
-pub each_arrival-weaker : (P Q : ℕ → Arrived → Type 0) (rs : List Arrival) → ((n : ℕ) (how : Arrived) → P n how → Q n how) → EachArrival P rs → EachArrival Q rs
+pub each_arrival-weaker : (P Q : ℕ → Arrived → Type 0) (rs : List Receipt) → ((n : ℕ) (how : Arrived) → P n how → Q n how) → EachArrival P rs → EachArrival Q rs
 each_arrival-weaker P Q [] h each = tt
 each_arrival-weaker P Q (r ∷ rs) h each = (each.0, h r.number r.how each.1, each_arrival-weaker P Q rs h each.2)
 
@@ -86,22 +86,22 @@ module _ (P : ℕ → Arrived → Type 0) (e : Arrivals) (n : ℕ) (how : Arrive
   pub kept-taken : IsKept P (taken_in e n how)
   kept-taken = kept-new (answer_to e.set n) refl
 
-pub kept-from : (P : ℕ → Arrived → Type 0) (e : Arrivals) (rs : List Arrival) → IsKept P e → EachArrival P rs → IsKept P (received_from e rs)
+pub kept-from : (P : ℕ → Arrived → Type 0) (e : Arrivals) (rs : List Receipt) → IsKept P e → EachArrival P rs → IsKept P (received_from e rs)
 kept-from P e [] k each = k
 kept-from P e (r ∷ rs) k each = kept-from P (taken_in e r.number r.how) rs (kept-taken P e r.number r.how each.0 each.1 k) each.2
 
 -- one more receipt
-pub received-push : (e : Arrivals) (rs : List Arrival) (a : Arrival) → received_from e (rs ++ a ∷ []) ≡ taken_in (received_from e rs) a.number a.how
+pub received-push : (e : Arrivals) (rs : List Receipt) (a : Receipt) → received_from e (rs ++ a ∷ []) ≡ taken_in (received_from e rs) a.number a.how
 received-push e [] a = refl
 received-push e (r ∷ rs) a = received-push (taken_in e r.number r.how) rs a
 
-pub greatest-push : (greatest : Option ℕ) (rs : List Arrival) (a : Arrival)
+pub greatest-push : (greatest : Option ℕ) (rs : List Receipt) (a : Receipt)
     → greatest_from greatest (rs ++ a ∷ []) ≡ greatest_came (greatest_from greatest rs) a.number
 greatest-push greatest [] a = refl
 greatest-push greatest (r ∷ rs) a = greatest-push (greatest_came greatest r.number) rs a
 
 -- the greatest number of receipts is a sequence number
-pub greatest-fits : (P : ℕ → Arrived → Type 0) (greatest : Option ℕ) (rs : List Arrival) → number_or_0 greatest < 2 ^ 48 → EachArrival P rs
+pub greatest-fits : (P : ℕ → Arrived → Type 0) (greatest : Option ℕ) (rs : List Receipt) → number_or_0 greatest < 2 ^ 48 → EachArrival P rs
     → number_or_0 (greatest_from greatest rs) < 2 ^ 48
 greatest-fits P greatest [] fits each = fits
 greatest-fits P greatest (r ∷ rs) fits each = greatest-fits P (greatest_came greatest r.number) rs (with-fits greatest fits) each.2

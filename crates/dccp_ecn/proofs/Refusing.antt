@@ -8,7 +8,7 @@ use Rattle.dccp_ecn.specs.declared.event.EcnEvent.{EcnEvent}
 use Rattle.dccp_ecn.specs.declared.event.EcnEvent.TheVariants as event
 use Rattle.dccp_ecn.specs.declared.event.EcnSeen.TheVariants as seen
 use Rattle.dccp_ecn.specs.declared.event.EcnFault.TheVariants as fault
-use Rattle.dccp_ecn.specs.Arrivals.{Arrival}
+use Rattle.dccp_ecn.specs.Arrivals.{Receipt}
 use Rattle.dccp_ecn.specs.World.{EcnReport, EcnState, HasNoRoom, LacksIndex, receipt_step, checks, checks_forged, ecn_step, happens_by, is_checked, marked_at, most_sent, reports_to, after_send, unmarked_at}
 
 past-none : {X : Type 0} (xs : List X) (index : ℕ) → slice_get xs index ≡ None → length xs ≤ index
@@ -16,12 +16,12 @@ past-none [] index e = omega arith
 past-none (x ∷ xs) zero e = absurd (none-some x (sym e))
 past-none (x ∷ xs) (suc index) e = let rest = past-none xs index e in omega arith
 
-arrives-there : (w : EcnState) (a : Arrival) → (receipt_step w (Some a) ≡ Err fault.NoSuchFrame) → ⊥
+arrives-there : (w : EcnState) (a : Receipt) → (receipt_step w (Some a) ≡ Err fault.NoSuchFrame) → ⊥
 arrives-there w a e = cc e
 
 -- an arrival takes place where its packet is there, and is never too many
-arrives-lacks : (w : EcnState) (index : ℕ) (arriving : Option Bool → Option Arrival) → arriving None ≡ None
-    → ((nonce : Bool) → (a : Arrival) × (arriving (Some nonce) ≡ Some a))
+arrives-lacks : (w : EcnState) (index : ℕ) (arriving : Option Bool → Option Receipt) → arriving None ≡ None
+    → ((nonce : Bool) → (a : Receipt) × (arriving (Some nonce) ≡ Some a))
     → (receipt_step w (arriving (slice_get w.sent index)) ≡ Err fault.NoSuchFrame) ↔ (length w.sent ≤ index)
 arrives-lacks w index arriving none some = by (slice_get w.sent index) refl
   where
@@ -32,7 +32,7 @@ arrives-lacks w index arriving none some = by (slice_get w.sent index) refl
       λ past. absurd (omega arith),
     )
 
-arrives-room : (w : EcnState) (a : Option Arrival) → (receipt_step w a ≡ Err fault.Full) → ⊥
+arrives-room : (w : EcnState) (a : Option Receipt) → (receipt_step w a ≡ Err fault.Full) → ⊥
 arrives-room w None e = cc e
 arrives-room w (Some a) e = cc e
 

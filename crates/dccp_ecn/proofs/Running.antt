@@ -14,7 +14,7 @@ use Rattle.dccp_ecn.specs.declared.event.EcnSeen.{EcnSeen}
 use Rattle.dccp_ecn.specs.declared.event.EcnSeen.TheVariants as seen
 use Rattle.dccp_ecn.specs.declared.event.EcnFault.{EcnFault}
 use Rattle.dccp_ecn.specs.declared.event.EcnFault.TheVariants as fault
-use Rattle.dccp_ecn.specs.Arrivals.{Arrival, none_arrived}
+use Rattle.dccp_ecn.specs.Arrivals.{Receipt, none_arrived}
 use Rattle.dccp_ecn.specs.EcnVector.{nonce_told_of}
 use Rattle.dccp_ecn.specs.Ledger.{ledger}
 use Rattle.dccp_ecn.specs.World.{EcnReport, EcnState, after_events, receipt_step, checks, checks_forged, ecn_begins, ecn_state, ecn_step, happens_by, is_checked, marked_at, most_sent, packet_number, report_at, reports_to, after_send, state_after, unmarked_at}
@@ -28,10 +28,10 @@ checked-goes : (w : EcnState) (check : EcnReport → Check) (report : Option Ecn
 checked-goes w check None = refl
 checked-goes w check (Some report) = refl
 
-arrives-goes : (r : EcnRun) (a : Option Arrival) → state_after (state_by r) (receipt_step (state_by r) a) ≡ state_by (run_with_receipt r a)
+arrives-goes : (r : EcnRun) (a : Option Receipt) → state_after (state_by r) (receipt_step (state_by r) a) ≡ state_by (run_with_receipt r a)
 arrives-goes r None = refl
 arrives-goes r (Some a) =
-    let receipts : List Arrival = r.receipts ++ a ∷ [] in
+    let receipts : List Receipt = r.receipts ++ a ∷ [] in
     let reports : List EcnReport = map report_by r.heard in
     ap (λ e. ecn_state r.sent (ledger_by r.sent) e (state_after (state_by r) (receipt_step (state_by r) (Some a))).greatest reports)
     (sym (received-push (none_arrived 1) r.receipts a))
@@ -79,16 +79,16 @@ pub run-told : (events : List EcnEvent) → after_events ecn_begins events ≡ s
 run-told events = states-go (ecn_run [] [] []) events
 
 -- what came of a list of receipts came as it was sent
-abbrev EachHeard : (ℕ → Arrived → Type 0) → List (List Arrival) → Type 0
+abbrev EachHeard : (ℕ → Arrived → Type 0) → List (List Receipt) → Type 0
 EachHeard P [] = Unit {0}
 EachHeard P (receipts ∷ rest) = EachArrival P receipts × EachHeard P rest
 
-heard-push : (P : ℕ → Arrived → Type 0) (heard : List (List Arrival)) (receipts : List Arrival) → EachArrival P receipts → EachHeard P heard
+heard-push : (P : ℕ → Arrived → Type 0) (heard : List (List Receipt)) (receipts : List Receipt) → EachArrival P receipts → EachHeard P heard
     → EachHeard P (heard ++ receipts ∷ [])
 heard-push P [] receipts each all = (each, tt)
 heard-push P (rs ∷ rest) receipts each all = (all.0, heard-push P rest receipts each all.1)
 
-heard-weaker : (P Q : ℕ → Arrived → Type 0) (heard : List (List Arrival)) → ((n : ℕ) (how : Arrived) → P n how → Q n how) → EachHeard P heard
+heard-weaker : (P Q : ℕ → Arrived → Type 0) (heard : List (List Receipt)) → ((n : ℕ) (how : Arrived) → P n how → Q n how) → EachHeard P heard
     → EachHeard Q heard
 heard-weaker P Q [] h all = tt
 heard-weaker P Q (rs ∷ rest) h all = (each_arrival-weaker P Q rs h all.0, heard-weaker P Q rest h all.1)
@@ -164,7 +164,7 @@ facts-all r [] f = f
 facts-all r (e ∷ es) f = facts-all (run_goes_on r e) es (facts-go r e f)
 
 -- of every report
-heard-honest : (sent : List Bool) (heard : List (List Arrival)) → length sent ≤ 2 ^ 46 → EachHeard (IsSent sent) heard
+heard-honest : (sent : List Bool) (heard : List (List Receipt)) → length sent ≤ 2 ^ 46 → EachHeard (IsSent sent) heard
     → (index : ℕ) (report : EcnReport) → slice_get (map report_by heard) index ≡ Some report
     → (checks (ledger_by sent) report ≡ unless_old sent report Fits) × (checks_forged (ledger_by sent) report ≡ unless_old sent report Unfit)
 heard-honest sent [] few all index report is = absurd (none-some report is)

@@ -7,31 +7,31 @@ use Rattle.dccp_ecn.specs.declared.arrived.Arrived.{Arrived}
 use Rattle.dccp_ecn.specs.declared.arrived.Arrived.TheVariants as came
 
 -- a packet's number, and how the packet came
-pub record Arrival : Type 0 where
+pub record Receipt : Type 0 where
   pub number : ℕ
   pub how : Arrived
 
 -- the arrival of this number
-abbrev pub arrival_of : ℕ → Arrived → Arrival
+abbrev pub arrival_of : ℕ → Arrived → Receipt
 arrival_of n how = record { number = n; how = how }
 
 -- how a number came by its first arrival in a list, or none if the list has none
-abbrev pub how_in : List Arrival → ℕ → Option Arrived
+abbrev pub how_in : List Receipt → ℕ → Option Arrived
 how_in [] n = None
 how_in (a ∷ rest) n = if a.number == n then Some a.how else how_in rest n
 
 -- these numbers, in their order, each with how it came
-abbrev pub arrivals_by : (ℕ → Arrived) → List ℕ → List Arrival
+abbrev pub arrivals_by : (ℕ → Arrived) → List ℕ → List Receipt
 arrivals_by how [] = []
 arrivals_by how (n ∷ ns) = arrival_of n (how n) ∷ arrivals_by how ns
 
 -- the set of received numbers with its floor, and how each of its numbers came first, in the set's order
 pub record Arrivals : Type 0 where
   pub set : MarkedSet
-  pub first : List Arrival
+  pub first : List Receipt
 
 -- a set, and how its numbers came
-abbrev pub arrivals : MarkedSet → List Arrival → Arrivals
+abbrev pub arrivals : MarkedSet → List Receipt → Arrivals
 arrivals set first = record { set = set; first = first }
 
 -- nothing received, and a floor

@@ -6,7 +6,7 @@ use Rattle.dccp_ecn.specs.declared.ledger.Check.{Check}
 use Rattle.dccp_ecn.specs.declared.ledger.Check.TheVariants.{Fits, Unfit, Unknown}
 use Rattle.dccp_ecn.specs.declared.event.EcnEvent.{EcnEvent}
 use Rattle.dccp_ecn.specs.declared.event.EcnEvent.TheVariants as event
-use Rattle.dccp_ecn.specs.Arrivals.{Arrival, Arrivals, none_arrived, taken_in}
+use Rattle.dccp_ecn.specs.Arrivals.{Receipt, Arrivals, none_arrived, taken_in}
 use Rattle.dccp_ecn.specs.Ledger.{Ledger, ledger, with_nonce_sent}
 use Rattle.dccp_ecn.specs.Nonces.{zeros_in}
 use Rattle.dccp_ecn.specs.World.{EcnReport, EcnState, after_events, checks, checks_forged, ecn_begins, ecn_state, greatest_came, marked_at, most_sent, report_at, unmarked_at}
@@ -15,11 +15,11 @@ use Rattle.dccp_ecn.specs.World.{EcnReport, EcnState, after_events, checks, chec
 -- order
 pub record EcnRun : Type 0 where
   pub sent : List Bool
-  pub receipts : List Arrival
-  pub heard : List (List Arrival)
+  pub receipts : List Receipt
+  pub heard : List (List Receipt)
 
 -- the run of these parts
-abbrev pub ecn_run : List Bool → List Arrival → List (List Arrival) → EcnRun
+abbrev pub ecn_run : List Bool → List Receipt → List (List Receipt) → EcnRun
 ecn_run sent receipts heard = record { sent = sent; receipts = receipts; heard = heard }
 
 -- what a ledger keeps after packets with these nonces
@@ -32,21 +32,21 @@ abbrev pub ledger_by : List Bool → Ledger
 ledger_by sent = ledger_from (ledger 1 []) sent
 
 -- what was received after these receipts
-abbrev pub received_from : Arrivals → List Arrival → Arrivals
+abbrev pub received_from : Arrivals → List Receipt → Arrivals
 received_from e [] = e
 received_from e (a ∷ rest) = received_from (taken_in e a.number a.how) rest
 
 -- the same of a receiver to which nothing else came
-abbrev pub received_after : List Arrival → Arrivals
+abbrev pub received_after : List Receipt → Arrivals
 received_after receipts = received_from (none_arrived 1) receipts
 
 -- the greatest number of receipts, if there are any
-abbrev pub greatest_from : Option ℕ → List Arrival → Option ℕ
+abbrev pub greatest_from : Option ℕ → List Receipt → Option ℕ
 greatest_from greatest [] = greatest
 greatest_from greatest (a ∷ rest) = greatest_from (greatest_came greatest a.number) rest
 
 -- the same, of these receipts alone
-abbrev pub greatest_of : List Arrival → Option ℕ
+abbrev pub greatest_of : List Receipt → Option ℕ
 greatest_of receipts = greatest_from None receipts
 
 -- the number, or 0 if there is none
@@ -55,11 +55,11 @@ number_or_0 None = 0
 number_or_0 (Some n) = n
 
 -- the report of these receipts: their vector at the greatest number, which exists when a report is written
-abbrev pub report_by : List Arrival → EcnReport
+abbrev pub report_by : List Receipt → EcnReport
 report_by receipts = report_at (received_after receipts) (number_or_0 (greatest_of receipts))
 
 -- a receipt joins the run, if there is one
-abbrev pub run_with_receipt : EcnRun → Option Arrival → EcnRun
+abbrev pub run_with_receipt : EcnRun → Option Receipt → EcnRun
 run_with_receipt r None = r
 run_with_receipt r (Some a) = ecn_run r.sent (r.receipts ++ a ∷ []) r.heard
 

@@ -11,7 +11,7 @@ use Rattle.dccp_ecn.specs.declared.event.EcnSeen.{EcnSeen}
 use Rattle.dccp_ecn.specs.declared.event.EcnSeen.TheVariants as seen
 use Rattle.dccp_ecn.specs.declared.event.EcnFault.{EcnFault}
 use Rattle.dccp_ecn.specs.declared.event.EcnFault.TheVariants as fault
-use Rattle.dccp_ecn.specs.Arrivals.{Arrival, Arrivals, arrival_of, none_arrived, taken_in}
+use Rattle.dccp_ecn.specs.Arrivals.{Receipt, Arrivals, arrival_of, none_arrived, taken_in}
 use Rattle.dccp_ecn.specs.EcnVector.{ecn_bytes, ecn_kind}
 use Rattle.dccp_ecn.specs.Ledger.{Ledger, vector_checked, ledger, with_nonce_sent}
 
@@ -44,12 +44,12 @@ abbrev pub packet_number : ℕ → ℕ
 packet_number index = residue (1 + index)
 
 -- the arrival of the packet with this index and nonce, unmarked; nothing if no such packet was sent
-abbrev pub unmarked_at : ℕ → Option Bool → Option Arrival
+abbrev pub unmarked_at : ℕ → Option Bool → Option Receipt
 unmarked_at index None = None
 unmarked_at index (Some nonce) = Some (arrival_of (packet_number index) (came.Nonce nonce))
 
 -- the same of a packet that comes marked
-abbrev pub marked_at : ℕ → Option Bool → Option Arrival
+abbrev pub marked_at : ℕ → Option Bool → Option Receipt
 marked_at index None = None
 marked_at index (Some nonce) = Some (arrival_of (packet_number index) came.Marked)
 
@@ -92,7 +92,7 @@ abbrev pub after_send : EcnState → Bool → EcnState
 after_send w nonce = ecn_state (w.sent ++ nonce ∷ []) (with_nonce_sent w.ledger nonce) w.received w.greatest w.reports
 
 -- a packet comes
-abbrev pub after_receipt : EcnState → Arrival → EcnState
+abbrev pub after_receipt : EcnState → Receipt → EcnState
 after_receipt w a = ecn_state w.sent w.ledger (taken_in w.received a.number a.how) (greatest_came w.greatest a.number) w.reports
 
 -- a report is kept
@@ -100,7 +100,7 @@ abbrev pub keeps_report : EcnState → EcnReport → EcnState
 keeps_report w report = ecn_state w.sent w.ledger w.received w.greatest (w.reports ++ report ∷ [])
 
 -- the two ends after a receipt, if the packet was sent
-abbrev pub receipt_step : EcnState → Option Arrival → Result EcnStep EcnFault
+abbrev pub receipt_step : EcnState → Option Receipt → Result EcnStep EcnFault
 receipt_step w None = Err fault.NoSuchFrame
 receipt_step w (Some a) = Ok (ecn_step (after_receipt w a) (seen.Took (answer_to w.received.set a.number)))
 
