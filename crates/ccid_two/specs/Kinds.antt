@@ -3,23 +3,23 @@ use Rattle.std.specs.Prelude.{ℕ, ◌==◌, ◌||◌, List, [], if◌then◌els
 use Rattle.congestion_trait.specs.declared.flight.Entry.{Entry}
 use Rattle.congestion_trait.specs.Flight.{States, sent, after_report}
 use Rattle.congestion_trait.specs.Control.{Control}
-use Rattle.ccid_two.specs.declared.kinds.Kind.{Kind}
-use Rattle.ccid_two.specs.declared.kinds.Kind.TheVariants.{CcidTwo, Fixed}
+use Rattle.ccid_two.specs.declared.kinds.ControlKind.{ControlKind}
+use Rattle.ccid_two.specs.declared.kinds.ControlKind.TheVariants.{CcidTwo, Fixed}
 use Rattle.ccid_two.specs.Window as two
 
 -- the kind in force, and the state of each
 pub record Both : Type 0 where
-  pub kind : Kind
+  pub kind : ControlKind
   pub ccid_two : two.State
   pub fixed : List Entry
 
 -- the flight list of the kind in force
-abbrev pub flight_by : Kind → Both → List Entry
+abbrev pub flight_by : ControlKind → Both → List Entry
 flight_by CcidTwo both = both.ccid_two.flight
 flight_by Fixed both = both.fixed
 
 -- its window
-abbrev pub window_by : Kind → Both → ℕ
+abbrev pub window_by : ControlKind → Both → ℕ
 window_by CcidTwo both = both.ccid_two.window
 window_by Fixed both = 8
 
@@ -31,17 +31,17 @@ kind_started both ccid =
     else record both { kind = CcidTwo; ccid_two = two.first_state }
 
 -- a data packet was sent: the kind in force counts it
-abbrev pub sent_by : Kind → Both → ℕ → Both
+abbrev pub sent_by : ControlKind → Both → ℕ → Both
 sent_by CcidTwo both number = record both { ccid_two = two.with_sent both.ccid_two number }
 sent_by Fixed both number = record both { fixed = sent both.fixed number }
 
 -- a report came to the kind in force
-abbrev pub reported_by : Kind → Both → States → ℕ → Both
+abbrev pub reported_by : ControlKind → Both → States → ℕ → Both
 reported_by CcidTwo both states ratio = record both { ccid_two = two.with_report both.ccid_two states ratio }
 reported_by Fixed both states ratio = record both { fixed = after_report states both.fixed }
 
 -- the timer rto of the kind in force ran out
-abbrev pub timed_out_by : Kind → Both → Both
+abbrev pub timed_out_by : ControlKind → Both → Both
 timed_out_by CcidTwo both = record both { ccid_two = two.timed_out both.ccid_two }
 timed_out_by Fixed both = record both { fixed = [] }
 

@@ -15,7 +15,7 @@ const CCID_FIXED: u8 = 248;
 
 /// Which kind of congestion control is in force.
 #[derive(Clone, Copy, Debug, PartialEq, Eq)]
-pub enum Kind {
+pub enum ControlKind {
     /// CCID 2 (RFC 4341).
     CcidTwo,
     /// CCID 248: the fixed window (own).
@@ -25,7 +25,7 @@ pub enum Kind {
 /// CCID 2 and CCID 248 in one: `start` chooses which is in force. It begins with CCID 2.
 #[derive(Drop)]
 pub struct Kinds {
-    kind: Kind,
+    kind: ControlKind,
     ccid_two: Ccid2,
     fixed: FixedWindow,
 }
@@ -46,7 +46,7 @@ impl Kinds {
         let ccid_two = Ccid2::new(alloc)?;
         let fixed = FixedWindow::new(alloc)?;
         Ok(Kinds {
-            kind: Kind::CcidTwo,
+            kind: ControlKind::CcidTwo,
             ccid_two,
             fixed,
         })
@@ -62,67 +62,67 @@ impl Congestion for Kinds {
 
     fn start(&mut self, ccid: u8) {
         if ccid == CCID_FIXED {
-            self.kind = Kind::Fixed;
+            self.kind = ControlKind::Fixed;
             self.fixed.start(ccid);
         } else {
-            self.kind = Kind::CcidTwo;
+            self.kind = ControlKind::CcidTwo;
             self.ccid_two.start(ccid);
         }
     }
 
     fn window(&self) -> u32 {
         match self.kind {
-            Kind::CcidTwo => self.ccid_two.window(),
-            Kind::Fixed => self.fixed.window(),
+            ControlKind::CcidTwo => self.ccid_two.window(),
+            ControlKind::Fixed => self.fixed.window(),
         }
     }
 
     fn in_flight(&self) -> u32 {
         match self.kind {
-            Kind::CcidTwo => self.ccid_two.in_flight(),
-            Kind::Fixed => self.fixed.in_flight(),
+            ControlKind::CcidTwo => self.ccid_two.in_flight(),
+            ControlKind::Fixed => self.fixed.in_flight(),
         }
     }
 
     fn is_reported(&self, number: Seq48) -> bool {
         match self.kind {
-            Kind::CcidTwo => self.ccid_two.is_reported(number),
-            Kind::Fixed => self.fixed.is_reported(number),
+            ControlKind::CcidTwo => self.ccid_two.is_reported(number),
+            ControlKind::Fixed => self.fixed.is_reported(number),
         }
     }
 
     fn stands(&self, number: Seq48, standing: Standing) -> bool {
         match self.kind {
-            Kind::CcidTwo => self.ccid_two.stands(number, standing),
-            Kind::Fixed => self.fixed.stands(number, standing),
+            ControlKind::CcidTwo => self.ccid_two.stands(number, standing),
+            ControlKind::Fixed => self.fixed.stands(number, standing),
         }
     }
 
     fn may_send(&self) -> bool {
         match self.kind {
-            Kind::CcidTwo => self.ccid_two.may_send(),
-            Kind::Fixed => self.fixed.may_send(),
+            ControlKind::CcidTwo => self.ccid_two.may_send(),
+            ControlKind::Fixed => self.fixed.may_send(),
         }
     }
 
     fn on_sent(&mut self, number: Seq48) {
         match self.kind {
-            Kind::CcidTwo => self.ccid_two.on_sent(number),
-            Kind::Fixed => self.fixed.on_sent(number),
+            ControlKind::CcidTwo => self.ccid_two.on_sent(number),
+            ControlKind::Fixed => self.fixed.on_sent(number),
         }
     }
 
     fn on_report(&mut self, report: &AckReport<'_>, ratio: u16) {
         match self.kind {
-            Kind::CcidTwo => self.ccid_two.on_report(report, ratio),
-            Kind::Fixed => self.fixed.on_report(report, ratio),
+            ControlKind::CcidTwo => self.ccid_two.on_report(report, ratio),
+            ControlKind::Fixed => self.fixed.on_report(report, ratio),
         }
     }
 
     fn on_timeout(&mut self) {
         match self.kind {
-            Kind::CcidTwo => self.ccid_two.on_timeout(),
-            Kind::Fixed => self.fixed.on_timeout(),
+            ControlKind::CcidTwo => self.ccid_two.on_timeout(),
+            ControlKind::Fixed => self.fixed.on_timeout(),
         }
     }
 

@@ -9,7 +9,7 @@ mod kinds;
 mod laws;
 mod window;
 
-pub use crate::kinds::{Kind, Kinds};
+pub use crate::kinds::{ControlKind, Kinds};
 pub use crate::laws::{
     kinds_know_two_and_248, one_mark_one_halving, only_losses_past_the_mark_halve,
     window_stays_in_range,
