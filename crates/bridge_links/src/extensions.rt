@@ -6,7 +6,7 @@ ghost use Rattle.bridge_links.specs.Extensions as spec;
 
 use crate::numbers::read_u16;
 use byteorder::{BigEndian, ByteOrder};
-use capture_reader::behind;
+use capture_reader::rest_after;
 use seq_circle::NoMemory;
 use std::alloc::Global;
 use tool_text::put;
@@ -188,7 +188,7 @@ fn without_extensions(alloc: Global, upper: &Upper, ip: &[u8]) -> Result<Vec<u8>
     put(&mut plain, &[DCCP])?;
     put(&mut plain, bytes_at(ip, HOP_LIMIT, DESTINATION - HOP_LIMIT))?;
     put(&mut plain, bytes_at(ip, upper.to, ADDRESS))?;
-    put(&mut plain, behind(ip, upper.place))?;
+    put(&mut plain, rest_after(ip, upper.place))?;
     Ok(plain)
 }
 

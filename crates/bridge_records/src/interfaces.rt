@@ -4,7 +4,7 @@ ghost use Rattle.bridge_records.specs.Interfaces as spec;
 ghost use Rattle.bridge_records.specs.Interfaces.{front_of, needs_nanos, units_of, seconds_of, nanos_of, fraction_of};
 
 use crate::pieces::PieceFault;
-use capture_reader::{Order, behind};
+use capture_reader::{Order, rest_after};
 
 /// An interface of a section.
 #[derive(Clone, Copy)]
@@ -98,7 +98,7 @@ pub(crate) fn interface_of(order: Order, first: u32, bytes: &[u8]) -> Result<Int
         return Err(PieceFault::BadBlock);
     }
     let link = front_of(order, first);
-    let options = behind(bytes, 4);
+    let options = rest_after(bytes, 4);
     Ok(Interface {
         link,
         most: order.read_u32(bytes, 0),

@@ -54,7 +54,7 @@ impl RecordHeader {
 }
 
 /// The bytes after so many (own).
-pub fn behind(bytes: &[u8], count: usize) -> &[u8]
+pub fn rest_after(bytes: &[u8], count: usize) -> &[u8]
     requires { count ≤ length bytes.now }
     ensures { result.now ≡ drop count bytes.now }
 {

@@ -4,7 +4,7 @@ ghost use Rattle.packet_show.specs.Network.{FitsIp, behind_v4, behind_v6, bytes_
 ghost use Rattle.dccp_packets.specs.Grammar.{number_at};
 
 use byteorder::{BigEndian, ByteOrder};
-use capture_reader::behind;
+use capture_reader::rest_after;
 use dccp_sum::Pseudo;
 
 /// A DCCP packet in a record, as far as it was captured (own).
@@ -130,7 +130,7 @@ fn behind_v4(bytes: &[u8]) -> Datagram<'_>
     let to = v4_address(bytes, 16);
     Datagram {
         pseudo: Pseudo::V4 { from, to },
-        bytes: front(behind(bytes, header), total - header),
+        bytes: front(rest_after(bytes, header), total - header),
         whole: total <= bytes.len(),
     }
 }
@@ -169,7 +169,7 @@ fn behind_v6(bytes: &[u8]) -> Datagram<'_>
     let to = v6_address(bytes, 24);
     Datagram {
         pseudo: Pseudo::V6 { from, to },
-        bytes: front(behind(bytes, IPV6_HEADER), payload),
+        bytes: front(rest_after(bytes, IPV6_HEADER), payload),
         whole: IPV6_HEADER + payload <= bytes.len(),
     }
 }
@@ -214,7 +214,7 @@ fn in_ethernet(bytes: &[u8]) -> Option<Datagram<'_>>
     }
     in_frame(
         read_u16(bytes, ETHERNET_TYPE),
-        behind(bytes, ETHERNET_HEADER),
+        rest_after(bytes, ETHERNET_HEADER),
     )
 }
 

@@ -11,6 +11,6 @@ returns-clause-value c =
     let test : nat_lt (length c.args.bytes.now) 14 ≡ false = le-ltb (length c.args.bytes.now) 14 enough in
     let here : in_ethernet c.args.bytes.now ≡ in_frame (number_at 12 2 c.args.bytes.now) (drop 14 c.args.bytes.now) = rw test refl in
     c.in_frame.ensures.value
-    ∙ ap (λ (kind : ℕ). in_frame kind c.behind.result.now) c.read_u16.ensures
-    ∙ ap (λ (packet : List ℕ). in_frame (number_at 12 2 c.args.bytes.now) packet) c.behind.ensures
+    ∙ ap (λ (kind : ℕ). in_frame kind c.rest_after.result.now) c.read_u16.ensures
+    ∙ ap (λ (packet : List ℕ). in_frame (number_at 12 2 c.args.bytes.now) packet) c.rest_after.ensures
     ∙ sym here
