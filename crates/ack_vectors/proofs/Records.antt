@@ -44,9 +44,9 @@ found_first n q rs r fits same =
     let is : q ≡ r = cc in
     ((0, omega arith, is), ap (is_whole_at n) (sym is) ∙ fits)
 
-found_behind : (n : ℕ) (q : VectorRecord) (rs : List VectorRecord) (r : VectorRecord) → Contains rs r × (is_whole_at n r ≡ true)
+found_after : (n : ℕ) (q : VectorRecord) (rs : List VectorRecord) (r : VectorRecord) → Contains rs r × (is_whole_at n r ≡ true)
     → Contains (q ∷ rs) r × (is_whole_at n r ≡ true)
-found_behind n q rs r k = (Contains-append_right (q ∷ []) rs r k.0, k.1)
+found_after n q rs r k = (Contains-append_right (q ∷ []) rs r k.0, k.1)
 
 -- the record that counts was kept, or found before
 pub newest_from-there : (n : ℕ) (found : Option VectorRecord) (rs : List VectorRecord) (r : VectorRecord) → newest_from n found rs ≡ Some r
@@ -56,11 +56,11 @@ newest_from-there n found (q ∷ rs) r h =
     elim (cases_Bool (is_whole_at n q)) [
       | inl fits ↦
           let rest : newest_from n (Some q) rs ≡ Some r = rw fits at h in
-          ⊎_elim (λ same. inr (found_first n q rs r fits same)) (λ later. inr (found_behind n q rs r later))
+          ⊎_elim (λ same. inr (found_first n q rs r fits same)) (λ later. inr (found_after n q rs r later))
           (newest_from-there n (Some q) rs r rest)
       | inr other ↦
           let rest : newest_from n found rs ≡ Some r = rw other at h in
-          ⊎_elim (λ before. inl before) (λ later. inr (found_behind n q rs r later)) (newest_from-there n found rs r rest)
+          ⊎_elim (λ before. inl before) (λ later. inr (found_after n q rs r later)) (newest_from-there n found rs r rest)
     ]
 
 pub newest_whole-there : (n : ℕ) (rs : List VectorRecord) (r : VectorRecord) → newest_whole n rs ≡ Some r

@@ -12,7 +12,7 @@ use Rattle.dccp_packets.specs.declared.reading.Malformed.{Malformed}
 use Rattle.capture_reader.specs.Records.{RecordParts}
 use Rattle.packet_show.specs.Flows.{AddressAndPort, Flow, flow_number, flow_of, from_end, with_flow}
 use Rattle.bridge_pictures.specs.Walk.{record_behind, side_from}
-use Rattle.packet_show.specs.Network.{DatagramParts, behind_v4, behind_v6, in_ip, in_v4, in_v6, is_v4, is_v6, v4_header, v4_total, v6_payload}
+use Rattle.packet_show.specs.Network.{DatagramParts, after_v4, after_v6, in_ip, in_v4, in_v6, is_v4, is_v6, v4_header, v4_total, v6_payload}
 use Rattle.bridge_records.specs.Pieces.{Goes, Judgement, Piece, PieceNext, PieceWork, PieceWrong, Stops, Taken, by_next_piece, most_piece_bytes, next_piece, pieces_from, taken_by}
 use Rattle.bridge_records.specs.declared.pieces.fault.PieceFault.TheVariants as why
 use Rattle.bridge_records.specs.Reading.{FileState, bytes_held, file_judged, next_length}
@@ -118,15 +118,15 @@ IsByteCarried (Some there) = IsByteDatagram there
 
 v4-carried : (bytes : List ℕ) → AreBytes bytes → IsByteCarried (in_v4 bytes)
 v4-carried bytes are =
-    let there : IsByteDatagram (behind_v4 bytes) =
+    let there : IsByteDatagram (after_v4 bytes) =
     record { bytes = bytes-part (v4_total bytes - v4_header bytes) (v4_header bytes) bytes are; addresses = tt } in
-    either IsByteCarried (is_v4 bytes) (Some (behind_v4 bytes)) None there tt
+    either IsByteCarried (is_v4 bytes) (Some (after_v4 bytes)) None there tt
 
 v6-carried : (bytes : List ℕ) → AreBytes bytes → IsByteCarried (in_v6 bytes)
 v6-carried bytes are =
-    let there : IsByteDatagram (behind_v6 bytes) =
+    let there : IsByteDatagram (after_v6 bytes) =
     record { bytes = bytes-part (v6_payload bytes) 40 bytes are; addresses = (bytes-part 16 8 bytes are, bytes-part 16 24 bytes are) } in
-    either IsByteCarried (is_v6 bytes) (Some (behind_v6 bytes)) None there tt
+    either IsByteCarried (is_v6 bytes) (Some (after_v6 bytes)) None there tt
 
 ip-carried : (bytes : List ℕ) → AreBytes bytes → IsByteCarried (in_ip bytes)
 ip-carried bytes are = either IsByteCarried (is_v4 bytes) (in_v4 bytes) (in_v6 bytes) (v4-carried bytes are) (v6-carried bytes are)

@@ -7,7 +7,7 @@ use Rattle.rand_pcg.specs.Lcg.{Lcg}
 use Rattle.ccid_two.specs.Kinds.{Both, kinds_control}
 use Rattle.dccp_io.specs.Lines.{lines_of, most_input_bytes}
 use Rattle.dccp_states.specs.declared.phase.Role.TheVariants as role
-use Rattle.fault_campaign.specs.Draws.{behind_two, behind_word, generator, initial_number, word}
+use Rattle.fault_campaign.specs.Draws.{after_two, after_word, generator, initial_number, word}
 use Rattle.fault_campaign.specs.Reports.{nothing, settled_of, with_seen}
 use Rattle.fault_campaign.specs.Seeded.{Running, after_event, begun_run, frames_of, goes_on, goes_on_for, next_event, next_events, opened_run, played, seeded, seeded_events, seeded_report, usual_from}
 use Rattle.fault_campaign.specs.declared.report.Report.{Report}
@@ -142,7 +142,7 @@ rest-goes zero number given run play here few room passes =
 rest-goes (suc n) number given run play here few room passes =
     let brief = passes.1.0 in
     let short = brief.short in
-    event-goes play number given (next_event run) (event_lines (next_events n (goes_on run))) (record run { words = behind_two run.words })
+    event-goes play number given (next_event run) (event_lines (next_events n (goes_on run))) (record run { words = after_two run.words })
     (goes_on_for n (goes_on run)) (next_events n (goes_on run)) here (omega (arith, few)) passes.0 brief (omega (arith, room))
     (λ next is events.
     rest-goes n (number + 1) (given + (length (event_text (next_event run)) + 1)) (goes_on run) next (ap (world_or_start next.client next.server) is)
@@ -161,7 +161,7 @@ seeded-can law seed events few =
     let run = seeded seed events in
     let short : IsShort (events - 1 + 1) run = after-so-many seed events in (
       law seed events (omega (arith, few)),
-      brief-drawn (word run.words) (word (behind_word run.words)) (frames_of run Client) (frames_of run Server) (omega (arith, few, short.clients))
+      brief-drawn (word run.words) (word (after_word run.words)) (frames_of run Client) (frames_of run Server) (omega (arith, few, short.clients))
           (omega (arith, few, short.servers)),
     )
 
@@ -203,13 +203,13 @@ abbrev pub client_number : ℕ → ℕ
 client_number seed = initial_number (generator seed)
 
 abbrev pub server_number : ℕ → ℕ
-server_number seed = initial_number (behind_two (generator seed))
+server_number seed = initial_number (after_two (generator seed))
 
 -- after both numbers
 abbrev pub configured : ℕ → Play
 configured seed = with_iss Server (server_number seed) (with_header (with_iss Client (client_number seed) (with_header first_play)))
 
-begun-world : (g : Lcg) → (begun_run g).world ≡ starts (usual_from role.Client (initial_number g)) (usual_from role.Server (initial_number (behind_two g)))
+begun-world : (g : Lcg) → (begun_run g).world ≡ starts (usual_from role.Client (initial_number g)) (usual_from role.Server (initial_number (after_two g)))
 unfolding begun_run
 begun-world g = refl
 
@@ -240,7 +240,7 @@ schedule-follows opens nexts seed events some most =
     let one = number_line Client (client_number seed) in
     let two = number_line Server (server_number seed) in
     let fits = number-fits (generator seed) in
-    let also = number-fits (behind_two (generator seed)) in
+    let also = number-fits (after_two (generator seed)) in
     let first = number-short Client (client_number seed) fits in
     let second = number-short Server (server_number seed) also in
     let a = 0 + (length (joined (line_words (line.Iss Client (client_number seed)))) + 1) in

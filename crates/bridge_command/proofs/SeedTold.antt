@@ -1,7 +1,7 @@
 -- Lines that are written while their events happen.
 use Rattle.std.proofs.Common.{◌≡◌, sym, ap, ap₂, subst, ◌∙◌, ℕ, suc, ◌+◌, ◌-◌, ◌*◌, ◌^◌, ◌≤◌, ◌<◌, List, ◌∷◌, ◌++◌, append_assoc, arith}
 use Rattle.std.proofs.lemmas.List.{append-nil}
-use Rattle.fault_campaign.specs.Draws.{behind_two, generator}
+use Rattle.fault_campaign.specs.Draws.{after_two, generator}
 use Rattle.fault_campaign.specs.Reports.{size}
 use Rattle.fault_campaign.specs.Seeded.{Running, begun_run, goes_on, next_event, next_events, played, seeded_events}
 use Rattle.fault_campaign.proofs.Turns.{IsUnderWay, at-start, counts-little, one-turn, starts-little}
@@ -20,7 +20,7 @@ told-first all run text few =
     record { way = at-start all run few; lines = ap (λ (n : ℕ). text ++ event_lines (next_events n run)) none }
 
 pub told-more : (all done : ℕ) (first run drawn next : Running) (event : Event) (before now text : List ℕ) → done < all → event ≡ next_event run
-    → drawn ≡ record run { words = behind_two run.words } → next ≡ played drawn event → text ≡ now ++ event_line event → IsTold all done first run before now
+    → drawn ≡ record run { words = after_two run.words } → next ≡ played drawn event → text ≡ now ++ event_line event → IsTold all done first run before now
     → IsTold all (done + 1) first next before text
 told-more all done first run drawn next event before now text near is_next is_drawn is put told =
     let goes : next ≡ goes_on run = is ∙ ap₂ played is_drawn is_next in
@@ -37,7 +37,7 @@ told-more all done first run drawn next event before now text near is_next is_dr
           ∙ told.lines;
     }
 
-pub drawn-little : (all done : ℕ) (first run next : Running) (before now : List ℕ) → next ≡ record run { words = behind_two run.words }
+pub drawn-little : (all done : ℕ) (first run next : Running) (before now : List ℕ) → next ≡ record run { words = after_two run.words }
     → IsTold all done first run before now
     → size next.report < 2 ^ 62
 drawn-little all done first run next before now is told = subst (λ (r : Running). size r.report < 2 ^ 62) (sym is) (counts-little all done first run told.way)

@@ -1,6 +1,6 @@
 -- The schedule of a campaign's seed, as `run` reads it (own).
 use Rattle.std.specs.Prelude.{ℕ, ◌++◌, List, flat_map, codes}
-use Rattle.fault_campaign.specs.Draws.{behind_two, generator, initial_number}
+use Rattle.fault_campaign.specs.Draws.{after_two, generator, initial_number}
 use Rattle.fault_campaign.specs.Seeded.{seeded_events}
 use Rattle.schedule_text.specs.Printing.{event_text, line_words}
 use Rattle.schedule_text.specs.declared.line.Line.TheVariants as line
@@ -23,7 +23,7 @@ event_lines events = flat_map event_line events
 
 -- both initial sequence numbers that a seed draws, the client's first
 abbrev pub number_lines : ℕ → List ℕ
-number_lines seed = number_line Client (initial_number (generator seed)) ++ number_line Server (initial_number (behind_two (generator seed)))
+number_lines seed = number_line Client (initial_number (generator seed)) ++ number_line Server (initial_number (after_two (generator seed)))
 
 -- The schedule of a seed with so many events. Its ends are the usual ones but for these numbers.
 unfoldable pub seed_text : ℕ → ℕ → List ℕ

@@ -8,7 +8,7 @@ use Rattle.tool_text.specs.Numbers.{number_below}
 use Rattle.tool_text.specs.declared.words.faults.LineFault.{LineFault}
 use Rattle.tool_text.specs.declared.words.faults.LineWhy.TheVariants as why
 use Rattle.tool_text.specs.declared.words.kinds.Flaw.{Flaw}
-use Rattle.tool_text.specs.Kinds.{flaw_behind, found_or, hex_kind, word_read}
+use Rattle.tool_text.specs.Kinds.{flaw_after, found_or, hex_kind, word_read}
 use Rattle.tool_text.specs.Lines.{line_read}
 use Rattle.tool_text.specs.Refusals.{fault_at}
 use Rattle.tool_text.specs.Rows.{◌>>=◌, ended, then_row}
@@ -32,11 +32,11 @@ frame_of_sender from index = with_index from (found_or why.BadNumber (number_bel
 -- the way of a frame that a listener sent to this peer
 abbrev pub to_peer_named : Option Peer → Result Travel Flaw
 to_peer_named (Some peer) = Ok (travel_to peer)
-to_peer_named None = Err (flaw_behind 0 why.UnknownWord)
+to_peer_named None = Err (flaw_after 0 why.UnknownWord)
 
 -- a frame's name: `c` or `s` for its sender, and its index; or the peer to which a listener sent it
 abbrev pub frame_name_read : List ℕ → Result Travel Flaw
-frame_name_read [] = Err (flaw_behind 0 why.UnknownWord)
+frame_name_read [] = Err (flaw_after 0 why.UnknownWord)
 frame_name_read (letter ∷ index) =
     if letter == 99 then frame_of_sender Client index
     else if letter == 115 then frame_of_sender Server index

@@ -8,7 +8,7 @@ use Rattle.std.specs.Prelude.{flat_map, is_some}
 use Rattle.dccp_io.specs.Fronts.{GivesAtMost}
 use Rattle.tool_text.specs.Ends.{HasBegun, IsCutOff, IsMovedOut}
 use Rattle.tool_text.specs.declared.output.status.JobEnd.TheVariants as ended
-use Rattle.tool_text.proofs.Ending.{answers-early, append-none, append-twice, begun-behind, begun-longer, not-both}
+use Rattle.tool_text.proofs.Ending.{answers-early, append-none, append-twice, begun-after, begun-longer, not-both}
 use Rattle.capture_reader.proofs.Opening.{passed-ahead}
 use Rattle.bridge_records.specs.Pieces.{Goes, GoesThroughPieces, Judgement, JudgesPiece, Piece, PieceWork, Stops, Taken, by_next_piece, done_by, unended, in_front, most_piece_bytes, next_piece, piece_text, pieces_from, pieces_of, taken_by, taken_so_far, text_of_pieces, end_piece}
 use Rattle.bridge_records.specs.Turns.{LeavesText}
@@ -156,7 +156,7 @@ module _ {P V : Type 0} (job : PieceWork P V) (first : V) where
         record {
           answers = answers-early (text_of_pieces job (pieces_of job first input)) (is_some (pieces_of job first input).refusal) result.end known before later off
               (subst (HasBegun before later) (sym (whole-text rest state given left text before after input along refl))
-              (begun-behind before after later along.written (text ++ text_of_pieces job rest) along.taken_is
+              (begun-after before after later along.written (text ++ text_of_pieces job rest) along.taken_is
               (begun-longer after later text (text_of_pieces job rest) begun)));
           past = λ is. absurd (not-both result.end (inr is) off);
           refused = λ answered. absurd (not-both result.end answered off);
@@ -180,7 +180,7 @@ module _ {P V : Type 0} (job : PieceWork P V) (first : V) where
                 leaves.whole answered ∙ ap (λ (took : Option (List ℕ)). append_known took (text ++ text_of_pieces job rest)) along.taken_is
                 ∙ append-twice before along.written (text ++ text_of_pieces job rest) ∙ ap (append_known before) (sym parts);
             front = λ off. subst (HasBegun before later) (sym parts)
-                (begun-behind before after later along.written (text ++ text_of_pieces job rest) along.taken_is (leaves.front off));
+                (begun-after before after later along.written (text ++ text_of_pieces job rest) along.taken_is (leaves.front off));
             done = λ done. (refused ∙ leaves.done done, none done);
             input = λ is_input. refused ∙ leaves.input is_input;
           };

@@ -94,9 +94,9 @@ record-length : (format : Format) (number given : ℕ) (entry : RecordParts) (re
 record-length format number given entry rest bytes r =
     ap (λ (xs : List ℕ). length xs) r.whole ∙ rw (length-append r.header (r.body ++ rest), length-append r.body rest, r.header_length) refl
 
-pub record-behind : (format : Format) (number given : ℕ) (entry : RecordParts) (rest bytes : List ℕ) → IsRecord format number given entry rest bytes
+pub record-after : (format : Format) (number given : ℕ) (entry : RecordParts) (rest bytes : List ℕ) → IsRecord format number given entry rest bytes
     → drop (16 + length entry.bytes) bytes ≡ rest
-record-behind format number given entry rest bytes r =
+record-after format number given entry rest bytes r =
     let size : length entry.bytes ≡ length r.body = ap (λ (e : RecordParts). length e.bytes) r.stands in
     ap (λ (n : ℕ). drop (16 + n) bytes) size ∙ sym (drop-drop (length r.body) 16 bytes)
     ∙ ap (λ (xs : List ℕ). drop (length r.body) (drop 16 xs)) r.whole
@@ -216,7 +216,7 @@ has-by format number given bytes some within others (IsRecordHere entry rest r) 
     let more = others (number + 1) (given + (16 + length entry.bytes)) rest shorter counts in
     let behind : records_from format 0 (number + 1) (given + (16 + length entry.bytes)) (drop (16 + length entry.bytes) bytes)
     ≡ records_from format 0 (number + 1) (given + (16 + length entry.bytes)) rest =
-    ap (records_from format 0 (number + 1) (given + (16 + length entry.bytes))) (record-behind format number given entry rest bytes r) in
+    ap (records_from format 0 (number + 1) (given + (16 + length entry.bytes))) (record-after format number given entry rest bytes r) in
     subst (λ (c : Captured). HasRecords format number given bytes c.records c.end)
     (sym (records-next format number given bytes entry some (record-read format number given entry rest bytes r) ∙ ap (before entry) behind))
     (rest, r, more)
@@ -244,7 +244,7 @@ same-records (entry ∷ entries) format number given bytes end within (rest, r, 
     let counts : given + (16 + length entry.bytes) ≤ most_bytes = rw size r.counts in
     records-next format number given bytes entry some (record-read format number given entry rest bytes r)
     ∙ ap (before entry)
-    (ap (records_from format 0 (number + 1) (given + (16 + length entry.bytes))) (record-behind format number given entry rest bytes r)
+    (ap (records_from format 0 (number + 1) (given + (16 + length entry.bytes))) (record-after format number given entry rest bytes r)
     ∙ same-records entries format (number + 1) (given + (16 + length entry.bytes)) rest end counts more)
 
 -- records and an end, of their two parts

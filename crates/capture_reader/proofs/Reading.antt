@@ -37,13 +37,13 @@ from_some None = []
 from_some (Some bytes) = bytes
 
 -- what was read past some bytes that were passed
-passed-behind : (k : ℕ) (pending : List ℕ) (all known : Option (List ℕ)) → k ≤ 16 → length pending ≤ 262144
+passed-after : (k : ℕ) (pending : List ℕ) (all known : Option (List ℕ)) → k ≤ 16 → length pending ≤ 262144
     → prepend_known pending known ≡ option_map (drop k) all
     → Passed 262160 all known
-passed-behind k pending None None small fits same = (0, omega arith, refl)
-passed-behind k pending None (Some more) small fits same = absurd (none-some (pending ++ more) (sym same))
-passed-behind k pending (Some bytes) None small fits same = absurd (none-some (drop k bytes) same)
-passed-behind k pending (Some bytes) (Some more) small fits same =
+passed-after k pending None None small fits same = (0, omega arith, refl)
+passed-after k pending None (Some more) small fits same = absurd (none-some (pending ++ more) (sym same))
+passed-after k pending (Some bytes) None small fits same = absurd (none-some (drop k bytes) same)
+passed-after k pending (Some bytes) (Some more) small fits same =
     let joined : pending ++ more ≡ drop k bytes = ap from_some same in (
       k + length pending,
       omega (arith, small, fits),
@@ -71,10 +71,10 @@ found-next format number given header pending (Some bytes) (Some more) fits same
     )
 
 -- a header and the bytes after it make a record, or what is wrong with these
-behind-header : (order : Order) (room : ℕ) (header : RecordHeader) (bytes : List ℕ) (wrong : Option CaptureFault)
+after-header : (order : Order) (room : ℕ) (header : RecordHeader) (bytes : List ℕ) (wrong : Option CaptureFault)
     → header_in order room bytes ≡ Ok (Some header)
     → body_fault header.captured (room - 16) (length (drop 16 bytes)) ≡ wrong → found_in order room bytes ≡ unless_faulty wrong (Some header)
-behind-header order room header bytes wrong told judged =
+after-header order room header bytes wrong told judged =
     ap (λ (f : Result (Option RecordHeader) CaptureFault). found_by room f bytes) told
     ∙ ap (λ (n : ℕ). unless_faulty (body_fault header.captured (room - 16) n) (Some header)) (sym (length-drop 16 bytes))
     ∙ ap (λ (f : Option CaptureFault). unless_faulty f (Some header)) judged
@@ -86,7 +86,7 @@ pub found-told : (order : Order) (room : ℕ) (header : RecordHeader) (all behin
     → IfSome all (λ bytes. found_in order room bytes ≡ unless_faulty wrong (Some header))
 found-told order room header None behind wrong passed told judged = tt
 found-told order room header (Some bytes) behind wrong passed told judged =
-    behind-header order room header bytes wrong told
+    after-header order room header bytes wrong told
     (subst (λ (o : Option (List ℕ)). IfSome o (λ bs. body_fault header.captured (room - 16) (length bs) ≡ wrong)) passed judged)
 
 -- faults that did not fall before have risen since
@@ -131,7 +131,7 @@ module _ {S : Type 0} (left : S → Option (List ℕ)) (faults lender : S → �
         same_format = refl;
         within = omega (arith, within, here.0);
         block = rw (length-drop header.captured got.pending) (omega (arith, block));
-        past = passed-behind 16 got.pending (prepend_known (drop lent held.pending) (left before)) (left after) (omega arith) block here.2;
+        past = passed-after 16 got.pending (prepend_known (drop lent held.pending) (left before)) (left after) (omega arith) block here.2;
         unread = unread-by fault (is_record_settled format.order (most_bytes - given) (drop lent held.pending)) before after stands
             (subst (λ (ahead : BytesAhead). is_record_settled format.order (most_bytes - given) ahead.pending ≡ true → after ≡ before) is still);
         answer = record {
@@ -186,7 +186,7 @@ module _ {S : Type 0} (left : S → Option (List ℕ)) (faults lender : S → �
         same_format = refl;
         within = within;
         block = block;
-        past = passed-behind here.1.0 got.pending (prepend_known (drop lent held.pending) (left before)) (left after) here.1.1 block here.1.2;
+        past = passed-after here.1.0 got.pending (prepend_known (drop lent held.pending) (left before)) (left after) here.1.1 block here.1.2;
         unread = unread-by fault (is_record_settled format.order (most_bytes - given) (drop lent held.pending)) before after stands
             (subst (λ (ahead : BytesAhead). is_record_settled format.order (most_bytes - given) ahead.pending ≡ true → after ≡ before) is still);
         answer = record {

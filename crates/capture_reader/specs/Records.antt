@@ -83,15 +83,15 @@ abbrev pub holds_body : ℕ → ℕ → Bool
 holds_body captured size = nat_lt most_captured captured || nat_le captured size
 
 -- the same by a record's header, after which `size` bytes are pending; what is wrong with it needs no further byte
-abbrev pub holds_behind : ℕ → Result (Option RecordHeader) CaptureFault → Bool
-holds_behind size (Ok (Some header)) = holds_body header.captured size
-holds_behind size (Ok None) = true
-holds_behind size (Err why) = true
+abbrev pub holds_after : ℕ → Result (Option RecordHeader) CaptureFault → Bool
+holds_after size (Ok (Some header)) = holds_body header.captured size
+holds_after size (Ok None) = true
+holds_after size (Err why) = true
 
 -- The bytes that are pending settle what comes next, if `room` bytes count: a record is whole, or its header shows what
 -- is wrong.
 abbrev pub is_record_settled : Order → ℕ → List ℕ → Bool
-is_record_settled order room pending = nat_le 16 (length pending) && holds_behind (length pending - 16) (header_in order room pending)
+is_record_settled order room pending = nat_le 16 (length pending) && holds_after (length pending - 16) (header_in order room pending)
 
 -- the record with this number, header and bytes
 abbrev pub entry_with : Format → ℕ → RecordHeader → List ℕ → RecordParts

@@ -196,9 +196,9 @@ both P Q [] one other = tt
 both P Q (x ∷ xs) one other = ((one.0, other.0), both P Q xs one.1 other.1)
 
 -- the entries from one on are near it, and it lies after all that the report reaches
-all_behind : (ack : ℕ) (bytes : List ℕ) (span : ℕ) (x : Entry) (later : List Entry) → length bytes ≤ 1008 → AllOut (x ∷ later)
+all_after : (ack : ℕ) (bytes : List ℕ) (span : ℕ) (x : Entry) (later : List Entry) → length bytes ≤ 1008 → AllOut (x ∷ later)
     → AreNear span (numbers (x ∷ later)) → span + 64512 ≤ distance x.number ack → AllUnheard (state_at ack bytes) (x ∷ later)
-all_behind ack bytes span x later few out near far =
+all_after ack bytes span x later few out near far =
     let low = all_low span (numbers (x ∷ later)) near in
     let close : AllByRecursion (λ n. distance x.number n ≤ span) (numbers (x ∷ later)) = (omega (arith, near.0), near.1) in
     all_unheard (state_at ack bytes) (λ n. (n < 2 ^ 48) × (distance x.number n ≤ span))
@@ -212,18 +212,18 @@ read_first (suc i) [] x read = cc
 read_first (suc i) (y ∷ later) x read = read_first i later x read
 
 -- where an entry lies after all that the report reaches, so do those from it on
-pub unheard_behind : (ack : ℕ) (bytes : List ℕ) (span i : ℕ) (old : List Entry) (x : Entry) → length bytes ≤ 1008 → slice_get old i ≡ Some x
+pub unheard_after : (ack : ℕ) (bytes : List ℕ) (span i : ℕ) (old : List Entry) (x : Entry) → length bytes ≤ 1008 → slice_get old i ≡ Some x
     → AllOut (drop i old) → (span < 2 ^ 48 → AreNear span (numbers old))
     → (bytes ≡ []) ⊎ (span + 64512 ≤ distance x.number ack) → AllUnheard (state_at ack bytes) (drop i old)
-unheard_behind ack bytes span i old x few read out near (inl empty) =
+unheard_after ack bytes span i old x few read out near (inl empty) =
     all_unheard (state_at ack bytes) (λ n. ⊤) (λ n is. rw empty refl) (drop i old) out (each (λ n. ⊤) (λ n. tt) (numbers (drop i old)))
-unheard_behind ack bytes span i old x few read out near (inr far) =
+unheard_after ack bytes span i old x few read out near (inr far) =
     let first = read_first i old x read in
     let small : span < 2 ^ 48 = omega (arith, far) in
     let dropped : drop i (numbers old) ≡ numbers (drop i old) = drop-map (λ (e : Entry). e.number) i old in
     let rest : AreNear span (numbers (drop i old)) = subst (AreNear span) dropped (near_drop span i (numbers old) (near small)) in
     subst (λ l. AllUnheard (state_at ack bytes) l) (sym first.1)
-    (all_behind ack bytes span x first.0 few (subst AllOut first.1 out) (subst (λ l. AreNear span (numbers l)) first.1 rest) far)
+    (all_after ack bytes span x first.0 few (subst AllOut first.1 out) (subst (λ l. AreNear span (numbers l)) first.1 rest) far)
 
 one_left : (x : Entry) (xs : List Entry) (entry : Entry) (heard : ℕ) → heard ≤ length (x ∷ xs) → is_out entry.standing ≡ true
     → AllOut (drop heard (x ∷ xs)) → AllOut (drop (heard - 1) (xs ++ entry ∷ []))

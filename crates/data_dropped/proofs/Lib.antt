@@ -1,6 +1,6 @@
 pub mod Arriving
 pub mod Lawful
-pub mod Behind
+pub mod ReportAfter
 pub mod EndHistory
 pub mod Frames
 pub mod History

@@ -48,7 +48,7 @@ use Rattle.data_dropped.specs.Frames.{acknowledged_by, buffered_ack, buffered_pa
 use Rattle.data_dropped.specs.Inbox.{InboxState}
 use Rattle.data_dropped.specs.Reports.{drop_options}
 use Rattle.data_dropped.specs.Telling.{IsPassedOver, TellsItsDrops, options_in_packet, told_by_ack, told_if}
-use Rattle.data_dropped.proofs.Behind.{IsOther, area-lists, area-tells, behind-passed, listed-behind, others-tell_nothing}
+use Rattle.data_dropped.proofs.ReportAfter.{IsOther, area-lists, area-tells, after-passed, listed-after, others-tell_nothing}
 use Rattle.data_dropped.proofs.Frames.{lengthened-read}
 
 -- an end's own options are of other types
@@ -183,11 +183,11 @@ module _ (config : Config) (short : Bool) (number : ℕ) (draft : Draft) (held :
         same_number = number-again (number_in_form short number);
         same_kind = kind-again (in_form short draft.kind);
         same_data = refl;
-        more = listed-behind draft.options zeros held ack;
+        more = listed-after draft.options zeros held ack;
         behind = ap (λ (b : Bool). options_of area b) (acking-no_data own.ack ack header.kind acks)
             ∙ area-lists draft.options zeros held ack sendable.items
-            ∙ ap (λ (front : List (Result Entry OptFault)). front ++ listed-behind draft.options zeros held ack) (sym read.are_listed);
-        are_passed_over = behind-passed draft.options zeros held ack;
+            ∙ ap (λ (front : List (Result Entry OptFault)). front ++ listed-after draft.options zeros held ack) (sym read.are_listed);
+        are_passed_over = after-passed draft.options zeros held ack;
         tells = ap (λ (b : Bool). drop_options (options_of area b)) (acking-no_data own.ack ack header.kind acks)
             ∙ area-tells draft.options zeros held ack sendable.items others
             ∙ sym (ap (λ (b : Bool). told_if b (drop_bytes held.drops ack)) says)

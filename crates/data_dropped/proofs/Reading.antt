@@ -7,11 +7,11 @@ use Rattle.ack_vectors.proofs.Coded.{states_of-append}
 use Rattle.ack_vectors.proofs.ReadBack.{slice_get-front}
 use Rattle.data_dropped.specs.Drops.{code_at_place, code_in, drop_coding, numbers_in}
 
-slice_get-behind : {X : Type 0} (front behind : List X) (below left : ℕ) → length front + left ≡ below
+slice_get-after : {X : Type 0} (front behind : List X) (below left : ℕ) → length front + left ≡ below
     → slice_get (front ++ behind) below ≡ slice_get behind left
-slice_get-behind [] behind below left is = let same : below ≡ left = omega arith in ap (λ (i : ℕ). slice_get behind i) same
-slice_get-behind (x ∷ front) behind zero left is = absurd (omega arith)
-slice_get-behind (x ∷ front) behind (suc below) left is = slice_get-behind front behind below left (omega arith)
+slice_get-after [] behind below left is = let same : below ≡ left = omega arith in ap (λ (i : ℕ). slice_get behind i) same
+slice_get-after (x ∷ front) behind zero left is = absurd (omega arith)
+slice_get-after (x ∷ front) behind (suc below) left is = slice_get-after front behind below left (omega arith)
 
 -- in the first option
 pub code-within : (body rest : List ℕ) (below : ℕ) (code : Option ℕ) → slice_get (states_of drop_coding body) below ≡ Some code
@@ -22,11 +22,11 @@ code-within body rest below code is =
     ∙ ap code_at_place (slice_get-front (states_of drop_coding body) (states_of drop_coding rest) below inside ∙ is)
 
 -- after it
-pub code-behind : (body rest : List ℕ) (below left : ℕ) → length (states_of drop_coding body) + left ≡ below
+pub code-after : (body rest : List ℕ) (below left : ℕ) → length (states_of drop_coding body) + left ≡ below
     → slice_get (states_of drop_coding (body ++ rest)) below ≡ slice_get (states_of drop_coding rest) left
-code-behind body rest below left is =
+code-after body rest below left is =
     ap (λ (codes : List (Option ℕ)). slice_get codes below) (states_of-append drop_coding body rest)
-    ∙ slice_get-behind (states_of drop_coding body) (states_of drop_coding rest) below left is
+    ∙ slice_get-after (states_of drop_coding body) (states_of drop_coding rest) below left is
 
 -- ------ byte by byte
 slice_get-replicate : (count : ℕ) (code : Option ℕ) (i : ℕ) → i < count → slice_get (replicate count code) i ≡ Some code
@@ -54,11 +54,11 @@ module _ (bytes : List ℕ) (place count : ℕ) (inside : place < length bytes) 
       ∙ slice_get-replicate (numbers_in (get_or bytes place 0)) (code_in (get_or bytes place 0)) left short
 
   -- one of those after it
-  pub behind-byte : (left : ℕ) → count ≤ left
+  pub after-byte : (left : ℕ) → count ≤ left
       → slice_get (states_of drop_coding (drop (place + 1) bytes)) (left - count) ≡ slice_get (states_of drop_coding (drop place bytes)) left
-  behind-byte left far =
+  after-byte left far =
       sym (ap (λ (codes : List (Option ℕ)). slice_get codes left) first-byte
-      ∙ slice_get-behind run (states_of drop_coding (drop (place + 1) bytes)) left (left - count) (omega (arith, size, far)))
+      ∙ slice_get-after run (states_of drop_coding (drop (place + 1) bytes)) left (left - count) (omega (arith, size, far)))
 
   pub length-byte : length (states_of drop_coding (drop place bytes)) ≡ count + length (states_of drop_coding (drop (place + 1) bytes))
   length-byte =

@@ -261,7 +261,7 @@ fn lose_one(flight: &mut Flight, received: &mut Received, runs: u32) -> Option<u
 }
 
 // Prints the nanoseconds of so many reports to such a list.
-fn measure_behind_a_loss(rt: &HostRuntime, runs: u32, rounds: u32) -> io::Result<()> {
+fn measure_after_a_loss(rt: &HostRuntime, runs: u32, rounds: u32) -> io::Result<()> {
     let Ok(mut flight) = Flight::new(rt.alloc()) else {
         return Err(no_memory());
     };
@@ -285,5 +285,5 @@ pub(crate) fn all(rt: &HostRuntime, rounds: u32) -> io::Result<()> {
 
 fn measure_both(rt: &HostRuntime, runs: u32, rounds: u32) -> io::Result<()> {
     measure(rt, runs, rounds)?;
-    measure_behind_a_loss(rt, runs, rounds)
+    measure_after_a_loss(rt, runs, rounds)
 }

@@ -135,17 +135,17 @@ module _ (ack : Option ℕ) (rows : List Row) (k : Key) where
           cond-false (speaks_to (theirs k) entry) (event_in ack entry ∷ []) (said_to true ack (theirs k) later) speaks ∙ others
 
 -- where the options after the Ack Vector stand, if there is one
-abbrev behind_parts : ℕ → List (List ℕ) → ℕ
-behind_parts place [] = place
-behind_parts place (part ∷ parts) = behind_parts (behind place (vector_item part)) parts
+abbrev after_parts : ℕ → List (List ℕ) → ℕ
+after_parts place [] = place
+after_parts place (part ∷ parts) = after_parts (behind place (vector_item part)) parts
 
 -- the data of the options of the Ack Vector, if there is one
 abbrev pub vector_parts : Bool → Vectors → MarkedSet → ℕ → List (List ℕ)
 vector_parts true vectors set greatest = option_data (vector_under (has set.numbers) set.floor greatest vectors)
 vector_parts false vectors set greatest = []
 
-abbrev behind_vector : Bool → Vectors → MarkedSet → ℕ → ℕ
-behind_vector has_vector vectors set greatest = behind_parts 0 (vector_parts has_vector vectors set greatest)
+abbrev after_vector : Bool → Vectors → MarkedSet → ℕ → ℕ
+after_vector has_vector vectors set greatest = after_parts 0 (vector_parts has_vector vectors set greatest)
 
 -- the items of a vector are its parts
 pub parts-are : (has_vector : Bool) (vectors : Vectors) (set : MarkedSet) (greatest : ℕ)
@@ -155,14 +155,14 @@ parts-are false vectors set greatest = refl
 
 -- An Ack Vector speaks to no row.
 parts-say-nothing : (ack : Option ℕ) (place : ℕ) (parts : List (List ℕ)) (items : List Item) (k : Key)
-    → said_to true ack (theirs k) (as_read place (map vector_item parts ++ items)) ≡ said_to true ack (theirs k) (as_read (behind_parts place parts) items)
+    → said_to true ack (theirs k) (as_read place (map vector_item parts ++ items)) ≡ said_to true ack (theirs k) (as_read (after_parts place parts) items)
 parts-say-nothing ack place [] items k = refl
 parts-say-nothing ack place (part ∷ parts) items k = parts-say-nothing ack (behind place (vector_item part)) parts items k
 
 vector-says-nothing : (ack : Option ℕ) (has_vector : Bool) (vectors : Vectors) (set : MarkedSet) (greatest : ℕ) (confirms : List Due) (rows : List Row)
     (keys : List Key) (k : Key)
     → said_to true ack (theirs k) (as_read 0 (own_options has_vector vectors set greatest confirms rows keys))
-    ≡ said_to true ack (theirs k) (as_read (behind_vector has_vector vectors set greatest) (confirm_items confirms ++ change_items rows keys))
+    ≡ said_to true ack (theirs k) (as_read (after_vector has_vector vectors set greatest) (confirm_items confirms ++ change_items rows keys))
 vector-says-nothing ack has_vector vectors set greatest confirms rows keys k =
     ap (λ (front : List Item). said_to true ack (theirs k) (as_read 0 (front ++ (confirm_items confirms ++ change_items rows keys))))
     (parts-are has_vector vectors set greatest)
@@ -172,7 +172,7 @@ vector-says-nothing ack has_vector vectors set greatest confirms rows keys k =
 pub own_packets_say : OwnPacketsSayOfARow
 own_packets_say = λ ack has_vector vectors set greatest confirms rows keys k.
     vector-says-nothing ack has_vector vectors set greatest confirms rows keys k
-    ∙ all-said ack rows k confirms keys (behind_vector has_vector vectors set greatest)
+    ∙ all-said ack rows k confirms keys (after_vector has_vector vectors set greatest)
 
 module _ (rows : List Row) (k : Key) where
   changes-times : (keys : List Key) (place : ℕ) → AreDistinct keys
@@ -210,14 +210,14 @@ module _ (rows : List Row) (k : Key) where
       omega (arith, now, later)
 
 parts-never-speak : (place : ℕ) (parts : List (List ℕ)) (items : List Item) (k : Key)
-    → times_said_to (theirs k) (as_read place (map vector_item parts ++ items)) ≡ times_said_to (theirs k) (as_read (behind_parts place parts) items)
+    → times_said_to (theirs k) (as_read place (map vector_item parts ++ items)) ≡ times_said_to (theirs k) (as_read (after_parts place parts) items)
 parts-never-speak place [] items k = refl
 parts-never-speak place (part ∷ parts) items k = let rest = parts-never-speak (behind place (vector_item part)) parts items k in omega (arith, rest)
 
 vector-never-speaks : (has_vector : Bool) (vectors : Vectors) (set : MarkedSet) (greatest : ℕ) (confirms : List Due) (rows : List Row) (keys : List Key)
     (k : Key)
     → times_said_to (theirs k) (as_read 0 (own_options has_vector vectors set greatest confirms rows keys))
-    ≡ times_said_to (theirs k) (as_read (behind_vector has_vector vectors set greatest) (confirm_items confirms ++ change_items rows keys))
+    ≡ times_said_to (theirs k) (as_read (after_vector has_vector vectors set greatest) (confirm_items confirms ++ change_items rows keys))
 vector-never-speaks has_vector vectors set greatest confirms rows keys k =
     ap (λ (front : List Item). times_said_to (theirs k) (as_read 0 (front ++ (confirm_items confirms ++ change_items rows keys))))
     (parts-are has_vector vectors set greatest)
@@ -228,7 +228,7 @@ pub own_packets_speak : OwnPacketsSpeakOnce
 own_packets_speak = λ has_vector vectors set greatest confirms rows keys k single distinct apart.
     let times =
     vector-never-speaks has_vector vectors set greatest confirms rows keys k
-    ∙ all-times rows k confirms keys (behind_vector has_vector vectors set greatest) distinct in
+    ∙ all-times rows k confirms keys (after_vector has_vector vectors set greatest) distinct in
     by confirms keys k single apart (has_key k keys) refl times
   where
     by : (confirms : List Due) (keys : List Key) (k : Key) → times_confirmed k confirms ≤ 1

@@ -31,8 +31,8 @@ block-length (suc n) (x ∷ xs) fits all =
     lacking-by (x == newline) (list_all (λ byte. not (byte == newline)) (take n xs)) (text_length xs) n (text_length (drop n xs)) all
     (block-length n xs (omega (arith, fits)))
 
-room_behind : (bytes : List ℕ) (done size : ℕ) → done + size ≤ length bytes → size ≤ length (drop done bytes)
-room_behind bytes done size fits = grind (arith, common_steps)
+room_after : (bytes : List ℕ) (done size : ℕ) → done + size ≤ length bytes → size ≤ length (drop done bytes)
+room_after bytes done size fits = grind (arith, common_steps)
 
 -- nor among fewer
 clear-by : (test : Bool) (n m k : ℕ) → suc k ≤ (if test then 0 else suc n) → (k ≤ n → n ≡ k + m) → (if test then 0 else suc n) ≡ suc k + m
@@ -68,7 +68,7 @@ pub block_seen : (bytes : List ℕ) (done size : ℕ) → done + size ≤ length
 block_seen bytes done size fits before lacks =
     let same : size ≡ done + size - done = omega arith in
     let block =
-    block-length size (drop done bytes) (room_behind bytes done size fits)
+    block-length size (drop done bytes) (room_after bytes done size fits)
     (ap (λ (n : ℕ). list_all (λ byte. not (byte == newline)) (take n (drop done bytes))) same ∙ lacks) in
     let behind : text_length (drop size (drop done bytes)) ≡ text_length (drop (done + size) bytes) = ap text_length (drop-drop size done bytes) in
     omega (arith, before, block, behind)

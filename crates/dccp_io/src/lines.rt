@@ -112,7 +112,7 @@ fn text_length(bytes: &[u8], seen: usize) -> usize
 
 // The same, where at least so many come before it.
 #[tactic(auto, using(crate::proofs::NextLine::clear_front, crate::proofs::NextLine::text_length_fits))]
-fn text_length_behind(bytes: &[u8], clear: usize) -> usize
+fn text_length_from(bytes: &[u8], clear: usize) -> usize
     requires { clear ≤ text_length bytes.now }
     ensures value { result ≡ text_length bytes.now }
     ensures fits { result ≤ length bytes.now }
@@ -129,7 +129,7 @@ fn text_of_line(pending: &[u8], count: usize) -> usize
     requires line { count ≤ text_length pending.now + 1 }
     ensures { result ≡ text_length (take count pending.now) }
 {
-    text_length_behind(&pending[..count], count - 1)
+    text_length_from(&pending[..count], count - 1)
 }
 
 // How many bytes come before the first newline after so many.
@@ -157,7 +157,7 @@ fn seek<S: Source>(
     ensures unread { is_line_settled asked ahead.old.pending ≡ true → source.new ≡ source.old }
     ensures cause { OnErr result (Rose (S.faults source.old) (S.faults source.new)) }
 {
-    let mut seen = text_length_behind(ahead.pending(), clear);
+    let mut seen = text_length_from(ahead.pending(), clear);
     while seen < asked {
         if seen < ahead.len() {
             return Ok(seen);
@@ -220,7 +220,7 @@ fn is_line_settled(asked: usize, pending: &[u8], clear: usize) -> bool
     requires { clear ≤ text_length pending.now }
     ensures { result ≡ is_line_settled asked pending.now }
 {
-    let seen = text_length_behind(pending, clear);
+    let seen = text_length_from(pending, clear);
     asked <= seen || seen < pending.len()
 }
 

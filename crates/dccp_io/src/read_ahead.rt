@@ -48,7 +48,7 @@ fn make_room(block: &mut Vec<u8>, from: usize, to: usize) -> (usize, usize)
 }
 
 // One read into the block after its first `to` bytes.
-fn read_behind<S: Source>(source: &mut S, block: &mut [u8], to: usize) -> Result<usize, Failed>
+fn read_after<S: Source>(source: &mut S, block: &mut [u8], to: usize) -> Result<usize, Failed>
     requires { to < length block.old }
     ensures same_size { length block.new ≡ length block.old }
     ensures front { take to block.new ≡ take to block.old }
@@ -111,7 +111,7 @@ impl ReadAhead {
         let (from, to) = make_room(&mut self.block, self.from, self.to);
         self.from = from;
         self.to = to;
-        let count = read_behind(source, self.block.as_mut_slice(), self.to)?;
+        let count = read_after(source, self.block.as_mut_slice(), self.to)?;
         self.to += count;
         Ok(count)
     }

@@ -1,4 +1,4 @@
-pub mod Behind
+pub mod AfterZeros
 mod Examples
 pub mod Listings
 pub mod RawOptions

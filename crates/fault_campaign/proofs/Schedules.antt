@@ -16,7 +16,7 @@ use Rattle.world_events.specs.declared.event.Event.{Event}
 use Rattle.world_events.specs.declared.event.Event.TheVariants.{Open}
 use Rattle.world_events.specs.declared.event.WorldFault.{WorldFault}
 use Rattle.world_events.specs.declared.event.WorldFault.TheVariants as fault
-use Rattle.fault_campaign.specs.Draws.{behind_two, behind_word, generator, initial_number, word}
+use Rattle.fault_campaign.specs.Draws.{after_two, after_word, generator, initial_number, word}
 use Rattle.fault_campaign.specs.Seeded.{Running, after_event, begun_run, goes_on, goes_on_for, next_event, next_events, opened_run, played, seeded, seeded_events, usual_from}
 
 after-world : (run : Running) (result : Result (ControlledStep Both) WorldFault) → (after_event run result).world ≡ controlled_after run.world result
@@ -32,7 +32,7 @@ rest-plays zero run = refl
 rest-plays (suc n) run =
     rest-plays n (goes_on run)
     ∙ ap (λ (w : Controlled Both). plays kinds_control w (next_events n (goes_on run)))
-    (played-world (record run { words = behind_two run.words }) (next_event run))
+    (played-world (record run { words = after_two run.words }) (next_event run))
 
 pub schedule : (seed events : ℕ) → (seeded seed events).world ≡ plays kinds_control (begun_run (generator seed)).world (seeded_events seed events)
 schedule seed events =
@@ -60,7 +60,7 @@ joined-fits : (high low : ℕ) → low < 2 ^ 32 → high % 65536 * 2 ^ 32 + low 
 joined-fits high low fits = omega arith
 
 pub number-fits : (g : Lcg) → initial_number g < 2 ^ 48
-number-fits g = joined-fits (word g) (word (behind_word g)) (word-fits (behind_word g))
+number-fits g = joined-fits (word g) (word (after_word g)) (word-fits (after_word g))
 
 client-fits : (number : ℕ) → number < 2 ^ 48 → Fits (usual_from role.Client number)
 client-fits number fits = record { own_port = lit< tt; peer_port = lit< tt; service = lit< tt; iss = fits; lists = usual_are_lists }
@@ -76,8 +76,8 @@ AlwaysSafe =
 begun-safe : AlwaysSafe → (g : Lcg) (events : List Event) → Safe kinds_control (plays kinds_control (begun_run g).world events)
 unfolding begun_run
 begun-safe always g events =
-    always (usual_from role.Client (initial_number g)) (usual_from role.Server (initial_number (behind_two g))) at_first at_first events refl refl
-    (client-fits _ (number-fits g)) (server-fits _ (number-fits (behind_two g)))
+    always (usual_from role.Client (initial_number g)) (usual_from role.Server (initial_number (after_two g))) at_first at_first events refl refl
+    (client-fits _ (number-fits g)) (server-fits _ (number-fits (after_two g)))
 
 pub safe : AlwaysSafe → (seed events : ℕ) → Safe kinds_control (seeded seed events).world
 safe always seed events =
@@ -92,8 +92,8 @@ pub once : AlwaysOnce → (seed events : ℕ) → IsDeliveredOnce kinds_control 
 unfolding begun_run
 once always seed events =
     let g : Lcg = generator seed in
-    always (usual_from role.Client (initial_number g)) (usual_from role.Server (initial_number (behind_two g))) at_first at_first
-    (seeded_events seed events) (client-fits _ (number-fits g)) (server-fits _ (number-fits (behind_two g)))
+    always (usual_from role.Client (initial_number g)) (usual_from role.Server (initial_number (after_two g))) at_first at_first
+    (seeded_events seed events) (client-fits _ (number-fits g)) (server-fits _ (number-fits (after_two g)))
 
 abbrev pub NeverFar : Type 0
 NeverFar =
@@ -109,8 +109,8 @@ IsNear w next =
 begun-near : NeverFar → (g : Lcg) (events : List Event) (next : Event) → IsNear (plays kinds_control (begun_run g).world events) next
 unfolding begun_run
 begun-near never g events next =
-    never (usual_from role.Client (initial_number g)) (usual_from role.Server (initial_number (behind_two g))) at_first at_first events next
-    (client-fits _ (number-fits g)) (server-fits _ (number-fits (behind_two g)))
+    never (usual_from role.Client (initial_number g)) (usual_from role.Server (initial_number (after_two g))) at_first at_first events next
+    (client-fits _ (number-fits g)) (server-fits _ (number-fits (after_two g)))
 
 pub seeded-near : NeverFar → (seed events : ℕ) (next : Event) → IsNear (seeded seed events).world next
 seeded-near never seed events next =

@@ -23,7 +23,7 @@ use Rattle.world_events.specs.declared.event.WorldFault.TheVariants as fault
 use Rattle.two_ends.specs.declared.frames.SentFrame.{SentFrame}
 use Rattle.feature_lists.specs.declared.features.Feature.{Feature}
 use Rattle.feature_lists.specs.declared.features.Feature.TheVariants as feature
-use Rattle.fault_campaign.specs.Draws.{behind_two, generator}
+use Rattle.fault_campaign.specs.Draws.{after_two, generator}
 use Rattle.fault_campaign.specs.Reports.{is_settled, one_if_settled, settled_at, settles, size, with_outcome, with_seen}
 use Rattle.fault_campaign.specs.Seeded.{Running, after_event, begun_run, frames_of, goes_on, goes_on_for, next_event, opened_run, played, run_report, seeded, seeded_report}
 use Rattle.fault_campaign.specs.declared.report.Report.{Report}
@@ -127,7 +127,7 @@ after-open seed = after-one 0 _ Open (at-first (generator seed))
 
 pub after-next : (n : ℕ) (run : Running) → IsShort n run → IsShort (n + 1) (goes_on run)
 after-next n run short =
-    after-one n (record run { words = behind_two run.words }) (next_event run)
+    after-one n (record run { words = after_two run.words }) (next_event run)
     (record { counted = short.counted; clients = short.clients; servers = short.servers })
 
 after-more : (more n m : ℕ) (run : Running) → n + more ≡ m → IsShort n run → IsShort m (goes_on_for more run)

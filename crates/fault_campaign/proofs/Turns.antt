@@ -8,7 +8,7 @@ use Rattle.world_events.specs.declared.event.Event.TheVariants.{Open}
 use Rattle.dccp_states.specs.declared.seen.Seen.{Seen}
 use Rattle.world_events.specs.declared.event.WorldFault.{WorldFault}
 use Rattle.world_events.specs.declared.event.WorldFault.TheVariants as fault
-use Rattle.fault_campaign.specs.Draws.{behind_two}
+use Rattle.fault_campaign.specs.Draws.{after_two}
 use Rattle.fault_campaign.specs.Reports.{size, with_seen}
 use Rattle.fault_campaign.specs.Seeded.{Running, after_event, begun_run, goes_on, goes_on_for, next_event, opened_run, played, run_report, seeded_report}
 use Rattle.fault_campaign.specs.declared.report.Report.{Report}
@@ -61,7 +61,7 @@ event-size run (Err fault) = omega arith
 
 goes-on-size : (run : Running) → size (goes_on run).report ≤ size run.report + 2
 unfolding played
-goes-on-size run = event-size (record run { words = behind_two run.words }) (happens_to kinds_control run.world (next_event run))
+goes-on-size run = event-size (record run { words = after_two run.words }) (happens_to kinds_control run.world (next_event run))
 
 pub counts-little : (all done : ℕ) (first run : Running) → IsUnderWay all done first run → size run.report < 2 ^ 62
 counts-little all done first run before = omega (arith, before.few)

@@ -16,7 +16,7 @@ use Rattle.world_events.specs.declared.event.Event.TheVariants.{Open}
 use Rattle.world_events.specs.declared.event.Side.{Side}
 use Rattle.world_events.specs.declared.event.Side.TheVariants.{Client, Server}
 use Rattle.world_events.specs.declared.event.WorldFault.{WorldFault}
-use Rattle.fault_campaign.specs.Draws.{generator, word, behind_word, behind_two, initial_number, drawn}
+use Rattle.fault_campaign.specs.Draws.{generator, word, after_word, after_two, initial_number, drawn}
 use Rattle.fault_campaign.specs.Reports.{nothing, with_seen, settled_of}
 use Rattle.fault_campaign.specs.declared.report.Report.{Report}
 
@@ -34,8 +34,8 @@ usual_from role number = record (usual role) { iss = number }
 unfoldable pub begun_run : Lcg → Running
 begun_run g =
     record {
-      words = behind_two (behind_two g);
-      world = begins_with kinds_control (usual_from role.Client (initial_number g)) (usual_from role.Server (initial_number (behind_two g))) at_first at_first;
+      words = after_two (after_two g);
+      world = begins_with kinds_control (usual_from role.Client (initial_number g)) (usual_from role.Server (initial_number (after_two g))) at_first at_first;
       report = nothing;
     }
 
@@ -54,11 +54,11 @@ played run event = after_event run (happens_to kinds_control run.world event)
 
 -- one event more, drawn from two words
 abbrev pub next_event : Running → Event
-next_event run = drawn (word run.words) (word (behind_word run.words)) (frames_of run Client) (frames_of run Server)
+next_event run = drawn (word run.words) (word (after_word run.words)) (frames_of run Client) (frames_of run Server)
 
 -- a run after its next event, for which two words were drawn
 abbrev pub goes_on : Running → Running
-goes_on run = played (record run { words = behind_two run.words }) (next_event run)
+goes_on run = played (record run { words = after_two run.words }) (next_event run)
 
 -- a run after so many further events
 abbrev pub goes_on_for : ℕ → Running → Running

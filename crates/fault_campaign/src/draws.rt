@@ -1,7 +1,7 @@
 //! What two words of the generator make happen.
 ghost use Rattle.std.specs.Prelude.{◌≡◌, ◌<◌, ◌≤◌, length};
 ghost use Rattle.world_events.specs.declared.event.Event.{Event};
-ghost use Rattle.fault_campaign.specs.Draws.{behind_two, behind_word, drawn, drawn_delivery, drawn_index, drawn_timer, ending, generator, initial_number, preference, sending, word};
+ghost use Rattle.fault_campaign.specs.Draws.{after_two, after_word, drawn, drawn_delivery, drawn_index, drawn_timer, ending, generator, initial_number, preference, sending, word};
 
 use dccp_endpoint::Timer;
 use feature_lists::{Feature, Place};
@@ -20,10 +20,10 @@ pub(crate) fn generator(seed: u64) -> Pcg32
 }
 
 /// Its next word.
-#[tactic(auto, unfolding(crate::specs::Draws::word, crate::specs::Draws::behind_word))]
+#[tactic(auto, unfolding(crate::specs::Draws::word, crate::specs::Draws::after_word))]
 pub(crate) fn next_word(words: &mut Pcg32) -> u32
     ensures value { result ≡ word words.old }
-    ensures rest { words.new ≡ behind_word words.old }
+    ensures rest { words.new ≡ after_word words.old }
 {
     words.next_word()
 }
@@ -31,7 +31,7 @@ pub(crate) fn next_word(words: &mut Pcg32) -> u32
 /// An initial sequence number, from the next two words.
 pub(crate) fn initial_number(words: &mut Pcg32) -> Seq48
     ensures value { result ≡ initial_number words.old }
-    ensures rest { words.new ≡ behind_two words.old }
+    ensures rest { words.new ≡ after_two words.old }
 {
     let high = u64::from(next_word(words));
     let low = u64::from(next_word(words));
@@ -188,7 +188,7 @@ pub(crate) fn drawn(a: u32, b: u32, clients: u64, servers: u64) -> Event
 /// The initial sequence numbers that a seed draws, the client's first (own).
 pub fn initial_numbers(seed: u64) -> (Seq48, Seq48)
     ensures client { result.0 ≡ initial_number (generator seed) }
-    ensures server { result.1 ≡ initial_number (behind_two (generator seed)) }
+    ensures server { result.1 ≡ initial_number (after_two (generator seed)) }
 {
     let mut words = generator(seed);
     let client = initial_number(&mut words);

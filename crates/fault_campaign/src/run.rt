@@ -2,7 +2,7 @@
 ghost use Rattle.std.specs.Prelude.{◌≡◌, ℕ, ◌+◌, ◌*◌, ◌^◌, ◌<◌, ◌≤◌, IfOk, OnOk};
 ghost use Rattle.dccp_endpoint.specs.ShortForm.{is_stable};
 ghost use Rattle.fault_campaign.specs.Reports.{is_settled, settled_at, settles, size};
-ghost use Rattle.fault_campaign.specs.Draws.{behind_two, behind_word, drawn, drawn_delivery, ending, generator, preference, sending, word};
+ghost use Rattle.fault_campaign.specs.Draws.{after_two, after_word, drawn, drawn_delivery, ending, generator, preference, sending, word};
 ghost use Rattle.fault_campaign.specs.Seeded.{begun_run, frames_of, goes_on, goes_on_for, next_event, played, run_report, seeded_report, usual_from};
 ghost use Rattle.two_ends.specs.Pairs.{place_at};
 
@@ -28,7 +28,7 @@ pub struct Run {
 }
 
 impl Model for Run {
-    ghost use Rattle.fault_campaign.specs.Draws.{behind_two};
+    ghost use Rattle.fault_campaign.specs.Draws.{after_two};
     ghost use Rattle.fault_campaign.specs.Seeded.{Running};
 
     ghost Value = { Running };
@@ -64,7 +64,7 @@ impl Run {
     /// Draws the next event, which depends on how many frames there are (own). It has not happened yet.
     pub fn draw(&mut self) -> Event
         ensures event { result ≡ next_event self.old }
-        ensures rest { self.new ≡ record self.old { words = behind_two self.old.words } }
+        ensures rest { self.new ≡ record self.old { words = after_two self.old.words } }
     {
         let (a, b) = self.next_words();
         drawn(a, b, self.frames(Side::Client), self.frames(Side::Server))
@@ -94,8 +94,8 @@ impl Run {
     // The next two words.
     fn next_words(&mut self) -> (u32, u32)
         ensures first { result.0 ≡ word self.old.words }
-        ensures second { result.1 ≡ word (behind_word self.old.words) }
-        ensures rest { self.new ≡ record self.old { words = behind_two self.old.words } }
+        ensures second { result.1 ≡ word (after_word self.old.words) }
+        ensures rest { self.new ≡ record self.old { words = after_two self.old.words } }
     {
         (next_word(&mut self.words), next_word(&mut self.words))
     }

@@ -195,12 +195,12 @@ found-in-front t i n (x ∷ xs) ys is = by (t x) (found-in-front t (i + 1) n xs 
   by true more found = found
   by false more found = more found
 
-found-behind : (t : Flow → Bool) (i : ℕ) (xs ys : List Flow) → position_from t i xs ≡ None
+found-after : (t : Flow → Bool) (i : ℕ) (xs ys : List Flow) → position_from t i xs ≡ None
     → position_from t i (xs ++ ys) ≡ position_from t (i + length xs) ys
-found-behind t i [] ys none =
+found-after t i [] ys none =
     let here : i ≡ i + 0 = omega arith in
     ap (λ (n : ℕ). position_from t n ys) here
-found-behind t i (x ∷ xs) ys none = by (t x) (found-behind t (i + 1) xs ys) none where
+found-after t i (x ∷ xs) ys none = by (t x) (found-after t (i + 1) xs ys) none where
   by : (b : Bool) → (position_from t (i + 1) xs ≡ None → position_from t (i + 1) (xs ++ ys) ≡ position_from t (i + 1 + length xs) ys)
       → cond b (Some i) (position_from t (i + 1) xs) ≡ None
       → cond b (Some i) (position_from t (i + 1) (xs ++ ys)) ≡ position_from t (i + suc (length xs)) ys
@@ -232,7 +232,7 @@ numbers-go-on flow first further false is split =
 pub number_past_first : (flow : Flow) (first further : List Flow) → IsSplit first further → position (same_flow flow) first ≡ None
     → flow_number_from first_further flow further ≡ number_if_seen flow (first ++ further)
 number_past_first flow first further split none =
-    sym (found-behind (same_flow flow) 1 first further (none-first flow first none)
+    sym (found-after (same_flow flow) 1 first further (none-first flow first none)
     ∙ numbers-go-on flow first further (nat_lt (length first) most_first) refl split)
 
 -- a flow that was not seen is in neither part
@@ -246,7 +246,7 @@ pub none_further : (flow : Flow) (first further : List Flow) → IsSplit first f
     → flow_number_from first_further flow further ≡ None
 none_further flow first further split none =
     sym (numbers-go-on flow first further (nat_lt (length first) most_first) refl split)
-    ∙ sym (found-behind (same_flow flow) 1 first further (not-in-front (same_flow flow) 1 first further none)) ∙ none
+    ∙ sym (found-after (same_flow flow) 1 first further (not-in-front (same_flow flow) 1 first further none)) ∙ none
 
 -- what comes of a flow that is put after the set
 pub noted_further : {A E : Type 0} (result : Result A E) (flow : Flow) (first further more seen : List Flow) → first ++ further ≡ seen

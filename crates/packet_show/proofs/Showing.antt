@@ -24,7 +24,7 @@ use Rattle.tool_text.specs.declared.output.status.JobEnd.TheVariants as ended
 use Rattle.packet_show.specs.CaptureText.{first_tally, counted_record, tallied, record_text, last_line, fault_line, text_from, size_of, end_of_records, capture_text, is_faulty, records_end}
 use Rattle.packet_show.specs.Show.{Turns, Closes, ShowsHeaderFault, ShowsRecords, shown_text}
 use Rattle.tool_text.specs.Ends.{HasBegun, IsCutOff, Answers, IsMovedOut}
-use Rattle.tool_text.proofs.Ending.{append-twice, begun-longer, begun-behind, none-left, not-both, answers-early, on-ok, unwritten}
+use Rattle.tool_text.proofs.Ending.{append-twice, begun-longer, begun-after, none-left, not-both, answers-early, on-ok, unwritten}
 
 -- the text of what is left
 abbrev pub rest_text : Tally → Captured → List ℕ
@@ -121,7 +121,7 @@ pub along-begun : (format : Format) (number given : ℕ) (left : Option (List �
 along-begun format number given left tally text before after later whole input along begun =
     let rest = rest_text tally (records_from format 0 number given (drop along.done input)) in
     subst (HasBegun before later) (sym along.text_is)
-    (begun-behind before after later along.written (text ++ rest) along.taken_is (begun-longer after later text rest begun))
+    (begun-after before after later along.written (text ++ rest) along.taken_is (begun-longer after later text rest begun))
 
 -- the records are over
 pub record Over (tally : Tally) (text : List ℕ) (end : Option CaptureFault) (before after : Option (List ℕ)) (whole : Captured) : Type 0 where
@@ -150,7 +150,7 @@ over-closed tally text end before after later left whole result over closes none
       ∙ append-twice before over.written (text ++ last_line tally end) ∙ ap (append_known before) (sym over.text_is);
   front = λ off.
       subst (HasBegun before later) (sym over.text_is)
-      (begun-behind before after later over.written (text ++ last_line tally end) over.taken_is (closes.front off));
+      (begun-after before after later over.written (text ++ last_line tally end) over.taken_is (closes.front off));
   done = λ is. (ap is_some over.end_is ∙ closes.done is, none is);
   input = λ is. ap is_some over.end_is ∙ closes.input is;
 }
@@ -199,8 +199,8 @@ shown-early format number given left known tally text before after later whole i
 }
 
 -- the whole of an input whose file header has this format
-captured-behind : (bytes : List ℕ) (format : Format) → opened bytes ≡ Ok format → captured bytes ≡ records_from format 0 0 24 (drop 24 bytes)
-captured-behind bytes format told = ap (λ (o : Result Format CaptureFault). captured_by o bytes) told
+captured-after : (bytes : List ℕ) (format : Format) → opened bytes ≡ Ok format → captured bytes ≡ records_from format 0 0 24 (drop 24 bytes)
+captured-after bytes format told = ap (λ (o : Result Format CaptureFault). captured_by o bytes) told
 
 passed-in : (records : List RecordParts) (bytes : List ℕ) (left : Option (List ℕ)) → Passed 262160 (Some (drop (size_of records) (drop 24 bytes))) left
     → Passed 524288 (Some (drop (end_of_records records) bytes)) left
@@ -212,7 +212,7 @@ pub passed-whole : (bytes : List ℕ) (format : Format) (result : JobEnd) (left 
     → ShowsRecords (records_from format 0 0 24 (drop 24 bytes)) (drop 24 bytes) result left before after → result ≡ ended.Input
     → Passed 524288 (Some (drop (records_end bytes) bytes)) left
 passed-whole bytes format result left before after told shows is =
-    subst (λ (c : Captured). Passed 524288 (Some (drop (end_of_records c.records) bytes)) left) (sym (captured-behind bytes format told))
+    subst (λ (c : Captured). Passed 524288 (Some (drop (end_of_records c.records) bytes)) left) (sym (captured-after bytes format told))
     (passed-in (records_from format 0 0 24 (drop 24 bytes)).records bytes left (shows.past is))
 
 -- the turns of the loop, by what the reader says of them
@@ -256,7 +256,7 @@ pub closes-cut : (text more : List ℕ) (end : Option CaptureFault) (before midd
     → Closes (text ++ more) end ended.Write before after
 closes-cut text more end before middle after first begun = record {
   whole = λ answered. absurd (not-both ended.Write answered (inr (inl refl)));
-  front = λ _. begun-behind before middle after text more first begun;
+  front = λ _. begun-after before middle after text more first begun;
   done = λ is. cc is;
   input = λ is. cc is;
 }

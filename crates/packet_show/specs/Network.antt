@@ -52,8 +52,8 @@ is_v4 bytes =
     && slice_index bytes 9 == 33
 
 -- the DCCP packet after an IPv4 header
-abbrev pub behind_v4 : List ℕ → DatagramParts
-behind_v4 bytes = record {
+abbrev pub after_v4 : List ℕ → DatagramParts
+after_v4 bytes = record {
   pseudo = V4 (bytes_at 12 4 bytes) (bytes_at 16 4 bytes);
   bytes = bytes_at (v4_header bytes) (v4_total bytes - v4_header bytes) bytes;
   whole = nat_le (v4_total bytes) (length bytes);
@@ -61,7 +61,7 @@ behind_v4 bytes = record {
 
 -- the DCCP packet in these bytes, where they are IPv4 that carries one
 abbrev pub in_v4 : List ℕ → Option DatagramParts
-in_v4 bytes = if is_v4 bytes then Some (behind_v4 bytes) else None
+in_v4 bytes = if is_v4 bytes then Some (after_v4 bytes) else None
 
 -- the payload length of an IPv6 packet
 abbrev pub v6_payload : List ℕ → ℕ
@@ -72,8 +72,8 @@ abbrev pub is_v6 : List ℕ → Bool
 is_v6 bytes = nat_le 40 (length bytes) && version bytes == 6 && slice_index bytes 6 == 33
 
 -- the DCCP packet after an IPv6 header
-abbrev pub behind_v6 : List ℕ → DatagramParts
-behind_v6 bytes = record {
+abbrev pub after_v6 : List ℕ → DatagramParts
+after_v6 bytes = record {
   pseudo = V6 (bytes_at 8 16 bytes) (bytes_at 24 16 bytes);
   bytes = bytes_at 40 (v6_payload bytes) bytes;
   whole = nat_le (40 + v6_payload bytes) (length bytes);
@@ -81,7 +81,7 @@ behind_v6 bytes = record {
 
 -- the DCCP packet in these bytes, where they are IPv6 that carries one
 abbrev pub in_v6 : List ℕ → Option DatagramParts
-in_v6 bytes = if is_v6 bytes then Some (behind_v6 bytes) else None
+in_v6 bytes = if is_v6 bytes then Some (after_v6 bytes) else None
 
 -- IP of the version that it says
 abbrev pub in_ip : List ℕ → Option DatagramParts

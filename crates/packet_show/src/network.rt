@@ -1,6 +1,6 @@
 //! DCCP in captured records: Ethernet, IPv4 (RFC 791, section 3.1) and IPv6 (RFC 8200, section 3).
 ghost use Rattle.std.specs.Prelude.{◌≡◌, ◌+◌, ◌≤◌, length, take, IfSome};
-ghost use Rattle.packet_show.specs.Network.{FitsIp, behind_v4, behind_v6, bytes_at, carried, carried_by, in_ethernet, in_frame, in_ip, in_v4, in_v6, is_unfragmented, is_v4, is_v6, parts_in, v4_header, v4_total, v6_payload, version};
+ghost use Rattle.packet_show.specs.Network.{FitsIp, after_v4, after_v6, bytes_at, carried, carried_by, in_ethernet, in_frame, in_ip, in_v4, in_v6, is_unfragmented, is_v4, is_v6, parts_in, v4_header, v4_total, v6_payload, version};
 ghost use Rattle.dccp_packets.specs.Grammar.{number_at};
 
 use byteorder::{BigEndian, ByteOrder};
@@ -117,11 +117,11 @@ fn is_v4(bytes: &[u8]) -> bool
         && bytes[9] == DCCP
 }
 
-fn behind_v4(bytes: &[u8]) -> Datagram<'_>
+fn after_v4(bytes: &[u8]) -> Datagram<'_>
     requires captured { 20 ≤ length bytes.now }
     requires header { v4_header bytes.now ≤ length bytes.now }
     requires total { v4_header bytes.now ≤ v4_total bytes.now }
-    ensures value { carried_by result ≡ behind_v4 bytes.now }
+    ensures value { carried_by result ≡ after_v4 bytes.now }
     ensures fits { FitsIp result }
 {
     let header = v4_header(bytes);
@@ -142,7 +142,7 @@ fn in_v4(bytes: &[u8]) -> Option<Datagram<'_>>
     if !is_v4(bytes) {
         return None;
     }
-    Some(behind_v4(bytes))
+    Some(after_v4(bytes))
 }
 
 fn v6_payload(bytes: &[u8]) -> usize
@@ -159,9 +159,9 @@ fn is_v6(bytes: &[u8]) -> bool
     IPV6_HEADER <= bytes.len() && version(bytes) == 6 && bytes[6] == DCCP
 }
 
-fn behind_v6(bytes: &[u8]) -> Datagram<'_>
+fn after_v6(bytes: &[u8]) -> Datagram<'_>
     requires { 40 ≤ length bytes.now }
-    ensures value { carried_by result ≡ behind_v6 bytes.now }
+    ensures value { carried_by result ≡ after_v6 bytes.now }
     ensures fits { FitsIp result }
 {
     let payload = v6_payload(bytes);
@@ -181,7 +181,7 @@ fn in_v6(bytes: &[u8]) -> Option<Datagram<'_>>
     if !is_v6(bytes) {
         return None;
     }
-    Some(behind_v6(bytes))
+    Some(after_v6(bytes))
 }
 
 fn in_ip(bytes: &[u8]) -> Option<Datagram<'_>>

@@ -8,7 +8,7 @@ use Rattle.run_list.specs.MarkedSet.{has}
 use Rattle.run_list.specs.Stretches.{stretch}
 use Rattle.run_list.specs.Runs.{numbers_of, IsLaid, bound_below, AreLaid, bound_after, Adds}
 use Rattle.run_list.proofs.Downs.{inside-present}
-use Rattle.run_list.proofs.Laid.{adds_at, laid_at, laid_below, adds_up, adds_down, adds_between, split_at, present_behind, laid_front, bound_falls}
+use Rattle.run_list.proofs.Laid.{adds_at, laid_at, laid_below, adds_up, adds_down, adds_between, split_at, present_after, laid_front, bound_falls}
 
 -- each run lies below the bound of all
 pub count_at : (f b i : ℕ) (ss : List Stretch) (s : Stretch) → i < length ss → s ≡ get_or ss i s → AreLaid f b ss → IsLaid f b s
@@ -77,7 +77,7 @@ present_at f b n i ss s p q h e k a d r =
     let P : List Stretch → Type 0 = λ ts. AreLaid f b ts in
     let parts : ss ≡ take i ss ++ s ∷ drop (suc i) ss = split_at ss i s h e in
     let there : has (numbers_of (s ∷ drop (suc i) ss)) n ≡ true = inside-present f n s.count s.hi (numbers_of (drop (suc i) ss)) p here.0.fits q d r in
-    ap (λ ts. has (numbers_of ts) n) parts ∙ present_behind f b n (take i ss) (s ∷ drop (suc i) ss) p (subst P parts k) a there
+    ap (λ ts. has (numbers_of ts) n) parts ∙ present_after f b n (take i ss) (s ∷ drop (suc i) ss) p (subst P parts k) a there
 
 -- a run at a place that lies below another bound, and those after it
 pub far_at : (f b c i : ℕ) (ss : List Stretch) (s : Stretch) → i < length ss → s ≡ get_or ss i s → AreLaid f b ss → distance f s.hi < c

@@ -104,14 +104,14 @@ cut_parted nodes first free before at x l p h e =
           ∙ runs-edited nodes before x (front p.passed) [] (omega arith) no_front refl,
     )
 
-pub cut_behind : (f to count : ℕ) (nodes : List Node) (first free before at : ℕ) (l : IsLinked nodes first free)
+pub cut_after : (f to count : ℕ) (nodes : List Node) (first free before at : ℕ) (l : IsLinked nodes first free)
     (p : IsPlaceBelow f (distance f to) nodes first before at) → before < 1024
     → f < 2 ^ 48 → to < 2 ^ 48 → distance f to < 2 ^ 47 → AreLaid f 2048 (runs_from nodes first)
     → count ≡ min (node_at nodes before).count (distance f (node_at nodes before).hi - distance f to + 1)
     → AreLaid to 2048 (runs_at nodes (front p.place.passed) ++ stretch (node_at nodes before).hi count ∷ [])
     × (numbers_of (runs_at nodes (front p.place.passed) ++ stretch (node_at nodes before).hi count ∷ []) ≡ filter (is_from to)
     (numbers_of (runs_from nodes first)))
-cut_behind f to count nodes first free before at l p h q r d laid e =
+cut_after f to count nodes first free before at l p h q r d laid e =
     let ss : List Stretch = runs_at nodes (front p.place.passed) in
     let s : Stretch = run_of (node_at nodes before) in
     let rest : List Stretch = runs_at nodes p.place.rest in

@@ -75,9 +75,9 @@ above_runs-absent f b n (s ∷ ss) rest p h k =
     ∙ above_runs-absent f (bound_below f s) n ss rest p h.1 k)
 
 -- what is added after is added to all
-pub adds_behind : (f b n : ℕ) (ss old new : List Stretch) → f < 2 ^ 48 → AreLaid f b (ss ++ old) → distance f n < bound_after f b ss
+pub adds_after : (f b n : ℕ) (ss old new : List Stretch) → f < 2 ^ 48 → AreLaid f b (ss ++ old) → distance f n < bound_after f b ss
     → Adds f (bound_after f b ss) n old new → Adds f b n (ss ++ old) (ss ++ new)
-adds_behind f b n ss old new p h k a =
+adds_after f b n ss old new p h k a =
     let front : AreLaid f b ss = laid_front f b ss old h in
     record {
       laid = laid_append f b ss new front a.laid;
@@ -86,9 +86,9 @@ adds_behind f b n ss old new p h k a =
     }
 
 -- a number that is in the runs after is in all
-pub present_behind : (f b n : ℕ) (ss old : List Stretch) → f < 2 ^ 48 → AreLaid f b (ss ++ old) → distance f n < bound_after f b ss
+pub present_after : (f b n : ℕ) (ss old : List Stretch) → f < 2 ^ 48 → AreLaid f b (ss ++ old) → distance f n < bound_after f b ss
     → has (numbers_of old) n ≡ true → has (numbers_of (ss ++ old)) n ≡ true
-present_behind f b n ss old p h k a =
+present_after f b n ss old p h k a =
     rw numbers_of-append (above_runs-absent f b n ss (numbers_of old) p (laid_front f b ss old h) k ∙ a)
 
 -- the numbers right at a number of the runs below it
@@ -192,7 +192,7 @@ adds_at f b n i ss s new p h e k a d =
     let P : List Stretch → Type 0 = λ ts. AreLaid f b ts in
     let Q : List Stretch → Type 0 = λ ts. Adds f b n ts (take i ss ++ new) in
     let parts : ss ≡ take i ss ++ s ∷ drop (suc i) ss = split_at ss i s h e in
-    subst Q (sym parts) (adds_behind f b n (take i ss) (s ∷ drop (suc i) ss) new p (subst P parts k) a d)
+    subst Q (sym parts) (adds_after f b n (take i ss) (s ∷ drop (suc i) ss) new p (subst P parts k) a d)
 
 -- a run of its own, at a place
 pub begins_at : (f b n i : ℕ) (ss : List Stretch) → f < 2 ^ 48 → n < 2 ^ 48 → AreLaid f b ss
@@ -201,7 +201,7 @@ begins_at f b n i ss p q k a d =
     let P : List Stretch → Type 0 = λ ts. AreLaid f b ts in
     let Q : List Stretch → Type 0 = λ ts. Adds f b n ts (take i ss ++ stretch n 1 ∷ drop i ss) in
     let parts : take i ss ++ drop i ss ≡ ss = take-append-drop i ss in
-    subst Q parts (adds_behind f b n (take i ss) (drop i ss) (stretch n 1 ∷ drop i ss) p (subst P (sym parts) k) a
+    subst Q parts (adds_after f b n (take i ss) (drop i ss) (stretch n 1 ∷ drop i ss) p (subst P (sym parts) k) a
     (adds_alone f (bound_after f b (take i ss)) n (drop i ss) p q a d))
 
 -- with a run of its own there are at most 1,024

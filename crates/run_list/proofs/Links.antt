@@ -11,16 +11,16 @@ use Rattle.run_list.specs.Stretches.{stretch}
 use Rattle.run_list.specs.Runs.{numbers_of, AreLaid, bound_below, bound_after, Adds}
 use Rattle.run_list.specs.Linked.{no_node, node_at, run_of, runs_at, runs_from, IsPath, times_listed, IsChained, IsParted, IsLinked, IsPlace, IsBegin, AreIdle, Points}
 use Rattle.run_list.proofs.Downs.{inside-present}
-use Rattle.run_list.proofs.Laid.{adds_behind, adds_alone, laid_back, laid_front, laid_below, present_behind, bound_falls, room_for_runs}
+use Rattle.run_list.proofs.Laid.{adds_after, adds_alone, laid_back, laid_front, laid_below, present_after, bound_falls, room_for_runs}
 use Rattle.run_list.proofs.Paths.{times-here, times-other, times-append, times-cons, last_apart, path-append, one_path, path-end, path-fits, path-some, behind, path-head, path-more, last-more, runs-append, length-runs, from-path, path-set, runs-set, path-same, runs-edited}
 
 -- free nodes after an edit of one that is not among them, and without the first
 pub idle_set : (nodes : List Node) (i : ℕ) (x : Node) (js : List ℕ) → times_listed i js ≡ 0 → AreIdle (runs_at nodes js) → AreIdle (runs_at (set nodes i x) js)
 idle_set nodes i x js h idle = subst AreIdle (sym (runs-set nodes i x js h)) idle
 
-idle_behind : (nodes : List Node) (js : List ℕ) → AreIdle (runs_at nodes js) → AreIdle (runs_at nodes (behind js))
-idle_behind nodes [] idle = idle
-idle_behind nodes (j ∷ js) idle = idle.1
+idle_after : (nodes : List Node) (js : List ℕ) → AreIdle (runs_at nodes js) → AreIdle (runs_at nodes (behind js))
+idle_after nodes [] idle = idle
+idle_after nodes (j ∷ js) idle = idle.1
 
 -- one more is free
 idle_more : (nodes : List Node) (i : ℕ) (x : Node) (js : List ℕ) → node_at nodes i ≡ x → x.count ≡ 0 → AreIdle (runs_at nodes js) → AreIdle (runs_at nodes (i ∷ js))
@@ -82,7 +82,7 @@ adds_runs f n before old new all made p e d laid above a =
     let P : List Stretch → Type 0 = λ ts. AreLaid f 2048 ts in
     let Q : List Stretch → Type 0 = λ ts. Adds f 2048 n ts (before ++ new) in
     let R : List Stretch → Type 0 = λ ts. Adds f 2048 n all ts in
-    subst R (sym d) (subst Q (sym e) (adds_behind f 2048 n before old new p (subst P e laid) above a))
+    subst R (sym d) (subst Q (sym e) (adds_after f 2048 n before old new p (subst P e laid) above a))
 
 pub laid_rest : (f : ℕ) (before old all : List Stretch) → all ≡ before ++ old → AreLaid f 2048 all → AreLaid f (bound_after f 2048 before) old
 laid_rest f before old all e laid =
@@ -130,7 +130,7 @@ link_linked nodes new first new_first free before at x l p h e t =
     let no_rest : times_listed free p.rest ≡ 0 = omega arith in
     let no_spare : times_listed free spare ≡ 0 = omega arith in
     let few : (i : ℕ) → i < 1024 → times_listed i p.passed ≤ 1 = λ i k. (let s = sums i k in omega arith) in
-    let behind_passed : IsPath new new_first p.passed free =
+    let after_passed : IsPath new new_first p.passed free =
     t.path p.passed at (path-set nodes free first at x p.passed no_passed p.passed_path) p.last few in
     let read : node_at mid free ≡ x = get_or-set_at nodes free free x no_node refl (omega arith) in
     let P : ℕ → Type 0 = λ k. IsPath mid k p.rest 1024 in
@@ -142,7 +142,7 @@ link_linked nodes new first new_first free before at x l p h e t =
     let apart_spare : times_listed before spare ≡ 0 =
     last_apart nodes before follows 1024 p.passed spare p.last head.1 (λ i k. (let s = sums i k in omega arith)) in
     let used_path : IsPath new new_first (p.passed ++ free ∷ p.rest) 1024 =
-    path-append new new_first free 1024 p.passed (free ∷ p.rest) behind_passed (t.others free 1024 (free ∷ p.rest) apart (refl, h, tail)) in
+    path-append new new_first free 1024 p.passed (free ∷ p.rest) after_passed (t.others free 1024 (free ∷ p.rest) apart (refl, h, tail)) in
     let new_size : length new ≡ 1024 = t.size ∙ length-set nodes free x ∙ l.size in
     let lengths : length (p.passed ++ free ∷ p.rest) ≡ length p.passed + suc (length p.rest) = length-append p.passed (free ∷ p.rest) in
     let all : length p.passed + length p.rest + length l.spare ≡ 1024 = place_all nodes first free before at l p in
@@ -158,7 +158,7 @@ link_linked nodes new first new_first free before at x l p h e t =
             let d : times_listed i (p.passed ++ free ∷ p.rest) ≡ times_listed i p.passed + times_listed i (free ∷ p.rest) =
             times-append i p.passed (free ∷ p.rest) in omega arith);
         all = omega arith;
-        idle = subst AreIdle (sym (t.runs spare ∙ runs-set nodes free x spare no_spare)) (idle_behind nodes l.spare l.idle);
+        idle = subst AreIdle (sym (t.runs spare ∙ runs-set nodes free x spare no_spare)) (idle_after nodes l.spare l.idle);
       },
       from-path new new_first (p.passed ++ free ∷ p.rest) new_size (omega arith) used_path
           ∙ t.runs (p.passed ++ free ∷ p.rest) ∙ runs-edited nodes free x p.passed p.rest (omega arith) no_passed no_rest,
@@ -460,7 +460,7 @@ present_in f n nodes first before at p s q r h laid above d k =
     place_runs nodes first before at p s ∙ ap (λ (ss : List Stretch). runs_at nodes p.passed ++ ss) (place_parts nodes first before at p h) in
     let there : has (numbers_of old) n ≡ true =
     inside-present f n (node_at nodes at).count (node_at nodes at).hi (numbers_of (runs_at nodes (behind p.rest))) q here.0.fits r d k in
-    ap (λ (ts : List Stretch). has (numbers_of ts) n) parts ∙ present_behind f 2048 n (runs_at nodes p.passed) old q (subst P parts laid) above there
+    ap (λ (ts : List Stretch). has (numbers_of ts) n) parts ∙ present_after f 2048 n (runs_at nodes p.passed) old q (subst P parts laid) above there
 
 -- the walk goes on after a node, and ends where there is none
 pub chain_step : (nodes : List Node) (at : ℕ) → IsChained nodes at → at < 1024

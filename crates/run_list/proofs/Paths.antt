@@ -249,9 +249,9 @@ points_first nodes first before to h =
       others = λ from into js apart p. p;
     }
 
-pub points_behind : (nodes : List Node) (first before : ℕ) (x : Node) → length nodes ≡ 1024 → before < 1024 → run_of x ≡ run_of (node_at nodes before)
+pub points_after : (nodes : List Node) (first before : ℕ) (x : Node) → length nodes ≡ 1024 → before < 1024 → run_of x ≡ run_of (node_at nodes before)
     → Points nodes (set nodes before x) first first before x.next
-points_behind nodes first before x s h e =
+points_after nodes first before x s h e =
     record {
       size = length-set nodes before x;
       runs = λ js. runs-same nodes before x js (omega arith) e;

@@ -17,7 +17,7 @@ use Rattle.tool_text.specs.Refusals.{fault_at}
 use Rattle.tool_text.specs.Numbers.{number_below}
 use Rattle.tool_text.specs.Words.{WordAt, WordsLeft, words_left, first_word, later, word_at, words_of, texts_of}
 use Rattle.tool_text.specs.Digits.{digits_flaw}
-use Rattle.tool_text.specs.Kinds.{flaw_behind, flaw_fault, flaw_unless, found_or, judged_word, bad_hex, dash_kind, hex_kind}
+use Rattle.tool_text.specs.Kinds.{flaw_after, flaw_fault, flaw_unless, found_or, judged_word, bad_hex, dash_kind, hex_kind}
 use Rattle.tool_text.specs.Rows.{first_or, fault_in, nothing_more, end_row, ◌▷◌, chosen_fault, AreBoth, cause_at, refused_at, flag_flaw, flag_fault, flag_row}
 use Rattle.tool_text.specs.Lines.{first_other, clean, says_nothing, no_text}
 use Rattle.tool_text.proofs.Bytes.{if-false}
@@ -37,7 +37,7 @@ use Rattle.schedule_text.proofs.RowsAre.{place-is, feature-is, values-is, line-i
 
 -- Words
 
-unless-same : (column : ℕ) (cause : LineWhy) (fits : Bool) → flaw_fault column (flaw_unless fits (flaw_behind 0 cause)) ≡ unless fits (fault_at column cause)
+unless-same : (column : ℕ) (cause : LineWhy) (fits : Bool) → flaw_fault column (flaw_unless fits (flaw_after 0 cause)) ≡ unless fits (fault_at column cause)
 unless-same column cause true = refl
 unless-same column cause false = let here : 0 + column ≡ column = omega arith in ap (λ (c : ℕ). Some (fault_at c cause)) here
 
@@ -48,10 +48,10 @@ absent-same false missing a b is = is
 
 -- a word of a kind that finds something in it is judged as the table has it
 word-same : (cause : LineWhy) (fits : Bool) (word : WordAt)
-    → (if length word.text == 0 then Some (fault_at word.column why.Missing) else flaw_fault word.column (flaw_unless fits (flaw_behind 0 cause)))
+    → (if length word.text == 0 then Some (fault_at word.column why.Missing) else flaw_fault word.column (flaw_unless fits (flaw_after 0 cause)))
     ≡ word_fault cause fits word
 word-same cause fits word =
-    absent-same (length word.text == 0) (fault_at word.column why.Missing) (flaw_fault word.column (flaw_unless fits (flaw_behind 0 cause)))
+    absent-same (length word.text == 0) (fault_at word.column why.Missing) (flaw_fault word.column (flaw_unless fits (flaw_after 0 cause)))
     (unless fits (fault_at word.column cause))
     (unless-same word.column cause fits)
 
@@ -77,7 +77,7 @@ values-same : (left : WordsLeft) → judged_word values_kind.flaw (first_word le
 values-same left = word-same why.BadNumber (is_some (values_of (first_word left).text)) (first_word left)
 
 letter-same : (column : ℕ) (known some : Bool)
-    → flaw_fault column (if known then flaw_unless some (flaw_behind 0 why.BadNumber) else Some (flaw_behind 0 why.UnknownWord))
+    → flaw_fault column (if known then flaw_unless some (flaw_after 0 why.BadNumber) else Some (flaw_after 0 why.UnknownWord))
     ≡ unless (known && some) (fault_at column (if known then why.BadNumber else why.UnknownWord))
 letter-same column true some = unless-same column why.BadNumber some
 letter-same column false some = let here : 0 + column ≡ column = omega arith in ap (λ (c : ℕ). Some (fault_at c why.UnknownWord)) here
@@ -133,7 +133,7 @@ dash-text column (byte ∷ bytes) =
 bytes-same : (left : WordsLeft) → judged_word dash_kind.flaw (first_word left) ≡ some_bytes left
 bytes-same left = dash-text (first_word left).column (first_word left).text
 
-flag-by : (column : ℕ) (is : Bool) → flaw_fault column (if is then None else Some (flaw_behind 0 why.UnknownWord)) ≡ unless is (fault_at column why.UnknownWord)
+flag-by : (column : ℕ) (is : Bool) → flaw_fault column (if is then None else Some (flaw_after 0 why.UnknownWord)) ≡ unless is (fault_at column why.UnknownWord)
 flag-by column true = refl
 flag-by column false = let here : 0 + column ≡ column = omega arith in ap (λ (c : ℕ). Some (fault_at c why.UnknownWord)) here
 

@@ -20,7 +20,7 @@ use Rattle.dccp_states.specs.declared.calls.Timer.TheVariants as timer
 use Rattle.tool_text.specs.Numbers.{is_digit, number_below}
 use Rattle.tool_text.specs.declared.words.faults.LineWhy.TheVariants as why
 use Rattle.tool_text.specs.Words.{parted_by}
-use Rattle.tool_text.specs.Kinds.{Kind, IsExactKind, named_in, flaw_in, flaw_behind, flaw_unless, found_or, is_word_byte, is_whole_word, dash_kind}
+use Rattle.tool_text.specs.Kinds.{Kind, IsExactKind, named_in, flaw_in, flaw_after, flaw_unless, found_or, is_word_byte, is_whole_word, dash_kind}
 use Rattle.tool_text.specs.Rows.{Row, IsExactRow, ◌▷◌, end_row, judged_row, flag_row}
 use Rattle.tool_text.proofs.Bytes.{and-true, if-false, if-true, all-weaker, lacks, same-number, word-bytes, bytes-word, decimal-digits, decimal-word, joined-parts}
 use Rattle.tool_text.proofs.Numerals.{number-spelled, number-read}
@@ -380,13 +380,13 @@ values-is =
 -- Frames' names
 
 sent-flaw : (from : Side) (found : Option ℕ)
-    → flaw_in (from_sender from (found_or why.BadNumber found)) ≡ flaw_unless (is_some found) (flaw_behind 0 why.BadNumber)
+    → flaw_in (from_sender from (found_or why.BadNumber found)) ≡ flaw_unless (is_some found) (flaw_after 0 why.BadNumber)
 sent-flaw from None = refl
 sent-flaw from (Some index) = refl
 
 letter-flaw : (index : List ℕ) (client server : Bool)
-    → flaw_in {A = Side × ℕ} (if client then frame_sent_by Client index else if server then frame_sent_by Server index else Err (flaw_behind 0 why.UnknownWord))
-    ≡ (if client || server then flaw_unless (is_some (number_below indices index)) (flaw_behind 0 why.BadNumber) else Some (flaw_behind 0 why.UnknownWord))
+    → flaw_in {A = Side × ℕ} (if client then frame_sent_by Client index else if server then frame_sent_by Server index else Err (flaw_after 0 why.UnknownWord))
+    ≡ (if client || server then flaw_unless (is_some (number_below indices index)) (flaw_after 0 why.BadNumber) else Some (flaw_after 0 why.UnknownWord))
 letter-flaw index true server = sent-flaw Client (number_below indices index)
 letter-flaw index false true = sent-flaw Server (number_below indices index)
 letter-flaw index false false = refl
@@ -405,7 +405,7 @@ sent-ok from index text (Some n) frame is spells read =
     subst (λ (named : Side × ℕ). (text ≡ frame_name named.0 named.1) × (named.1 < 2 ^ 47)) same (spells n number.0, number.1)
 
 letter-ok : (letter : ℕ) (index : List ℕ) (frame : Side × ℕ) (client server : Bool) → (client ≡ true → letter ≡ 99) → (server ≡ true → letter ≡ 115)
-    → (if client then frame_sent_by Client index else if server then frame_sent_by Server index else Err (flaw_behind 0 why.UnknownWord)) ≡ Ok frame
+    → (if client then frame_sent_by Client index else if server then frame_sent_by Server index else Err (flaw_after 0 why.UnknownWord)) ≡ Ok frame
     → (letter ∷ index ≡ frame_name frame.0 frame.1) × (frame.1 < 2 ^ 47)
 letter-ok letter index frame true server is_client is_server read =
     sent-ok Client index (letter ∷ index) (number_below indices index) frame refl

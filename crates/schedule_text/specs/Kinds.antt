@@ -11,7 +11,7 @@ use Rattle.dccp_states.specs.declared.calls.Timer.TheVariants as timer
 use Rattle.tool_text.specs.Numbers.{number_below}
 use Rattle.tool_text.specs.declared.words.faults.LineWhy.TheVariants as why
 use Rattle.tool_text.specs.declared.words.kinds.Flaw.{Flaw}
-use Rattle.tool_text.specs.Kinds.{Kind, flaw_behind, found_or, flaw_unless, found_kind, number_kind, name_kind}
+use Rattle.tool_text.specs.Kinds.{Kind, flaw_after, found_or, flaw_unless, found_kind, number_kind, name_kind}
 use Rattle.schedule_text.specs.declared.names.Form.{Form}
 use Rattle.schedule_text.specs.declared.names.Form.TheVariants as form
 use Rattle.schedule_text.specs.Names.{form_name, side_name, place_name, timer_name}
@@ -72,18 +72,18 @@ frame_sent_by from index = from_sender from (found_or why.BadNumber (number_belo
 
 -- the letter of a sender and an index; another letter begins no name
 abbrev pub frame_named : List ℕ → Result (Side × ℕ) Flaw
-frame_named [] = Err (flaw_behind 0 why.UnknownWord)
+frame_named [] = Err (flaw_after 0 why.UnknownWord)
 frame_named (letter ∷ index) =
     if letter == 99 then frame_sent_by Client index
     else if letter == 115 then frame_sent_by Server index
-    else Err (flaw_behind 0 why.UnknownWord)
+    else Err (flaw_after 0 why.UnknownWord)
 
 -- a name without a known letter is unknown, and one without an index has a bad number
 abbrev pub name_flaw : List ℕ → Option Flaw
-name_flaw [] = Some (flaw_behind 0 why.UnknownWord)
+name_flaw [] = Some (flaw_after 0 why.UnknownWord)
 name_flaw (letter ∷ index) =
-    if letter == 99 || letter == 115 then flaw_unless (is_some (number_below indices index)) (flaw_behind 0 why.BadNumber)
-    else Some (flaw_behind 0 why.UnknownWord)
+    if letter == 99 || letter == 115 then flaw_unless (is_some (number_below indices index)) (flaw_after 0 why.BadNumber)
+    else Some (flaw_after 0 why.UnknownWord)
 
 -- a frame's name: the letter of its sender and its index
 abbrev pub frame_kind : Kind (Side × ℕ)

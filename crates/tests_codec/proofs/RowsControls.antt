@@ -197,10 +197,10 @@ timed_out_after_a_start = refl
 
 -- A second timeout with nothing sent between has the same mark: older numbers that are received open the window to 2, and one that is
 -- marked does not halve it.
-marked_behind_a_second_timeout : CcidTwo (timed_out_at_47 ++
+marked_after_a_second_timeout : CcidTwo (timed_out_at_47 ++
     Timeout ∷ Shown 1 2 ∷ Send 10 11 ∷ Tell 10 "260400c0" ∷ Window 1 ∷ Send 11 12 ∷ Tell 11 "260400c0" ∷ Window 2 ∷
     Send 12 13 ∷ Tell 12 "260440c0" ∷ Window 2 ∷ [])
-marked_behind_a_second_timeout = refl
+marked_after_a_second_timeout = refl
 
 -- Each call goes to the kind in force, and a start begins it anew.
 kinds_switch : Kinds (

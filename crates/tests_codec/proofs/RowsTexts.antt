@@ -24,11 +24,11 @@ abbrev in_raw_ip : Showing
 in_raw_ip = shows [] (shortest 101)
 
 -- A line in raw IP, which notes its flow; and nothing on a link that is neither, whatever flows were seen
-lines_behind_a_text :
+lines_after_a_text :
     (in_raw_ip.text
     ≡ codes "18446744073709551615 4294967295.999999 flow 1 10.0.0.1 1 > 10.0.0.2 1 Data seq 0 data 0 sum ok\n")
     × (in_raw_ip.shown ≡ Line)
     × (length in_raw_ip.flows ≡ 1)
     × (shows in_raw_ip.flows (shortest 113) ≡ record { text = []; shown = Skipped; flows = in_raw_ip.flows })
 unfolding digits
-lines_behind_a_text = (refl, refl, refl, refl)
+lines_after_a_text = (refl, refl, refl, refl)

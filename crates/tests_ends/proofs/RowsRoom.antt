@@ -35,12 +35,12 @@ answer frame = answered frame (decoded frame)
 
 -- After a header of 24 bytes stand as many as vectors of 510 and Confirms of 229 bytes have, and three more. Data Dropped and Slow Receiver
 -- take 256: 1,020 bytes in all, and 1,024, which the Data Offset cannot say.
-room_behind_options :
+room_after_options :
     (length more ≡ 256)
     × (answer (own_ack (510 + 229)) ≡ (1020, 2))
     × (answer (own_ack (510 + 232)) ≡ (768, 0))
 unfolding framed
-room_behind_options = (refl, refl, refl)
+room_after_options = (refl, refl, refl)
 
 -- a report without a byte says nothing; a packet has 1,024 bytes of data at most where more is said
 abbrev with_data : ℕ → Parts

@@ -7,7 +7,7 @@ use Rattle.bridge_command.specs.Complaints.{capture_complaint, capture_line, com
 use Rattle.bridge_command.specs.Unwrapping.{is_unwrapped_faulty, unwrapped_entry, unwrapped_pieces, unwrapped_text}
 use Rattle.bridge_records.specs.Recording.{capture_refusal, capture_skips}
 use Rattle.bridge_records.specs.Skips.{no_tally}
-use Rattle.tests_tool.proofs.RowsSeen.{bytes, refused_behind}
+use Rattle.tests_tool.proofs.RowsSeen.{bytes, refused_after}
 
 -- what `unwrap` writes of an input and what it tells apart, and whether it refuses it
 abbrev pub unwrapped : List ℕ → List ℕ × Bool
@@ -59,20 +59,20 @@ blocks_of_the_older_kind = refl
 -- A place in the blocks, the byte that is there instead, how much is written before it is refused, and the line
 -- after that.
 refused_blocks :
-    (unwrapped (changed 8 0) ≡ refused_behind records 0 "capture BadMagic after record 0\n")
-    × (unwrapped (changed 13 2) ≡ refused_behind records 0 "capture BadVersion after record 0\n")
-    × (unwrapped (changed 7 30) ≡ refused_behind records 0 "capture BadBlock after record 0\n")
-    × (unwrapped (changed 7 24) ≡ refused_behind records 0 "capture BadBlock after record 0\n")
-    × (unwrapped (changed 5 8) ≡ refused_behind records 0 "capture RecordTooLong after record 0\n")
-    × (unwrapped (changed 31 36) ≡ refused_behind records 0 "capture BadBlock after record 0\n")
-    × (unwrapped (changed 83 16) ≡ refused_behind records 24 "capture BadBlock after record 0\n")
-    × (unwrapped (changed 75 6) ≡ refused_behind records 24 "capture BadBlock after record 0\n")
-    × (unwrapped (changed 139 2) ≡ refused_behind records 24 "capture BadBlock after record 0\n")
-    × (unwrapped (changed 151 21) ≡ refused_behind records 24 "capture BadBlock after record 0\n")
-    × (unwrapped (changed 149 5) ≡ refused_behind records 24 "capture BadBlock after record 0\n")
-    × (unwrapped (changed 256 0) ≡ refused_behind records 78 "capture BadBlock after record 3\n")
-    × (unwrapped (changed 260 2) ≡ refused_behind records 78 "capture BadVersion after record 3\n")
-    × (unwrapped (changed 304 1) ≡ refused_behind records 78 "capture BadBlock after record 3\n")
+    (unwrapped (changed 8 0) ≡ refused_after records 0 "capture BadMagic after record 0\n")
+    × (unwrapped (changed 13 2) ≡ refused_after records 0 "capture BadVersion after record 0\n")
+    × (unwrapped (changed 7 30) ≡ refused_after records 0 "capture BadBlock after record 0\n")
+    × (unwrapped (changed 7 24) ≡ refused_after records 0 "capture BadBlock after record 0\n")
+    × (unwrapped (changed 5 8) ≡ refused_after records 0 "capture RecordTooLong after record 0\n")
+    × (unwrapped (changed 31 36) ≡ refused_after records 0 "capture BadBlock after record 0\n")
+    × (unwrapped (changed 83 16) ≡ refused_after records 24 "capture BadBlock after record 0\n")
+    × (unwrapped (changed 75 6) ≡ refused_after records 24 "capture BadBlock after record 0\n")
+    × (unwrapped (changed 139 2) ≡ refused_after records 24 "capture BadBlock after record 0\n")
+    × (unwrapped (changed 151 21) ≡ refused_after records 24 "capture BadBlock after record 0\n")
+    × (unwrapped (changed 149 5) ≡ refused_after records 24 "capture BadBlock after record 0\n")
+    × (unwrapped (changed 256 0) ≡ refused_after records 78 "capture BadBlock after record 3\n")
+    × (unwrapped (changed 260 2) ≡ refused_after records 78 "capture BadVersion after record 3\n")
+    × (unwrapped (changed 304 1) ≡ refused_after records 78 "capture BadBlock after record 3\n")
 unfolding unwrapped_entry ip_of_later_link capture_line digits
 refused_blocks = (refl, refl, refl, refl, refl, refl, refl, refl, refl, refl, refl, refl, refl, refl)
 
@@ -100,10 +100,10 @@ records_of_the_any_device = refl
 
 -- How much of the output comes before the line.
 captures_that_are_cut :
-    (unwrapped (take 0 of_any_device) ≡ refused_behind raw 0 "capture CutShort after record 0\n")
-    × (unwrapped (take 23 of_any_device) ≡ refused_behind raw 0 "capture CutShort after record 0\n")
-    × (unwrapped (take 39 of_any_device) ≡ refused_behind raw 24 "capture CutShort after record 0\n")
-    × (unwrapped (take 63 of_any_device) ≡ refused_behind raw 24 "capture CutShort after record 0\n")
-    × (unwrapped (take 65 of_any_device) ≡ refused_behind raw 44 "capture CutShort after record 1\n")
+    (unwrapped (take 0 of_any_device) ≡ refused_after raw 0 "capture CutShort after record 0\n")
+    × (unwrapped (take 23 of_any_device) ≡ refused_after raw 0 "capture CutShort after record 0\n")
+    × (unwrapped (take 39 of_any_device) ≡ refused_after raw 24 "capture CutShort after record 0\n")
+    × (unwrapped (take 63 of_any_device) ≡ refused_after raw 24 "capture CutShort after record 0\n")
+    × (unwrapped (take 65 of_any_device) ≡ refused_after raw 44 "capture CutShort after record 1\n")
 unfolding unwrapped_entry ip_of_later_link capture_line digits
 captures_that_are_cut = (refl, refl, refl, refl, refl)

@@ -4,7 +4,7 @@ use Rattle.std.specs.Fmt.{digits}
 use Rattle.bridge_command.specs.Capturing.{frames_capture, transcript_judged, transcript_refusal, transcript_refused}
 use Rattle.bridge_command.specs.Complaints.{complaint_text, line_complaint}
 use Rattle.bridge_command.specs.FrameRecords.{ip_packet}
-use Rattle.tests_tool.proofs.RowsSeen.{bytes, refused_behind}
+use Rattle.tests_tool.proofs.RowsSeen.{bytes, refused_after}
 
 -- what `capture` writes of an input and what it tells apart, and whether it refuses it
 abbrev pub captured : List ℕ → List ℕ × Bool
@@ -34,19 +34,19 @@ frames_of_a_transcript = refl
 
 -- Lines, and the refusal of each after the file header.
 refused_lines_of_transcripts :
-    (captured (codes "sent") ≡ refused_behind capture 24 "line 1 column 6: Missing\n")
-    × (captured (codes "sent c0") ≡ refused_behind capture 24 "line 1 column 9: Missing\n")
-    × (captured (codes "sent d0 00") ≡ refused_behind capture 24 "line 1 column 6: UnknownWord\n")
-    × (captured (codes "sent c 00") ≡ refused_behind capture 24 "line 1 column 6: BadNumber\n")
-    × (captured (codes "sent c01 00") ≡ refused_behind capture 24 "line 1 column 6: BadNumber\n")
-    × (captured (codes "sent s140737488355328 00") ≡ refused_behind capture 24 "line 1 column 6: BadNumber\n")
-    × (captured (codes "sent c0 0") ≡ refused_behind capture 24 "line 1 column 10: BadHex\n")
-    × (captured (codes "sent c0 -") ≡ refused_behind capture 24 "line 1 column 9: BadHex\n")
-    × (captured (codes "sent c0 00 x") ≡ refused_behind capture 24 "line 1 column 12: Trailing\n")
-    × (captured (codes "plain") ≡ refused_behind capture 24 "line 1 column 1: UnknownWord\n")
-    × (captured (codes "open") ≡ refused_behind capture 24 "line 1 column 1: UnknownWord\n")
-    × (captured (codes "4294967296 open: ok") ≡ refused_behind capture 24 "line 1 column 1: UnknownWord\n")
-    × (captured (codes " 1 open: ok") ≡ refused_behind capture 24 "line 1 column 1: Missing\n")
-    × (captured (codes "line 4 column 1: BadHex\n") ≡ refused_behind capture 24 "line 1 column 1: UnknownWord\n")
+    (captured (codes "sent") ≡ refused_after capture 24 "line 1 column 6: Missing\n")
+    × (captured (codes "sent c0") ≡ refused_after capture 24 "line 1 column 9: Missing\n")
+    × (captured (codes "sent d0 00") ≡ refused_after capture 24 "line 1 column 6: UnknownWord\n")
+    × (captured (codes "sent c 00") ≡ refused_after capture 24 "line 1 column 6: BadNumber\n")
+    × (captured (codes "sent c01 00") ≡ refused_after capture 24 "line 1 column 6: BadNumber\n")
+    × (captured (codes "sent s140737488355328 00") ≡ refused_after capture 24 "line 1 column 6: BadNumber\n")
+    × (captured (codes "sent c0 0") ≡ refused_after capture 24 "line 1 column 10: BadHex\n")
+    × (captured (codes "sent c0 -") ≡ refused_after capture 24 "line 1 column 9: BadHex\n")
+    × (captured (codes "sent c0 00 x") ≡ refused_after capture 24 "line 1 column 12: Trailing\n")
+    × (captured (codes "plain") ≡ refused_after capture 24 "line 1 column 1: UnknownWord\n")
+    × (captured (codes "open") ≡ refused_after capture 24 "line 1 column 1: UnknownWord\n")
+    × (captured (codes "4294967296 open: ok") ≡ refused_after capture 24 "line 1 column 1: UnknownWord\n")
+    × (captured (codes " 1 open: ok") ≡ refused_after capture 24 "line 1 column 1: Missing\n")
+    × (captured (codes "line 4 column 1: BadHex\n") ≡ refused_after capture 24 "line 1 column 1: UnknownWord\n")
 unfolding transcript_judged ip_packet digits
 refused_lines_of_transcripts = (refl, refl, refl, refl, refl, refl, refl, refl, refl, refl, refl, refl, refl, refl)

@@ -11,5 +11,5 @@ bytes (digit_alone ∷ []) = []
 bytes (high ∷ low ∷ rest) = (16 * digit high + digit low) ∷ bytes rest
 
 -- what a refused input comes to: so many bytes of what the whole one does, then this line
-abbrev pub refused_behind : List ℕ → ℕ → String → List ℕ × Bool
-refused_behind text written line = (take written text ++ codes line, true)
+abbrev pub refused_after : List ℕ → ℕ → String → List ℕ × Bool
+refused_after text written line = (take written text ++ codes line, true)

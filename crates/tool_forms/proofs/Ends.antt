@@ -366,10 +366,10 @@ first-before setting more (pair ∷ pairs) none = go (is_same pair.0 setting) re
     go false other rest = rw other rest
 
 -- a setting that is not given is found after
-first-behind : (setting : Setting) (more : List Row) (pairs : Pairs) → has setting pairs ≡ false
+first-after : (setting : Setting) (more : List Row) (pairs : Pairs) → has setting pairs ≡ false
     → first_of (bare_name setting) (rows pairs ++ more) ≡ first_of (bare_name setting) more
-first-behind setting more [] none = refl
-first-behind setting more (pair ∷ pairs) none = go (is_same pair.0 setting) refl none (first-behind setting more pairs)
+first-after setting more [] none = refl
+first-after setting more (pair ∷ pairs) none = go (is_same pair.0 setting) refl none (first-after setting more pairs)
   where
     go : (b : Bool) → is_same pair.0 setting ≡ b → has setting (pair ∷ pairs) ≡ false
         → (has setting pairs ≡ false → first_of (bare_name setting) (rows pairs ++ more) ≡ first_of (bare_name setting) more)
@@ -479,7 +479,7 @@ replay-closed pairs owned = go (has Plain pairs) refl
         (given-before Side (unmarked ∷ []) pairs refl)
         ∙ ap (λ (found : Option Form). if has Side pairs then found else None)
         (replay-read pairs (rows pairs ++ unmarked ∷ []) (first-before Side (unmarked ∷ []) pairs refl)
-        (ap is_yes (first-behind Plain (unmarked ∷ []) pairs none) ∙ sym none) (first-before Buffer (unmarked ∷ []) pairs refl))
+        (ap is_yes (first-after Plain (unmarked ∷ []) pairs none) ∙ sym none) (first-before Buffer (unmarked ∷ []) pairs refl))
         ∙ side-needed pairs (has Side pairs) refl
 
 -- each text of pairs that give something is a value

@@ -267,7 +267,7 @@ module _ {X : Type 0} (judge : List Row → Option X) (t : Table) (means : Optio
   whole-agrees : (x : ℕ) (xs : List ℕ) (words : List Text) (pairs : Pairs) → has_byte 61 (x ∷ xs) ≡ false → bytes_eq (dashed x xs) (45 ∷ 45 ∷ []) ≡ false
       → Clear words → Agreed words → ((v : Text) (behind : List Text) → words ≡ v ∷ behind → Agreed behind) → Distinct pairs → Owned t pairs
       → Agrees pairs (dashed x xs ∷ words)
-  whole-agrees x xs words pairs whole apart clear agreed behind_agreed distinct owned = go (setting_named t (dashed x xs)) refl
+  whole-agrees x xs words pairs whole apart clear agreed after_agreed distinct owned = go (setting_named t (dashed x xs)) refl
     where
       long : long_of (dashed x xs) ≡ Some (x ∷ xs, None)
       long = long-whole x xs whole
@@ -286,13 +286,13 @@ module _ {X : Type 0} (judge : List Row → Option X) (t : Table) (means : Optio
 
       valued : (setting : Setting) → setting_named t (dashed x xs) ≡ Some setting → is_marking (way_of setting) ≡ false → (words : List Text) → Clear words
           → ((v : Text) (behind : List Text) → words ≡ v ∷ behind → Agreed behind) → Agrees pairs (dashed x xs ∷ words)
-      valued setting is unmarked [] clear behind_agreed =
+      valued setting is unmarked [] clear after_agreed =
           alone-refused judge (shape t) (no-short t) (no-index t) (argument setting) (by-id t setting (named-owned (settings_of t) _ setting is))
           (name-is-itself setting)
           (is-valued (way_of setting) (bare_name setting) unmarked).1 (is-valued (way_of setting) (bare_name setting) unmarked).0
           (is-valued (way_of setting) (bare_name setting) unmarked).2 (rows pairs) (dashed x xs) (x ∷ xs) apart long (arg (Some setting) is)
           ∙ sym (nothing-given pairs _ (alone-dashed t x xs whole (marked (Some setting) is ∙ unmarked)))
-      valued setting is unmarked (text ∷ behind) clear behind_agreed = judged
+      valued setting is unmarked (text ∷ behind) clear after_agreed = judged
           (apart-judged judge (shape t) (no-short t) (no-index t) (argument setting) (by-id t setting (named-owned (settings_of t) _ setting is))
           (name-is-itself setting)
           (is-valued (way_of setting) (bare_name setting) unmarked).1 (is-valued (way_of setting) (bare_name setting) unmarked).0
@@ -313,7 +313,7 @@ module _ {X : Type 0} (judge : List Row → Option X) (t : Table) (means : Optio
           judged (inr taken) = taken
               ∙ given-with judge (shape t) (no-again t) setting text (text ∷ []) pairs behind (values-valued (way_of setting) text unmarked)
               (fits-valued (way_of setting) text unmarked)
-              ∙ one-more setting text behind pairs (behind_agreed text behind refl) distinct owned (named-owned (settings_of t) _ setting is)
+              ∙ one-more setting text behind pairs (after_agreed text behind refl) distinct owned (named-owned (settings_of t) _ setting is)
               (fits-valued (way_of setting) text unmarked)
               ∙ ap (λ (all : Option (List Assignment)). means (onto pairs all)) (sym own)
 
@@ -329,7 +329,7 @@ module _ {X : Type 0} (judge : List Row → Option X) (t : Table) (means : Optio
           (sym (mark-dashed t x xs words whole (marked (Some setting) is ∙ mark)
           ∙ ap (λ (found : Option Setting). preceded (option_map (λ s. record { setting = s; value = value.Mark }) found) (all_given t words)) is
           ∙ ap (λ (first : Option Assignment). preceded first (all_given t words)) (sym (marks setting (codes "true") mark))))
-      taken setting is false named = valued setting is named words clear behind_agreed
+      taken setting is false named = valued setting is named words clear after_agreed
 
       go : (found : Option Setting) → setting_named t (dashed x xs) ≡ found → Agrees pairs (dashed x xs ∷ words)
       go None is =

@@ -130,7 +130,7 @@ fn listen_of(alloc: Global, words: &[String]) -> Result<Option<Form>, NoMemory>
 
 // The job that this word and those after it ask for.
 #[tactic(auto, unfolding(crate::specs::Words::form_of))]
-fn form_behind(alloc: Global, first: &String, words: &[String]) -> Result<Option<Form>, NoMemory>
+fn form_after(alloc: Global, first: &String, words: &[String]) -> Result<Option<Form>, NoMemory>
     ensures value { IfOk result (λ form. form ≡ form_of (first.now ∷ words.now)) }
     ensures within { IfOk result (λ form. IfSome form IsFormWithinBounds) }
     ensures memory { has_settings (first.now ∷ words.now) ≡ false → IsOk result }
@@ -166,7 +166,7 @@ pub fn form_of(alloc: Global, words: &[String]) -> Result<Option<Form>, NoMemory
     ensures memory { has_settings words.now ≡ false → IsOk result }
 {
     match words {
-        [first, words @ ..] => form_behind(alloc, first, words),
+        [first, words @ ..] => form_after(alloc, first, words),
         [] => Ok(None),
     }
 }

@@ -138,25 +138,25 @@ iss-peers side iss play below peers =
 
 -- what a line comes to
 
-abbrev PeersBehind : Verdict Scene Play → Type 0
-PeersBehind (Accepted scene next) = HasPeers next
-PeersBehind (Refused fault) = ⊤
+abbrev PeersAfter : Verdict Scene Play → Type 0
+PeersAfter (Accepted scene next) = HasPeers next
+PeersAfter (Refused fault) = ⊤
 
-configured-peers : (play : Play) (change : Play → Play) → HasPeers (change (with_header play)) → PeersBehind (configures play change)
+configured-peers : (play : Play) (change : Play → Play) → HasPeers (change (with_header play)) → PeersAfter (configures play change)
 configured-peers play change peers = by (is_some play.world) where
-  by : (late : Bool) → PeersBehind (if late then Refused (whole_line why.HeaderLate) else Accepted None (change (with_header play)))
+  by : (late : Bool) → PeersAfter (if late then Refused (whole_line why.HeaderLate) else Accepted None (change (with_header play)))
   by true = tt
   by false = peers
 
 -- The version changes no field that has to fit.
-version-peers : (play : Play) (version : ℕ) → HasPeers play → PeersBehind (says_version play version)
+version-peers : (play : Play) (version : ℕ) → HasPeers play → PeersAfter (says_version play version)
 version-peers play version peers = by play.is_configured where
   fits-by : (config : Config) (vectors : Vectors) → Fits config → Fits (record config { vectors = vectors })
   fits-by config vectors fits =
       record { own_port = fits.own_port; peer_port = fits.peer_port; service = fits.service; iss = fits.iss; lists = fits.lists }
 
   by : (behind : Bool)
-      → PeersBehind (if behind then Refused (whole_line why.HeaderLate) else configures play (with_vectors (vectors_of version)))
+      → PeersAfter (if behind then Refused (whole_line why.HeaderLate) else configures play (with_vectors (vectors_of version)))
   by true = tt
   by false =
       configured-peers play (with_vectors (vectors_of version))
@@ -167,19 +167,19 @@ version-peers play version peers = by play.is_configured where
         server_fits = fits-by play.server (vectors_of version) peers.server_fits;
       })
 
-scene-peers : (play : Play) (result : Result Scene LineFault) → HasPeers play → PeersBehind (by_scene play result)
+scene-peers : (play : Play) (result : Result Scene LineFault) → HasPeers play → PeersAfter (by_scene play result)
 scene-peers play (Ok scene) peers = peers
 scene-peers play (Err fault) peers = tt
 
-event-peers : (play : Play) (number : ℕ) (event : Event) → HasPeers play → PeersBehind (says_event play number event)
+event-peers : (play : Play) (number : ℕ) (event : Event) → HasPeers play → PeersAfter (says_event play number event)
 event-peers play number event peers = by (nat_lt play.events most_events) where
   by : (few : Bool)
-      → PeersBehind (if few then by_scene play (event_shown number (world_of play) event) else Refused (whole_line why.TooManyEvents))
+      → PeersAfter (if few then by_scene play (event_shown number (world_of play) event) else Refused (whole_line why.TooManyEvents))
   by true = scene-peers play (event_shown number (world_of play) event) peers
   by false = tt
 
 said-peers : (play : Play) (number : ℕ) (said : Result words.Line LineFault)
-    → ((side : Side) (iss : ℕ) → said ≡ Ok (line.Iss side iss) → iss < 2 ^ 48) → HasPeers play → PeersBehind (by_line play number said)
+    → ((side : Side) (iss : ℕ) → said ≡ Ok (line.Iss side iss) → iss < 2 ^ 48) → HasPeers play → PeersAfter (by_line play number said)
 unfolding with_set
 said-peers play number (Err fault) below peers = tt
 said-peers play number (Ok line.Nothing) below peers = peers
@@ -202,12 +202,12 @@ said-peers play number (Ok (line.Offer side place feature mandatory)) below peer
     (offering-fits config feature place mandatory (side-fits side begun peers)) (offering-role config feature place mandatory))
 said-peers play number (Ok (line.Event event)) below peers = event-peers play number event peers
 
-line-peers : (play : Play) (number : ℕ) (text : List ℕ) → HasPeers play → PeersBehind (judged_line play number text)
+line-peers : (play : Play) (number : ℕ) (text : List ℕ) → HasPeers play → PeersAfter (judged_line play number text)
 unfolding judged_line
 line-peers play number text peers =
     said-peers play number (read_line text) (λ side iss is. (line-spelled text (line.Iss side iss) is).1) peers
 
-next-peers : (play : Play) (number : ℕ) (next : Next) → HasPeers play → PeersBehind (by_next run_job play number next)
+next-peers : (play : Play) (number : ℕ) (next : Next) → HasPeers play → PeersAfter (by_next run_job play number next)
 next-peers play number (Line text) peers = line-peers play number (text_of text) peers
 next-peers play number (Long front) peers = tt
 next-peers play number Much peers = tt
@@ -216,7 +216,7 @@ next-peers play number End peers = peers
 -- what the lines of an input come to
 
 peers-by : (rest : Play → Gone Scene Play) (number given : ℕ) → ((next : Play) → HasPeers next → HasPeers (rest next).last) → (play : Play)
-    → HasPeers play → (verdict : Verdict Scene Play) → PeersBehind verdict → HasPeers (gone_by play number given verdict rest).last
+    → HasPeers play → (verdict : Verdict Scene Play) → PeersAfter verdict → HasPeers (gone_by play number given verdict rest).last
 peers-by rest number given later play peers (Accepted scene next) behind = later next behind
 peers-by rest number given later play peers (Refused fault) behind = peers
 

@@ -131,28 +131,28 @@ few-at client server None n few Server = omega arith
 few-at client server (Some w) n few side = few side
 
 -- a schedule after the line of an event
-pub playable-behind : (old made : Play) (after : Controlled Both) → made ≡ record old { world = Some (world_of old) } → IsPlayable old
+pub playable-after : (old made : Play) (after : Controlled Both) → made ≡ record old { world = Some (world_of old) } → IsPlayable old
     → SentFew after (old.events + 1)
     → IsPlayable (record made { events = made.events + 1; world = Some after })
-playable-behind old made after is_made playable few =
+playable-after old made after is_made playable few =
     subst (λ (p : Play). IsPlayable (record p { events = p.events + 1; world = Some after })) (sym is_made) (record { peers = playable.peers; few = few })
 
 record Room (play : Play) : Type 0 where
   few : IfSome play.world (λ w. SentFew w play.events)
   events : play.events ≤ 16384
 
-abbrev RoomBehind : Verdict Scene Play → Type 0
-RoomBehind (Accepted scene next) = Room next
-RoomBehind (Refused why) = ⊤
+abbrev RoomAfter : Verdict Scene Play → Type 0
+RoomAfter (Accepted scene next) = Room next
+RoomAfter (Refused why) = ⊤
 
-room-behind : (play : Play) (verdict : Verdict Scene Play) → Turns play verdict → Room play → RoomBehind verdict
-room-behind play (Accepted None next) turns room = record {
+room-after : (play : Play) (verdict : Verdict Scene Play) → Turns play verdict → Room play → RoomAfter verdict
+room-after play (Accepted None next) turns room = record {
   few =
       subst (λ (n : ℕ). IfSome next.world (λ w. SentFew w n)) (sym turns.events)
       (subst (λ (world : Option (Controlled Both)). IfSome world (λ w. SentFew w play.events)) (sym turns.world) room.few);
   events = omega (arith, turns.events, room.events);
 }
-room-behind play (Accepted (Some scene) next) turns room =
+room-after play (Accepted (Some scene) next) turns room =
     let few = one-more-frame (world_of play) scene.event scene.step play.events
     (few-at play.client play.server play.world play.events room.few) turns.takes_place in
     record {
@@ -161,11 +161,11 @@ room-behind play (Accepted (Some scene) next) turns room =
           (subst (λ (world : Option (Controlled Both)). IfSome world (λ w. SentFew w (play.events + 1))) (sym turns.world) few);
       events = omega (arith, turns.events, turns.few);
     }
-room-behind play (Refused why) turns room = tt
+room-after play (Refused why) turns room = tt
 
 room-by : (rest : Play → Gone Scene Play) (number given : ℕ) → ((next : Play) → Room next → Room (rest next).last) → (play : Play) → Room play
     → (verdict : Verdict Scene Play) → Turns play verdict → Room (gone_by play number given verdict rest).last
-room-by rest number given later play room (Accepted scene next) turns = later next (room-behind play (Accepted scene next) turns room)
+room-by rest number given later play room (Accepted scene next) turns = later next (room-after play (Accepted scene next) turns room)
 room-by rest number given later play room (Refused why) turns = room
 
 room-last : (lines : List (List ℕ)) (number given : ℕ) (play : Play) → Room play → Room (gone_from run_job play number given lines).last

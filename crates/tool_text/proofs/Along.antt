@@ -12,7 +12,7 @@ use Rattle.tool_text.proofs.FirstLine.{gone-cut, is-line}
 use Rattle.tool_text.specs.Ends.{HasBegun, IsCutOff, IsMovedOut}
 use Rattle.tool_text.specs.declared.lines.loops.LinesEnd.{LinesEnd}
 use Rattle.tool_text.specs.declared.output.status.JobEnd.TheVariants as ended
-use Rattle.tool_text.proofs.Ending.{answers-early, append-none, append-twice, begun-behind, begun-longer, none-left, not-both}
+use Rattle.tool_text.proofs.Ending.{answers-early, append-none, append-twice, begun-after, begun-longer, none-left, not-both}
 use Rattle.tool_text.specs.declared.words.faults.LineFault.{LineFault}
 
 -- Before a line of this number, after so many bytes that were given, where `left` is what is left of the input and `text` was not
@@ -151,7 +151,7 @@ module _ {P V : Type 0} (job : Job P V) (first : V) where
           answers = answers-early (front ++ text_in apart job (gone_through job first input))
               (is_some (gone_through job first input).refusal) result.end known before later off
               (subst (HasBegun before later) (sym (whole-text apart rest state number given left front text before after input along refl))
-              (begun-behind before after later along.written (text ++ text_in apart job rest) along.taken_is
+              (begun-after before after later along.written (text ++ text_in apart job rest) along.taken_is
               (begun-longer after later text (text_in apart job rest) begun)));
           past = λ is. absurd (not-both result.end (inr is) off);
           kept = λ answered. absurd (not-both result.end answered off);
@@ -175,7 +175,7 @@ module _ {P V : Type 0} (job : Job P V) (first : V) where
                 leaves.whole answered ∙ ap (λ (known : Option (List ℕ)). append_known known (text ++ text_in apart job rest)) along.taken_is
                 ∙ append-twice before along.written (text ++ text_in apart job rest) ∙ ap (append_known before) (sym parts);
             front = λ off. subst (HasBegun before later) (sym parts)
-                (begun-behind before after later along.written (text ++ text_in apart job rest) along.taken_is (leaves.front off));
+                (begun-after before after later along.written (text ++ text_in apart job rest) along.taken_is (leaves.front off));
             done = λ done. (refused ∙ leaves.done done, none done);
             input = λ is_input. refused ∙ leaves.input is_input;
           };

@@ -68,9 +68,9 @@ moved t count from (x ∷ xs) =
     (ap (λ (n : ℕ). position_from t n xs) same ∙ moved t count (from + 1) xs)
 
 -- what is found later is found in the whole
-found_behind : (t : ℕ → Bool) (count : ℕ) (text : List ℕ) (found : Option ℕ) → list_all (λ x. not (t x)) (take count text) ≡ true
+found_after : (t : ℕ → Bool) (count : ℕ) (text : List ℕ) (found : Option ℕ) → list_all (λ x. not (t x)) (take count text) ≡ true
     → found ≡ position_from t 0 (take (length text - count) (drop count text)) → moved_by count found ≡ position_from t 0 text
-found_behind t count text found all is =
+found_after t count text found all is =
     let same : 0 + count ≡ count + 0 = omega arith in
     ap (moved_by count) (is ∙ ap (position_from t 0) (tail_whole text count))
     ∙ sym (
@@ -79,14 +79,14 @@ found_behind t count text found all is =
     ∙ moved t count 0 (drop count text)
     )
 
-pub none_behind : (t : ℕ → Bool) (count : ℕ) (text : List ℕ) → list_all (λ byte. not (t byte)) (take count text) ≡ true
+pub none_after : (t : ℕ → Bool) (count : ℕ) (text : List ℕ) → list_all (λ byte. not (t byte)) (take count text) ≡ true
     → None ≡ position_from t 0 (take (length text - count) (drop count text))
     → None ≡ position_from t 0 text
-none_behind t count text all is = found_behind t count text None all is
+none_after t count text all is = found_after t count text None all is
 
-pub some_behind : (t : ℕ → Bool) (count place : ℕ) (text : List ℕ) → list_all (λ byte. not (t byte)) (take count text) ≡ true
+pub some_after : (t : ℕ → Bool) (count place : ℕ) (text : List ℕ) → list_all (λ byte. not (t byte)) (take count text) ≡ true
     → Some place ≡ position_from t 0 (take (length text - count) (drop count text)) → Some (count + place) ≡ position_from t 0 text
-some_behind t count place text all is = found_behind t count text (Some place) all is
+some_after t count place text all is = found_after t count text (Some place) all is
 
 found-test : (test : Bool) (a b : Option ℕ) (from place : ℕ) → (a ≡ Some place → b ≡ Some place) → cond test (Some from) a ≡ Some place
     → cond test (Some from) b ≡ Some place

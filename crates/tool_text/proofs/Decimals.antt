@@ -4,9 +4,9 @@ use Rattle.std.specs.Prelude.{codes, decimal, slice_index}
 use Rattle.std.proofs.lemmas.Fmt.{decimal_step}
 use Rattle.tool_text.specs.Text.{labelled_number, v4_text}
 
-pub digit_behind : (old front all : List ℕ) (number : ℕ) → 10 ≤ number → number < 256 → front ≡ old ++ decimal (number / 10)
+pub digit_after : (old front all : List ℕ) (number : ℕ) → 10 ≤ number → number < 256 → front ≡ old ++ decimal (number / 10)
     → all ≡ front ++ ((48 + number % 10) ∷ []) → all ≡ old ++ decimal number
-digit_behind old front all number some small front_is all_is =
+digit_after old front all number some small front_is all_is =
     all_is
     ∙ ap (λ (text : List ℕ). text ++ ((48 + number % 10) ∷ [])) front_is
     ∙ append_assoc old (decimal (number / 10)) ((48 + number % 10) ∷ [])

@@ -49,9 +49,9 @@ begun-longer after later text more (n, taken) =
     let whole : take (length front) (text ++ more) ≡ front = ap (take (length front)) parts ∙ take_at front (drop n text ++ more) (length front) refl in
     (length front, taken ∙ ap (append_known after) (sym whole))
 
-pub begun-behind : (before after later : Option (List ℕ)) (written text : List ℕ) → after ≡ append_known before written → HasBegun after later text
+pub begun-after : (before after later : Option (List ℕ)) (written text : List ℕ) → after ≡ append_known before written → HasBegun after later text
     → HasBegun before later (written ++ text)
-begun-behind before after later written text first (n, taken) = (
+begun-after before after later written text first (n, taken) = (
   length written + n,
   taken ∙ ap (λ (known : Option (List ℕ)). append_known known (take n text)) first ∙ append-twice before written (take n text)
       ∙ ap (append_known before) (sym (take-append-add written text n)),

@@ -8,14 +8,14 @@ use Rattle.tool_text.specs.Numbers.{number_below}
 use Rattle.tool_text.specs.declared.words.faults.LineWhy.{LineWhy}
 use Rattle.tool_text.specs.declared.words.faults.LineWhy.TheVariants as why
 use Rattle.tool_text.specs.Digits.{digits_flaw, bytes_of_digits, AreDigitsOf, AreSomeDigits, AreDigitsOrDash}
-use Rattle.tool_text.specs.Kinds.{IsExactKind, flaw_behind, flaw_in, found_or, flaw_unless, found_kind, IsDecimal, number_kind, named_in, name_kind, AreNames, digits_or_bad, bad_hex, hex_kind, dash_kind, is_whole_word}
+use Rattle.tool_text.specs.Kinds.{IsExactKind, flaw_after, flaw_in, found_or, flaw_unless, found_kind, IsDecimal, number_kind, named_in, name_kind, AreNames, digits_or_bad, bad_hex, hex_kind, dash_kind, is_whole_word}
 use Rattle.tool_text.proofs.Bytes.{if-false, false-unless, bytes-word, decimal-word}
 use Rattle.tool_text.proofs.Numerals.{number-spelled, number-read}
 use Rattle.tool_text.proofs.DigitLaws.{flawless_pairs, pairs-flawless, pairs-spell, spelled-pairs, pairs-word}
 
 -- What is found in a word
 
-found-flaw : {A : Type 0} (cause : LineWhy) (found : Option A) → flaw_in (found_or cause found) ≡ flaw_unless (is_some found) (flaw_behind 0 cause)
+found-flaw : {A : Type 0} (cause : LineWhy) (found : Option A) → flaw_in (found_or cause found) ≡ flaw_unless (is_some found) (flaw_after 0 cause)
 found-flaw cause None = refl
 found-flaw cause (Some x) = refl
 

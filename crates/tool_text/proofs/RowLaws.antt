@@ -9,7 +9,7 @@ use Rattle.tool_text.specs.declared.words.faults.LineWhy.TheVariants as why
 use Rattle.tool_text.specs.declared.words.kinds.Flaw.{Flaw}
 use Rattle.tool_text.specs.Refusals.{fault_at}
 use Rattle.tool_text.specs.Words.{WordAt, WordsLeft, words_left, first_word, later, word_at, texts_of}
-use Rattle.tool_text.specs.Kinds.{Kind, IsExactKind, word_read, read_at, judged_word, flaw_fault, flaw_in, flaw_behind, is_whole_word}
+use Rattle.tool_text.specs.Kinds.{Kind, IsExactKind, word_read, read_at, judged_word, flaw_fault, flaw_in, flaw_after, is_whole_word}
 use Rattle.tool_text.specs.Rows.{Row, IsExactRow, ◌>>=◌, ◌>>◌, first_or, fault_in, none_left, nothing_more, end_row, then_row, AreBoth, ◌▷◌, made, row_as, chosen_fault, AreChosen, choice, ByTest, AreAfter, after_word, allowed, cause_at, refused_at, judged_row, flag_read, flag_flaw, flag_said, flag_fault, flag_row}
 use Rattle.tool_text.proofs.Bytes.{and-true, word-some}
 
@@ -321,7 +321,7 @@ module _ {A : Type 0} (place : ℕ) (judge : A → Option LineWhy) (row : Row A)
 
 -- a word that may be left out
 flag-flaw-by : (test : Bool)
-    → flaw_in {A = Unit {0}} (if test then Ok tt else Err (flaw_behind 0 why.UnknownWord)) ≡ (if test then None else Some (flaw_behind 0 why.UnknownWord))
+    → flaw_in {A = Unit {0}} (if test then Ok tt else Err (flaw_after 0 why.UnknownWord)) ≡ (if test then None else Some (flaw_after 0 why.UnknownWord))
 flag-flaw-by true = refl
 flag-flaw-by false = refl
 
@@ -337,7 +337,7 @@ flag-first name (word ∷ words) =
     (λ x read. last-fault {B = Bool} (none_left words) (λ over. true) ∙ end-first words)
 
 flag-named-by : (text name : List ℕ) (x : Unit {0}) (test : Bool) → (test ≡ true → text ≡ name)
-    → (if test then Ok tt else Err (flaw_behind 0 why.UnknownWord)) ≡ Ok x → text ≡ name
+    → (if test then Ok tt else Err (flaw_after 0 why.UnknownWord)) ≡ Ok x → text ≡ name
 flag-named-by text name x true means is = means refl
 flag-named-by text name x false means is = cc is
 
@@ -359,7 +359,7 @@ flag-spelled name (word ∷ words) flag is =
 
 -- what a flag's word is read as
 abbrev flag_by : Bool → Result (Unit {0}) Flaw
-flag_by test = if test then Ok tt else Err (flaw_behind 0 why.UnknownWord)
+flag_by test = if test then Ok tt else Err (flaw_after 0 why.UnknownWord)
 
 flag-reads-by : (test : Bool) → test ≡ true → flag_by test ≡ Ok tt
 flag-reads-by true is = refl

@@ -21,8 +21,8 @@ pub record Kind (A : Type 0) : Type 1 where
 -- Faults of words
 
 -- a flaw of this cause, after so many bytes
-abbrev pub flaw_behind : ℕ → LineWhy → Flaw
-flaw_behind place cause = record { place = place; why = cause }
+abbrev pub flaw_after : ℕ → LineWhy → Flaw
+flaw_after place cause = record { place = place; why = cause }
 
 -- the fault of a word at this column that has a flaw
 abbrev pub flaw_at : ℕ → Flaw → LineFault
@@ -76,7 +76,7 @@ pub record IsExactKind {A : Type 0} (kind : Kind A) : Type 0 where
 
 -- what was found, or a flaw of this cause at the word
 abbrev pub found_or : {A : Type 0} → LineWhy → Option A → Result A Flaw
-found_or cause None = Err (flaw_behind 0 cause)
+found_or cause None = Err (flaw_after 0 cause)
 found_or cause (Some x) = Ok x
 
 -- no flaw where that is so
@@ -87,7 +87,7 @@ flaw_unless fits flaw = if fits then None else Some flaw
 abbrev pub found_kind : {A : Type 0} → LineWhy → (List ℕ → Option A) → (A → List ℕ → Type 0) → Kind A
 found_kind cause find Spells = record {
   reads = λ text. found_or cause (find text);
-  flaw = λ text. flaw_unless (is_some (find text)) (flaw_behind 0 cause);
+  flaw = λ text. flaw_unless (is_some (find text)) (flaw_after 0 cause);
   Spells = Spells;
 }
 
@@ -116,12 +116,12 @@ pub record AreNames {A : Type 0} (name : A → List ℕ) (all : List A) : Type 0
 -- the bytes of digits, or their flaw
 abbrev pub digits_or_bad : List ℕ → Option ℕ → Result (List ℕ) Flaw
 digits_or_bad text None = Ok (bytes_of_digits text)
-digits_or_bad text (Some place) = Err (flaw_behind place why.BadHex)
+digits_or_bad text (Some place) = Err (flaw_after place why.BadHex)
 
 -- digits that are bad at this place
 abbrev pub bad_hex : Option ℕ → Option Flaw
 bad_hex None = None
-bad_hex (Some place) = Some (flaw_behind place why.BadHex)
+bad_hex (Some place) = Some (flaw_after place why.BadHex)
 
 -- digits of one byte or more, in either case
 abbrev pub hex_kind : Kind (List ℕ)

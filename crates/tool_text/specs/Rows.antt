@@ -8,7 +8,7 @@ use Rattle.tool_text.specs.declared.words.faults.LineWhy.TheVariants as why
 use Rattle.tool_text.specs.declared.words.kinds.Flaw.{Flaw}
 use Rattle.tool_text.specs.Refusals.{fault_at}
 use Rattle.tool_text.specs.Words.{WordAt, WordsLeft, first_word, later, word_at, texts_of}
-use Rattle.tool_text.specs.Kinds.{Kind, word_read, judged_word, flaw_behind, is_whole_word}
+use Rattle.tool_text.specs.Kinds.{Kind, word_read, judged_word, flaw_after, is_whole_word}
 
 infixr 30 ◌▷◌
 -- the first fault of what follows, or what it gives
@@ -170,11 +170,11 @@ judged_row place judge row = record {
 
 -- whether a word is this one; another is unknown
 abbrev pub flag_read : List ℕ → List ℕ → Result (Unit {0}) Flaw
-flag_read name word = if bytes_eq word name then Ok tt else Err (flaw_behind 0 why.UnknownWord)
+flag_read name word = if bytes_eq word name then Ok tt else Err (flaw_after 0 why.UnknownWord)
 
 -- the flaw of a word that is not this one
 abbrev pub flag_flaw : List ℕ → List ℕ → Option Flaw
-flag_flaw name word = if bytes_eq word name then None else Some (flaw_behind 0 why.UnknownWord)
+flag_flaw name word = if bytes_eq word name then None else Some (flaw_after 0 why.UnknownWord)
 
 -- whether this word is left; no other may be, nor one after it
 abbrev pub flag_said : List ℕ → List WordAt → Result Bool LineFault

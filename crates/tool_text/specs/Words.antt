@@ -52,13 +52,13 @@ is_over [] = true
 is_over (word ∷ words) = false
 
 -- the words after the first
-abbrev pub words_behind : List WordAt → List WordAt
-words_behind [] = []
-words_behind (word ∷ words) = words
+abbrev pub words_after : List WordAt → List WordAt
+words_after [] = []
+words_after (word ∷ words) = words
 
 -- what is left once the first word is read; an absent word keeps its column
 abbrev pub later : WordsLeft → WordsLeft
-later left = words_left (words_behind left.words) left.absent
+later left = words_left (words_after left.words) left.absent
 
 -- the words after the first so many
 abbrev pub later_by : ℕ → WordsLeft → WordsLeft

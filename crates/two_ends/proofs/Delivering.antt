@@ -352,14 +352,14 @@ data StandsAt {A : Type 0} (xs ys : List A) (i : ℕ) (x : A) : Type 0 where
   InFront : slice_get xs i ≡ Some x → StandsAt xs ys i x
   Behind : (j : ℕ) → i ≡ length xs + j → slice_get ys j ≡ Some x → StandsAt xs ys i x
 
-one-behind : {A : Type 0} (first : A) (xs ys : List A) (i : ℕ) (x : A) → StandsAt xs ys i x → StandsAt (first ∷ xs) ys (suc i) x
-one-behind first xs ys i x (InFront there) = InFront there
-one-behind first xs ys i x (Behind j same there) = Behind j (omega (arith, same)) there
+one-after : {A : Type 0} (first : A) (xs ys : List A) (i : ℕ) (x : A) → StandsAt xs ys i x → StandsAt (first ∷ xs) ys (suc i) x
+one-after first xs ys i x (InFront there) = InFront there
+one-after first xs ys i x (Behind j same there) = Behind j (omega (arith, same)) there
 
 stands-at : {A : Type 0} (xs ys : List A) (i : ℕ) (x : A) → slice_get (xs ++ ys) i ≡ Some x → StandsAt xs ys i x
 stands-at [] ys i x there = Behind i (omega arith) there
 stands-at (first ∷ xs) ys zero x there = InFront there
-stands-at (first ∷ xs) ys (suc i) x there = one-behind first xs ys i x (stands-at xs ys i x there)
+stands-at (first ∷ xs) ys (suc i) x there = one-after first xs ys i x (stands-at xs ys i x there)
 
 named-one : (from : Side) (index : ℕ) (place : ℕ × ℕ) (i : ℕ) (named : Side × ℕ) → slice_get (named_if from index (Some place)) i ≡ Some named
     → (i ≡ 0) × ((from, index) ≡ named)

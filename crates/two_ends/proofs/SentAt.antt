@@ -39,9 +39,9 @@ behind config first place frame frames l s =
       is_numbered = omega (arith, s.is_numbered);
     }
 
-behind-other : (config : Config) (first place : ℕ) (frame : SentFrame) (frames : List SentFrame) (l : Logged) → IsSentAt config first frames place l
+after-other : (config : Config) (first place : ℕ) (frame : SentFrame) (frames : List SentFrame) (l : Logged) → IsSentAt config first frames place l
     → IsSentAt config first (frame ∷ frames) place l
-behind-other config first place frame frames l s =
+after-other config first place frame frames l s =
     record { index = suc s.index; number = s.number; frame = s.frame; is_there = s.is_there; is_logged = s.is_logged; is_numbered = s.is_numbered }
 
 -- the frame at a place of the log
@@ -52,7 +52,7 @@ sent-at config {first} {frames} zero l (Numbered number same here rest) there =
     subst (IsSentAt config first frames 0) (same_Some _ l there)
     (record { index = 0; number = number; frame = _; is_there = refl; is_logged = here; is_numbered = omega (arith, same) })
 sent-at config {first} (suc place) l (Numbered number same here rest) there = behind config first place _ _ l (sent-at config place l rest there)
-sent-at config {first} place l (Unnumbered here rest) there = behind-other config first place _ _ l (sent-at config place l rest there)
+sent-at config {first} place l (Unnumbered here rest) there = after-other config first place _ _ l (sent-at config place l rest there)
 
 -- either form has an acknowledgement number, or none
 some-kept : (short : Bool) (k : Kind) → is_some (ack_of (kind_in_widths (in_form short k))) ≡ is_some (ack_of (kind_in_widths k))

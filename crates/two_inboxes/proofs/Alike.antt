@@ -87,9 +87,9 @@ module _ (count : Bool) (ack : Option ℕ) (more : Listed) (passed : All IsPasse
   heeds-then rest (Ok h) same = same h
   heeds-then rest (Err fault) same = refl
 
-  heeds-behind : (h : Heeding) (front : Listed) → heeds count ack h (front ++ more) ≡ heeds count ack h front
-  heeds-behind h [] = all-passed count ack h more passed
-  heeds-behind h (item ∷ rest) = heeds-then rest (heeds_item count ack h item) (λ next. heeds-behind next rest)
+  heeds-after : (h : Heeding) (front : Listed) → heeds count ack h (front ++ more) ≡ heeds count ack h front
+  heeds-after h [] = all-passed count ack h more passed
+  heeds-after h (item ∷ rest) = heeds-then rest (heeds_item count ack h item) (λ next. heeds-after next rest)
 
 no-vector : (item : Result Entry OptFault) → IsPassedOver item → vector_in item ≡ []
 no-vector (Ok entry) (inl dropped) = rw dropped refl
@@ -102,15 +102,15 @@ no-vectors (item ∷ more) passed =
     ap (λ (front : List (List ℕ)). front ++ ack_vectors more) (no-vector item (All-head IsPassedOver item more passed))
     ∙ no-vectors more (All-tail IsPassedOver item more passed)
 
-pub vectors-behind : (front more : Listed) → All IsPassedOver more → ack_vectors (front ++ more) ≡ ack_vectors front
-vectors-behind [] more passed = no-vectors more passed
-vectors-behind (item ∷ front) more passed = ap (λ (rest : List (List ℕ)). vector_in item ++ rest) (vectors-behind front more passed)
+pub vectors-after : (front more : Listed) → All IsPassedOver more → ack_vectors (front ++ more) ≡ ack_vectors front
+vectors-after [] more passed = no-vectors more passed
+vectors-after (item ∷ front) more passed = ap (λ (rest : List (List ℕ)). vector_in item ++ rest) (vectors-after front more passed)
 
-reports-behind : (ack : Option ℕ) (front more : Listed) (ratio : ℕ) → All IsPassedOver more
+reports-after : (ack : Option ℕ) (front more : Listed) (ratio : ℕ) → All IsPassedOver more
     → report_calls ack (front ++ more) ratio ≡ report_calls ack front ratio
-reports-behind None front more ratio passed = refl
-reports-behind (Some ack) front more ratio passed =
-    ap (λ (vectors : List (List ℕ)). handing (joined_report ack vectors) ratio) (vectors-behind front more passed)
+reports-after None front more ratio passed = refl
+reports-after (Some ack) front more ratio passed =
+    ap (λ (vectors : List (List ℕ)). handing (joined_report ack vectors) ratio) (vectors-after front more passed)
 
 -- the steps 2 to 7 of a packet with other options, and data elsewhere
 
@@ -278,7 +278,7 @@ module _ (a : Incoming) (more : Listed) (passed : All IsPassedOver more) (place 
   heeded-same x (Ok h) =
       let calls : calls_for longer x.rows h.rows ≡ calls_for a x.rows h.rows =
       ap (λ (reports : List Call). reports ++ start_calls (value_in x.rows Ccid Here) (value_in h.rows Ccid Here))
-      (reports-behind (reported_from a.kind a.ack) a.options more (value_in h.rows AckRatio Here) passed)
+      (reports-after (reported_from a.kind a.ack) a.options more (value_in h.rows AckRatio Here) passed)
       in
       let e : EndState = with_rows x h.rows in
       subst (λ (calls : List Call). IsSameStep (with_calls calls (processes e longer h.confirms)) (heeded x a (Ok h))) (sym calls)
@@ -287,7 +287,7 @@ module _ (a : Incoming) (more : Listed) (passed : All IsPassedOver more) (place 
   heeded-same x (Err fault) = same-step a (a.options ++ more) place (leaves x longer (exits.Shut fault)) (leaves x a (exits.Shut fault)) (leaves-same a (a.options ++ more) place x (exits.Shut fault))
 
   reads-same : (x : EndState) → reads_options x longer ≡ reads_options x a
-  reads-same x = heeds-behind (a.newest && counts x.phase a.kind) a.ack more passed (unheeded x.rows) a.options
+  reads-same x = heeds-after (a.newest && counts x.phase a.kind) a.ack more passed (unheeded x.rows) a.options
 
   course-same : (c : Course) → IsSameStep (ends_as longer c) (ends_as a c)
   course-same (Goes x) = subst (λ (r : Result Heeding Fault). IsSameStep (heeded x longer r) (heeded x a (reads_options x a))) (sym (reads-same x)) (heeded-same x (reads_options x a))

@@ -65,7 +65,7 @@ use Rattle.world_events.specs.declared.event.Side.TheVariants.{Client, Server}
 use Rattle.world_events.specs.declared.event.WorldFault.{WorldFault}
 use Rattle.two_inboxes.specs.Apart.{TellOfTheirData, TellsOfItsData, WentOut, data_numbers, drop_numbers}
 use Rattle.two_inboxes.specs.Inboxes.{Ends, Happens, InboxEvent, InboxPair, InboxSide, Reads, begins_with_inboxes, bytes_arriving, inbox_begins, of_ends, happens_with, inbox_after, inbox_at, inbox_calls, inbox_goes_on, inbox_plays, inbox_steps, said_frame, with_inbox_at}
-use Rattle.two_inboxes.proofs.Alike.{vectors-behind}
+use Rattle.two_inboxes.proofs.Alike.{vectors-after}
 use Rattle.two_inboxes.proofs.Alone.{AreEach, EachAt, IsPairLike, SameEnds, drop-front, each-append, each-at, each-map, happens-same, like-after, like-at-start, outgoing_of, run_as_alone, seen_anywhere}
 
 -- numbers of lists after one another
@@ -598,7 +598,7 @@ module _ {C : Type 0} (control : Control C) (w : InboxPair C) (safe : Safe contr
         ap (λ (r : Result Parts Malformed). packet_options (result_ok r)) tells.was_packet
         in
         ap (report_of ack) before
-        ∙ sym (ap (joined_report ack) (vectors-behind (options_in_packet tells.before) tells.more tells.are_passed_over))
+        ∙ sym (ap (joined_report ack) (vectors-after (options_in_packet tells.before) tells.more tells.are_passed_over))
         ∙ sym (ap (report_of ack) tells.behind)
         ∙ ap (λ (p : Parts). report_of ack (options_in_packet p)) packet-is
         ∙ reads

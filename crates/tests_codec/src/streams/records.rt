@@ -45,6 +45,6 @@ fn is_told(alloc: Global) -> bool {
 }
 
 #[test]
-fn a_record_behind_a_text(rt: HostRuntime) {
+fn a_record_after_a_text(rt: HostRuntime) {
     assert!(rt; is_told(rt.alloc()), "one line, and one skipped");
 }

@@ -228,7 +228,7 @@ fn stays_failed(lines: &mut Lines<MemorySource>) -> bool {
 }
 
 // The second call of the source fails, and the third would not.
-fn fails_behind_a_line(alloc: Global) -> Result<bool, Fail> {
+fn fails_after_a_line(alloc: Global) -> Result<bool, Fail> {
     match Lines::new(alloc, source_of(alloc, b"one\ntwo\n", 2, 4)?) {
         Ok(mut lines) => Ok(is_one(&mut lines) && stays_failed(&mut lines)),
         Err(_) => Err(Fail::from("no memory")),
@@ -237,7 +237,7 @@ fn fails_behind_a_line(alloc: Global) -> Result<bool, Fail> {
 
 #[test]
 fn failed_source_stays_failed(rt: HostRuntime) -> Result<(), Fail> {
-    assert!(rt; fails_behind_a_line(rt.alloc())?);
+    assert!(rt; fails_after_a_line(rt.alloc())?);
     Ok(())
 }
 

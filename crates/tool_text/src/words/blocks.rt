@@ -51,8 +51,8 @@ fn first_in<S: ByteSearch>(what: &S, text: &[u8]) -> Option<usize>
 }
 
 // The first one after so many bytes that are none.
-#[tactic(auto, using(crate::proofs::BlockLaws::none_behind, crate::proofs::BlockLaws::some_behind))]
-fn first_behind<S: ByteSearch>(what: &S, text: &[u8], front: usize) -> Option<usize>
+#[tactic(auto, using(crate::proofs::BlockLaws::none_after, crate::proofs::BlockLaws::some_after))]
+fn first_after<S: ByteSearch>(what: &S, text: &[u8], front: usize) -> Option<usize>
     requires without { list_all (λ byte. not (S.sought what.now byte)) (take front text.now) ≡ true }
     requires within { front ≤ length text.now }
     ensures first { result ≡ position_from (S.sought what.now) 0 text.now }
@@ -82,7 +82,7 @@ pub(crate) fn first_far<S: ByteSearch>(what: &S, text: &[u8]) -> Option<usize>
 {
     let large = far_from(what, text, 0);
     let front = blocks_from::<8, S>(what, text, large);
-    first_behind(what, text, front)
+    first_after(what, text, front)
 }
 
 /// The same, if it is mostly near.
@@ -96,7 +96,7 @@ pub(crate) fn first_near<S: ByteSearch>(what: &S, text: &[u8]) -> Option<usize>
         Some(place) => Some(place),
         None => {
             let front = far_from(what, text, near);
-            first_behind(what, text, front)
+            first_after(what, text, front)
         }
     }
 }

@@ -1,5 +1,5 @@
 use Rattle.std.proofs.Common.{◌+◌, ◌≤◌, arith}
-use Rattle.congestion_trait.proofs.Unheard.{out_from, unheard_behind}
+use Rattle.congestion_trait.proofs.Unheard.{out_from, unheard_after}
 use Rattle.congestion_trait.proofs.walk.unheard_from.Goals as goal
 
 pub loop-place-init : goal.loop-place-init
@@ -21,6 +21,6 @@ loop-place-preserved c = (
 
 pub returns-then-is_out_of_reach-clause-unheard : goal.returns-then-is_out_of_reach-clause-unheard
 returns-then-is_out_of_reach-clause-unheard c =
-    unheard_behind c.args.report.now.ack c.args.report.now.bytes c.args.counts.now.span c.loop-place.place c.args.entries.now.items
+    unheard_after c.args.report.now.ack c.args.report.now.bytes c.args.counts.now.span c.loop-place.place c.args.entries.now.items
     c.entry_at-entry.result c.requires.few c.entry_at-entry.ensures c.loop-place.invariant.2 c.requires.kept.near
     (c.is_out_of_reach.ensures c.if-is_out_of_reach.true)

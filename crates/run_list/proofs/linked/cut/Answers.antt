@@ -7,7 +7,7 @@ use Rattle.run_list.specs.Stretches.{stretch}
 use Rattle.run_list.specs.Runs.{AreLaid, numbers_of}
 use Rattle.run_list.specs.Linked.{IsPlaceBelow, node_at, runs_at, runs_from}
 use Rattle.run_list.proofs.Paths.{read_at, last-fits, front}
-use Rattle.run_list.proofs.Cuts.{cut_first, cut_parted, cut_behind, cut_low}
+use Rattle.run_list.proofs.Cuts.{cut_first, cut_parted, cut_after, cut_low}
 use Rattle.run_list.proofs.linked.cut.Goals as goal
 
 pub index-last-requires : goal.index-last-requires
@@ -109,7 +109,7 @@ returns-clause-laid c =
           let count : w.index-last.result.now.count ≡ (node_at nodes before).count = ap (λ (n : Node). n.count) read in
           let few : w.min.result ≡ min (node_at nodes before).count (distance c.args.floor (node_at nodes before).hi - distance c.args.floor c.args.to + 1) =
           omega arith in
-          let both = cut_behind c.args.floor c.args.to w.min.result nodes first free before at c.requires.linked cuts (omega arith) (search rules)
+          let both = cut_after c.args.floor c.args.to w.min.result nodes first free before at c.requires.linked cuts (omega arith) (search rules)
           (search rules) (omega arith) c.requires.laid few in
           let P : Node → Type 0 = λ n. AreLaid c.args.to 2048 (kept ++ stretch n.hi w.min.result ∷ []) in
           rw (w.runs-is, w.from-else-before-eq-NONE-2.ensures)
@@ -142,7 +142,7 @@ returns-clause-numbers c =
           let count : w.index-last.result.now.count ≡ (node_at nodes before).count = ap (λ (n : Node). n.count) read in
           let few : w.min.result ≡ min (node_at nodes before).count (distance c.args.floor (node_at nodes before).hi - distance c.args.floor c.args.to + 1) =
           omega arith in
-          let both = cut_behind c.args.floor c.args.to w.min.result nodes first free before at c.requires.linked cuts (omega arith) (search rules)
+          let both = cut_after c.args.floor c.args.to w.min.result nodes first free before at c.requires.linked cuts (omega arith) (search rules)
           (search rules) (omega arith) c.requires.laid few in
           let P : Node → Type 0 = λ n. numbers_of (kept ++ stretch n.hi w.min.result ∷ []) ≡ filter (is_from c.args.to) (numbers_of (runs_from nodes first)) in
           rw (w.runs-is, w.from-else-before-eq-NONE-2.ensures)

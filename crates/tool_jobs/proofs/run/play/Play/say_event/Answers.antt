@@ -3,7 +3,7 @@ use Rattle.std.proofs.Common.{rules, ◌≡◌, ◌<◌, sym, subst, Some, Resul
 use Rattle.tool_jobs.specs.Transcript.{SentFew, ShowsEvent, event_shown, run_job, says_event, world_of}
 use Rattle.tool_jobs.specs.declared.run.play.Play.{Play}
 use Rattle.tool_jobs.proofs.Judging.{judged-else, judged-then}
-use Rattle.tool_jobs.proofs.Room.{few-at, shown-few, playable-behind}
+use Rattle.tool_jobs.proofs.Room.{few-at, shown-few, playable-after}
 use Rattle.two_ends.specs.Controlled.{Controlled}
 use Rattle.ccid_two.specs.Kinds.{Both}
 use Rattle.tool_jobs.proofs.run.play.Play.say_event.Goals as goal
@@ -16,7 +16,7 @@ returns-clause-playable c =
     let made : c.make_world.new.self ≡ record old { world = Some (world_of old) } = search rules in
     let here : world_of old ≡ c.in-Some.world = search rules in
     let few = subst (λ (w : Controlled Both). SentFew w old.events) here (few-at old.client old.server old.world old.events c.requires.few) in
-    playable-behind old c.make_world.new.self c.show_event.new.world made c.requires
+    playable-after old c.make_world.new.self c.show_event.new.world made c.requires
     (shown-few _ c.in-Some.world c.show_event.new.world c.args.event.now _ _ old.events c.in_ok-show_event.ensures few)
 
 pub returns-clause-verdict : goal.returns-clause-verdict

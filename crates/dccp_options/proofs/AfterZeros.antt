@@ -10,10 +10,10 @@ listed-zeros zero place more = ap (λ (at : ℕ). listed_from at more) (omega ar
 listed-zeros (suc zeros) place more =
     listed-zeros zeros (place + 1) more ∙ ap (λ (at : ℕ). listed_from at more) (omega arith)
 
-pub options_behind_zeros : (items : List Item) (zeros : ℕ) (more : List ℕ) → All IsWritable items
+pub options_after_zeros : (items : List Item) (zeros : ℕ) (more : List ℕ) → All IsWritable items
     → options_of ((written items ++ replicate zeros 0) ++ more) false
     ≡ map Ok (entries_at 0 items) ++ listed_from (length (written items) + zeros) more
-options_behind_zeros items zeros more all =
+options_after_zeros items zeros more all =
     ap (λ (area : List ℕ). options_of area false) (append_assoc (written items) (replicate zeros 0) more)
     ∙ entries-before 0 items (replicate zeros 0 ++ more) all
     ∙ ap (λ (behind : List _). map Ok (entries_at 0 items) ++ behind)

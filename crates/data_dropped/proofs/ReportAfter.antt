@@ -6,7 +6,7 @@ use Rattle.dccp_options.specs.Grammar.{Entry, marked_entries, options_of}
 use Rattle.dccp_options.specs.Kinds.{data_dropped}
 use Rattle.dccp_options.specs.Written.{Item, IsWritable, entries_at, listed_from, spelled, written}
 use Rattle.dccp_options.specs.declared.option.OptFault.{OptFault}
-use Rattle.dccp_options.proofs.Behind.{options_behind_zeros}
+use Rattle.dccp_options.proofs.AfterZeros.{options_after_zeros}
 use Rattle.dccp_options.proofs.Listings.{raws-one_byte}
 use Rattle.dccp_options.proofs.ReadBack.{entries-padding, entries-spelled}
 use Rattle.dccp_packets.specs.Grammar.{padded}
@@ -90,30 +90,30 @@ said-passed place zeros bytes slow =
     ]
 
 -- what follows an end's own options in a longer area
-abbrev pub listed-behind : List Item → ℕ → InboxState → ℕ → List (Result Entry OptFault)
-listed-behind items zeros held ack =
+abbrev pub listed-after : List Item → ℕ → InboxState → ℕ → List (Result Entry OptFault)
+listed-after items zeros held ack =
     listed_from (length (written items) + zeros)
     (said held ack ++ replicate ((4 - length ((written items ++ replicate zeros 0) ++ said held ack) % 4) % 4) 0)
 
-pub behind-passed : (items : List Item) (zeros : ℕ) (held : InboxState) (ack : ℕ) → All IsPassedOver (listed-behind items zeros held ack)
-behind-passed items zeros held ack =
+pub after-passed : (items : List Item) (zeros : ℕ) (held : InboxState) (ack : ℕ) → All IsPassedOver (listed-after items zeros held ack)
+after-passed items zeros held ack =
     said-passed (length (written items) + zeros) ((4 - length ((written items ++ replicate zeros 0) ++ said held ack) % 4) % 4)
     (drop_bytes held.drops ack) (is_slow held)
 
 pub area-lists : (items : List Item) (zeros : ℕ) (held : InboxState) (ack : ℕ) → All IsWritable items
-    → options_of (padded ((written items ++ replicate zeros 0) ++ said held ack)) false ≡ map Ok (entries_at 0 items) ++ listed-behind items zeros held ack
+    → options_of (padded ((written items ++ replicate zeros 0) ++ said held ack)) false ≡ map Ok (entries_at 0 items) ++ listed-after items zeros held ack
 area-lists items zeros held ack writable =
     let more : ℕ = (4 - length ((written items ++ replicate zeros 0) ++ said held ack) % 4) % 4 in
     ap (λ (all : List ℕ). options_of all false) (append_assoc (written items ++ replicate zeros 0) (said held ack) (replicate more 0))
-    ∙ options_behind_zeros items zeros (said held ack ++ replicate more 0) writable
+    ∙ options_after_zeros items zeros (said held ack ++ replicate more 0) writable
 
 -- after an end's own options, which are filled up with zeros
-behind-tells : (items : List Item) (zeros more : ℕ) (held : InboxState) (ack : ℕ) → All IsWritable items → All IsOther items
+after-tells : (items : List Item) (zeros more : ℕ) (held : InboxState) (ack : ℕ) → All IsWritable items → All IsOther items
     → drop_options (options_of (((written items ++ replicate zeros 0) ++ said held ack) ++ replicate more 0) false) ≡ one_option (drop_bytes held.drops ack)
-behind-tells items zeros more held ack writable others =
+after-tells items zeros more held ack writable others =
     let place : ℕ = length (written items) + zeros in
     ap (λ (all : List ℕ). drop_options (options_of all false)) (append_assoc (written items ++ replicate zeros 0) (said held ack) (replicate more 0))
-    ∙ ap drop_options (options_behind_zeros items zeros (said held ack ++ replicate more 0) writable)
+    ∙ ap drop_options (options_after_zeros items zeros (said held ack ++ replicate more 0) writable)
     ∙ drop_options-append (map Ok (entries_at 0 items)) (listed_from place (said held ack ++ replicate more 0))
     ∙ ap (λ (front : List (List ℕ)). front ++ drop_options (listed_from place (said held ack ++ replicate more 0))) (others-tell_nothing 0 items others)
     ∙ said-tells place more (drop_bytes held.drops ack) (is_slow held)
@@ -121,4 +121,4 @@ behind-tells items zeros more held ack writable others =
 pub area-tells : (items : List Item) (zeros : ℕ) (held : InboxState) (ack : ℕ) → All IsWritable items → All IsOther items
     → drop_options (options_of (padded ((written items ++ replicate zeros 0) ++ said held ack)) false) ≡ one_option (drop_bytes held.drops ack)
 area-tells items zeros held ack writable others =
-    behind-tells items zeros ((4 - length ((written items ++ replicate zeros 0) ++ said held ack) % 4) % 4) held ack writable others
+    after-tells items zeros ((4 - length ((written items ++ replicate zeros 0) ++ said held ack) % 4) % 4) held ack writable others
