@@ -70,11 +70,11 @@ module _ {S : Type 0} (coding : Coding S) where
   runs_without s (t ∷ ts) other = without-grouped s t (groups coding ts) other
 
   -- bytes after others give their states after theirs
-  pub states_of-append : (front behind : List ℕ) → states_of coding (front ++ behind) ≡ states_of coding front ++ states_of coding behind
-  states_of-append [] behind = refl
-  states_of-append (byte ∷ rest) behind =
-      ap (λ (states : List S). replicate (coding.run_length byte) (coding.state_of byte) ++ states) (states_of-append rest behind)
-      ∙ sym (append_assoc (replicate (coding.run_length byte) (coding.state_of byte)) (states_of coding rest) (states_of coding behind))
+  pub states_of-append : (front following : List ℕ) → states_of coding (front ++ following) ≡ states_of coding front ++ states_of coding following
+  states_of-append [] following = refl
+  states_of-append (byte ∷ rest) following =
+      ap (λ (states : List S). replicate (coding.run_length byte) (coding.state_of byte) ++ states) (states_of-append rest following)
+      ∙ sym (append_assoc (replicate (coding.run_length byte) (coding.state_of byte)) (states_of coding rest) (states_of coding following))
 
 module _ {S : Type 0} (coding : Coding S) (CanBe : S → Type 0) (lawful : IsLawful S coding CanBe) where
   grouped-onto : (s : S) (count : ℕ) (gs : List (Group S)) → grouped_with coding s (onto coding s count gs) ≡ onto coding s (suc count) gs

@@ -55,9 +55,9 @@ options-fit bytes most =
           rw (one-option bytes fits) (All-cons Fits bytes [] fits (All-nil Fits))
       | inr two ↦
           let front : length (take 253 bytes) ≤ 253 = omega (arith, length-take 253 bytes) in
-          let behind : length (drop 253 bytes) ≤ 253 = omega (arith, length-drop 253 bytes) in
+          let following : length (drop 253 bytes) ≤ 253 = omega (arith, length-drop 253 bytes) in
           rw (two-options bytes (leb-false (length bytes) 253 two))
-          (All-cons Fits (take 253 bytes) (drop 253 bytes ∷ []) front (All-cons Fits (drop 253 bytes) [] behind (All-nil Fits)))
+          (All-cons Fits (take 253 bytes) (drop 253 bytes ∷ []) front (All-cons Fits (drop 253 bytes) [] following (All-nil Fits)))
     ]
 
 pub most-room : (vectors : Vectors) → room_of vectors ≤ 506
@@ -76,8 +76,8 @@ options-few Two bytes fits =
 pub options-full : (bytes : List ℕ) → 253 < length bytes → map length (option_data bytes) ≡ 253 ∷ (length bytes - 253) ∷ []
 options-full bytes more =
     let front : length (take 253 bytes) ≡ 253 = omega (arith, length-take 253 bytes) in
-    let behind : length (drop 253 bytes) ≡ length bytes - 253 = length-drop 253 bytes in
-    ap (map length) (two-options bytes more) ∙ ap (λ n. n ∷ length (drop 253 bytes) ∷ []) front ∙ ap (λ n. 253 ∷ n ∷ []) behind
+    let following : length (drop 253 bytes) ≡ length bytes - 253 = length-drop 253 bytes in
+    ap (map length) (two-options bytes more) ∙ ap (λ n. n ∷ length (drop 253 bytes) ∷ []) front ∙ ap (λ n. 253 ∷ n ∷ []) following
 
 -- what the second option adds
 pub whole-alike : (has : ℕ → Bool) (floor ack : ℕ) → is_whole_under has floor ack One ≡ true
@@ -92,10 +92,10 @@ pub more-told : (has : ℕ → Bool) (floor ack : ℕ) → is_whole_under has fl
 more-told has floor ack cut =
     let bytes : List ℕ = all_bytes (set_states has) floor ack in
     let long : 253 < length bytes = leb-false (length bytes) 253 cut in
-    let behind : List ℕ = take 253 (drop 253 bytes) in
-    let some : 1 ≤ length behind = omega (arith, length-take 253 (drop 253 bytes), length-drop 253 bytes) in
-    let parts : length (states (take 506 bytes)) ≡ length (states (take 253 bytes)) + length (states behind) =
-    ap (λ xs. length (states xs)) (take-add 253 253 bytes) ∙ ap length (states-append (take 253 bytes) behind)
-    ∙ length-append (states (take 253 bytes)) (states behind) in
-    let told = states-long behind in
+    let following : List ℕ = take 253 (drop 253 bytes) in
+    let some : 1 ≤ length following = omega (arith, length-take 253 (drop 253 bytes), length-drop 253 bytes) in
+    let parts : length (states (take 506 bytes)) ≡ length (states (take 253 bytes)) + length (states following) =
+    ap (λ xs. length (states xs)) (take-add 253 253 bytes) ∙ ap length (states-append (take 253 bytes) following)
+    ∙ length-append (states (take 253 bytes)) (states following) in
+    let told = states-long following in
     omega (arith, parts, told, some)

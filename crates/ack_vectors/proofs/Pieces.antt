@@ -30,14 +30,14 @@ pub pieces-some : (s c : ℕ) → 0 < c → 1 ≤ length (pieces s c)
 pieces-some s c h = let step = pieces-step s c h in rw step (omega arith)
 
 -- a vector that is full, with more to come
-pub take_full : (room : ℕ) (front behind : List ℕ) → length front ≡ room → take room (front ++ behind) ≡ front
-take_full room front behind h =
-    let same : take room (front ++ behind) ≡ take room front = take-append-le room front behind (omega arith) in
+pub take_full : (room : ℕ) (front following : List ℕ) → length front ≡ room → take room (front ++ following) ≡ front
+take_full room front following h =
+    let same : take room (front ++ following) ≡ take room front = take-append-le room front following (omega arith) in
     same ∙ take_all room front (omega arith)
 
 -- what was cut stays cut
-pub take_cut : (room : ℕ) (front behind : List ℕ) → room < length front → take room (front ++ behind) ≡ take room front
-take_cut room front behind h = take-append-le room front behind (omega arith)
+pub take_cut : (room : ℕ) (front following : List ℕ) → room < length front → take room (front ++ following) ≡ take room front
+take_cut room front following h = take-append-le room front following (omega arith)
 
 pub take_fits : (room : ℕ) (xs : List ℕ) → length xs ≤ room → take room xs ≡ xs
 take_fits room xs h = take_all room xs h

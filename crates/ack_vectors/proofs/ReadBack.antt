@@ -98,10 +98,10 @@ slice_get-states_down p zero n i m a b h e = absurd (omega arith)
 slice_get-states_down p (suc count) n zero m a b h e = let same : n ≡ m = omega arith in ap (λ k. Some (p k)) same
 slice_get-states_down p (suc count) n (suc i) m a b h e = slice_get-states_down p count (down n) i m (down_fits n) b (omega arith) (omega arith)
 
-pub slice_get-front : {X : Type 0} (front behind : List X) (i : ℕ) → i < length front → slice_get (front ++ behind) i ≡ slice_get front i
-slice_get-front [] behind i h = absurd (omega arith)
-slice_get-front (x ∷ xs) behind zero h = refl
-slice_get-front (x ∷ xs) behind (suc i) h = slice_get-front xs behind i (omega arith)
+pub slice_get-front : {X : Type 0} (front following : List X) (i : ℕ) → i < length front → slice_get (front ++ following) i ≡ slice_get front i
+slice_get-front [] following i h = absurd (omega arith)
+slice_get-front (x ∷ xs) following zero h = refl
+slice_get-front (x ∷ xs) following (suc i) h = slice_get-front xs following i (omega arith)
 
 -- what the vector tells, and what was cut
 pub told_and_cut : (room : ℕ) (p : ℕ → ℕ) (floor ack : ℕ) → AllPlain p
@@ -122,11 +122,11 @@ read_back room p floor ack n h b d =
     elim (cases_lt (distance n ack) (numbers_told_within room p floor ack)) [
       | inl within ↦
           let front : List ℕ = states (vector_within room p floor ack) in
-          let behind : List ℕ = states (drop room (all_bytes p floor ack)) in
-          let lengths : numbers_told_within room p floor ack + length behind ≡ numbers_between floor ack = told_lengths room p floor ack h in
+          let following : List ℕ = states (drop room (all_bytes p floor ack)) in
+          let lengths : numbers_told_within room p floor ack + length following ≡ numbers_between floor ack = told_lengths room p floor ack h in
           let short : distance n ack < numbers_between floor ack = omega arith in
           rw (lt-ltb (distance n ack) (numbers_told_within room p floor ack) within)
-          (sym (slice_get-front front behind (distance n ack) within)
+          (sym (slice_get-front front following (distance n ack) within)
           ∙ ap (λ xs. slice_get xs (distance n ack)) (sym (told_and_cut room p floor ack h))
           ∙ slice_get-states_down p (numbers_between floor ack) ack (distance n ack) n b d short (way_up n ack d b))
       | inr past ↦
