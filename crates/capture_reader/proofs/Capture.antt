@@ -196,9 +196,9 @@ records-next format number given (byte ∷ bytes) entry some read =
     let used = 16 + length entry.bytes in
     let one : used ≡ suc (15 + length entry.bytes) = omega arith in
     let less : used - 1 ≡ 15 + length entry.bytes = omega arith in
-    let behind : drop (used - 1) bytes ≡ drop used (byte ∷ bytes) = ap (λ (n : ℕ). drop n bytes) less ∙ sym (ap (λ (n : ℕ). drop n (byte ∷ bytes)) one) in
+    let following : drop (used - 1) bytes ≡ drop used (byte ∷ bytes) = ap (λ (n : ℕ). drop n bytes) less ∙ sym (ap (λ (n : ℕ). drop n (byte ∷ bytes)) one) in
     ap (λ (next : Result (Option RecordParts) CaptureFault). onward next (λ u. records_from format (u - 1) (number + 1) (given + u) bytes)) read
-    ∙ ap (before entry) (skipped format (number + 1) (given + used) (used - 1) bytes ∙ ap (records_from format 0 (number + 1) (given + used)) behind)
+    ∙ ap (before entry) (skipped format (number + 1) (given + used) (used - 1) bytes ∙ ap (records_from format 0 (number + 1) (given + used)) following)
 
 has-by : (format : Format) (number given : ℕ) (bytes : List ℕ) → 0 < length bytes → given ≤ most_bytes
     → ((n g : ℕ) (rest : List ℕ) → length rest < length bytes → g ≤ most_bytes
@@ -214,11 +214,11 @@ has-by format number given bytes some within others (IsRecordHere entry rest r) 
     let shorter : length rest < length bytes = rw (record-length format number given entry rest bytes r) (omega arith) in
     let counts : given + (16 + length entry.bytes) ≤ most_bytes = rw size r.counts in
     let more = others (number + 1) (given + (16 + length entry.bytes)) rest shorter counts in
-    let behind : records_from format 0 (number + 1) (given + (16 + length entry.bytes)) (drop (16 + length entry.bytes) bytes)
+    let following : records_from format 0 (number + 1) (given + (16 + length entry.bytes)) (drop (16 + length entry.bytes) bytes)
     ≡ records_from format 0 (number + 1) (given + (16 + length entry.bytes)) rest =
     ap (records_from format 0 (number + 1) (given + (16 + length entry.bytes))) (record-after format number given entry rest bytes r) in
     subst (λ (c : Captured). HasRecords format number given bytes c.records c.end)
-    (sym (records-next format number given bytes entry some (record-read format number given entry rest bytes r) ∙ ap (before entry) behind))
+    (sym (records-next format number given bytes entry some (record-read format number given entry rest bytes r) ∙ ap (before entry) following))
     (rest, r, more)
 
 -- the definition's records meet the relation

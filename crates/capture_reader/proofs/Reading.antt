@@ -63,11 +63,11 @@ found-next format number given header pending (Some bytes) (Some more) fits same
     let front : take header.captured (drop 16 bytes) ≡ take header.captured pending =
     ap (take header.captured) (sym joined) ∙ take-append-le header.captured pending more fits in
     let size : length (take header.captured pending) ≡ header.captured = length-take-le header.captured pending fits in
-    let behind : drop header.captured pending ++ more ≡ drop (16 + header.captured) bytes =
+    let following : drop header.captured pending ++ more ≡ drop (16 + header.captured) bytes =
     sym (drop-append-le header.captured pending more fits) ∙ ap (drop header.captured) joined ∙ drop-drop header.captured 16 bytes in (
       ap (λ (f : Result (Option RecordHeader) CaptureFault). next_by format (number + 1) f bytes) found
           ∙ ap (λ (text : List ℕ). Ok (Some (entry_with format (number + 1) header text))) front,
-      ap (λ (xs : List ℕ). Some xs) (behind ∙ ap (λ (n : ℕ). drop (16 + n) bytes) (sym size)),
+      ap (λ (xs : List ℕ). Some xs) (following ∙ ap (λ (n : ℕ). drop (16 + n) bytes) (sym size)),
     )
 
 -- a header and the bytes after it make a record, or what is wrong with these
@@ -79,13 +79,13 @@ after-header order room header bytes wrong told judged =
     ∙ ap (λ (n : ℕ). unless_faulty (body_fault header.captured (room - 16) n) (Some header)) (sym (length-drop 16 bytes))
     ∙ ap (λ (f : Option CaptureFault). unless_faulty f (Some header)) judged
 
-pub found-told : (order : Order) (room : ℕ) (header : RecordHeader) (all behind : Option (List ℕ)) (wrong : Option CaptureFault)
-    → behind ≡ option_map (drop 16) all
+pub found-told : (order : Order) (room : ℕ) (header : RecordHeader) (all following : Option (List ℕ)) (wrong : Option CaptureFault)
+    → following ≡ option_map (drop 16) all
     → IfSome all (λ bytes. header_in order room bytes ≡ Ok (Some header))
-    → IfSome behind (λ bytes. body_fault header.captured (room - 16) (length bytes) ≡ wrong)
+    → IfSome following (λ bytes. body_fault header.captured (room - 16) (length bytes) ≡ wrong)
     → IfSome all (λ bytes. found_in order room bytes ≡ unless_faulty wrong (Some header))
-found-told order room header None behind wrong passed told judged = tt
-found-told order room header (Some bytes) behind wrong passed told judged =
+found-told order room header None following wrong passed told judged = tt
+found-told order room header (Some bytes) following wrong passed told judged =
     after-header order room header bytes wrong told
     (subst (λ (o : Option (List ℕ)). IfSome o (λ bs. body_fault header.captured (room - 16) (length bs) ≡ wrong)) passed judged)
 

@@ -126,9 +126,9 @@ before entry others = record { records = entry ∷ others.records; end = others.
 
 -- what comes next, and what is after it, which is asked for by the number of bytes that the record takes
 abbrev pub onward : Result (Option RecordParts) CaptureFault → (ℕ → Captured) → Captured
-onward (Ok None) behind = record { records = []; end = None }
-onward (Err why) behind = record { records = []; end = Some why }
-onward (Ok (Some entry)) behind = before entry (behind (16 + length entry.bytes))
+onward (Ok None) following = record { records = []; end = None }
+onward (Err why) following = record { records = []; end = Some why }
+onward (Ok (Some entry)) following = before entry (following (16 + length entry.bytes))
 
 -- the records after `number` records and `given` bytes; the first `skip` bytes belong to the record before
 abbrev pub records_from : Format → ℕ → ℕ → ℕ → List ℕ → Captured
