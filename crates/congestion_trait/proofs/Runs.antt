@@ -33,14 +33,14 @@ at_the_first bytes hi run left is =
     let told = λ (place : ℕ). sym (run_state-runs_of bytes hi place) ∙ ap (λ runs. run_state runs place) is in
     record {
       inside = λ place from to. told place ∙ first_state run left place to;
-      behind = λ place from. told place ∙ later_state run left place from;
+      following = λ place from. told place ∙ later_state run left place from;
     }
 
 -- of a report without a run
 pub at_no_run : (bytes : List ℕ) (hi state : ℕ) → runs_of hi bytes ≡ [] → IsAt (states bytes) 0 0 state []
 at_no_run bytes hi state is = record {
   inside = λ place from to. grind arith;
-  behind = λ place from. sym (run_state-runs_of bytes hi place) ∙ ap (λ runs. run_state runs place) is;
+  following = λ place from. sym (run_state-runs_of bytes hi place) ∙ ap (λ runs. run_state runs place) is;
 }
 
 -- the first run is at the top

@@ -173,8 +173,8 @@ not_reached : (ack n : ℕ) (bytes : List ℕ) → length bytes ≤ 1008 → 645
 not_reached ack n bytes few far =
     slice_get_past (states bytes) (distance n ack) (omega (arith, length-states bytes))
 
-behind : (ack x y span : ℕ) → x < 2 ^ 48 → y < 2 ^ 48 → distance x y ≤ span → span + 64512 ≤ distance x ack → 64512 ≤ distance y ack
-behind ack x y span first second close far = omega arith
+following : (ack x y span : ℕ) → x < 2 ^ 48 → y < 2 ^ 48 → distance x y ≤ span → span + 64512 ≤ distance x ack → 64512 ≤ distance y ack
+following ack x y span first second close far = omega arith
 
 unheard_at : (told : States) (entry : Entry) → is_out entry.standing ≡ true → told entry.number ≡ None → is_unheard told entry ≡ true
 unheard_at told entry out none = ap (λ b. b && not (is_received (told entry.number))) out ∙ ap (λ s. not (is_received s)) none
@@ -202,7 +202,7 @@ all_after ack bytes span x later few out near far =
     let low = all_low span (numbers (x ∷ later)) near in
     let close : AllByRecursion (λ n. distance x.number n ≤ span) (numbers (x ∷ later)) = (omega (arith, near.0), near.1) in
     all_unheard (state_at ack bytes) (λ n. (n < 2 ^ 48) × (distance x.number n ≤ span))
-    (λ n at. not_reached ack n bytes few (behind ack x.number n span near.0 at.0 at.1 far)) (x ∷ later) out
+    (λ n at. not_reached ack n bytes few (following ack x.number n span near.0 at.0 at.1 far)) (x ∷ later) out
     (both (λ n. n < 2 ^ 48) (λ n. distance x.number n ≤ span) (numbers (x ∷ later)) low close)
 
 read_first : (i : ℕ) (old : List Entry) (x : Entry) → slice_get old i ≡ Some x → (later : List Entry) × (drop i old ≡ x ∷ later)

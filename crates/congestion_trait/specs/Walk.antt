@@ -24,7 +24,7 @@ IsTop report (Some top) = top ≡ report.ack
 -- one run covers the places from its start to its end, and these are left after it, of a list of states
 pub record IsAt (states : List ℕ) (start end state : ℕ) (left : List Run) : Type 0 where
   pub inside : (place : ℕ) → start ≤ place → place < end → slice_get states place ≡ Some state
-  pub behind : (place : ℕ) → end ≤ place → slice_get states place ≡ run_state left (place - end)
+  pub following : (place : ℕ) → end ≤ place → slice_get states place ≡ run_state left (place - end)
 
 -- how an entry comes after a report
 abbrev pub standing_after : Option ℕ → Bool → Standing → Standing
