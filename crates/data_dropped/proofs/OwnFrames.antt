@@ -155,7 +155,7 @@ module _ (config : Config) (short : Bool) (number : ℕ) (draft : Draft) (held :
         same_kind = refl;
         same_data = refl;
         more = [];
-        behind = sym (append-nil (options_in_packet (parts read.sum)));
+        following = sym (append-nil (options_in_packet (parts read.sum)));
         are_passed_over = All-nil IsPassedOver;
         tells = ap drop_options read.are_listed ∙ others-tell_nothing 0 draft.options others ∙ sym none ∙ is;
       }
@@ -184,7 +184,7 @@ module _ (config : Config) (short : Bool) (number : ℕ) (draft : Draft) (held :
         same_kind = kind-again (in_form short draft.kind);
         same_data = refl;
         more = listed-after draft.options zeros held ack;
-        behind = ap (λ (b : Bool). options_of area b) (acking-no_data own.ack ack header.kind acks)
+        following = ap (λ (b : Bool). options_of area b) (acking-no_data own.ack ack header.kind acks)
             ∙ area-lists draft.options zeros held ack sendable.items
             ∙ ap (λ (front : List (Result Entry OptFault)). front ++ listed-after draft.options zeros held ack) (sym read.are_listed);
         are_passed_over = after-passed draft.options zeros held ack;

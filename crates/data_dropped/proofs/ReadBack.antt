@@ -69,9 +69,9 @@ length-up_to_last (code ∷ codes) = omega (arith, length-before code (up_to_las
 pub reaches_at_most : (drops : List DropEntry) (ack : ℕ) → HaveCodes drops → numbers_reached drops ack ≤ 2048
 reaches_at_most drops ack have =
     let front : List (Option ℕ) = states_of drop_coding (drop_bytes drops ack) in
-    let behind : List (Option ℕ) = states_of drop_coding (drop 253 (all_drop_bytes drops ack)) in
-    let parts : length (front ++ behind) ≡ length front + length behind = length-append front behind in
-    let told : length (codes_reported drops ack) ≡ length (front ++ behind) = ap length (told_and_cut drops ack have) in
+    let following : List (Option ℕ) = states_of drop_coding (drop 253 (all_drop_bytes drops ack)) in
+    let parts : length (front ++ following) ≡ length front + length following = length-append front following in
+    let told : length (codes_reported drops ack) ≡ length (front ++ following) = ap length (told_and_cut drops ack have) in
     let few : length (codes_reported drops ack) ≤ length (code_table drops ack) = length-up_to_last (code_table drops ack) in
     let table : length (code_table drops ack) ≡ 2048 = length-table drops ack in
     omega (arith, parts, told, few, table)
@@ -88,10 +88,10 @@ codes_read_back drops ack n have fits_ack fits =
     elim (cases_lt (distance n ack) (numbers_reached drops ack)) [
       | inl within ↦
           let front : List (Option ℕ) = states_of drop_coding (drop_bytes drops ack) in
-          let behind : List (Option ℕ) = states_of drop_coding (drop 253 (all_drop_bytes drops ack)) in
+          let following : List (Option ℕ) = states_of drop_coding (drop 253 (all_drop_bytes drops ack)) in
           let near : distance n ack < 2048 = omega (arith, reaches_at_most drops ack have) in
           rw (lt-ltb (distance n ack) (numbers_reached drops ack) within)
-          (ap code_at_place (sym (slice_get-front front behind (distance n ack) within)
+          (ap code_at_place (sym (slice_get-front front following (distance n ack) within)
           ∙ ap (λ (codes : List (Option ℕ)). slice_get codes (distance n ack)) (sym (told_and_cut drops ack have)))
           ∙ code_reported drops ack n fits_ack fits near)
       | inr past ↦

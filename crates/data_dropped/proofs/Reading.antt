@@ -7,11 +7,11 @@ use Rattle.ack_vectors.proofs.Coded.{states_of-append}
 use Rattle.ack_vectors.proofs.ReadBack.{slice_get-front}
 use Rattle.data_dropped.specs.Drops.{code_at_place, code_in, drop_coding, numbers_in}
 
-slice_get-after : {X : Type 0} (front behind : List X) (below left : ℕ) → length front + left ≡ below
-    → slice_get (front ++ behind) below ≡ slice_get behind left
-slice_get-after [] behind below left is = let same : below ≡ left = omega arith in ap (λ (i : ℕ). slice_get behind i) same
-slice_get-after (x ∷ front) behind zero left is = absurd (omega arith)
-slice_get-after (x ∷ front) behind (suc below) left is = slice_get-after front behind below left (omega arith)
+slice_get-after : {X : Type 0} (front following : List X) (below left : ℕ) → length front + left ≡ below
+    → slice_get (front ++ following) below ≡ slice_get following left
+slice_get-after [] following below left is = let same : below ≡ left = omega arith in ap (λ (i : ℕ). slice_get following i) same
+slice_get-after (x ∷ front) following zero left is = absurd (omega arith)
+slice_get-after (x ∷ front) following (suc below) left is = slice_get-after front following below left (omega arith)
 
 -- in the first option
 pub code-within : (body rest : List ℕ) (below : ℕ) (code : Option ℕ) → slice_get (states_of drop_coding body) below ≡ Some code

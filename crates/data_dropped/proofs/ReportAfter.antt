@@ -16,11 +16,11 @@ use Rattle.data_dropped.specs.Inbox.{InboxState, is_slow}
 use Rattle.data_dropped.specs.Reports.{drop_options, dropped_in}
 use Rattle.data_dropped.specs.Telling.{IsPassedOver, one_option}
 
-pub drop_options-append : (front behind : List (Result Entry OptFault)) → drop_options (front ++ behind) ≡ drop_options front ++ drop_options behind
-drop_options-append [] behind = refl
-drop_options-append (item ∷ front) behind =
-    ap (λ (rest : List (List ℕ)). dropped_in item ++ rest) (drop_options-append front behind)
-    ∙ sym (append_assoc (dropped_in item) (drop_options front) (drop_options behind))
+pub drop_options-append : (front following : List (Result Entry OptFault)) → drop_options (front ++ following) ≡ drop_options front ++ drop_options following
+drop_options-append [] following = refl
+drop_options-append (item ∷ front) following =
+    ap (λ (rest : List (List ℕ)). dropped_in item ++ rest) (drop_options-append front following)
+    ∙ sym (append_assoc (dropped_in item) (drop_options front) (drop_options following))
 
 -- options of other types tell nothing
 abbrev pub IsOther : Item → Type 0

@@ -61,7 +61,7 @@ pub record TellsItsDrops (pseudo : Pseudo) (held : InboxState) (own frame : Outg
   pub same_kind : packet.header.kind ≡ before.header.kind
   pub same_data : packet.payload ≡ before.payload
   pub more : List (Result Entry OptFault)
-  pub behind : options_in_packet packet ≡ options_in_packet before ++ more
+  pub following : options_in_packet packet ≡ options_in_packet before ++ more
   pub are_passed_over : All IsPassedOver more
   pub tells : drops_in_packet packet ≡ told_by_ack held before (acknowledged_by own.ack before.header.kind)
 
