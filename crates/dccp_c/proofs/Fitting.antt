@@ -65,11 +65,11 @@ length-framed config short number kind area payload detailed valid =
     let words = (header_length header + length (padded area)) / 4 in
     let front = length-header_bytes header words detailed valid in
     let all = length-append (header_bytes header words) (padded area ++ payload) in
-    let behind = length-append (padded area) payload in
+    let following = length-append (padded area) payload in
     let filled = length-padded area in
     let least = shortest (is_long header.number) (packet_type header.kind) in
     let same = length-sealed config.pseudo_out (spelling header area payload) (omega (arith, front, all, least)) in
-    omega (arith, front, all, behind, filled, same)
+    omega (arith, front, all, following, filled, same)
 
 -- a vector has no more bytes than numbers, nor than one option has room for
 length-vector : (set : List ℕ) (floor ack : ℕ) → length (vector_under (has set) floor ack One) ≤ min (numbers_between floor ack) 253
