@@ -7,10 +7,10 @@ use Rattle.seq_circle.specs.Circle.{distance, down, residue}
 use Rattle.dccp_ecn.specs.Ledger.{Ledger, ledger, nonce_kept, with_nonce_sent}
 use Rattle.dccp_ecn.specs.Run.{is_old, ledger_by, ledger_from}
 
-pub get-front : {X : Type 0} (front behind : List X) (i : ℕ) → i < length front → slice_get (front ++ behind) i ≡ slice_get front i
-get-front [] behind i h = absurd (omega arith)
-get-front (x ∷ xs) behind zero h = refl
-get-front (x ∷ xs) behind (suc i) h = get-front xs behind i (omega arith)
+pub get-front : {X : Type 0} (front following : List X) (i : ℕ) → i < length front → slice_get (front ++ following) i ≡ slice_get front i
+get-front [] following i h = absurd (omega arith)
+get-front (x ∷ xs) following zero h = refl
+get-front (x ∷ xs) following (suc i) h = get-front xs following i (omega arith)
 
 get-pushed : {X : Type 0} (front : List X) (x : X) → slice_get (front ++ x ∷ []) (length front) ≡ Some x
 get-pushed [] x = refl
