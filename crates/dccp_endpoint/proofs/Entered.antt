@@ -95,8 +95,8 @@ pub record Entry (e : EndState) (bytes : List ℕ) (a : Incoming) : Type 0 where
       → Told e bytes (sends (entered_as e first ph a.number (raising a.kind a.ack)) (alone (kind.Sync a.number)) (Synced a.number))
 
 -- steps 7 and 8, after the test of Resets
-abbrev pub Behind : EndState → List ℕ → Incoming → PacketType → EndState → Type 0
-Behind e bytes a t x = Told e bytes (ends_as a (through (ends_by_reset a t x) (checks_type a ∷ [])))
+abbrev pub AfterEntry : EndState → List ℕ → Incoming → PacketType → EndState → Type 0
+AfterEntry e bytes a t x = Told e bytes (ends_as a (through (ends_by_reset a t x) (checks_type a ∷ [])))
 
 module _ (o : EndState) (bytes : List ℕ) (proper : IsProper (wide o)) where
   abbrev e : EndState
@@ -458,6 +458,6 @@ module _ (o : EndState) (bytes : List ℕ) (proper : IsProper (wide o)) where
     expected-told true is = entry.refused is
     expected-told false is = served-told is (is_for_another end a) refl
 
-    pub entry-told : (t : PacketType) → t ≢ types.Reset → Behind e bytes a t end
+    pub entry-told : (t : PacketType) → t ≢ types.Reset → AfterEntry e bytes a t end
     entry-told types.Reset no_reset = absurd (no_reset refl)
     entry-told _ no_reset = expected-told (is_unexpected end a) refl

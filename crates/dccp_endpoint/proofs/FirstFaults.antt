@@ -500,7 +500,7 @@ found count ack rows fault done h (item ∷ rest) sums fits read is =
           record {
             before = done;
             item = item;
-            behind = rest;
+            following = rest;
             in_order = refl;
             read = h;
             no_fault = read;
@@ -510,15 +510,15 @@ found count ack rows fault done h (item ∷ rest) sums fits read is =
 answered-so : (count : Bool) (ack : Option ℕ) (rows : List Row) (options : List ListItem) (fault : Fault) → All ItemFits options
     → HasFirstFault count ack rows options fault → heeds count ack (unheeded rows) options ≡ Err fault
 answered-so count ack rows options fault fits first =
-    let all : All ItemFits (first.before ++ first.item ∷ first.behind) = subst (All ItemFits) first.in_order fits in
+    let all : All ItemFits (first.before ++ first.item ∷ first.following) = subst (All ItemFits) first.in_order fits in
     let sums : Sums count first.before first.read =
     sums-heeded count ack [] (unheeded rows) first.before first.read (sums-start count rows)
-    (fits-front first.before (first.item ∷ first.behind) all) first.no_fault in
+    (fits-front first.before (first.item ∷ first.following) all) first.no_fault in
     ap (heeds count ack (unheeded rows)) first.in_order
-    ∙ heeds-append count ack (unheeded rows) first.before (first.item ∷ first.behind) first.read first.no_fault
-    ∙ ap (λ (r : Result Heeding Fault). heeds_then r (λ (x : Heeding). heeds count ack x first.behind))
+    ∙ heeds-append count ack (unheeded rows) first.before (first.item ∷ first.following) first.read first.no_fault
+    ∙ ap (λ (r : Result Heeding Fault). heeds_then r (λ (x : Heeding). heeds count ack x first.following))
     (wrong-back count ack first.before first.read sums first.item fault
-    (All-head ItemFits first.item first.behind (fits-back first.before (first.item ∷ first.behind) all)) first.goes_wrong)
+    (All-head ItemFits first.item first.following (fits-back first.before (first.item ∷ first.following) all)) first.goes_wrong)
 
 fault-found : (count : Bool) (ack : Option ℕ) (rows : List Row) (options : List ListItem) (fault : Fault) → All ItemFits options
     → heeds count ack (unheeded rows) options ≡ Err fault → HasFirstFault count ack rows options fault

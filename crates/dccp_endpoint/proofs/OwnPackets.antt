@@ -32,8 +32,8 @@ abbrev entry_of : ℕ → Item → Entry
 entry_of place item = record { place = place + length (mark item.mandatory); mandatory = item.mandatory; kind = item.kind; body = item.body }
 
 -- the place of the option after it
-abbrev behind : ℕ → Item → ℕ
-behind place item = place + length (spelled item.mandatory item.kind item.body)
+abbrev following : ℕ → Item → ℕ
+following place item = place + length (spelled item.mandatory item.kind item.body)
 
 -- a Confirm speaks to the row that it is for, and a Change to the row of its key
 confirm-letter : (test left : Bool) (place : Place)
@@ -89,7 +89,7 @@ module _ (ack : Option ℕ) (rows : List Row) (k : Key) where
       → said_to true ack (theirs k) (as_read place (change_items rows keys)) ≡ change_if (has_key k keys) k (row_at rows k.0 k.1)
   changes-said [] place = refl
   changes-said (key ∷ rest) place =
-      by (is_key k key) refl (change-speaks k key place row) (changes-said rest (behind place (change_item key row)))
+      by (is_key k key) refl (change-speaks k key place row) (changes-said rest (following place (change_item key row)))
     where
       row : Row
       row = row_at rows key.0 key.1
@@ -98,7 +98,7 @@ module _ (ack : Option ℕ) (rows : List Row) (k : Key) where
       entry = entry_of place (change_item key row)
 
       later : List (Result Entry OptFault)
-      later = as_read (behind place (change_item key row)) (change_items rows rest)
+      later = as_read (following place (change_item key row)) (change_items rows rest)
 
       by : (same : Bool) → is_key k key ≡ same → speaks_to (theirs k) entry ≡ is_key k key
           → said_to true ack (theirs k) later ≡ change_if (has_key k rest) k (row_at rows k.0 k.1)
@@ -116,13 +116,13 @@ module _ (ack : Option ℕ) (rows : List Row) (k : Key) where
       ≡ said_of (confirm_for k confirms) (has_key k keys) ack k (row_at rows k.0 k.1)
   all-said [] keys place = changes-said keys place
   all-said (due ∷ rest) keys place =
-      by (is_for k due) (confirm-speaks k place due) (all-said rest keys (behind place (confirm_item due)))
+      by (is_for k due) (confirm-speaks k place due) (all-said rest keys (following place (confirm_item due)))
     where
       entry : Entry
       entry = entry_of place (confirm_item due)
 
       later : List (Result Entry OptFault)
-      later = as_read (behind place (confirm_item due)) (confirm_items rest ++ change_items rows keys)
+      later = as_read (following place (confirm_item due)) (confirm_items rest ++ change_items rows keys)
 
       by : (its : Bool) → speaks_to (theirs k) entry ≡ its
           → said_to true ack (theirs k) later ≡ said_of (confirm_for k rest) (has_key k keys) ack k (row_at rows k.0 k.1)
@@ -137,7 +137,7 @@ module _ (ack : Option ℕ) (rows : List Row) (k : Key) where
 -- where the options after the Ack Vector stand, if there is one
 abbrev after_parts : ℕ → List (List ℕ) → ℕ
 after_parts place [] = place
-after_parts place (part ∷ parts) = after_parts (behind place (vector_item part)) parts
+after_parts place (part ∷ parts) = after_parts (following place (vector_item part)) parts
 
 -- the data of the options of the Ack Vector, if there is one
 abbrev pub vector_parts : Bool → Vectors → MarkedSet → ℕ → List (List ℕ)
@@ -157,7 +157,7 @@ parts-are false vectors set greatest = refl
 parts-say-nothing : (ack : Option ℕ) (place : ℕ) (parts : List (List ℕ)) (items : List Item) (k : Key)
     → said_to true ack (theirs k) (as_read place (map vector_item parts ++ items)) ≡ said_to true ack (theirs k) (as_read (after_parts place parts) items)
 parts-say-nothing ack place [] items k = refl
-parts-say-nothing ack place (part ∷ parts) items k = parts-say-nothing ack (behind place (vector_item part)) parts items k
+parts-say-nothing ack place (part ∷ parts) items k = parts-say-nothing ack (following place (vector_item part)) parts items k
 
 vector-says-nothing : (ack : Option ℕ) (has_vector : Bool) (vectors : Vectors) (set : MarkedSet) (greatest : ℕ) (confirms : List Due) (rows : List Row)
     (keys : List Key) (k : Key)
@@ -180,13 +180,13 @@ module _ (rows : List Row) (k : Key) where
   changes-times [] place distinct = refl
   changes-times (key ∷ rest) place distinct =
       by (is_key k key) refl (change-speaks k key place (row_at rows key.0 key.1))
-      (changes-times rest (behind place (change_item key (row_at rows key.0 key.1))) (rest-distinct key rest distinct))
+      (changes-times rest (following place (change_item key (row_at rows key.0 key.1))) (rest-distinct key rest distinct))
     where
       entry : Entry
       entry = entry_of place (change_item key (row_at rows key.0 key.1))
 
       later : List (Result Entry OptFault)
-      later = as_read (behind place (change_item key (row_at rows key.0 key.1))) (change_items rows rest)
+      later = as_read (following place (change_item key (row_at rows key.0 key.1))) (change_items rows rest)
 
       by : (same : Bool) → is_key k key ≡ same → speaks_to (theirs k) entry ≡ is_key k key
           → times_said_to (theirs k) later ≡ once_if (has_key k rest)
@@ -206,13 +206,13 @@ module _ (rows : List Row) (k : Key) where
   all-times [] keys place distinct = let changes = changes-times keys place distinct in omega (arith, changes)
   all-times (due ∷ rest) keys place distinct =
       let now : once_if (speaks_to (theirs k) (entry_of place (confirm_item due))) ≡ once_if (is_for k due) = ap once_if (confirm-speaks k place due) in
-      let later = all-times rest keys (behind place (confirm_item due)) distinct in
+      let later = all-times rest keys (following place (confirm_item due)) distinct in
       omega (arith, now, later)
 
 parts-never-speak : (place : ℕ) (parts : List (List ℕ)) (items : List Item) (k : Key)
     → times_said_to (theirs k) (as_read place (map vector_item parts ++ items)) ≡ times_said_to (theirs k) (as_read (after_parts place parts) items)
 parts-never-speak place [] items k = refl
-parts-never-speak place (part ∷ parts) items k = let rest = parts-never-speak (behind place (vector_item part)) parts items k in omega (arith, rest)
+parts-never-speak place (part ∷ parts) items k = let rest = parts-never-speak (following place (vector_item part)) parts items k in omega (arith, rest)
 
 vector-never-speaks : (has_vector : Bool) (vectors : Vectors) (set : MarkedSet) (greatest : ℕ) (confirms : List Due) (rows : List Row) (keys : List Key)
     (k : Key)

@@ -44,7 +44,7 @@ use Rattle.dccp_endpoint.proofs.Deriving.{Ready, Told, caused, left, plain-cause
 use Rattle.dccp_endpoint.proofs.OwnFrames.{alone-sendable}
 use Rattle.dccp_endpoint.proofs.Phases.{accept-so, after-heard, answer-so, begun-not-closed, check-live, listens-server, live-begun, live-entered, live-heard, requests-client}
 use Rattle.dccp_endpoint.proofs.Tables.{gar-by, no-connection-code, numbered-code, sync-acknowledges, unexpected-no-ack}
-use Rattle.dccp_endpoint.proofs.Entered.{Behind, Entry, entered_as, entry-told}
+use Rattle.dccp_endpoint.proofs.Entered.{AfterEntry, Entry, entered_as, entry-told}
 
 -- a Request acknowledges nothing
 request-no-ack : (reference : ℕ) (k : Kind) → packet_type k ≡ types.Request → ack_near reference k ≡ None
@@ -232,7 +232,7 @@ module _ (o : EndState) (bytes : List ℕ) (proper : IsProper (wide o)) where
         rw same (ended-told a came same (ResetInWindow check valid) (live-begun e.phase (check-live e.phase a.kind check)))
     raises-told check valid _ same =
         let no_reset : (a.kind ≡ types.Reset → ⊥) = λ reset. cc (same, reset) in
-        subst (Behind e bytes a a.kind) (sym (raised-is a)) (entry-told o bytes proper a (raised-entry check no_reset valid) a.kind no_reset)
+        subst (AfterEntry e bytes a a.kind) (sym (raised-is a)) (entry-told o bytes proper a (raised-entry check no_reset valid) a.kind no_reset)
 
     judged-told : entrance_of e a ≡ entrance.Check → (v : Verdict) → verdict_of e a ≡ v
         → Told e bytes (ends_as a (through (by_verdict a e v) (ends_by_reset a a.kind ∷ checks_type a ∷ [])))
@@ -249,7 +249,7 @@ module _ (o : EndState) (bytes : List ℕ) (proper : IsProper (wide o)) where
     answered-told is types.Reset same false fits = dropped-told why.StrayReset (StrayInRequest a came is same fits)
     answered-told is _ same true fits =
         let no_reset : (a.kind ≡ types.Reset → ⊥) = λ reset. cc (same, reset) in
-        subst (Behind e bytes a a.kind) (sym (started-is e.phase a)) (entry-told o bytes proper a (answered-entry is no_reset fits) a.kind no_reset)
+        subst (AfterEntry e bytes a a.kind) (sym (started-is e.phase a)) (entry-told o bytes proper a (answered-entry is no_reset fits) a.kind no_reset)
     answered-told is _ same false fits = corrected-told a came (OtherRequest is (λ reset. cc (same, reset)) fits)
 
     -- step 3
@@ -258,7 +258,7 @@ module _ (o : EndState) (bytes : List ℕ) (proper : IsProper (wide o)) where
         (takes_answer a entrance.Accept ∷ checks_numbers a entrance.Accept ∷ ends_by_reset a a.kind ∷ checks_type a ∷ [])))
     unfolding opened-entry
     accepted-told is true ours =
-        subst (Behind e bytes a a.kind) (sym (started-is phase.Respond a))
+        subst (AfterEntry e bytes a a.kind) (sym (started-is phase.Respond a))
         (entry-told o bytes proper a (opened-entry is ours) a.kind (λ reset. cc ((accept-so e.phase a.kind is).1, reset)))
     accepted-told is false other =
         let code : ℕ = number_of_code codes.BadServiceCode in

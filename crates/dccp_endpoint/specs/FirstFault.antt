@@ -53,8 +53,8 @@ pub data GoesWrong (count : Bool) (ack : Option ℕ) (before : List (Result Entr
 pub record HasFirstFault (count : Bool) (ack : Option ℕ) (rows : List Row) (options : List (Result Entry OptFault)) (fault : Fault) : Type 0 where
   pub before : List (Result Entry OptFault)
   pub item : Result Entry OptFault
-  pub behind : List (Result Entry OptFault)
-  pub in_order : options ≡ before ++ item ∷ behind
+  pub following : List (Result Entry OptFault)
+  pub in_order : options ≡ before ++ item ∷ following
   pub read : Heeding
   pub no_fault : heeds count ack (unheeded rows) before ≡ Ok read
   pub goes_wrong : GoesWrong count ack before read.rows item fault
