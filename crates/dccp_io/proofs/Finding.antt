@@ -61,8 +61,8 @@ line-next given count got None known fits same next = tt
 line-next given count got (Some bytes) None fits same next = absurd (none-some bytes same)
 line-next given count got (Some bytes) (Some more) fits same next =
     let size : length (take count got) ≡ count = length-take-le count got fits in
-    let behind : drop count got ++ more ≡ drop count bytes = sym (drop-append-le count got more fits) ∙ ap (drop count) (ap from_some same) in
-    (next, ap (λ (xs : List ℕ). Some xs) (behind ∙ ap (λ (n : ℕ). drop n bytes) (sym size)))
+    let following : drop count got ++ more ≡ drop count bytes = sym (drop-append-le count got more fits) ∙ ap (drop count) (ap from_some same) in
+    (next, ap (λ (xs : List ℕ). Some xs) (following ∙ ap (λ (n : ℕ). drop n bytes) (sym size)))
 
 module _ {S : Type 0} (left : S → Option (List ℕ)) (faults lender : S → ℕ) where
   -- a reader that stopped does nothing

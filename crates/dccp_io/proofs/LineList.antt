@@ -14,9 +14,9 @@ IsFirst bytes = lines_of bytes ≡ first_line bytes ∷ lines_of (drop (suc (tex
 by-test : (byte : ℕ) (rest : List ℕ) (test : Bool) → (test ≡ true → newline ≡ byte) → (0 < length rest → IsFirst rest)
     → (if test then (newline ∷ []) ∷ lines_of rest else before_line byte (lines_of rest))
     ≡ take (suc (if test then 0 else suc (text_length rest))) (byte ∷ rest) ∷ lines_of (drop (suc (if test then 0 else suc (text_length rest))) (byte ∷ rest))
-by-test byte rest true is behind = ap (λ (last : ℕ). (last ∷ []) ∷ lines_of rest) (is refl)
-by-test byte [] false is behind = refl
-by-test byte (next ∷ rest) false is behind = ap (before_line byte) (behind (omega arith))
+by-test byte rest true is following = ap (λ (last : ℕ). (last ∷ []) ∷ lines_of rest) (is refl)
+by-test byte [] false is following = refl
+by-test byte (next ∷ rest) false is following = ap (before_line byte) (following (omega arith))
 
 is-first : (bytes : List ℕ) → 0 < length bytes → IsFirst bytes
 is-first [] some = absurd (omega (arith, some))
@@ -26,7 +26,7 @@ is-first (byte ∷ rest) some = by-test byte rest (byte == newline) (is-newline 
 pub lines-cut : (bytes : List ℕ) → 0 < length bytes → lines_of bytes ≡ first_line bytes ∷ lines_of (drop (length (first_line bytes)) bytes)
 lines-cut bytes some =
     is-first bytes some
-    ∙ ap (λ (behind : List ℕ). first_line bytes ∷ lines_of behind)
+    ∙ ap (λ (following : List ℕ). first_line bytes ∷ lines_of following)
     (sym (ap (λ (n : ℕ). drop n bytes) (first_line_length bytes) ∙ drop_min (suc (text_length bytes)) bytes))
 
 front-by : (test : Bool) (bytes : List ℕ) (n : ℕ) → text_length (take (suc n) bytes) ≡ n

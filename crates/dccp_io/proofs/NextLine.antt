@@ -11,8 +11,8 @@ use Rattle.dccp_io.specs.Lines.{newline, one_too_many, most_input_bytes, text_le
 
 -- no newline is among the first bytes
 past-by : (test : Bool) (n m k t : ℕ) → (if test then 0 else suc n) ≡ suc k → (n ≡ k → m ≡ k + t) → (if test then 0 else suc m) ≡ suc k + t
-past-by true n m k t none behind = absurd (omega (arith, none))
-past-by false n m k t none behind = let more : m ≡ k + t = behind (omega (arith, none)) in omega (arith, more)
+past-by true n m k t none following = absurd (omega (arith, none))
+past-by false n m k t none following = let more : m ≡ k + t = following (omega (arith, none)) in omega (arith, more)
 
 text_length-past : (xs ys : List ℕ) → text_length xs ≡ length xs → text_length (xs ++ ys) ≡ length xs + text_length ys
 text_length-past [] ys none = omega arith
@@ -36,8 +36,8 @@ room_after bytes done size fits = grind (arith, common_steps)
 
 -- nor among fewer
 clear-by : (test : Bool) (n m k : ℕ) → suc k ≤ (if test then 0 else suc n) → (k ≤ n → n ≡ k + m) → (if test then 0 else suc n) ≡ suc k + m
-clear-by true n m k fits behind = absurd (omega (arith, fits))
-clear-by false n m k fits behind = let more : n ≡ k + m = behind (omega (arith, fits)) in omega (arith, more)
+clear-by true n m k fits following = absurd (omega (arith, fits))
+clear-by false n m k fits following = let more : n ≡ k + m = following (omega (arith, fits)) in omega (arith, more)
 
 pub clear_front : (clear : ℕ) (bytes : List ℕ) → clear ≤ text_length bytes → text_length bytes ≡ clear + text_length (drop clear bytes)
 clear_front zero bytes fits = omega arith
@@ -47,8 +47,8 @@ clear_front (suc clear) (byte ∷ bytes) fits =
 
 -- a line's bytes but the last are none
 one-clear-by : (test : Bool) (n m k : ℕ) → suc (suc k) ≤ suc (if test then 0 else suc n) → (suc k ≤ suc n → k ≤ m) → suc k ≤ (if test then 0 else suc m)
-one-clear-by true n m k fits behind = absurd (omega (arith, fits))
-one-clear-by false n m k fits behind = let more : k ≤ m = behind (omega (arith, fits)) in omega (arith, more)
+one-clear-by true n m k fits following = absurd (omega (arith, fits))
+one-clear-by false n m k fits following = let more : k ≤ m = following (omega (arith, fits)) in omega (arith, more)
 
 pub all_but_one_clear : (count : ℕ) (bytes : List ℕ) → 0 < count → count ≤ length bytes → count ≤ text_length bytes + 1
     → count - 1 ≤ text_length (take count bytes)
@@ -70,13 +70,13 @@ block_seen bytes done size fits before lacks =
     let block =
     block-length size (drop done bytes) (room_after bytes done size fits)
     (ap (λ (n : ℕ). list_all (λ byte. not (byte == newline)) (take n (drop done bytes))) same ∙ lacks) in
-    let behind : text_length (drop size (drop done bytes)) ≡ text_length (drop (done + size) bytes) = ap text_length (drop-drop size done bytes) in
-    omega (arith, before, block, behind)
+    let following : text_length (drop size (drop done bytes)) ≡ text_length (drop (done + size) bytes) = ap text_length (drop-drop size done bytes) in
+    omega (arith, before, block, following)
 
 -- a newline is among them
 first-by : (test : Bool) (n m k : ℕ) → (if test then 0 else suc n) < suc k → (n < k → m ≡ n) → (if test then 0 else suc m) ≡ (if test then 0 else suc n)
-first-by true n m k inside behind = refl
-first-by false n m k inside behind = ap suc (behind (omega (arith, inside)))
+first-by true n m k inside following = refl
+first-by false n m k inside following = ap suc (following (omega (arith, inside)))
 
 text_length-first : (xs ys : List ℕ) → text_length xs < length xs → text_length (xs ++ ys) ≡ text_length xs
 text_length-first [] ys inside = absurd (omega (arith, inside))
@@ -95,7 +95,7 @@ text_length_fits = text_length-fits
 
 -- the first bytes are no newline, and the scan goes on after them
 scan-on : (xs ys : List ℕ) → text_length xs ≡ length xs → text_length (xs ++ ys) ≡ length xs + text_length (drop (length xs) (xs ++ ys))
-scan-on xs ys none = text_length-past xs ys none ∙ ap (λ (behind : List ℕ). length xs + text_length behind) (sym (drop-append_seam xs ys))
+scan-on xs ys none = text_length-past xs ys none ∙ ap (λ (following : List ℕ). length xs + text_length following) (sym (drop-append_seam xs ys))
 
 next-some : (given : ℕ) (bytes : List ℕ) → 0 < length bytes
     → next_in_bytes given bytes ≡ (if ends_within given (first_line bytes) then by_length bytes (text_length bytes) else Much)

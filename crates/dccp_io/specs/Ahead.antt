@@ -16,7 +16,7 @@ ahead_of ahead left = prepend_known ahead.pending left
 -- the bytes that came follow those that were pending; none came only at the source's end
 pub record IsAppended (old new : BytesAhead) (before : Option (List ℕ)) (count : ℕ) (got : List ℕ) : Type 0 where
   pub came : length got ≡ count
-  pub behind : new ≡ record { pending = old.pending ++ got; size = old.size }
+  pub following : new ≡ record { pending = old.pending ++ got; size = old.size }
   pub fits : length new.pending ≤ new.size
   pub end : IfSome before (λ bytes. (count ≡ 0) ↔ (bytes ≡ []))
 

@@ -7,11 +7,11 @@ use Rattle.dccp_io.proofs.lines.seek.Goals as goal
 pub text_length-seen-requires-clause-inside : goal.text_length-seen-requires-clause-inside
 text_length-seen-requires-clause-inside g c =
     let came = c.in_ok-count.ensures.read in
-    let joined = c.pending-in-loop-seen.ensures.value ∙ ap (λ (ahead : BytesAhead). ahead.pending) came.2.behind in
+    let joined = c.pending-in-loop-seen.ensures.value ∙ ap (λ (ahead : BytesAhead). ahead.pending) came.2.following in
     (scanned c.loop-seen.ahead.pending came.0 c.pending-in-loop-seen.result.now c.loop-seen.seen c.loop-seen.invariant.seen_is (search rules) joined).0
 
 pub text_length-seen-requires-clause-before : goal.text_length-seen-requires-clause-before
 text_length-seen-requires-clause-before g c =
     let came = c.in_ok-count.ensures.read in
-    let joined = c.pending-in-loop-seen.ensures.value ∙ ap (λ (ahead : BytesAhead). ahead.pending) came.2.behind in
+    let joined = c.pending-in-loop-seen.ensures.value ∙ ap (λ (ahead : BytesAhead). ahead.pending) came.2.following in
     (scanned c.loop-seen.ahead.pending came.0 c.pending-in-loop-seen.result.now c.loop-seen.seen c.loop-seen.invariant.seen_is (search rules) joined).1

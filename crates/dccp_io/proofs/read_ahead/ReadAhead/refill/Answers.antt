@@ -36,7 +36,7 @@ returns g c =
         came,
         record {
           came = length-came block to count fits;
-          behind = ap (λ (xs : List ℕ). ahead xs c.make_room-from.new.block.len) grown ∙ ap (λ (n : ℕ). ahead (c.args.self.now.pending ++ got) n) size;
+          following = ap (λ (xs : List ℕ). ahead xs c.make_room-from.new.block.len) grown ∙ ap (λ (n : ℕ). ahead (c.args.self.now.pending ++ got) n) size;
           fits = no-longer (block ++ drop (length block) c.make_room-from.new.block.items) from (to + count) c.make_room-from.new.block.len;
           end = search rules;
         },
