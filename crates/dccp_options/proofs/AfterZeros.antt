@@ -16,5 +16,5 @@ pub options_after_zeros : (items : List Item) (zeros : ℕ) (more : List ℕ) �
 options_after_zeros items zeros more all =
     ap (λ (area : List ℕ). options_of area false) (append_assoc (written items) (replicate zeros 0) more)
     ∙ entries-before 0 items (replicate zeros 0 ++ more) all
-    ∙ ap (λ (behind : List _). map Ok (entries_at 0 items) ++ behind)
+    ∙ ap (λ (following : List _). map Ok (entries_at 0 items) ++ following)
     (listed-zeros zeros (0 + length (written items)) more ∙ ap (λ (at : ℕ). listed_from at more) (omega arith))

@@ -83,8 +83,8 @@ listing-only {on_data = true} (ignored {marked = m} {place = p} {kind = k} b r h
 -- what follows a type byte is cut, or is a length and as many bytes as it counts
 pub record Counts (rest : List ℕ) : Type 0 where
   pub body : List ℕ
-  pub behind : List ℕ
-  pub is : rest ≡ (length body + 2) ∷ (body ++ behind)
+  pub following : List ℕ
+  pub is : rest ≡ (length body + 2) ∷ (body ++ following)
 
 -- a test is true or false
 pub either : (b : Bool) → (b ≡ true) ⊎ (b ≡ false)
@@ -102,7 +102,7 @@ counts-from count rest low high =
     let counted : count ≡ length (take (count - 2) rest) + 2 = omega (arith, long) in
     record {
       body = take (count - 2) rest;
-      behind = drop (count - 2) rest;
+      following = drop (count - 2) rest;
       is = ap (λ c. c ∷ rest) counted ∙ ap (λ xs. (length (take (count - 2) rest) + 2) ∷ xs) (sym whole);
     }
 
@@ -118,25 +118,25 @@ cut_or_counts (count ∷ rest) =
     ]
 
 -- an option with a length, where what follows it has its list
-pub long-is : (on_data marked : Bool) (place kind : ℕ) (body behind : List ℕ) → 32 ≤ kind
-    → ((next : Bool) → IsListed on_data next (place + (length body + 2)) behind (listing on_data next (place + (length body + 2)) behind))
-    → IsListed on_data marked place (kind ∷ (length body + 2) ∷ (body ++ behind))
-    (listing on_data marked place (kind ∷ (length body + 2) ∷ (body ++ behind)))
-long-is false marked place kind body behind h later =
-    let area = kind ∷ (length body + 2) ∷ (body ++ behind) in
-    let long = ap (λ raws. marked_entries marked (counted_options false raws)) (raw_options-long place kind body behind h) in
-    let first = listed-first false marked place kind body (raw_options (place + (length body + 2)) 0 behind) (part-listed kind h) (λ off. cc) in
-    subst (λ items. IsListed false marked place area items) (sym (long ∙ first)) (with_length body behind h (λ off. cc) (later false))
-long-is true marked place kind body behind h later =
-    let area = kind ∷ (length body + 2) ∷ (body ++ behind) in
-    let raws = raw_options (place + (length body + 2)) 0 behind in
-    let long = ap (λ all. marked_entries marked (counted_options true all)) (raw_options-long place kind body behind h) in
+pub long-is : (on_data marked : Bool) (place kind : ℕ) (body following : List ℕ) → 32 ≤ kind
+    → ((next : Bool) → IsListed on_data next (place + (length body + 2)) following (listing on_data next (place + (length body + 2)) following))
+    → IsListed on_data marked place (kind ∷ (length body + 2) ∷ (body ++ following))
+    (listing on_data marked place (kind ∷ (length body + 2) ∷ (body ++ following)))
+long-is false marked place kind body following h later =
+    let area = kind ∷ (length body + 2) ∷ (body ++ following) in
+    let long = ap (λ raws. marked_entries marked (counted_options false raws)) (raw_options-long place kind body following h) in
+    let first = listed-first false marked place kind body (raw_options (place + (length body + 2)) 0 following) (part-listed kind h) (λ off. cc) in
+    subst (λ items. IsListed false marked place area items) (sym (long ∙ first)) (with_length body following h (λ off. cc) (later false))
+long-is true marked place kind body following h later =
+    let area = kind ∷ (length body + 2) ∷ (body ++ following) in
+    let raws = raw_options (place + (length body + 2)) 0 following in
+    let long = ap (λ all. marked_entries marked (counted_options true all)) (raw_options-long place kind body following h) in
     elim (either (is_ignored_on_data kind)) [
       | inl ignores ↦ subst (λ items. IsListed true marked place area items)
-          (sym (long ∙ ignored-first marked place kind body raws ignores)) (ignored body behind h refl ignores (later marked))
+          (sym (long ∙ ignored-first marked place kind body raws ignores)) (ignored body following h refl ignores (later marked))
       | inr reads ↦ subst (λ items. IsListed true marked place area items)
           (sym (long ∙ listed-first true marked place kind body raws (part-listed kind h) (λ _. reads)))
-          (with_length body behind h (λ _. reads) (later false))
+          (with_length body following h (λ _. reads) (later false))
     ]
 
 -- the computed list is one of its area
@@ -165,11 +165,11 @@ listing-is (suc most) on_data marked place (suc (suc k) ∷ rest) h =
         | inl is_cut ↦ subst (λ items. IsListed on_data marked place (kind ∷ rest) items)
             (sym (listing-cut on_data marked place kind rest long is_cut)) (cut long is_cut)
         | inr counted ↦
-            let shorter : length counted.behind ≤ most =
-            omega (arith, ap length counted.is, length-append counted.body counted.behind) in
+            let shorter : length counted.following ≤ most =
+            omega (arith, ap length counted.is, length-append counted.body counted.following) in
             subst (λ r. IsListed on_data marked place (kind ∷ r) (listing on_data marked place (kind ∷ r))) (sym counted.is)
-            (long-is on_data marked place kind counted.body counted.behind long
-            (λ next. listing-is most on_data next (place + (length counted.body + 2)) counted.behind shorter))
+            (long-is on_data marked place kind counted.body counted.following long
+            (λ next. listing-is most on_data next (place + (length counted.body + 2)) counted.following shorter))
       ]
     ]
 

@@ -86,11 +86,11 @@ pub entries-written : (place pads : ℕ) (items : List Item) → All (λ item. I
     → marked_entries false (raw_options place 0 (written items ++ replicate pads 0)) ≡ map Ok (entries_at place items)
 entries-written place pads [] _ = entries-padding place pads
 entries-written place pads (item ∷ rest) all =
-    let behind = written rest ++ replicate pads 0 in
+    let following = written rest ++ replicate pads 0 in
     let first : IsWritable item = all 0 item (omega arith) in
     let others = All-tail (λ i. IsWritable i) item rest all in
     let joined = append_assoc (spelled item.mandatory item.kind item.body) (written rest) (replicate pads 0) in
-    let here = entries-spelled place item.kind item.mandatory item.body behind first.has_length in
+    let here = entries-spelled place item.kind item.mandatory item.body following first.has_length in
     let later = entries-written (place + length (spelled item.mandatory item.kind item.body)) pads rest others in
     ap (λ b. marked_entries false (raw_options place 0 b)) joined
     ∙ here

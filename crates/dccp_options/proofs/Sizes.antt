@@ -23,9 +23,9 @@ pub data_count-raw_then : (place kind : ℕ) (rest : List ℕ) (found : Option (
     → ((skip : ℕ) → data_count (raw_options (place + 1) skip rest) ≤ length rest - skip)
     → data_count (raw_then place kind found (λ skip. raw_options (place + 1) skip rest)) ≤ length rest
 data_count-raw_then place kind rest None _ _ = omega arith
-data_count-raw_then place kind rest (Some body) found behind =
+data_count-raw_then place kind rest (Some body) found following =
     let fits = body-fits kind rest body found in
-    omega (arith, fits.0, fits.1, behind (bytes_after kind body))
+    omega (arith, fits.0, fits.1, following (bytes_after kind body))
 
 pub data_count-raw_options : (place skip : ℕ) (bytes : List ℕ)
     → data_count (raw_options place skip bytes) ≤ length bytes - skip
@@ -57,14 +57,14 @@ pub length-vector_bytes : (entry : Entry) (rest : List (Result Entry OptFault))
     → length (vector_bytes (Ok entry ∷ rest)) ≤ length entry.body + length (vector_bytes rest)
 length-vector_bytes entry rest = length-if (is_ack_vector entry.kind) entry.body (ack_vectors rest)
 
-pub length-entry_then : (part : Part) (marked : Bool) (raw : RawOption) (behind : Bool → List (Result Entry OptFault)) (most : ℕ)
-    → ((next : Bool) → length (vector_bytes (behind next)) ≤ most)
-    → length (vector_bytes (entry_then part marked raw behind)) ≤ length raw.body + most
-length-entry_then Padding marked raw behind most h = omega (arith, h false)
-length-entry_then Mandatory false raw behind most h = omega (arith, h true)
-length-entry_then Mandatory true raw behind most h = omega arith
-length-entry_then Listed marked raw behind most h =
-    omega (arith, h false, length-vector_bytes (record { place = raw.place; mandatory = marked; kind = raw.kind; body = raw.body }) (behind false))
+pub length-entry_then : (part : Part) (marked : Bool) (raw : RawOption) (following : Bool → List (Result Entry OptFault)) (most : ℕ)
+    → ((next : Bool) → length (vector_bytes (following next)) ≤ most)
+    → length (vector_bytes (entry_then part marked raw following)) ≤ length raw.body + most
+length-entry_then Padding marked raw following most h = omega (arith, h false)
+length-entry_then Mandatory false raw following most h = omega (arith, h true)
+length-entry_then Mandatory true raw following most h = omega arith
+length-entry_then Listed marked raw following most h =
+    omega (arith, h false, length-vector_bytes (record { place = raw.place; mandatory = marked; kind = raw.kind; body = raw.body }) (following false))
 
 pub length-entries : (marked : Bool) (raws : List RawOption) → length (vector_bytes (marked_entries marked raws)) ≤ data_count raws
 length-entries false [] = omega arith

@@ -9,11 +9,11 @@ use Rattle.dccp_options.specs.declared.report.Run.{Run}
 use Rattle.dccp_options.specs.Vectors.{state_of, run_length, states, state_at, runs_of, is_in_run, state_in}
 
 -- vectors that continue each other give their states one after the other
-pub states-append : (front behind : List ℕ) → states (front ++ behind) ≡ states front ++ states behind
-states-append [] behind = refl
-states-append (byte ∷ rest) behind =
-    ap (λ xs. replicate (run_length byte) (state_of byte) ++ xs) (states-append rest behind)
-    ∙ sym (append_assoc (replicate (run_length byte) (state_of byte)) (states rest) (states behind))
+pub states-append : (front following : List ℕ) → states (front ++ following) ≡ states front ++ states following
+states-append [] following = refl
+states-append (byte ∷ rest) following =
+    ap (λ xs. replicate (run_length byte) (state_of byte) ++ xs) (states-append rest following)
+    ∙ sym (append_assoc (replicate (run_length byte) (state_of byte)) (states rest) (states following))
 
 -- in a run of one state, and past it
 pub slice_get-run : (count state i : ℕ) (rest : List ℕ)

@@ -36,8 +36,8 @@ bytes_after kind body = if is_one_byte kind then 0 else length body + 1
 -- an option and what follows it; one whose length is wrong ends the list (RFC 4340, section 5.8)
 abbrev pub raw_then : ℕ → ℕ → Option (List ℕ) → (ℕ → List RawOption) → List RawOption
 raw_then place kind None _ = []
-raw_then place kind (Some body) behind =
-    record { place = place; kind = kind; body = body } ∷ behind (bytes_after kind body)
+raw_then place kind (Some body) following =
+    record { place = place; kind = kind; body = body } ∷ following (bytes_after kind body)
 
 -- the options of an area as they stand, from this place on; the first `skip` bytes belong to the option before
 abbrev pub raw_options : ℕ → ℕ → List ℕ → List RawOption
@@ -65,11 +65,11 @@ part_of kind = if kind == padding then Padding else if kind == mandatory then Ma
 -- marks the next option, and twice in a row is a fault, which ends the list (RFC 4340, sections 5.8.1 and 5.8.2)
 abbrev pub entry_then : Part → Bool → RawOption → (Bool → List (Result Entry OptFault))
     → List (Result Entry OptFault)
-entry_then Padding _ _ behind = behind false
-entry_then Mandatory false _ behind = behind true
+entry_then Padding _ _ following = following false
+entry_then Mandatory false _ following = following true
 entry_then Mandatory true _ _ = Err MandatoryTwice ∷ []
-entry_then Listed marked raw behind =
-    Ok (record { place = raw.place; mandatory = marked; kind = raw.kind; body = raw.body }) ∷ behind false
+entry_then Listed marked raw following =
+    Ok (record { place = raw.place; mandatory = marked; kind = raw.kind; body = raw.body }) ∷ following false
 
 -- a Mandatory with nothing after it is a fault (RFC 4340, section 5.8.2)
 abbrev pub at_end : Bool → List (Result Entry OptFault)

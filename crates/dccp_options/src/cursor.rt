@@ -71,16 +71,16 @@ impl<'a> Cursor<'a> {
         ensures ended { MatchOption result (raws_left self.new ≡ []) (λ _. length self.new.rest.now + 1 ≤ length self.old.rest.now) }
         ensures same { self.new.on_data ≡ self.old.on_data }
     {
-        let (kind, behind) = self.rest.split_first()?;
+        let (kind, following) = self.rest.split_first()?;
         let place = self.place;
-        match split_option(*kind, behind) {
+        match split_option(*kind, following) {
             None => {
                 self.rest = &[];
                 None
             }
             Some((body, rest)) => {
                 self.rest = rest;
-                self.place = place + 1 + (behind.len() - rest.len()) as u16;
+                self.place = place + 1 + (following.len() - rest.len()) as u16;
                 Some(RawOpt {
                     place,
                     kind: *kind,

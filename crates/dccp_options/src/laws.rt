@@ -86,5 +86,5 @@ pub fn runs_give_the_states()
 /// Vectors that continue each other give the states of the first, and after them those of the second (RFC 4340,
 /// section 11.4).
 pub fn vectors_continue_each_other()
-    ensures { (front behind : List ℕ) → states (front ++ behind) ≡ states front ++ states behind }
+    ensures { (front following : List ℕ) → states (front ++ following) ≡ states front ++ states following }
 {}
