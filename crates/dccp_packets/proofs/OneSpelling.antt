@@ -114,7 +114,7 @@ joined front next last first second = first ∙ (ap (λ xs. front ++ xs) second 
 -- what a row has after the common bytes
 record Again (number : Number) (kind : Kind) (b : List ℕ) (size : ℕ) : Type 0 where
   typed : slice_index b 8 ≡ 2 * code_of (packet_type kind) + (if is_long number then 1 else 0)
-  behind : drop 9 b ≡ (number_bytes number ++ kind_bytes kind) ++ drop size b
+  following : drop 9 b ≡ (number_bytes number ++ kind_bytes kind) ++ drop size b
 
 -- for the types that have an acknowledgement alone after a long number
 ack_again : (code n ack : ℕ) (kind : Kind) (b : List ℕ) (size : ℕ) → code ≡ code_of (packet_type kind) → kind_bytes kind ≡ long_ack_bytes ack → size ≤ length b
@@ -126,7 +126,7 @@ ack_again code n ack kind b size coded written within bytes small none zeros has
     let next = long_ack ack b (omega (arith, within, size_is)) bytes zeros known in
     record {
       typed = zero_type code 1 b small has ∙ ap (λ c. 2 * c + 1) coded;
-      behind = joined (number_bytes (Long n)) (long_ack_bytes ack) (drop size b) first (next ∙ ap (λ k. long_ack_bytes ack ++ drop k b) (sym size_is))
+      following = joined (number_bytes (Long n)) (long_ack_bytes ack) (drop size b) first (next ∙ ap (λ k. long_ack_bytes ack ++ drop k b) (sym size_is))
           ∙ ap (λ xs. (number_bytes (Long n) ++ xs) ++ drop size b) (sym written);
     }
 
@@ -138,7 +138,7 @@ row_again (Long n) (Request service) b size row within bytes small none zeros =
     let next = part_again 16 4 service b (omega (arith, bound)) bytes row.3 in
     record {
       typed = zero_type 0 1 b small row.0;
-      behind = joined (number_bytes (Long n)) (big_bytes 4 service) (drop size b) first (next ∙ ap (λ k. big_bytes 4 service ++ drop k b) (sym row.1));
+      following = joined (number_bytes (Long n)) (big_bytes 4 service) (drop size b) first (next ∙ ap (λ k. big_bytes 4 service ++ drop k b) (sym row.1));
     }
 row_again (Long n) (Response ack service) b size row within bytes small none zeros =
     let bound : 28 ≤ length b = let s = row.1 in omega (arith, within, s) in
@@ -147,20 +147,20 @@ row_again (Long n) (Response ack service) b size row within bytes small none zer
     let last = part_again 24 4 service b (omega (arith, bound)) bytes row.4 in
     record {
       typed = zero_type 1 1 b small row.0;
-      behind = joined (number_bytes (Long n)) (long_ack_bytes ack ++ big_bytes 4 service) (drop size b) first
+      following = joined (number_bytes (Long n)) (long_ack_bytes ack ++ big_bytes 4 service) (drop size b) first
           (joined (long_ack_bytes ack) (big_bytes 4 service) (drop size b) next (last ∙ ap (λ k. big_bytes 4 service ++ drop k b) (sym row.1)));
     }
 row_again (Long n) Data b size row within bytes small none zeros =
     let first = let s = row.1 in long_number n b (omega (arith, within, s)) bytes none row.2 in
     record {
       typed = zero_type 2 1 b small row.0;
-      behind = joined (number_bytes (Long n)) [] (drop size b) first (ap (λ k. drop k b) (sym row.1));
+      following = joined (number_bytes (Long n)) [] (drop size b) first (ap (λ k. drop k b) (sym row.1));
     }
 row_again (Short n) Data b size row within bytes small none zeros =
     let first = let s = row.1 in short_number n b (omega (arith, within, s)) bytes row.2 in
     record {
       typed = zero_type 2 0 b small row.0;
-      behind = joined (number_bytes (Short n)) [] (drop size b) first (ap (λ k. drop k b) (sym row.1));
+      following = joined (number_bytes (Short n)) [] (drop size b) first (ap (λ k. drop k b) (sym row.1));
     }
 row_again (Long n) (Ack (Long ack)) b size row within bytes small none zeros =
     ack_again 3 n ack (Ack (Long ack)) b size refl refl within bytes small none zeros row.0 row.1 row.2 row.3
@@ -170,7 +170,7 @@ row_again (Short n) (Ack (Short ack)) b size row within bytes small none zeros =
     let next = short_ack ack b bound bytes zeros row.3 in
     record {
       typed = zero_type 3 0 b small row.0;
-      behind = joined (number_bytes (Short n)) (ack_bytes (Short ack)) (drop size b) first (next ∙ ap (λ k. ack_bytes (Short ack) ++ drop k b) (sym row.1));
+      following = joined (number_bytes (Short n)) (ack_bytes (Short ack)) (drop size b) first (next ∙ ap (λ k. ack_bytes (Short ack) ++ drop k b) (sym row.1));
     }
 row_again (Long n) (DataAck (Long ack)) b size row within bytes small none zeros =
     ack_again 4 n ack (DataAck (Long ack)) b size refl refl within bytes small none zeros row.0 row.1 row.2 row.3
@@ -180,7 +180,7 @@ row_again (Short n) (DataAck (Short ack)) b size row within bytes small none zer
     let next = short_ack ack b bound bytes zeros row.3 in
     record {
       typed = zero_type 4 0 b small row.0;
-      behind = joined (number_bytes (Short n)) (ack_bytes (Short ack)) (drop size b) first (next ∙ ap (λ k. ack_bytes (Short ack) ++ drop k b) (sym row.1));
+      following = joined (number_bytes (Short n)) (ack_bytes (Short ack)) (drop size b) first (next ∙ ap (λ k. ack_bytes (Short ack) ++ drop k b) (sym row.1));
     }
 row_again (Long n) (CloseReq ack) b size row within bytes small none zeros =
     ack_again 5 n ack (CloseReq ack) b size refl refl within bytes small none zeros row.0 row.1 row.2 row.3
@@ -199,7 +199,7 @@ row_again (Long n) (Reset ack code detail) b size row within bytes small none ze
     sym (take-append-drop 3 (drop 25 b)) ∙ (ap (λ xs. take 3 (drop 25 b) ++ xs) (drop-drop 3 25 b) ∙ ap (λ xs. xs ++ drop 28 b) (sym row.5)) in
     record {
       typed = zero_type 7 1 b small row.0;
-      behind = joined (number_bytes (Long n)) (long_ack_bytes ack ++ (code ∷ detail)) (drop size b) first
+      following = joined (number_bytes (Long n)) (long_ack_bytes ack ++ (code ∷ detail)) (drop size b) first
           (joined (long_ack_bytes ack) (code ∷ detail) (drop size b) next
           (coded ∙ (ap (λ xs. code ∷ xs) detailed ∙ ap (λ k. code ∷ (detail ++ drop k b)) (sym row.1))));
     }
@@ -234,5 +234,5 @@ one_spelling h o d bytes packet small zeros =
     let counted : word ≡ (header_length h + length (padded o)) / 4 = omega (arith, offset, sized, long) in
     common
     ∙ (ap (λ xs. common_bytes h word ++ xs)
-    (again.behind ∙ ap (λ xs. (number_bytes h.number ++ kind_bytes h.kind) ++ xs) (after ∙ ap (λ xs. xs ++ d) (sym filled)))
+    (again.following ∙ ap (λ xs. (number_bytes h.number ++ kind_bytes h.kind) ++ xs) (after ∙ ap (λ xs. xs ++ d) (sym filled)))
     ∙ ap (λ w. header_bytes h w ++ (padded o ++ d)) counted)

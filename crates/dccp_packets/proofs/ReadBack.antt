@@ -126,7 +126,7 @@ reads_in_widths h o d detailed valid room =
     let offset : data_offset_bytes bytes ≡ fixed + filled = offset_in_words h o in
     let front = length-header_bytes h words detailed valid in
     let all : length bytes ≡ length (header_bytes h words) + length (padded o ++ d) = length-append (header_bytes h words) (padded o ++ d) in
-    let behind = length-append (padded o) d in
+    let following = length-append (padded o) d in
     let after : drop fixed bytes ≡ padded o ++ d = drop_at (header_bytes h words) (padded o ++ d) fixed front in
     let header = header_again h words (padded o ++ d) detailed valid in
     let options : slice_range bytes fixed (data_offset_bytes bytes) ≡ padded o =
@@ -139,7 +139,7 @@ reads_in_widths h o d detailed valid room =
     (type_again (packet_type h.kind) (is_long h.number))
     (x_again (code_of (packet_type h.kind)) (is_long h.number))
     (omega (arith, offset))
-    (omega (arith, offset, all, front, behind))
+    (omega (arith, offset, all, front, following))
     (form_again (is_long h.number) h.kind (forms_of_valid h valid))
     ∙ ap Ok (same_parts header options payload)
 

@@ -98,7 +98,7 @@ table_read h o d bytes packet =
     let fixed : length packet.fixed ≡ size = row.size_is in
     let offset = packet.offset in
     let all : length bytes ≡ length packet.fixed + length (o ++ d) = ap length packet.parts ∙ length-append packet.fixed (o ++ d) in
-    let behind = length-append o d in
+    let following = length-append o d in
     let after : drop size bytes ≡ o ++ d = ap (drop size) packet.parts ∙ drop_at packet.fixed (o ++ d) size fixed in
     let nibbles = packet.nibbles in
     let nibble = packet.nibble in
@@ -111,7 +111,7 @@ table_read h o d bytes packet =
     ap (λ n. drop n bytes) (offset ∙ ap (λ n. n + length o) fixed) ∙ sym (drop-drop (length o) size bytes) ∙ ap (drop (length o)) after
     ∙ drop_at o d (length o) refl in
     decoded_ok kind long bytes (omega (arith, all, fixed, enough)) row.typed row.x (omega (arith, offset, fixed))
-    (omega (arith, offset, fixed, all, behind)) row.form
+    (omega (arith, offset, fixed, all, following)) row.form
     ∙ ap Ok (same_parts header options payload)
 
 -- a fault is no packet
@@ -254,9 +254,9 @@ read_packet kind bytes typed above within form =
     let area : length (take (offset - size) (drop size bytes)) ≡ offset - size =
     length-take-le (offset - size) (drop size bytes) (omega (arith, left, within)) in
     let sum : size + (offset - size) ≡ offset = omega (arith, above) in
-    let behind : drop (offset - size) (drop size bytes) ≡ drop offset bytes = drop-drop (offset - size) size bytes ∙ ap (λ n. drop n bytes) sum in
+    let following : drop (offset - size) (drop size bytes) ≡ drop offset bytes = drop-drop (offset - size) size bytes ∙ ap (λ n. drop n bytes) sum in
     let split : drop size bytes ≡ take (offset - size) (drop size bytes) ++ drop offset bytes =
-    sym (take-append-drop (offset - size) (drop size bytes)) ∙ ap (λ xs. take (offset - size) (drop size bytes) ++ xs) behind in
+    sym (take-append-drop (offset - size) (drop size bytes)) ∙ ap (λ xs. take (offset - size) (drop size bytes) ++ xs) following in
     record {
       fixed = take size bytes;
       parts = sym (take-append-drop size bytes) ∙ ap (λ xs. take size bytes ++ xs) split;
