@@ -59,11 +59,11 @@ pub along-turn : (format : Format) (number given : ℕ) (left next : Option (Lis
 along-turn format number given left next tally text before after whole input entry along stands =
     let used = 16 + length entry.bytes in
     let now = drop along.done input in
-    let behind = drop (along.done + used) input in
+    let following = drop (along.done + used) input in
     let here = subst (λ (known : Option (List ℕ)). IfSome known
     (λ bytes. (next_of format number given bytes ≡ Ok (Some entry)) × (next ≡ Some (drop used bytes)))) along.rest_is stands in
-    let moved : drop used now ≡ behind = drop-drop used along.done input in
-    let others = records_from format 0 (number + 1) (given + used) behind in
+    let moved : drop used now ≡ following = drop-drop used along.done input in
+    let others = records_from format 0 (number + 1) (given + used) following in
     let same : records_from format 0 number given now ≡ before_others entry others =
     records-next format number given now entry (some-for format number given now entry here.0) here.0
     ∙ ap (λ (bytes : List ℕ). before_others entry (records_from format 0 (number + 1) (given + used) bytes)) moved in
@@ -206,7 +206,7 @@ passed-in : (records : List RecordParts) (bytes : List ℕ) (left : Option (List
     → Passed 524288 (Some (drop (end_of_records records) bytes)) left
 passed-in [] bytes left (n, most, is) = (24 + n, omega arith, is ∙ ap Some (drop-drop n 24 bytes))
 passed-in (entry ∷ entries) bytes left (n, most, is) =
-    (n, omega arith, is ∙ ap (λ (behind : List ℕ). Some (drop n behind)) (drop-drop (size_of (entry ∷ entries)) 24 bytes))
+    (n, omega arith, is ∙ ap (λ (following : List ℕ). Some (drop n following)) (drop-drop (size_of (entry ∷ entries)) 24 bytes))
 
 pub passed-whole : (bytes : List ℕ) (format : Format) (result : JobEnd) (left before after : Option (List ℕ)) → opened bytes ≡ Ok format
     → ShowsRecords (records_from format 0 0 24 (drop 24 bytes)) (drop 24 bytes) result left before after → result ≡ ended.Input

@@ -5,8 +5,8 @@ use Rattle.packet_show.specs.Network.{carried_by}
 use Rattle.packet_show.specs.Lines.{stamp_text, sender_text, receiver_text, header_text, rest_text, parts_by}
 use Rattle.packet_show.proofs.packet.put_packet.Goals as goal
 
-behind : (old mid new piece more : List ℕ) → mid ≡ old ++ piece → new ≡ mid ++ more → new ≡ old ++ (piece ++ more)
-behind old mid new piece more first then_on = then_on ∙ ap (λ (text : List ℕ). text ++ more) first ∙ append_assoc old piece more
+following : (old mid new piece more : List ℕ) → mid ≡ old ++ piece → new ≡ mid ++ more → new ≡ old ++ (piece ++ more)
+following old mid new piece more first then_on = then_on ∙ ap (λ (text : List ℕ). text ++ more) first ∙ append_assoc old piece more
 
 pub returns-clause-ok : goal.returns-clause-ok
 returns-clause-ok c =
@@ -16,10 +16,10 @@ returns-clause-ok c =
     let receiver = receiver_text (carried_by c.args.there.now) c.args.packet.now.header.to in
     let header = header_text c.args.packet.now.header in
     let rest = rest_text (carried_by c.args.there.now) (parts_by c.args.packet.now) in
-    behind text _ _ (stamp ++ sender ++ receiver ++ header) rest
-    (behind text _ _ (stamp ++ sender ++ receiver) header
-    (behind text _ _ (stamp ++ sender) receiver
-    (behind text _ _ stamp sender c.in_ok-put_stamp.ensures.ok c.in_ok-put_sender.ensures.ok)
+    following text _ _ (stamp ++ sender ++ receiver ++ header) rest
+    (following text _ _ (stamp ++ sender ++ receiver) header
+    (following text _ _ (stamp ++ sender) receiver
+    (following text _ _ stamp sender c.in_ok-put_stamp.ensures.ok c.in_ok-put_sender.ensures.ok)
     c.in_ok-put_receiver.ensures.ok)
     c.in_ok-put_header.ensures.ok)
     c.in_ok-put_rest.ensures.ok
