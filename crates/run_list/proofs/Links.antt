@@ -12,13 +12,13 @@ use Rattle.run_list.specs.Runs.{numbers_of, AreLaid, bound_below, bound_after, A
 use Rattle.run_list.specs.Linked.{no_node, node_at, run_of, runs_at, runs_from, IsPath, times_listed, IsChained, IsParted, IsLinked, IsPlace, IsBegin, AreIdle, Points}
 use Rattle.run_list.proofs.Downs.{inside-present}
 use Rattle.run_list.proofs.Laid.{adds_after, adds_alone, laid_back, laid_front, laid_below, present_after, bound_falls, room_for_runs}
-use Rattle.run_list.proofs.Paths.{times-here, times-other, times-append, times-cons, last_apart, path-append, one_path, path-end, path-fits, path-some, behind, path-head, path-more, last-more, runs-append, length-runs, from-path, path-set, runs-set, path-same, runs-edited}
+use Rattle.run_list.proofs.Paths.{times-here, times-other, times-append, times-cons, last_apart, path-append, one_path, path-end, path-fits, path-some, following, path-head, path-more, last-more, runs-append, length-runs, from-path, path-set, runs-set, path-same, runs-edited}
 
 -- free nodes after an edit of one that is not among them, and without the first
 pub idle_set : (nodes : List Node) (i : ℕ) (x : Node) (js : List ℕ) → times_listed i js ≡ 0 → AreIdle (runs_at nodes js) → AreIdle (runs_at (set nodes i x) js)
 idle_set nodes i x js h idle = subst AreIdle (sym (runs-set nodes i x js h)) idle
 
-idle_after : (nodes : List Node) (js : List ℕ) → AreIdle (runs_at nodes js) → AreIdle (runs_at nodes (behind js))
+idle_after : (nodes : List Node) (js : List ℕ) → AreIdle (runs_at nodes js) → AreIdle (runs_at nodes (following js))
 idle_after nodes [] idle = idle
 idle_after nodes (j ∷ js) idle = idle.1
 
@@ -114,7 +114,7 @@ pub link_linked : (nodes new : List Node) (first new_first free before at : ℕ)
     → free < 1024 → x.next ≡ at → Points (set nodes free x) new first new_first before free
     → IsLinked new new_first (node_at nodes free).next × (runs_from new new_first ≡ runs_at nodes p.passed ++ run_of x ∷ runs_at nodes p.rest)
 link_linked nodes new first new_first free before at x l p h e t =
-    let spare : List ℕ = behind l.spare in
+    let spare : List ℕ = following l.spare in
     let mid : List Node = set nodes free x in
     let follows : ℕ = (node_at nodes free).next in
     let head = path-head nodes free l.spare h l.spare_path in
@@ -166,18 +166,18 @@ link_linked nodes new first new_first free before at x l p h e t =
 
 -- the node at a place is in no other place
 pub place_head : (nodes : List Node) (first free before at i : ℕ) (l : IsLinked nodes first free) (p : IsPlace nodes first before at) → at < 1024 → i < 1024
-    → times_listed i p.passed + times_listed i (at ∷ []) + times_listed i (behind p.rest) + times_listed i l.spare ≡ 1
+    → times_listed i p.passed + times_listed i (at ∷ []) + times_listed i (following p.rest) + times_listed i l.spare ≡ 1
 place_head nodes first free before at i l p h k =
     let head = path-head nodes at p.rest h p.rest_path in
     let once : times_listed i p.passed + times_listed i p.rest + times_listed i l.spare ≡ 1 = place_once nodes first free before at i l p k in
-    let one : times_listed i p.rest ≡ times_listed i (at ∷ behind p.rest) = ap (λ (js : List ℕ). times_listed i js) head.0 in
-    let two : times_listed i (at ∷ behind p.rest) ≡ times_listed i (at ∷ []) + times_listed i (behind p.rest) = times-cons i at (behind p.rest) in
+    let one : times_listed i p.rest ≡ times_listed i (at ∷ following p.rest) = ap (λ (js : List ℕ). times_listed i js) head.0 in
+    let two : times_listed i (at ∷ following p.rest) ≡ times_listed i (at ∷ []) + times_listed i (following p.rest) = times-cons i at (following p.rest) in
     omega arith
 
 -- the run at a place changes where it is
 pub edit_linked : (nodes : List Node) (first free before at : ℕ) (x : Node) (l : IsLinked nodes first free) (p : IsPlace nodes first before at)
     → at < 1024 → x.next ≡ (node_at nodes at).next
-    → IsLinked (set nodes at x) first free × (runs_from (set nodes at x) first ≡ runs_at nodes p.passed ++ run_of x ∷ runs_at nodes (behind p.rest))
+    → IsLinked (set nodes at x) first free × (runs_from (set nodes at x) first ≡ runs_at nodes p.passed ++ run_of x ∷ runs_at nodes (following p.rest))
 edit_linked nodes first free before at x l p h e =
     let size : length nodes ≡ 1024 = l.size in
     let all : length l.used + length l.spare ≡ 1024 = l.all in
@@ -186,7 +186,7 @@ edit_linked nodes first free before at x l p h e =
     let once = place_head nodes first free before at at l p h h in
     let used_path : IsPath (set nodes at x) first l.used 1024 = path-same nodes at first 1024 x l.used (omega arith) e l.used_path in
     let new_size : length (set nodes at x) ≡ 1024 = length-set nodes at x ∙ l.size in
-    let parts : l.used ≡ p.passed ++ at ∷ behind p.rest =
+    let parts : l.used ≡ p.passed ++ at ∷ following p.rest =
     linked_place nodes first free before at l p ∙ ap (λ (js : List ℕ). p.passed ++ js) head.0 in (
       record {
         used = l.used;
@@ -200,28 +200,28 @@ edit_linked nodes first free before at x l p h e =
       },
       from-path (set nodes at x) first l.used new_size (omega arith) used_path
           ∙ ap (λ (js : List ℕ). runs_at (set nodes at x) js) parts
-          ∙ runs-edited nodes at x p.passed (behind p.rest) (omega arith) (omega arith) (omega arith),
+          ∙ runs-edited nodes at x p.passed (following p.rest) (omega arith) (omega arith) (omega arith),
     )
 
 -- the run at a place takes that after it in, and the node of that is free
 pub join_linked : (nodes : List Node) (first free before at next : ℕ) (x y : Node) (l : IsLinked nodes first free) (p : IsPlace nodes first before at)
     → at < 1024 → next ≡ (node_at nodes at).next → next < 1024 → x.next ≡ (node_at nodes next).next → y.next ≡ free → y.count ≡ 0
     → IsLinked (set (set nodes at x) next y) first next
-    × (runs_from (set (set nodes at x) next y) first ≡ runs_at nodes p.passed ++ run_of x ∷ runs_at nodes (behind (behind p.rest)))
+    × (runs_from (set (set nodes at x) next y) first ≡ runs_at nodes p.passed ++ run_of x ∷ runs_at nodes (following (following p.rest)))
 join_linked nodes first free before at next x y l p h e g d c z =
     let size : length nodes ≡ 1024 = l.size in
-    let rest : List ℕ = behind (behind p.rest) in
+    let rest : List ℕ = following (following p.rest) in
     let mid : List Node = set nodes at x in
     let new : List Node = set mid next y in
     let mid_size : length mid ≡ 1024 = length-set nodes at x ∙ l.size in
     let new_size : length new ≡ 1024 = length-set mid next y ∙ mid_size in
     let head = path-head nodes at p.rest h p.rest_path in
-    let Q : ℕ → Type 0 = λ k. IsPath nodes k (behind p.rest) 1024 in
-    let second = path-head nodes next (behind p.rest) g (subst Q (sym e) head.1) in
+    let Q : ℕ → Type 0 = λ k. IsPath nodes k (following p.rest) 1024 in
+    let second = path-head nodes next (following p.rest) g (subst Q (sym e) head.1) in
     let sums : (i : ℕ) → i < 1024
     → times_listed i p.passed + times_listed i (at ∷ []) + (times_listed i (next ∷ []) + times_listed i rest) + times_listed i l.spare ≡ 1 = λ i k.
     (let once = place_head nodes first free before at i l p h k in
-    let one : times_listed i (behind p.rest) ≡ times_listed i (next ∷ rest) = ap (λ (js : List ℕ). times_listed i js) second.0 in
+    let one : times_listed i (following p.rest) ≡ times_listed i (next ∷ rest) = ap (λ (js : List ℕ). times_listed i js) second.0 in
     let two : times_listed i (next ∷ rest) ≡ times_listed i (next ∷ []) + times_listed i rest = times-cons i next rest in
     omega arith) in
     let self : times_listed at (at ∷ []) ≡ 1 + times_listed at [] = times-here at at [] refl in
@@ -251,8 +251,8 @@ join_linked nodes first free before at next x y l p h e g d c z =
     let R : ℕ → Type 0 = λ k. IsPath new k l.spare 1024 in
     let all : length p.passed + length p.rest + length l.spare ≡ 1024 = place_all nodes first free before at l p in
     let lengths : length (p.passed ++ at ∷ rest) ≡ length p.passed + suc (length rest) = length-append p.passed (at ∷ rest) in
-    let one : length p.rest ≡ suc (length (behind p.rest)) = ap (λ (js : List ℕ). length js) head.0 in
-    let two : length (behind p.rest) ≡ suc (length rest) = ap (λ (js : List ℕ). length js) second.0 in (
+    let one : length p.rest ≡ suc (length (following p.rest)) = ap (λ (js : List ℕ). length js) head.0 in
+    let two : length (following p.rest) ≡ suc (length rest) = ap (λ (js : List ℕ). length js) second.0 in (
       record {
         used = p.passed ++ at ∷ rest;
         spare = next ∷ l.spare;
@@ -279,7 +279,7 @@ parted_step nodes first free from x d h e z =
     let size : length nodes ≡ 1024 = d.size in
     let new : List Node = set nodes from x in
     let new_size : length new ≡ 1024 = length-set nodes from x ∙ d.size in
-    let loose : List ℕ = behind d.loose in
+    let loose : List ℕ = following d.loose in
     let head = path-head nodes from d.loose h d.loose_path in
     let sums : (i : ℕ) → i < 1024 → times_listed i d.used + times_listed i d.spare + (times_listed i (from ∷ []) + times_listed i loose) ≡ 1 = λ i k.
     (let once : times_listed i d.used + times_listed i d.spare + times_listed i d.loose ≡ 1 = d.once i k in
@@ -325,9 +325,9 @@ unfolding parted_step
 parted_falls nodes first free from x d h e z =
     let next = (parted_step nodes first free from x d h e z).0 in
     let old : length (runs_from nodes from) ≡ length d.loose = parted_left nodes first free from d in
-    let new : length (runs_from (set nodes from x) (node_at nodes from).next) ≡ length (behind d.loose) =
+    let new : length (runs_from (set nodes from x) (node_at nodes from).next) ≡ length (following d.loose) =
     parted_left (set nodes from x) first from (node_at nodes from).next next in
-    let one : length d.loose ≡ suc (length (behind d.loose)) = ap (λ (js : List ℕ). length js) (path-head nodes from d.loose h d.loose_path).0 in
+    let one : length d.loose ≡ suc (length (following d.loose)) = ap (λ (js : List ℕ). length js) (path-head nodes from d.loose h d.loose_path).0 in
     omega arith
 
 -- where none is left, all are used or free
@@ -368,13 +368,13 @@ all_parted nodes first free l =
 
 -- the runs at a place and after it
 pub place_parts : (nodes : List Node) (first before at : ℕ) (p : IsPlace nodes first before at) → at < 1024
-    → runs_at nodes p.rest ≡ run_of (node_at nodes at) ∷ runs_at nodes (behind p.rest)
+    → runs_at nodes p.rest ≡ run_of (node_at nodes at) ∷ runs_at nodes (following p.rest)
 place_parts nodes first before at p h = ap (λ (js : List ℕ). runs_at nodes js) (path-head nodes at p.rest h p.rest_path).0
 
 -- the run at a place is laid, with those after it
 pub place_laid : (f : ℕ) (nodes : List Node) (first before at : ℕ) (p : IsPlace nodes first before at) → length nodes ≡ 1024 → at < 1024
     → AreLaid f 2048 (runs_from nodes first)
-    → AreLaid f (bound_after f 2048 (runs_at nodes p.passed)) (run_of (node_at nodes at) ∷ runs_at nodes (behind p.rest))
+    → AreLaid f (bound_after f 2048 (runs_at nodes p.passed)) (run_of (node_at nodes at) ∷ runs_at nodes (following p.rest))
 place_laid f nodes first before at p s h laid =
     let P : List Stretch → Type 0 = λ ts. AreLaid f (bound_after f 2048 (runs_at nodes p.passed)) ts in
     subst P (place_parts nodes first before at p h)
@@ -393,29 +393,29 @@ place_bound f nodes first before at p s laid =
 pub adds_place : (f n : ℕ) (nodes : List Node) (first before at : ℕ) (p : IsPlace nodes first before at) (new made : List Stretch) → length nodes ≡ 1024
     → f < 2 ^ 48 → at < 1024
     → AreLaid f 2048 (runs_from nodes first) → distance f n < bound_after f 2048 (runs_at nodes p.passed) → made ≡ runs_at nodes p.passed ++ new
-    → Adds f (bound_after f 2048 (runs_at nodes p.passed)) n (run_of (node_at nodes at) ∷ runs_at nodes (behind p.rest)) new
+    → Adds f (bound_after f 2048 (runs_at nodes p.passed)) n (run_of (node_at nodes at) ∷ runs_at nodes (following p.rest)) new
     → Adds f 2048 n (runs_from nodes first) made
 adds_place f n nodes first before at p new made s q h laid above e a =
-    adds_runs f n (runs_at nodes p.passed) (run_of (node_at nodes at) ∷ runs_at nodes (behind p.rest)) new (runs_from nodes first) made q
+    adds_runs f n (runs_at nodes p.passed) (run_of (node_at nodes at) ∷ runs_at nodes (following p.rest)) new (runs_from nodes first) made q
     (place_runs nodes first before at p s ∙ ap (λ (ss : List Stretch). runs_at nodes p.passed ++ ss) (place_parts nodes first before at p h)) e laid above a
 
 -- the runs after that at a place: one and those after it, or none
 pub below_parts : (nodes : List Node) (first before at next : ℕ) (p : IsPlace nodes first before at) → at < 1024 → next ≡ (node_at nodes at).next → next < 1024
-    → runs_at nodes (behind p.rest) ≡ run_of (node_at nodes next) ∷ runs_at nodes (behind (behind p.rest))
+    → runs_at nodes (following p.rest) ≡ run_of (node_at nodes next) ∷ runs_at nodes (following (following p.rest))
 below_parts nodes first before at next p h e k =
-    let Q : ℕ → Type 0 = λ i. IsPath nodes i (behind p.rest) 1024 in
-    ap (λ (js : List ℕ). runs_at nodes js) (path-head nodes next (behind p.rest) k (subst Q (sym e) (path-head nodes at p.rest h p.rest_path).1)).0
+    let Q : ℕ → Type 0 = λ i. IsPath nodes i (following p.rest) 1024 in
+    ap (λ (js : List ℕ). runs_at nodes js) (path-head nodes next (following p.rest) k (subst Q (sym e) (path-head nodes at p.rest h p.rest_path).1)).0
 
 pub below_none : (nodes : List Node) (first before at : ℕ) (p : IsPlace nodes first before at) → at < 1024 → 1024 ≤ (node_at nodes at).next
-    → runs_at nodes (behind p.rest) ≡ []
+    → runs_at nodes (following p.rest) ≡ []
 below_none nodes first before at p h k =
-    ap (λ (js : List ℕ). runs_at nodes js) (path-end nodes (node_at nodes at).next (behind p.rest) k (path-head nodes at p.rest h p.rest_path).1)
+    ap (λ (js : List ℕ). runs_at nodes js) (path-end nodes (node_at nodes at).next (following p.rest) k (path-head nodes at p.rest h p.rest_path).1)
 
 -- both runs, laid
 pub both_laid : (f : ℕ) (nodes : List Node) (first before at next : ℕ) (p : IsPlace nodes first before at) → length nodes ≡ 1024 → at < 1024
     → next ≡ (node_at nodes at).next → next < 1024
     → AreLaid f 2048 (runs_from nodes first)
-    → AreLaid f (bound_after f 2048 (runs_at nodes p.passed)) (run_of (node_at nodes at) ∷ run_of (node_at nodes next) ∷ runs_at nodes (behind (behind p.rest)))
+    → AreLaid f (bound_after f 2048 (runs_at nodes p.passed)) (run_of (node_at nodes at) ∷ run_of (node_at nodes next) ∷ runs_at nodes (following (following p.rest)))
 both_laid f nodes first before at next p s h e k laid =
     let P : List Stretch → Type 0 = λ ts. AreLaid f (bound_after f 2048 (runs_at nodes p.passed)) (run_of (node_at nodes at) ∷ ts) in
     subst P (below_parts nodes first before at next p h e k) (place_laid f nodes first before at p s h laid)
@@ -424,13 +424,13 @@ both_laid f nodes first before at next p s h e k laid =
 pub gap_left : (f n : ℕ) (nodes : List Node) (first before at next : ℕ) (p : IsPlace nodes first before at) → length nodes ≡ 1024 → at < 1024
     → next ≡ (node_at nodes at).next → next < 1024
     → AreLaid f 2048 (runs_from nodes first) → distance f n + (node_at nodes at).count ≡ distance f (node_at nodes at).hi
-    → ((distance f (node_at nodes next).hi + 1 ≡ distance f n) → ⊥) → AreLaid f (distance f n - 1) (runs_at nodes (behind p.rest))
+    → ((distance f (node_at nodes next).hi + 1 ≡ distance f n) → ⊥) → AreLaid f (distance f n - 1) (runs_at nodes (following p.rest))
 gap_left f n nodes first before at next p s h e k laid d ne =
     let both = both_laid f nodes first before at next p s h e k laid in
     let under : distance f (node_at nodes next).hi < bound_below f (run_of (node_at nodes at)) = both.1.0.below in
     let P : List Stretch → Type 0 = λ ts. AreLaid f (distance f n - 1) ts in
     subst P (sym (below_parts nodes first before at next p h e k))
-    (laid_below f (bound_below f (run_of (node_at nodes at))) (distance f n - 1) (run_of (node_at nodes next)) (runs_at nodes (behind (behind p.rest)))
+    (laid_below f (bound_below f (run_of (node_at nodes at))) (distance f n - 1) (run_of (node_at nodes next)) (runs_at nodes (following (following p.rest)))
     (omega arith) both.1)
 
 -- what is below the place of a number: no run, one with a gap, or one that has it
@@ -445,7 +445,7 @@ pub below_far : (f c : ℕ) (nodes : List Node) (first before at : ℕ) (p : IsP
 below_far f c nodes first before at p s h laid d =
     let P : List Stretch → Type 0 = λ ts. AreLaid f c ts in
     subst P (sym (rest_runs nodes first before at p s ∙ place_parts nodes first before at p h))
-    (laid_below f (bound_after f 2048 (runs_at nodes p.passed)) c (run_of (node_at nodes at)) (runs_at nodes (behind p.rest)) d
+    (laid_below f (bound_after f 2048 (runs_at nodes p.passed)) c (run_of (node_at nodes at)) (runs_at nodes (following p.rest)) d
     (place_laid f nodes first before at p s h laid))
 
 pub present_in : (f n : ℕ) (nodes : List Node) (first before at : ℕ) (p : IsPlace nodes first before at) → length nodes ≡ 1024 → f < 2 ^ 48 → n < 2 ^ 48
@@ -455,11 +455,11 @@ pub present_in : (f n : ℕ) (nodes : List Node) (first before at : ℕ) (p : Is
 present_in f n nodes first before at p s q r h laid above d k =
     let P : List Stretch → Type 0 = λ ts. AreLaid f 2048 ts in
     let here = place_laid f nodes first before at p s h laid in
-    let old : List Stretch = run_of (node_at nodes at) ∷ runs_at nodes (behind p.rest) in
+    let old : List Stretch = run_of (node_at nodes at) ∷ runs_at nodes (following p.rest) in
     let parts : runs_from nodes first ≡ runs_at nodes p.passed ++ old =
     place_runs nodes first before at p s ∙ ap (λ (ss : List Stretch). runs_at nodes p.passed ++ ss) (place_parts nodes first before at p h) in
     let there : has (numbers_of old) n ≡ true =
-    inside-present f n (node_at nodes at).count (node_at nodes at).hi (numbers_of (runs_at nodes (behind p.rest))) q here.0.fits r d k in
+    inside-present f n (node_at nodes at).count (node_at nodes at).hi (numbers_of (runs_at nodes (following p.rest))) q here.0.fits r d k in
     ap (λ (ts : List Stretch). has (numbers_of ts) n) parts ∙ present_after f 2048 n (runs_at nodes p.passed) old q (subst P parts laid) above there
 
 -- the walk goes on after a node, and ends where there is none
@@ -468,12 +468,12 @@ pub chain_step : (nodes : List Node) (at : ℕ) → IsChained nodes at → at < 
 chain_step nodes at k h =
     let few = k.few in
     let head = path-head nodes at k.chain h k.path in
-    let one : length k.chain ≡ suc (length (behind k.chain)) = ap (λ (js : List ℕ). length js) head.0 in (
-      record { chain = behind k.chain; size = k.size; path = head.1; few = omega arith },
+    let one : length k.chain ≡ suc (length (following k.chain)) = ap (λ (js : List ℕ). length js) head.0 in (
+      record { chain = following k.chain; size = k.size; path = head.1; few = omega arith },
       from-path nodes at k.chain k.size k.few k.path
           ∙ ap (λ (js : List ℕ). runs_at nodes js) head.0
           ∙ ap (λ (ss : List Stretch). run_of (node_at nodes at) ∷ ss)
-          (sym (from-path nodes (node_at nodes at).next (behind k.chain) k.size (omega arith) head.1)),
+          (sym (from-path nodes (node_at nodes at).next (following k.chain) k.size (omega arith) head.1)),
     )
 
 pub chain_stop : (nodes : List Node) (at : ℕ) → IsChained nodes at → at ≡ 1024 → runs_from nodes at ≡ []
@@ -524,11 +524,11 @@ place_after nodes first free at l h some =
     let p = parting nodes first at l.used l.used_path (omega arith) in
     let few = p.few in
     let head = path-head nodes at p.rest h p.rest_path in
-    let one : length p.rest ≡ suc (length (behind p.rest)) = ap (λ (js : List ℕ). length js) head.0 in
+    let one : length p.rest ≡ suc (length (following p.rest)) = ap (λ (js : List ℕ). length js) head.0 in
     let two : length (p.passed ++ at ∷ []) ≡ length p.passed + suc 0 = length-append p.passed (at ∷ []) in
     record {
       passed = p.passed ++ at ∷ [];
-      rest = behind p.rest;
+      rest = following p.rest;
       few = omega arith;
       passed_path = path-more nodes first at p.passed h p.passed_path;
       rest_path = head.1;

@@ -98,12 +98,12 @@ path-some nodes a [] h p = absurd (omega arith)
 path-some nodes a (j ∷ js) h p = omega arith
 
 -- all but the first of a list
-abbrev pub behind : List ℕ → List ℕ
-behind [] = []
-behind (j ∷ js) = js
+abbrev pub following : List ℕ → List ℕ
+following [] = []
+following (j ∷ js) = js
 
-pub path-head : (nodes : List Node) (a : ℕ) (js : List ℕ) → a < 1024 → IsPath nodes a js 1024 → (js ≡ a ∷ behind js)
-    × IsPath nodes (node_at nodes a).next (behind js) 1024
+pub path-head : (nodes : List Node) (a : ℕ) (js : List ℕ) → a < 1024 → IsPath nodes a js 1024 → (js ≡ a ∷ following js)
+    × IsPath nodes (node_at nodes a).next (following js) 1024
 path-head nodes a [] h p = absurd (omega arith)
 path-head nodes a (j ∷ js) h p =
     let P : ℕ → Type 0 = λ k. IsPath nodes (node_at nodes k).next js 1024 in

@@ -6,14 +6,14 @@ use Rattle.run_list.specs.declared.walking.Stretch.{Stretch}
 use Rattle.run_list.specs.declared.linked.Node.{Node}
 use Rattle.run_list.specs.Runs.{bound_below, bound_after, Touches}
 use Rattle.run_list.specs.Linked.{node_at, run_of, runs_at, runs_from, IsPlace, IsBegin, IsPassed, IsPlaceFor}
-use Rattle.run_list.proofs.Paths.{path-more, last-more, last-none, front, last-front, behind, path-head, runs-append, length-runs, from-path}
+use Rattle.run_list.proofs.Paths.{path-more, last-more, last-none, front, last-front, following, path-head, runs-append, length-runs, from-path}
 
 -- one node further
 pub place_lengths : (nodes : List Node) (first before at : ℕ) (p : IsPlace nodes first before at) → at < 1024
-    → length (p.passed ++ at ∷ []) + length (behind p.rest) ≤ 1024
+    → length (p.passed ++ at ∷ []) + length (following p.rest) ≤ 1024
 place_lengths nodes first before at p h =
     let few = p.few in
-    let one : length p.rest ≡ suc (length (behind p.rest)) = ap (λ (js : List ℕ). length js) (path-head nodes at p.rest h p.rest_path).0 in
+    let one : length p.rest ≡ suc (length (following p.rest)) = ap (λ (js : List ℕ). length js) (path-head nodes at p.rest h p.rest_path).0 in
     let two : length (p.passed ++ at ∷ []) ≡ length p.passed + suc 0 = length-append p.passed (at ∷ []) in
     omega arith
 
@@ -22,7 +22,7 @@ abbrev pub place_step : (nodes : List Node) (first before at : ℕ) (p : IsPlace
 place_step nodes first before at p h =
     record {
       passed = p.passed ++ at ∷ [];
-      rest = behind p.rest;
+      rest = following p.rest;
       few = place_lengths nodes first before at p h;
       passed_path = path-more nodes first at p.passed h p.passed_path;
       rest_path = (path-head nodes at p.rest h p.rest_path).1;
@@ -34,12 +34,12 @@ pub place_falls : (nodes : List Node) (first before at : ℕ) → IsPlace nodes 
 place_falls nodes first before at p s h =
     let few = p.few in
     let head = path-head nodes at p.rest h p.rest_path in
-    let one : length p.rest ≡ suc (length (behind p.rest)) = ap (λ (js : List ℕ). length js) head.0 in
+    let one : length p.rest ≡ suc (length (following p.rest)) = ap (λ (js : List ℕ). length js) head.0 in
     let old : length (runs_from nodes at) ≡ length p.rest =
     ap (λ (ss : List Stretch). length ss) (from-path nodes at p.rest s (omega arith) p.rest_path) ∙ length-runs nodes p.rest in
-    let new : length (runs_from nodes (node_at nodes at).next) ≡ length (behind p.rest) =
-    ap (λ (ss : List Stretch). length ss) (from-path nodes (node_at nodes at).next (behind p.rest) s (omega arith) head.1)
-    ∙ length-runs nodes (behind p.rest) in
+    let new : length (runs_from nodes (node_at nodes at).next) ≡ length (following p.rest) =
+    ap (λ (ss : List Stretch). length ss) (from-path nodes (node_at nodes at).next (following p.rest) s (omega arith) head.1)
+    ∙ length-runs nodes (following p.rest) in
     omega arith
 
 bound-last : (f b : ℕ) (ss : List Stretch) (s : Stretch) → bound_after f b (ss ++ s ∷ []) ≡ bound_below f s

@@ -6,7 +6,7 @@ use Rattle.run_list.specs.Stretches.{stretch}
 use Rattle.run_list.specs.Runs.{AreLaid, bound_after, Adds}
 use Rattle.run_list.specs.Linked.{node_at, run_of, runs_at}
 use Rattle.run_list.proofs.Laid.{adds_down, adds_between}
-use Rattle.run_list.proofs.Paths.{read_at, behind}
+use Rattle.run_list.proofs.Paths.{read_at, following}
 use Rattle.run_list.proofs.Links.{edit_linked, join_linked, place_laid, place_bound, both_laid, gap_left, below_none, below_parts, adds_place}
 use Rattle.run_list.proofs.linked.extend_down.Goals as goal
 use Rattle.run_list.proofs.linked.extend_down.Goals.{then-node-lt-NONE+else-distance, else-node-lt-NONE}
@@ -96,8 +96,8 @@ returns-then-distance-clause-adds c =
     ap (λ (n : Node). distance c.args.floor n.hi) read_next in
     let adds = adds_between c.args.floor (bound_after c.args.floor 2048 (runs_at nodes place.passed)) c.args.n (run_of (node_at nodes c.args.at))
     (run_of (node_at nodes next))
-    (runs_at nodes (behind (behind place.rest))) (search rules) (search rules) laid c.requires.right_above (omega arith) in
-    let rest = runs_at nodes (behind (behind place.rest)) in
+    (runs_at nodes (following (following place.rest))) (search rules) (search rules) laid c.requires.right_above (omega arith) in
+    let rest = runs_at nodes (following (following place.rest)) in
     let b = bound_after c.args.floor 2048 (runs_at nodes place.passed) in
     let here = run_of (node_at nodes c.args.at) in
     let there = run_of (node_at nodes next) in
@@ -106,7 +106,7 @@ returns-then-distance-clause-adds c =
     (stretch c.index-node.result.now.hi (c.index-node.result.now.count + 1 + m.count) ∷ rest) in
     rw (c.from-then-distance.ensures, c.from-then-distance-2.ensures)
     (adds_place c.args.floor c.args.n nodes first c.args.before c.args.at place
-    (run_of made ∷ runs_at nodes (behind (behind place.rest))) _ c.requires.linked.size (search rules)
+    (run_of made ∷ runs_at nodes (following (following place.rest))) _ c.requires.linked.size (search rules)
     c.requires.within c.requires.laid c.requires.place.above all.1
     (rw (below_parts nodes first c.args.before c.args.at next place c.requires.within link (omega arith)) (subst R (sym read_next) (subst Q (sym read) adds))))
 
@@ -142,7 +142,7 @@ returns-clause-adds c =
     let new : Node = record { hi = c.index-node.result.now.hi; count = c.index-node.result.now.count + 1; next = c.index-node.result.now.next } in
     let laid = place_laid c.args.floor nodes first c.args.before c.args.at place c.requires.linked.size c.requires.within c.requires.laid in
     let P : List Stretch → Type 0 = λ ts. AreLaid c.args.floor (distance c.args.floor c.args.n - 1) ts in
-    let below : AreLaid c.args.floor (distance c.args.floor c.args.n - 1) (runs_at nodes (behind place.rest)) =
+    let below : AreLaid c.args.floor (distance c.args.floor c.args.n - 1) (runs_at nodes (following place.rest)) =
     elim c.if-node-lt-NONE.branch [
       | then-node-lt-NONE+else-distance w ↦
           let read_next : w.index-below.result.now ≡ node_at nodes next =
@@ -156,12 +156,12 @@ returns-clause-adds c =
       | else-node-lt-NONE w ↦ subst P (sym (below_none nodes first c.args.before c.args.at place c.requires.within (omega arith))) tt
     ] in
     let adds = adds_down c.args.floor (bound_after c.args.floor 2048 (runs_at nodes place.passed)) c.args.n (run_of (node_at nodes c.args.at))
-    (runs_at nodes (behind place.rest))
+    (runs_at nodes (following place.rest))
     (search rules) (search rules) laid c.requires.right_above below in
     let Q : Node → Type 0 = λ m. Adds c.args.floor (bound_after c.args.floor 2048 (runs_at nodes place.passed)) c.args.n
-    (run_of (node_at nodes c.args.at) ∷ runs_at nodes (behind place.rest)) (stretch m.hi (m.count + 1) ∷ runs_at nodes (behind place.rest)) in
+    (run_of (node_at nodes c.args.at) ∷ runs_at nodes (following place.rest)) (stretch m.hi (m.count + 1) ∷ runs_at nodes (following place.rest)) in
     rw c.from-2.ensures (adds_place c.args.floor c.args.n nodes first c.args.before c.args.at place
-    (run_of new ∷ runs_at nodes (behind place.rest)) _ c.requires.linked.size (search rules)
+    (run_of new ∷ runs_at nodes (following place.rest)) _ c.requires.linked.size (search rules)
     c.requires.within c.requires.laid c.requires.place.above
     (edit_linked nodes first c.args.runs.now.free c.args.before c.args.at new c.requires.linked place c.requires.within link).1
     (subst Q (sym read) adds))

@@ -4,7 +4,7 @@ use Rattle.run_list.specs.Stretches.{stretch}
 use Rattle.run_list.specs.Runs.{bound_after, Adds}
 use Rattle.run_list.specs.Linked.{node_at, run_of, runs_at}
 use Rattle.run_list.proofs.Laid.{adds_up}
-use Rattle.run_list.proofs.Paths.{read_at, behind}
+use Rattle.run_list.proofs.Paths.{read_at, following}
 use Rattle.run_list.proofs.Links.{edit_linked, place_laid, place_bound, adds_place}
 use Rattle.run_list.proofs.linked.extend_up.Goals as goal
 
@@ -38,12 +38,12 @@ returns-clause-adds c =
     let new : Node = record { hi = c.args.n; count = c.index-node.result.now.count + 1; next = c.index-node.result.now.next } in
     let laid = place_laid c.args.floor nodes first c.args.before c.args.at place c.requires.linked.size c.requires.within c.requires.laid in
     let adds = adds_up c.args.floor (bound_after c.args.floor 2048 (runs_at nodes place.passed)) c.args.n (run_of (node_at nodes c.args.at))
-    (runs_at nodes (behind place.rest))
+    (runs_at nodes (following place.rest))
     (search rules) (search rules) c.requires.place.above laid c.requires.right_below in
     let P : Node → Type 0 = λ m. Adds c.args.floor (bound_after c.args.floor 2048 (runs_at nodes place.passed)) c.args.n
-    (run_of (node_at nodes c.args.at) ∷ runs_at nodes (behind place.rest)) (stretch c.args.n (m.count + 1) ∷ runs_at nodes (behind place.rest)) in
+    (run_of (node_at nodes c.args.at) ∷ runs_at nodes (following place.rest)) (stretch c.args.n (m.count + 1) ∷ runs_at nodes (following place.rest)) in
     rw c.from-2.ensures (adds_place c.args.floor c.args.n nodes first c.args.before c.args.at place
-    (run_of new ∷ runs_at nodes (behind place.rest)) _ c.requires.linked.size (search rules)
+    (run_of new ∷ runs_at nodes (following place.rest)) _ c.requires.linked.size (search rules)
     c.requires.within c.requires.laid c.requires.place.above
     (edit_linked nodes first c.args.runs.now.free c.args.before c.args.at new c.requires.linked place c.requires.within (ap (λ (n : Node). n.next) read)).1
     (subst P (sym read) adds))
