@@ -58,8 +58,8 @@ offer-back true is = refl
 offer-back false is = cc is
 
 -- the words after a first one are these
-behind : (text : List ℕ) (name : List ℕ) (rest are : List (List ℕ)) → text ≡ joined (name ∷ rest) → rest ≡ are → text ≡ joined (name ∷ are)
-behind text name rest are words is = words ∙ ap (λ (ps : List (List ℕ)). joined (name ∷ ps)) is
+following : (text : List ℕ) (name : List ℕ) (rest are : List (List ℕ)) → text ≡ joined (name ∷ rest) → rest ≡ are → text ≡ joined (name ∷ are)
+following text name rest are words is = words ∙ ap (λ (ps : List (List ℕ)). joined (name ∷ ps)) is
 
 list-are : (rest : List (List ℕ)) (s : Side × (Place × (Feature × (List ℕ × Unit {0}))))
     → AreBoth side_kind.Spells (AreBoth place_kind.Spells (AreBoth feature_kind.Spells (AreBoth values_kind.Spells end_row.Spells))) s rest
@@ -142,7 +142,7 @@ send-line : (text : List ℕ) (side : Side) (payload : List ℕ) (rest : List (L
     → AreSent rest side payload
     → IsLine text (line.Event (event.Send side payload))
 send-line text side payload rest words short are =
-    let whole = behind text (codes "send") rest (side_name side ∷ (are.digits ∷ [])) words are.rest_is in
+    let whole = following text (codes "send") rest (side_name side ∷ (are.digits ∷ [])) words are.rest_is in
     let size : length text ≡ 12 + length are.digits = ap length whole ∙ send-length side are.digits in
     let room = dash-size are.digits payload are.spells in
     record { digits = are.digits; spells = are.spells; words = whole; few = omega arith }
@@ -151,44 +151,44 @@ form-line : (which : Form) (text : List ℕ) (rest : List (List ℕ)) (said : Li
     → (rows which).Spells said rest → IsLine text said
 form-line form.Version text rest said words short is =
     let are = version-are rest is.0 is.2 in
-    subst (λ (s : Line). IsLine text s) is.1 (behind text (codes "version") rest (decimal is.0.0 ∷ []) words are.0, are.1)
-form-line form.Plain text rest said words short is = subst (λ (s : Line). IsLine text s) is.1 (behind text (codes "plain") rest [] words is.2)
+    subst (λ (s : Line). IsLine text s) is.1 (following text (codes "version") rest (decimal is.0.0 ∷ []) words are.0, are.1)
+form-line form.Plain text rest said words short is = subst (λ (s : Line). IsLine text s) is.1 (following text (codes "plain") rest [] words is.2)
 form-line form.Iss text rest said words short is =
     let are = iss-are rest is.0 is.2 in
-    subst (λ (s : Line). IsLine text s) is.1 (behind text (codes "iss") rest (side_name is.0.0 ∷ (decimal is.0.1.0 ∷ [])) words are.0, are.1)
+    subst (λ (s : Line). IsLine text s) is.1 (following text (codes "iss") rest (side_name is.0.0 ∷ (decimal is.0.1.0 ∷ [])) words are.0, are.1)
 form-line form.Set text rest said words short is =
     let are = list-are rest is.0 is.2.0 in
     subst (λ (s : Line). IsLine text s) is.1 (
-      behind text (codes "set") rest
+      following text (codes "set") rest
           (side_name is.0.0 ∷ (place_name is.0.1.0 ∷ (decimal (feature_number is.0.1.1.0) ∷ (values_text is.0.1.1.1.0 ∷ [])))) words are.0,
       (are.1, wish-is (wish_of is.0.1.1.0 is.0.1.0 is.0.1.1.1.0) is.2.1),
     )
 form-line form.Offer text rest said words short is =
     let are = offer-are rest is.0 is.2.0 in
     subst (λ (s : Line). IsLine text s) is.1 (
-      behind text (codes "offer") rest
+      following text (codes "offer") rest
           (side_name is.0.0 ∷ (place_name is.0.1.0 ∷ (decimal (feature_number is.0.1.1.0) ∷ mandatory_words is.0.1.1.1))) words are,
       offer-by (is_ours is.0.1.1.0 is.0.1.0) is.2.1,
     )
-form-line form.Open text rest said words short is = subst (λ (s : Line). IsLine text s) is.1 (behind text (codes "open") rest [] words is.2)
+form-line form.Open text rest said words short is = subst (λ (s : Line). IsLine text s) is.1 (following text (codes "open") rest [] words is.2)
 form-line form.Deliver text rest said words short is =
     let are = name-are rest is.0 is.2 in
-    subst (λ (s : Line). IsLine text s) is.1 (behind text (codes "deliver") rest (frame_name is.0.0.0 is.0.0.1 ∷ []) words are.0, are.1)
+    subst (λ (s : Line). IsLine text s) is.1 (following text (codes "deliver") rest (frame_name is.0.0.0 is.0.0.1 ∷ []) words are.0, are.1)
 form-line form.Send text rest said words short is =
     subst (λ (s : Line). IsLine text s) is.1 (send-line text is.0.0 is.0.1.0 rest words short (send-are rest is.0 is.2))
 form-line form.Prefer text rest said words short is =
     let are = list-are rest is.0 is.2 in
     subst (λ (s : Line). IsLine text s) is.1 (
-      behind text (codes "prefer") rest
+      following text (codes "prefer") rest
           (side_name is.0.0 ∷ (place_name is.0.1.0 ∷ (decimal (feature_number is.0.1.1.0) ∷ (values_text is.0.1.1.1.0 ∷ [])))) words are.0,
       are.1,
     )
 form-line form.Timer text rest said words short is =
-    subst (λ (s : Line). IsLine text s) is.1 (behind text (codes "timer") rest (side_name is.0.0 ∷ (timer_name is.0.1.0 ∷ [])) words (timer-are rest is.0 is.2))
+    subst (λ (s : Line). IsLine text s) is.1 (following text (codes "timer") rest (side_name is.0.0 ∷ (timer_name is.0.1.0 ∷ [])) words (timer-are rest is.0 is.2))
 form-line form.Close text rest said words short is =
-    subst (λ (s : Line). IsLine text s) is.1 (behind text (codes "close") rest (side_name is.0.0 ∷ []) words (one-are rest is.0.0 is.0.1 is.2))
+    subst (λ (s : Line). IsLine text s) is.1 (following text (codes "close") rest (side_name is.0.0 ∷ []) words (one-are rest is.0.0 is.0.1 is.2))
 form-line form.Abort text rest said words short is =
-    subst (λ (s : Line). IsLine text s) is.1 (behind text (codes "abort") rest (side_name is.0.0 ∷ []) words (one-are rest is.0.0 is.0.1 is.2))
+    subst (λ (s : Line). IsLine text s) is.1 (following text (codes "abort") rest (side_name is.0.0 ∷ []) words (one-are rest is.0.0 is.0.1 is.2))
 
 chosen-line : (text : List ℕ) (words : List (List ℕ)) (said : Line) → text ≡ joined words → length text ≤ 4096 → AreChosen form_kind rows said words
     → IsLine text said
