@@ -22,7 +22,7 @@ data Step : Type 0 where
   -- a packet with these options reports, at Ack Ratio 2
   Tell : (ack : ℕ) → (options : String) → Step
   -- the numbers after the first up to the second fill the window, and all are received at this Ack Ratio
-  Fill : (behind until ratio : ℕ) → Step
+  Fill : (following until ratio : ℕ) → Step
   Timeout : Step
   MaySend : Bool → Step
   Window : ℕ → Step
@@ -53,8 +53,8 @@ abbrev after : {S : Type 0} → Control S → S → Step → S
 after control state (Start ccid) = control.started state ccid
 after control state (Send first past) = sent_each control state (past - first) first
 after control state (Tell ack options) = control.with_report state (told ack options) 2
-after control state (Fill behind until ratio) =
-    control.with_report (sent_each control state (until - behind) (behind + 1)) (all_came until) ratio
+after control state (Fill following until ratio) =
+    control.with_report (sent_each control state (until - following) (following + 1)) (all_came until) ratio
 after control state Timeout = control.timed_out state
 after control state step = state
 
@@ -69,8 +69,8 @@ seen control threshold state (Know ccid known) = Know ccid (control.is_known cci
 seen control threshold state (Send first past) =
     if_may (nat_le (pipe_of (control.flight state) + (past - first)) (control.window state)) (Send first past)
 seen control threshold state (Tell ack options) = Tell ack options
-seen control threshold state (Fill behind until ratio) =
-    if_may (pipe_of (control.flight state) + (until - behind) == control.window state) (Fill behind until ratio)
+seen control threshold state (Fill following until ratio) =
+    if_may (pipe_of (control.flight state) + (until - following) == control.window state) (Fill following until ratio)
 seen control threshold state Timeout = Timeout
 seen control threshold state (MaySend more) = MaySend (may_send control state)
 seen control threshold state (Window window) = Window (control.window state)

@@ -8,10 +8,10 @@ use Rattle.dccp_io.specs.Lines as next
 
 -- what comes next, and after a line what is there, which is asked for by the number of bytes that the line has
 abbrev pub onward : Next → (ℕ → List Next) → List Next
-onward (next.Line line) behind = next.Line line ∷ behind (length line)
-onward next.End behind = next.End ∷ []
-onward (next.Long front) behind = next.Long front ∷ []
-onward next.Much behind = next.Much ∷ []
+onward (next.Line line) following = next.Line line ∷ following (length line)
+onward next.End following = next.End ∷ []
+onward (next.Long front) following = next.Long front ∷ []
+onward next.Much following = next.Much ∷ []
 
 -- what so many calls tell of an input, after so many bytes; an end stays, and so does a line that is too long or too much
 abbrev pub told : ℕ → ℕ → List ℕ → List Next

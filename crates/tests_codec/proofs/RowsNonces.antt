@@ -180,15 +180,15 @@ happened w (happening ∷ rest) =
     (happening.0, seen_of (happens_by w happening.0)) ∷ happened (state_after w (happens_by w happening.0)) rest
 
 -- the state after them
-abbrev behind : EcnState → List (EcnEvent × Result EcnSeen EcnFault) → EcnState
-behind w [] = w
-behind w (happening ∷ rest) = behind (state_after w (happens_by w happening.0)) rest
+abbrev following : EcnState → List (EcnEvent × Result EcnSeen EcnFault) → EcnState
+following w [] = w
+following w (happening ∷ rest) = following (state_after w (happens_by w happening.0)) rest
 
 -- all is seen as these events tell it, and the first report is this one
 abbrev Happens : List (EcnEvent × Result EcnSeen EcnFault) → (ack kind : ℕ) → String → Type 0
 Happens happenings ack kind vector =
     (happened ecn_begins happenings ≡ happenings)
-    × (slice_get (behind ecn_begins happenings).reports 0 ≡ Some (record { ack = ack; kind = kind; bytes = bytes vector }))
+    × (slice_get (following ecn_begins happenings).reports 0 ≡ Some (record { ack = ack; kind = kind; bytes = bytes vector }))
 
 nonces_checked : Happens (
     (event.Check 0, Err NoSuchFrame) ∷ (event.Send true, Ok Sent) ∷ (event.Send false, Ok Sent) ∷ (event.Send true, Ok Sent) ∷

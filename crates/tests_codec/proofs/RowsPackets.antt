@@ -193,8 +193,8 @@ fronts digits = map (λ count. fault_of (decoded (take count (bytes digits)))) (
 
 -- below 12 bytes a packet is too short, then its offset lies beyond its end, and from the offset on it is a packet
 abbrev pub cut : ℕ → ℕ → List (Option Malformed)
-cut offset behind =
-    replicate 12 (Some faults.Short) ++ (replicate (offset - 12) (Some faults.OffsetLarge) ++ replicate (behind + 1) None)
+cut offset following =
+    replicate 12 (Some faults.Short) ++ (replicate (offset - 12) (Some faults.OffsetLarge) ++ replicate (following + 1) None)
 
 -- the same packets cut off anywhere, by where their options end and how many bytes of data follow
 packets_are_cut :
