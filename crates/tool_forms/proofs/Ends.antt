@@ -108,7 +108,7 @@ lacks-text setting (pair ∷ pairs) none = go (is_same pair.0 setting) refl none
     go : (b : Bool) → is_same pair.0 setting ≡ b → has setting (pair ∷ pairs) ≡ false → (has setting pairs ≡ false → text_at setting pairs ≡ None)
         → text_at setting (pair ∷ pairs) ≡ None
     go true same none rest = let never : true ≡ false = rw same at none in cc never
-    go false other none rest = let behind : has setting pairs ≡ false = rw other at none in rw other (rest behind)
+    go false other none rest = let following : has setting pairs ≡ false = rw other at none in rw other (rest following)
 
 -- a pair whose text is no value
 pub record Bad (pairs : Pairs) : Type 0 where
@@ -375,7 +375,7 @@ first-after setting more (pair ∷ pairs) none = go (is_same pair.0 setting) ref
         → (has setting pairs ≡ false → first_of (bare_name setting) (rows pairs ++ more) ≡ first_of (bare_name setting) more)
         → first_of (bare_name setting) (rows (pair ∷ pairs) ++ more) ≡ first_of (bare_name setting) more
     go true same none rest = let never : true ≡ false = rw same at none in cc never
-    go false other none rest = let behind : has setting pairs ≡ false = rw other at none in rw other (rest behind)
+    go false other none rest = let following : has setting pairs ≡ false = rw other at none in rw other (rest following)
 
 plain-text : (pairs : Pairs) → Owned table.Replay pairs → has Plain pairs ≡ true → text_at Plain pairs ≡ Some (codes "true")
 plain-text [] owned some = cc some
@@ -386,7 +386,7 @@ plain-text (pair ∷ pairs) owned some = go (is_same pair.0 Plain) refl some (pl
     go true same some rest =
         let fits : FitsRow Plain pair.1 = subst (λ (s : Setting). FitsRow s pair.1) (same-settings pair.0 Plain same) owned.0.1 in
         rw same (ap (λ (text : Text). Some text) fits)
-    go false other some rest = let behind : has Plain pairs ≡ true = rw other at some in rw other (rest behind)
+    go false other some rest = let following : has Plain pairs ≡ true = rw other at some in rw other (rest following)
 
 has-text : (setting : Setting) (pairs : Pairs) → is_some (text_at setting pairs) ≡ has setting pairs
 has-text setting [] = refl
@@ -487,7 +487,7 @@ all-good : (setting : Setting) (text : Text) (all : List Assignment) (pairs : Pa
     → value_of setting text ≡ None → ⊥
 all-good setting text all [] is stands bad = let never : None ≡ Some text = stands in cc never
 all-good setting text all (pair ∷ pairs) is stands bad =
-    go (value_of pair.0 pair.1) refl (gave pairs) refl (is_same pair.0 setting) refl (λ rest more behind. all-good setting text rest pairs more behind bad)
+    go (value_of pair.0 pair.1) refl (gave pairs) refl (is_same pair.0 setting) refl (λ rest more following. all-good setting text rest pairs more following bad)
   where
     go : (found : Option Value) → value_of pair.0 pair.1 ≡ found → (rest : Option (List Assignment)) → gave pairs ≡ rest → (b : Bool)
         → is_same pair.0 setting ≡ b
@@ -499,7 +499,7 @@ all-good setting text all (pair ∷ pairs) is stands bad =
         let here : value_of setting pair.1 ≡ Some v = subst (λ (s : Setting). value_of s pair.1 ≡ Some v) (same-settings pair.0 setting same) some in
         let never : None ≡ Some v = sym bad ∙ ap (value_of setting) (sym (some-is pair.1 text found)) ∙ here in cc never
     go (Some v) some (Some rest) more false other further =
-        let behind : text_at setting pairs ≡ Some text = rw other at stands in further rest more behind
+        let following : text_at setting pairs ≡ Some text = rw other at stands in further rest more following
 
 -- what three texts come to, of which that of the buffer is a value, if it is there
 replay-joined : (side plain buffer : Option Text) → ((text : Text) → buffer ≡ Some text → number_for Buffer text ≡ None → ⊥)

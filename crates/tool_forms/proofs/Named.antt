@@ -143,7 +143,7 @@ named-is (first ∷ settings) name setting is = go (bytes_eq name (dashed_name f
         → (named_among settings name ≡ Some setting → name ≡ dashed_name setting) → name ≡ dashed_name setting
     go true same is rest =
         let found : Some first ≡ Some setting = rw same at is in equal-by name (dashed_name first) same ∙ ap dashed_name (some-is first setting found)
-    go false other is rest = let behind : named_among settings name ≡ Some setting = rw other at is in rest behind
+    go false other is rest = let following : named_among settings name ≡ Some setting = rw other at is in rest following
 
 -- a word that is no `--name` gives nothing
 pub none-dashed : (t : Table) (word : List ℕ) (words : List (List ℕ)) → long_of word ≡ None → all_given t (word ∷ words) ≡ None
@@ -231,8 +231,8 @@ dashes-none t (word ∷ (next ∷ words)) some = go (bytes_eq word (codes "--"))
         → (list_any (λ word. bytes_eq word (codes "--")) words ≡ true → all_given t words ≡ None) → preceded (given_of t word next) (all_given t words) ≡ None
     apart true is some rest = ap (λ (first : Option Assignment). preceded first (all_given t words)) (value-none t word next is)
     apart false is some rest =
-        let behind : list_any (λ word. bytes_eq word (codes "--")) words ≡ true = rw is at some in
-        nothing-before (given_of t word next) (all_given t words) (rest behind)
+        let following : list_any (λ word. bytes_eq word (codes "--")) words ≡ true = rw is at some in
+        nothing-before (given_of t word next) (all_given t words) (rest following)
 
     parts : (j : Bool) → is_joined word ≡ j → (m : Bool) → is_mark t word ≡ m → list_any (λ word. bytes_eq word (codes "--")) (next ∷ words) ≡ true
         → all_given t (next ∷ words) ≡ None
@@ -246,5 +246,5 @@ dashes-none t (word ∷ (next ∷ words)) some = go (bytes_eq word (codes "--"))
         → (list_any (λ word. bytes_eq word (codes "--")) words ≡ true → all_given t words ≡ None) → all_given t (word ∷ (next ∷ words)) ≡ None
     go true is some more rest = begun-by t word (next ∷ words) is
     go false is some more rest =
-        let behind : list_any (λ word. bytes_eq word (codes "--")) (next ∷ words) ≡ true = rw is at some in
-        parts (is_joined word) refl (is_mark t word) refl behind (more behind) rest
+        let following : list_any (λ word. bytes_eq word (codes "--")) (next ∷ words) ≡ true = rw is at some in
+        parts (is_joined word) refl (is_mark t word) refl following (more following) rest

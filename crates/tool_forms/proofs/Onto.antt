@@ -95,8 +95,8 @@ twice-none setting text all (pair ∷ pairs) has_it = go (value_of pair.0 pair.1
     go None is b same has_it rest = rw is refl
     go (Some w) is true same has_it rest = rw is (once-step setting (record { setting = pair.0; value = w }) _ true same ∙ again-none setting w text all pairs)
     go (Some w) is false same has_it rest =
-        let behind : has setting pairs ≡ true = rw same at has_it in
-        rw is (once-step setting (record { setting = pair.0; value = w }) _ false same ∙ rest behind)
+        let following : has setting pairs ≡ true = rw same at has_it in
+        rw is (once-step setting (record { setting = pair.0; value = w }) _ false same ∙ rest following)
 
 -- what pairs give, each of them once
 abbrev pub gave : Pairs → Option (List Assignment)
@@ -124,9 +124,9 @@ unless-gave setting v (pair ∷ pairs) none = go (value_of pair.0 pair.1) refl (
     go None is b same none rest = rw is refl
     go (Some w) is true same none rest = let no : true ≡ false = rw same at none in cc no
     go (Some w) is false same none rest =
-        let behind : has setting pairs ≡ false = rw same at none in
+        let following : has setting pairs ≡ false = rw same at none in
         let one : Assignment = record { setting = pair.0; value = w } in
-        rw is (unless-step setting v (record { setting = pair.0; value = w }) _ false same ∙ rest behind
+        rw is (unless-step setting v (record { setting = pair.0; value = w }) _ false same ∙ rest following
         ∙ whichever (record { setting = pair.0; value = w }) (gave pairs) (Some v))
 
 pub once-gave : (setting : Setting) (pairs : Pairs) → Distinct pairs → option_and_then (once setting) (gave pairs) ≡ wherever pairs (found_at setting pairs)

@@ -117,8 +117,8 @@ named-owned [] name setting is = let never : Some setting ≡ None = sym is in c
 named-owned (s ∷ settings) name setting is = go (bytes_eq name (dashed_name s)) refl is (named-owned settings name setting)
   where
     either : (b : Bool) → is_among setting settings ≡ true → (if b then true else is_among setting settings) ≡ true
-    either true behind = refl
-    either false behind = behind
+    either true following = refl
+    either false following = following
 
     go : (b : Bool) → bytes_eq name (dashed_name s) ≡ b → named_among (s ∷ settings) name ≡ Some setting
         → (named_among settings name ≡ Some setting → is_among setting settings ≡ true) → is_among setting (s ∷ settings) ≡ true
@@ -126,7 +126,7 @@ named-owned (s ∷ settings) name setting is = go (bytes_eq name (dashed_name s)
         let found : Some s ≡ Some setting = rw same at is in
         ap (λ (b : Bool). if b then true else is_among setting settings)
         (subst (λ (other : Setting). is_same s other ≡ true) (some-is s setting found) (is-itself s))
-    go false other is rest = let behind : named_among settings name ≡ Some setting = rw other at is in either (is_same s setting) (rest behind)
+    go false other is rest = let following : named_among settings name ≡ Some setting = rw other at is in either (is_same s setting) (rest following)
 
 argument-by-id : (settings : List Setting) (setting : Setting) → is_among setting settings ≡ true
     → arg_by_id (map argument settings) (argument setting).id ≡ Some (argument setting)
@@ -145,7 +145,7 @@ argument-by-id (s ∷ settings) setting is = go (is_same s setting) refl is (arg
         → (is_among setting settings ≡ true → arg_by_id (map argument settings) (argument setting).id ≡ Some (argument setting))
         → arg_by_id (map argument (s ∷ settings)) (argument setting).id ≡ Some (argument setting)
     go true same is rest = found true same ∙ ap (λ (other : Setting). Some (argument other)) (same-settings s setting same)
-    go false other is rest = let behind : is_among setting settings ≡ true = rw other at is in found false other ∙ rest behind
+    go false other is rest = let following : is_among setting settings ≡ true = rw other at is in found false other ∙ rest following
 
 by-id : (t : Table) (setting : Setting) → owns t setting ≡ true → arg_by_id (shape t).rules (argument setting).id ≡ Some (argument setting)
 by-id t setting is = ap (λ (rules : List Rule). arg_by_id rules (argument setting).id) (rules-are t) ∙ argument-by-id (settings_of t) setting is
@@ -265,7 +265,7 @@ module _ {X : Type 0} (judge : List Row → Option X) (t : Table) (means : Optio
 
   -- a name alone in its word
   whole-agrees : (x : ℕ) (xs : List ℕ) (words : List Text) (pairs : Pairs) → has_byte 61 (x ∷ xs) ≡ false → bytes_eq (dashed x xs) (45 ∷ 45 ∷ []) ≡ false
-      → Clear words → Agreed words → ((v : Text) (behind : List Text) → words ≡ v ∷ behind → Agreed behind) → Distinct pairs → Owned t pairs
+      → Clear words → Agreed words → ((v : Text) (following : List Text) → words ≡ v ∷ following → Agreed following) → Distinct pairs → Owned t pairs
       → Agrees pairs (dashed x xs ∷ words)
   whole-agrees x xs words pairs whole apart clear agreed after_agreed distinct owned = go (setting_named t (dashed x xs)) refl
     where
@@ -281,39 +281,39 @@ module _ {X : Type 0} (judge : List Row → Option X) (t : Table) (means : Optio
 
       unknown : (words : List Text) → setting_named t (dashed x xs) ≡ None → all_given t (dashed x xs ∷ words) ≡ None
       unknown [] none = alone-dashed t x xs whole (marked None none)
-      unknown (v ∷ behind) none = apart-dashed t x xs v behind whole (marked None none)
-          ∙ ap (λ (f : Option Setting). preceded (value_given_to f v) (all_given t behind)) none
+      unknown (v ∷ following) none = apart-dashed t x xs v following whole (marked None none)
+          ∙ ap (λ (f : Option Setting). preceded (value_given_to f v) (all_given t following)) none
 
       valued : (setting : Setting) → setting_named t (dashed x xs) ≡ Some setting → is_marking (way_of setting) ≡ false → (words : List Text) → Clear words
-          → ((v : Text) (behind : List Text) → words ≡ v ∷ behind → Agreed behind) → Agrees pairs (dashed x xs ∷ words)
+          → ((v : Text) (following : List Text) → words ≡ v ∷ following → Agreed following) → Agrees pairs (dashed x xs ∷ words)
       valued setting is unmarked [] clear after_agreed =
           alone-refused judge (shape t) (no-short t) (no-index t) (argument setting) (by-id t setting (named-owned (settings_of t) _ setting is))
           (name-is-itself setting)
           (is-valued (way_of setting) (bare_name setting) unmarked).1 (is-valued (way_of setting) (bare_name setting) unmarked).0
           (is-valued (way_of setting) (bare_name setting) unmarked).2 (rows pairs) (dashed x xs) (x ∷ xs) apart long (arg (Some setting) is)
           ∙ sym (nothing-given pairs _ (alone-dashed t x xs whole (marked (Some setting) is ∙ unmarked)))
-      valued setting is unmarked (text ∷ behind) clear after_agreed = judged
+      valued setting is unmarked (text ∷ following) clear after_agreed = judged
           (apart-judged judge (shape t) (no-short t) (no-index t) (argument setting) (by-id t setting (named-owned (settings_of t) _ setting is))
           (name-is-itself setting)
           (is-valued (way_of setting) (bare_name setting) unmarked).1 (is-valued (way_of setting) (bare_name setting) unmarked).0
-          (is-valued (way_of setting) (bare_name setting) unmarked).2 (rows pairs) (dashed x xs) (x ∷ xs) text behind apart long
+          (is-valued (way_of setting) (bare_name setting) unmarked).2 (rows pairs) (dashed x xs) (x ∷ xs) text following apart long
           (arg (Some setting) is) clear.0 clear.1)
         where
-          own : all_given t (dashed x xs ∷ (text ∷ behind)) ≡ preceded (assigned setting text) (all_given t behind)
-          own = apart-dashed t x xs text behind whole (marked (Some setting) is ∙ unmarked)
-              ∙ ap (λ (found : Option Setting). preceded (value_given_to found text) (all_given t behind)) is
-              ∙ ap (λ (first : Option Assignment). preceded first (all_given t behind)) (assigns setting text unmarked)
+          own : all_given t (dashed x xs ∷ (text ∷ following)) ≡ preceded (assigned setting text) (all_given t following)
+          own = apart-dashed t x xs text following whole (marked (Some setting) is ∙ unmarked)
+              ∙ ap (λ (found : Option Setting). preceded (value_given_to found text) (all_given t following)) is
+              ∙ ap (λ (first : Option Assignment). preceded first (all_given t following)) (assigns setting text unmarked)
 
-          judged : ((reads pairs (dashed x xs ∷ (text ∷ behind)) ≡ None) × (long_of text ≡ None → short_of text ≡ None → ⊥))
-              ⊎ (reads pairs (dashed x xs ∷ (text ∷ behind))
+          judged : ((reads pairs (dashed x xs ∷ (text ∷ following)) ≡ None) × (long_of text ≡ None → short_of text ≡ None → ⊥))
+              ⊎ (reads pairs (dashed x xs ∷ (text ∷ following))
               ≡ passed (use_fault (shape t).args_override_self (argument setting) (text ∷ []) (rows pairs))
-              (verdict judge (shape t) (rests (used (argument setting) (text ∷ []) (rows pairs)) None) behind)) → Agrees pairs (dashed x xs ∷ (text ∷ behind))
+              (verdict judge (shape t) (rests (used (argument setting) (text ∷ []) (rows pairs)) None) following)) → Agrees pairs (dashed x xs ∷ (text ∷ following))
           judged (inl refusal) = refusal.0 ∙ sym (nothing-given pairs _ (own
-              ∙ ap (λ (first : Option Assignment). preceded first (all_given t behind)) (refuses setting text unmarked (flag-value setting text refusal.1))))
+              ∙ ap (λ (first : Option Assignment). preceded first (all_given t following)) (refuses setting text unmarked (flag-value setting text refusal.1))))
           judged (inr taken) = taken
-              ∙ given-with judge (shape t) (no-again t) setting text (text ∷ []) pairs behind (values-valued (way_of setting) text unmarked)
+              ∙ given-with judge (shape t) (no-again t) setting text (text ∷ []) pairs following (values-valued (way_of setting) text unmarked)
               (fits-valued (way_of setting) text unmarked)
-              ∙ one-more setting text behind pairs (after_agreed text behind refl) distinct owned (named-owned (settings_of t) _ setting is)
+              ∙ one-more setting text following pairs (after_agreed text following refl) distinct owned (named-owned (settings_of t) _ setting is)
               (fits-valued (way_of setting) text unmarked)
               ∙ ap (λ (all : Option (List Assignment)). means (onto pairs all)) (sym own)
 
@@ -338,13 +338,13 @@ module _ {X : Type 0} (judge : List Row → Option X) (t : Table) (means : Optio
       go (Some setting) is = taken setting is (is_marking (way_of setting)) refl
 
   word-agrees : (word : Text) (words : List Text) (pairs : Pairs) → bytes_eq word (45 ∷ 45 ∷ []) ≡ false → Clear words → Agreed words
-      → ((v : Text) (behind : List Text) → words ≡ v ∷ behind → Agreed behind) → Distinct pairs → Owned t pairs → Agrees pairs (word ∷ words)
-  word-agrees word words pairs apart clear agreed behind distinct owned = go (shape-of word)
+      → ((v : Text) (following : List Text) → words ≡ v ∷ following → Agreed following) → Distinct pairs → Owned t pairs → Agrees pairs (word ∷ words)
+  word-agrees word words pairs apart clear agreed following distinct owned = go (shape-of word)
     where
       dashes : (x : ℕ) (xs : List ℕ) → bytes_eq (dashed x xs) (45 ∷ 45 ∷ []) ≡ false → (b : Bool) → has_byte 61 (x ∷ xs) ≡ b
           → Agrees pairs (dashed x xs ∷ words)
       dashes x xs apart true joined = joined-agrees x xs words pairs joined apart agreed distinct owned
-      dashes x xs apart false whole = whole-agrees x xs words pairs whole apart clear agreed behind distinct owned
+      dashes x xs apart false whole = whole-agrees x xs words pairs whole apart clear agreed following distinct owned
 
       go : ((x : ℕ) × (xs : List ℕ) × (word ≡ dashed x xs)) ⊎ (long_of word ≡ None) → Agrees pairs (word ∷ words)
       go (inl is) = subst (λ (w : Text). Agrees pairs (w ∷ words)) (sym is.2)
@@ -356,13 +356,13 @@ module _ {X : Type 0} (judge : List Row → Option X) (t : Table) (means : Optio
     pub all-agree : (words : List Text) → Clear words → Agreed words
     all-agree [] clear = ends
     all-agree (word ∷ []) clear = λ pairs distinct owned.
-        word-agrees word [] pairs clear.0 tt ends (λ v behind is. absurd (no-word v behind is)) distinct owned
+        word-agrees word [] pairs clear.0 tt ends (λ v following is. absurd (no-word v following is)) distinct owned
       where
-        no-word : (v : Text) (behind : List Text) → [] ≡ v ∷ behind → ⊥
-        no-word v behind is = cc is
+        no-word : (v : Text) (following : List Text) → [] ≡ v ∷ following → ⊥
+        no-word v following is = cc is
     all-agree (word ∷ (next ∷ words)) clear = λ pairs distinct owned.
         word-agrees word (next ∷ words) pairs clear.0 clear.1 (all-agree (next ∷ words) clear.1)
-        (λ v behind is. subst Agreed (rest v behind is) (all-agree words clear.1.1)) distinct owned
+        (λ v following is. subst Agreed (rest v following is) (all-agree words clear.1.1)) distinct owned
       where
-        rest : (v : Text) (behind : List Text) → next ∷ words ≡ v ∷ behind → words ≡ behind
-        rest v behind is = cc
+        rest : (v : Text) (following : List Text) → next ∷ words ≡ v ∷ following → words ≡ following
+        rest v following is = cc

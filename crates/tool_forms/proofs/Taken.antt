@@ -44,7 +44,7 @@ clear (word ∷ words) none = go (is_dashes word) refl none (clear words)
   where
     go : (b : Bool) → is_dashes word ≡ b → list_any is_dashes (word ∷ words) ≡ false → (list_any is_dashes words ≡ false → Clear words) → Clear (word ∷ words)
     go true is none rest = let never : true ≡ false = rw is at none in cc never
-    go false is none rest = let behind : list_any is_dashes words ≡ false = rw is at none in (is, rest behind)
+    go false is none rest = let following : list_any is_dashes words ≡ false = rw is at none in (is, rest following)
 
 module _ {X : Type 0} (judge : List Row → Option X) where
   some-kinds : (faults : Kinds) → 1 ≤ length faults → is_empty faults ≡ false
