@@ -59,5 +59,5 @@ pub flow_put : (flows : Flows) (place : ℕ) (before after whole : List ℕ) →
 flow_put flows place before after whole put same =
     ap (λ (front : List ℕ). front ++ flat_map flow_line (drop (place + 1) flows)) put
     ∙ append_assoc before (flow_line_if (slice_get flows place)) (flat_map flow_line (drop (place + 1) flows))
-    ∙ ap (λ (behind : List ℕ). before ++ behind) (sym (flow_further flows place))
+    ∙ ap (λ (following : List ℕ). before ++ following) (sym (flow_further flows place))
     ∙ same

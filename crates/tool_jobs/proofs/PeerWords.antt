@@ -53,7 +53,7 @@ v4-joined a b c d =
     ∙ ap (λ (front : List ℕ). front ++ (46 ∷ decimal c)) (append_assoc (decimal a) (46 ∷ []) (decimal b))
     ∙ append_assoc (decimal a) (46 ∷ decimal b) (46 ∷ decimal c))
     ∙ append_assoc (decimal a) (46 ∷ (decimal b ++ (46 ∷ decimal c))) (46 ∷ decimal d)
-    ∙ ap (λ (behind : List ℕ). decimal a ++ (46 ∷ behind)) (append_assoc (decimal b) (46 ∷ decimal c) (46 ∷ decimal d))
+    ∙ ap (λ (following : List ℕ). decimal a ++ (46 ∷ following)) (append_assoc (decimal b) (46 ∷ decimal c) (46 ∷ decimal d))
 
 -- four numbers of an address
 record AreSmall (a b c d : ℕ) : Type 0 where
@@ -247,8 +247,8 @@ peer-back text peer is =
     ∙ subst (λ (xs : List ℕ). peer_of (v4_text xs ++ (58 ∷ decimal peer.port)) ≡ Some (record { address = xs; port = peer.port })) address.is
     (written-read address.a address.b address.c address.d peer.port address.small peers.small)
 
-some-bytes : (front behind : List ℕ) → 0 < length (front ++ (58 ∷ behind))
-some-bytes front behind = omega (arith, length-append front (58 ∷ behind))
+some-bytes : (front following : List ℕ) → 0 < length (front ++ (58 ∷ following))
+some-bytes front following = omega (arith, length-append front (58 ∷ following))
 
 written-word : (a b c d port : ℕ) → AreSmall a b c d → port < 65536 → is_whole_word (v4_text (a ∷ b ∷ c ∷ d ∷ []) ++ (58 ∷ decimal port)) ≡ true
 written-word a b c d port small fits =

@@ -155,8 +155,8 @@ version-peers play version peers = by play.is_configured where
   fits-by config vectors fits =
       record { own_port = fits.own_port; peer_port = fits.peer_port; service = fits.service; iss = fits.iss; lists = fits.lists }
 
-  by : (behind : Bool)
-      → PeersAfter (if behind then Refused (whole_line why.HeaderLate) else configures play (with_vectors (vectors_of version)))
+  by : (following : Bool)
+      → PeersAfter (if following then Refused (whole_line why.HeaderLate) else configures play (with_vectors (vectors_of version)))
   by true = tt
   by false =
       configured-peers play (with_vectors (vectors_of version))
@@ -217,8 +217,8 @@ next-peers play number End peers = peers
 
 peers-by : (rest : Play → Gone Scene Play) (number given : ℕ) → ((next : Play) → HasPeers next → HasPeers (rest next).last) → (play : Play)
     → HasPeers play → (verdict : Verdict Scene Play) → PeersAfter verdict → HasPeers (gone_by play number given verdict rest).last
-peers-by rest number given later play peers (Accepted scene next) behind = later next behind
-peers-by rest number given later play peers (Refused fault) behind = peers
+peers-by rest number given later play peers (Accepted scene next) following = later next following
+peers-by rest number given later play peers (Refused fault) following = peers
 
 peers-through : (lines : List (List ℕ)) (number given : ℕ) (play : Play) → HasPeers play → HasPeers (gone_from run_job play number given lines).last
 peers-through [] number given play peers = peers
