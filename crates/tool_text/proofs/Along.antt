@@ -71,14 +71,14 @@ module _ {P V : Type 0} (job : Job P V) (first : V) where
       ∙ ap (λ (more : List ℕ). front ++ (flat_map job.told deeds ++ more)) (line-told deed)
       ∙ ap (λ (more : List ℕ). front ++ more) (sym (flat_map-append job.told deeds (deeds_of deed)))
 
-  accepted-by : (state next : V) (number given further : ℕ) (left behind : Option (List ℕ)) (front text after : List ℕ) (before taken : Option (List ℕ))
+  accepted-by : (state next : V) (number given further : ℕ) (left following : Option (List ℕ)) (front text after : List ℕ) (before taken : Option (List ℕ))
       (input : List ℕ)
       (along : Along job first state number given left front text before taken input) (rest : List (List ℕ)) (verdict : Verdict P V)
-      → behind ≡ Some (drop further input) → lines_of (drop further input) ≡ rest
+      → following ≡ Some (drop further input) → lines_of (drop further input) ≡ rest
       → gone_from job state number given (lines_of (drop given input)) ≡ gone_by state number given verdict (λ v. gone_from job v (number + 1) further rest)
-      → Judges job verdict text after next (Ok tt) → Along job first next (number + 1) further behind front after before taken input
-  accepted-by state next number given further left behind front text after before taken input along rest (Refused fault) is lines goes judges = cc judges.1
-  accepted-by state next number given further left behind front text after before taken input along rest (Accepted deed onward) is lines goes judges = record {
+      → Judges job verdict text after next (Ok tt) → Along job first next (number + 1) further following front after before taken input
+  accepted-by state next number given further left following front text after before taken input along rest (Refused fault) is lines goes judges = cc judges.1
+  accepted-by state next number given further left following front text after before taken input along rest (Accepted deed onward) is lines goes judges = record {
     written = along.written;
     deeds = along.deeds ++ deeds_of deed;
     rest_is = is;
@@ -93,16 +93,16 @@ module _ {P V : Type 0} (job : Job P V) (first : V) where
   }
 
   -- a line was accepted
-  pub along-line : (state next : V) (number given further : ℕ) (left behind : Option (List ℕ)) (line front text after : List ℕ) (before taken : Option (List ℕ))
+  pub along-line : (state next : V) (number given further : ℕ) (left following : Option (List ℕ)) (line front text after : List ℕ) (before taken : Option (List ℕ))
       (input : List ℕ)
       → Along job first state number given left front text before taken input → further ≡ given + length line
-      → IfSome left (λ bytes. (next_in_bytes given bytes ≡ Line line) × (behind ≡ Some (drop (length line) bytes)))
+      → IfSome left (λ bytes. (next_in_bytes given bytes ≡ Line line) × (following ≡ Some (drop (length line) bytes)))
       → Judges job (job.judged state number (text_of line)) text after next (Ok tt)
-      → Along job first next (number + 1) further behind front after before taken input
-  along-line state next number given further left behind line front text after before taken input along counts stands judges =
+      → Along job first next (number + 1) further following front after before taken input
+  along-line state next number given further left following line front text after before taken input along counts stands judges =
       let bytes = drop given input in
       let here = subst (λ (known : Option (List ℕ)). IfSome known
-      (λ all. (next_in_bytes given all ≡ Line line) × (behind ≡ Some (drop (length line) all)))) along.rest_is stands in
+      (λ all. (next_in_bytes given all ≡ Line line) × (following ≡ Some (drop (length line) all)))) along.rest_is stands in
       let line_is = is-line given bytes line here.0 in
       let moved : drop (length line) bytes ≡ drop further input = drop-drop (length line) given input ∙ ap (λ (n : ℕ). drop n input) (sym counts) in
       let rest : lines_of (drop (length line) bytes) ≡ lines_of (drop further input) = ap lines_of moved in
@@ -117,7 +117,7 @@ module _ {P V : Type 0} (job : Job P V) (first : V) where
       (λ (v : V). gone_from job v (number + 1) m (lines_of (drop (length line) bytes)))) (sym counts)
       ∙ ap (λ (ls : List (List ℕ)). gone_by state number given (job.judged state number (text_of line))
       (λ (v : V). gone_from job v (number + 1) further ls)) rest in
-      accepted-by state next number given further left behind front text after before taken input along (lines_of (drop further input))
+      accepted-by state next number given further left following front text after before taken input along (lines_of (drop further input))
       (job.judged state number (text_of line))
       (here.1 ∙ ap Some moved) refl goes judges
 

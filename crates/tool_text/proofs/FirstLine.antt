@@ -20,10 +20,10 @@ pub gone-cut : {P V : Type 0} (job : Job P V) (state : V) (number given : ℕ) (
     ≡ gone_by state number given (by_next job state number (next_in_bytes given bytes))
     (λ next. gone_from job next (number + 1) (given + length (first_line bytes)) (lines_of (drop (length (first_line bytes)) bytes)))
 gone-cut {P} {V} job state number given bytes some =
-    let behind = lines_of (drop (length (first_line bytes)) bytes) in
-    let cut : lines_of bytes ≡ first_line bytes ∷ behind = lines-cut bytes some in
-    let next : next_in_lines given (first_line bytes ∷ behind) ≡ next_in_bytes given bytes =
+    let following = lines_of (drop (length (first_line bytes)) bytes) in
+    let cut : lines_of bytes ≡ first_line bytes ∷ following = lines-cut bytes some in
+    let next : next_in_lines given (first_line bytes ∷ following) ≡ next_in_bytes given bytes =
     sym (ap (next_in_lines given) cut) ∙ sym (next-first given bytes) in
     ap (gone_from job state number given) cut
     ∙ ap (λ (n : Next). gone_by state number given (by_next job state number n)
-    (λ (after : V). gone_from job after (number + 1) (given + length (first_line bytes)) behind)) next
+    (λ (after : V). gone_from job after (number + 1) (given + length (first_line bytes)) following)) next

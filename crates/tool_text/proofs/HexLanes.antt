@@ -116,8 +116,8 @@ block-written bytes room first second done sized within few some before is =
     ∙ sym (encode-append (take done bytes) (chunk done 16 bytes))
     ∙ ap encode_lower (sym (take-add done 16 bytes))
 
-pub still-sized : (room first second : List ℕ) (here behind size : ℕ) → length room ≡ size → length (put_chunk behind (put_chunk here room first) second) ≡ size
-still-sized room first second here behind size sized = length-put_chunk behind (put_chunk here room first) second ∙ length-put_chunk here room first ∙ sized
+pub still-sized : (room first second : List ℕ) (here following size : ℕ) → length room ≡ size → length (put_chunk following (put_chunk here room first) second) ≡ size
+still-sized room first second here following size sized = length-put_chunk following (put_chunk here room first) second ∙ length-put_chunk here room first ∙ sized
 
 -- what is written further on is written up to an earlier place
 encode-length : (bytes : List ℕ) → length (encode_lower bytes) ≡ 2 * length bytes

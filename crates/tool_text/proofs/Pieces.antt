@@ -49,10 +49,10 @@ pub parted : (mark : ℕ) (text : List ℕ) (place : ℕ) → position_from (λ 
 parted mark text place found =
     let cut = cut_from (λ byte. byte == mark) 0 text place found in
     let at : cut.count ≡ place = (let at = cut.at in omega arith) in
-    let behind : suc cut.count ≡ place + 1 = omega arith in
+    let following : suc cut.count ≡ place + 1 = omega arith in
     cut.pieces
     ∙ ap (λ (count : ℕ). take count text ∷ parted_by mark (drop (suc cut.count) text)) at
-    ∙ ap (λ (count : ℕ). take place text ∷ parted_by mark (drop count text)) behind
+    ∙ ap (λ (count : ℕ). take place text ∷ parted_by mark (drop count text)) following
 
 -- and is whole where it stands nowhere
 pub not_parted : (mark : ℕ) (text : List ℕ) → position_from (λ byte. byte == mark) 0 text ≡ None → parted_by mark text ≡ text ∷ []

@@ -134,8 +134,8 @@ ByTest false Holds Fails = Fails
 
 -- the words after this one, where it is the first, and otherwise all of them
 abbrev pub AreAfter : {A : Type 0} → List ℕ → (A → List (List ℕ) → Type 0) → (A → List (List ℕ) → Type 0) → A → List (List ℕ) → Type 0
-AreAfter name Behind Other x [] = Other x []
-AreAfter name Behind Other x (word ∷ words) = ByTest (bytes_eq word name) (Behind x words) (Other x (word ∷ words))
+AreAfter name Following Other x [] = Other x []
+AreAfter name Following Other x (word ∷ words) = ByTest (bytes_eq word name) (Following x words) (Other x (word ∷ words))
 
 -- a row after this word, or another row where the first word is not this one
 abbrev pub after_word : {A : Type 0} → List ℕ → Row A → Row A → Row A
