@@ -350,14 +350,14 @@ module _ (w new : WorldState) (from : Side) (index : ℕ) (place : ℕ × ℕ) (
 -- where a member of two lists in a row stands
 data StandsAt {A : Type 0} (xs ys : List A) (i : ℕ) (x : A) : Type 0 where
   InFront : slice_get xs i ≡ Some x → StandsAt xs ys i x
-  Behind : (j : ℕ) → i ≡ length xs + j → slice_get ys j ≡ Some x → StandsAt xs ys i x
+  Following : (j : ℕ) → i ≡ length xs + j → slice_get ys j ≡ Some x → StandsAt xs ys i x
 
 one-after : {A : Type 0} (first : A) (xs ys : List A) (i : ℕ) (x : A) → StandsAt xs ys i x → StandsAt (first ∷ xs) ys (suc i) x
 one-after first xs ys i x (InFront there) = InFront there
-one-after first xs ys i x (Behind j same there) = Behind j (omega (arith, same)) there
+one-after first xs ys i x (Following j same there) = Following j (omega (arith, same)) there
 
 stands-at : {A : Type 0} (xs ys : List A) (i : ℕ) (x : A) → slice_get (xs ++ ys) i ≡ Some x → StandsAt xs ys i x
-stands-at [] ys i x there = Behind i (omega arith) there
+stands-at [] ys i x there = Following i (omega arith) there
 stands-at (first ∷ xs) ys zero x there = InFront there
 stands-at (first ∷ xs) ys (suc i) x there = one-after first xs ys i x (stands-at xs ys i x there)
 
@@ -451,7 +451,7 @@ module _ {C : Type 0} (control : Control C) where
     once-more : (w : Controlled C) (h : IsHeld SideInvariant w.world) (e : Event) (later : List (Side × ℕ)) (i : ℕ) (named : Side × ℕ)
         → ((j : ℕ) → slice_get later j ≡ Some named → ⊥) → IsPast w.world named → StandsAt (delivered_by e (happens_to control w e)) later i named → ⊥
     once-more w h e later i named never p (InFront now) = never-now w h e i named (delivered-now w h e i named now) p
-    once-more w h e later i named never p (Behind j same there) = never j there
+    once-more w h e later i named never p (Following j same there) = never j there
 
     never-again : (w : Controlled C) (events : List Event) → IsHeld SideInvariant w.world → (i : ℕ) (named : Side × ℕ)
         → slice_get (frames_delivered control w events) i ≡ Some named → IsPast w.world named → ⊥
@@ -477,9 +477,9 @@ module _ {C : Type 0} (control : Control C) where
           → StandsAt now rest i named → StandsAt now rest j named → i ≡ j
       at-one i j named same (InFront first) (InFront second) =
           (delivered-now w h e i named first).alone ∙ sym (delivered-now w h e j named second).alone
-      at-one i j named same (InFront first) (Behind n is second) = absurd (never-rest i n named first second)
-      at-one i j named same (Behind m is first) (InFront second) = absurd (never-rest j m named second first)
-      at-one i j named same (Behind m is first) (Behind n other_is second) =
+      at-one i j named same (InFront first) (Following n is second) = absurd (never-rest i n named first second)
+      at-one i j named same (Following m is first) (InFront second) = absurd (never-rest j m named second first)
+      at-one i j named same (Following m is first) (Following n other_is second) =
           let ends = same m n first second in
           omega (arith, is, other_is, ends)
 

@@ -245,8 +245,8 @@ module _ (x y : Party) (others : IsOrdered y) (m : IsMarking x y) where
           (sym (from-counts iss g.floor g.acknowledged fits are.floor_some are.floor_early (its.some is-ack) (omega (arith, its.early is-ack))) ∙ ahead) in
           vector-same (room_of setting) (set_states (has its.set.numbers)) (set_states (has early-list)) floor ack (omega arith) (omega arith)
           (λ n small from inside. states-so n small below inside)
-      by false behind =
-          let same = states-none (set_states (has its.set.numbers)) (set_states (has early-list)) floor ack behind in (
+      by false following =
+          let same = states-none (set_states (has its.set.numbers)) (set_states (has early-list)) floor ack following in (
             ap (λ (ss : List ℕ). take (room_of setting) (bytes_of_groups (groups ss))) same,
             ap (λ (ss : List ℕ). nat_le (length (bytes_of_groups (groups ss))) (room_of setting)) same,
           )

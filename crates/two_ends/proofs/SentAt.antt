@@ -27,9 +27,9 @@ pub record IsSentAt (config : Config) (first : ℕ) (frames : List SentFrame) (p
   pub is_logged : IsLogged config number frame l
   pub is_numbered : number ≡ residue (first + place)
 
-behind : (config : Config) (first place : ℕ) (frame : SentFrame) (frames : List SentFrame) (l : Logged) → IsSentAt config (first + 1) frames place l
+following : (config : Config) (first place : ℕ) (frame : SentFrame) (frames : List SentFrame) (l : Logged) → IsSentAt config (first + 1) frames place l
     → IsSentAt config first (frame ∷ frames) (suc place) l
-behind config first place frame frames l s =
+following config first place frame frames l s =
     record {
       index = suc s.index;
       number = s.number;
@@ -51,7 +51,7 @@ sent-at config place l NoFrames there = cc there
 sent-at config {first} {frames} zero l (Numbered number same here rest) there =
     subst (IsSentAt config first frames 0) (same_Some _ l there)
     (record { index = 0; number = number; frame = _; is_there = refl; is_logged = here; is_numbered = omega (arith, same) })
-sent-at config {first} (suc place) l (Numbered number same here rest) there = behind config first place _ _ l (sent-at config place l rest there)
+sent-at config {first} (suc place) l (Numbered number same here rest) there = following config first place _ _ l (sent-at config place l rest there)
 sent-at config {first} place l (Unnumbered here rest) there = after-other config first place _ _ l (sent-at config place l rest there)
 
 -- either form has an acknowledgement number, or none
