@@ -327,7 +327,7 @@ module _ (e : EndState) (held : InboxState) (own frame : Outgoing) (tells : Tell
       }) tells.same_kind
       ∙ ap
       (λ (o : Listed). record (incoming e own.bytes tells.before number)
-      { options = o; data_place = (length frame.bytes - length tells.packet.payload, length frame.bytes) }) tells.behind
+      { options = o; data_place = (length frame.bytes - length tells.packet.payload, length frame.bytes) }) tells.following
 
   by-number : (r : Result ℕ Why) → IsSameStep (received e (with_own_number e frame.bytes tells.packet r)) (received e (with_own_number e own.bytes tells.before r))
   by-number (Err why) = record { same_end = refl; same_frame = refl; same_calls = refl; same_outcome = refl }

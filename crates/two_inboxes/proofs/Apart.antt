@@ -599,7 +599,7 @@ module _ {C : Type 0} (control : Control C) (w : InboxPair C) (safe : Safe contr
         in
         ap (report_of ack) before
         ∙ sym (ap (joined_report ack) (vectors-after (options_in_packet tells.before) tells.more tells.are_passed_over))
-        ∙ sym (ap (report_of ack) tells.behind)
+        ∙ sym (ap (report_of ack) tells.following)
         ∙ ap (λ (p : Parts). report_of ack (options_in_packet p)) packet-is
         ∙ reads
 
