@@ -13,9 +13,9 @@
  * feature's negotiation is stable, changing or unstable (RFC 4340, section 6). A flow is an end of a listener, with its peer. In flight are
  * packets of data that nobody has reported yet, and the window is how many may be. dccp_told says what became of a datagram.
  *
- * Time is `now`, a number of milliseconds from any beginning, the same for all calls of an end or a listener; it does not go back.
+ * Time is `now`, a number of milliseconds since any moment, the same for all calls of an end or a listener; it does not go back.
  *
- * After every call: if frame.length is not 0, its bytes go to the peer, whatever the call answered. A refused call has changed nothing and
+ * After every call: if frame.length is not 0, its bytes go to the peer, whatever the call returned. A refused call has changed nothing and
  * leaves no bytes. There are two exceptions: if dccp_make, dccp_accept or dccp_listener_make made nothing, the handle holds nothing any
  * more; and dccp_accept may leave an answer to the datagram, as dccp_listener_arrive does with DCCP_BUSY.
  *
@@ -31,10 +31,10 @@
  *   - No pointer is NULL, except that of no bytes, values or wishes, whose length or count is 0. The arguments of one call do not overlap. A
  *     bool is 0 or 1.
  *   - No signal handler makes a call.
- * Any number in place of a feature, a timer or a value, and any bytes, are answered by a status.
+ * Any number in place of a feature, a timer or a value, and any bytes, are answered with a status.
  *
  * Structs that may grow begin with their size, which the caller sets: dccp_settings, dccp_flow_rules, dccp_view, dccp_round_trip,
- * dccp_flow_life and dccp_event. Each has an initialiser. A struct of another size is answered by DCCP_OTHER_SIZE, and neither read nor written.
+ * dccp_flow_life and dccp_event. Each has an initialiser. A struct of another size is refused with DCCP_OTHER_SIZE, and neither read nor written.
  */
 #ifndef DCCP_H
 #define DCCP_H
@@ -54,9 +54,9 @@ extern "C" {
 #define DCCP_MOST_DATA_BYTES 1024  /* the most data of one packet of this library */
 #define DCCP_MOST_READ_BYTES 2032  /* the most data of one datagram */
 #define DCCP_MOST_VALUES 8         /* the most values of one wish */
-#define DCCP_NEVER UINT64_MAX      /* what dccp_until_first answers if no timer runs */
+#define DCCP_NEVER UINT64_MAX      /* what dccp_until_first returns if no timer runs */
 
-/* What a call answers. */
+/* What a call returns. */
 typedef enum dccp_status {
     DCCP_OK = 0,
     DCCP_NOT_MADE = 1,       /* the handle holds no end, or no listener */
@@ -171,7 +171,7 @@ typedef enum dccp_cause {
     DCCP_CAUSE_STRAY_RESET = 9,      /* a Reset of no connection */
     DCCP_CAUSE_SHORT_OFF = 10,       /* short numbers, which are not negotiated */
     DCCP_CAUSE_BAD_SYNC = 11,        /* a Sync or SyncAck whose numbers are not valid */
-    DCCP_CAUSE_LIMIT = 12            /* it would be answered by one Sync too many, so it was left out: the end did not hear it */
+    DCCP_CAUSE_LIMIT = 12            /* it would be answered by one Sync too many, so it was ignored: the end did not hear it */
 } dccp_cause;
 
 /* A handle: one end, or none. */
@@ -208,7 +208,7 @@ typedef struct dccp_peer {
     uint16_t port;      /* in the byte order of the machine */
 } dccp_peer;
 
-/* What first numbers are drawn from: 32 bytes that nobody can guess. */
+/* A key from which first numbers are made: 32 bytes that nobody can guess. */
 typedef struct dccp_key {
     uint8_t bytes[32];
 } dccp_key;
@@ -220,7 +220,7 @@ typedef struct dccp_cookie_keys {
     uint64_t since; /* in the milliseconds of each call */
 } dccp_cookie_keys;
 
-/* How many answers go to peers without a flow, where there is no limit. */
+/* How many answers go to peers without a flow, if there is no limit. */
 #define DCCP_UNLIMITED UINT16_MAX
 
 /* The rules by which a listener makes room, gives flows up and answers strangers. Waits are in milliseconds, and DCCP_NEVER is for ever.
@@ -228,7 +228,7 @@ typedef struct dccp_cookie_keys {
 typedef struct dccp_flow_rules {
     size_t size;         /* sizeof(dccp_flow_rules) */
     uint64_t respond;    /* how long a flow may be in DCCP_PHASE_RESPOND (RFC 4340, section 8.1.3) */
-    uint64_t crowded;    /* the same in a crowd: where more flows are in DCCP_PHASE_RESPOND than places are free */
+    uint64_t crowded;    /* the same in a crowd: if more flows are in DCCP_PHASE_RESPOND than places are free */
     uint64_t closing;    /* how long one may be in DCCP_PHASE_CLOSEREQ and in DCCP_PHASE_CLOSING */
     uint64_t idle;       /* how long one in DCCP_PHASE_OPEN may take no packet */
     uint16_t answers;    /* how many answers go to peers without a flow in a second; DCCP_UNLIMITED: as many as there are */
@@ -254,7 +254,7 @@ typedef enum dccp_cookies {
 typedef enum dccp_way {
     DCCP_WAY_PLAIN = 0,      /* without cookies */
     DCCP_WAY_GREETED = 1,    /* a Request was answered with an Init Cookie: by `told` it was taken, and there is no flow */
-    DCCP_WAY_UNANSWERED = 2, /* a Request was left out: its options are too long for a cookie, or there was no memory to answer it */
+    DCCP_WAY_UNANSWERED = 2, /* a Request was ignored: its options are too long for a cookie, or there was no memory to answer it */
     DCCP_WAY_REOPENED = 3,   /* its Init Cookie has opened its flow, which has heard it */
     DCCP_WAY_UNOPENED = 4    /* its Init Cookie is good, but there is no room or no memory for a flow: the peer's next packet has it again */
 } dccp_way;
@@ -263,7 +263,7 @@ typedef enum dccp_way {
 typedef struct dccp_flow_life {
     size_t size;    /* sizeof(dccp_flow_life) */
     uint64_t since; /* since when it is in its phase */
-    uint64_t taken; /* when its end last took a packet: what was dropped, or answered with a Sync, is no sign of life */
+    uint64_t taken; /* when its end last took a packet: a packet that was dropped, or answered with a Sync, is no sign of life */
     uint64_t user;  /* what dccp_listener_set_user has written beside it; 0 at first */
 } dccp_flow_life;
 
@@ -299,7 +299,7 @@ typedef struct dccp_event {
     uint32_t kind;  /* a dccp_event_kind */
     uint32_t cause; /* DCCP_EVENT_ENDED: a dccp_ended_by */
     dccp_peer peer;
-    uint8_t code;   /* DCCP_EVENT_ENDED: the Reset Code, 1 where that was orderly (RFC 4340, section 5.6); 0 where no Reset went or came.
+    uint8_t code;   /* DCCP_EVENT_ENDED: the Reset Code, 1 if that was orderly (RFC 4340, section 5.6); 0 if no Reset was sent or received.
                        DCCP_EVENT_DROPPED: the Drop Code (RFC 4340, section 11.7) */
 } dccp_event;
 
@@ -422,7 +422,7 @@ dccp_status dccp_make(dccp_end *end, const dccp_settings *settings, const dccp_w
 void dccp_free(dccp_end *end);
 
 /* Makes a server's end from the first datagram of a peer, as dccp_make does with `is_server` true. It takes memory for any datagram. To avoid
- * that, leave out datagrams that are no Request; in a Request `(datagram[8] >> 1) & 15` is 0.
+ * that, ignore datagrams that are no Request; in a Request `(datagram[8] >> 1) & 15` is 0.
  *     DCCP_OK             a Request has opened a connection, which is now the peer's; if its options had a fault, the phase is already
  *                         DCCP_PHASE_CLOSED
  *     DCCP_NO_CONNECTION  the handle holds none, and the frame answers the datagram, if there is an answer
@@ -480,7 +480,7 @@ dccp_status dccp_prefer(dccp_end *end, uint32_t feature, bool at_peer, const uin
                         dccp_frame *frame);
 
 /* Fires the first timer of the end that has run out, or else does what it has to do for its path.
- *     DCCP_OK           maybe without a frame: call it again, at most seven times for one `now`, until it answers DCCP_NOTHING_DUE
+ *     DCCP_OK           maybe without a frame: call it again, at most seven times for one `now`, until it returns DCCP_NOTHING_DUE
  *     DCCP_NOTHING_DUE
  *     DCCP_NOT_MADE */
 dccp_status dccp_tick(dccp_end *end, uint64_t now, dccp_frame *frame);
@@ -548,14 +548,14 @@ dccp_status dccp_feature(dccp_end *end, uint32_t feature, bool at_peer, dccp_fea
  * one during the call. The settings and wishes are those of dccp_accept.
  *     DCCP_OK             the frame goes to the peer
  *     DCCP_NO_CONNECTION  it is no Request that this server takes; the frame answers it, if there is an answer
- *     DCCP_TOO_LONG       over 2,044 bytes, or options that no cookie holds: leave it out
- *     DCCP_NO_MEMORY      leave it out
+ *     DCCP_TOO_LONG       over 2,044 bytes, or options that no cookie holds: ignore it
+ *     DCCP_NO_MEMORY      ignore it
  *     a status of dccp_make */
 dccp_status dccp_greet(const dccp_settings *settings, const dccp_wish *wishes, size_t count, const dccp_cookie_keys *keys, const uint8_t *datagram,
                        size_t length, uint64_t now, dccp_frame *frame);
 
 /* If a datagram returns a good cookie, which is at most two minutes old, this is the Request that dccp_greet has answered. Hand it to dccp_accept,
- * with its `number` as the first number of the settings, leave out the frame of that call, and hand the datagram to dccp_receive.
+ * with its `number` as the first number of the settings, drop the frame of that call, and hand the datagram to dccp_receive.
  *     DCCP_OK
  *     DCCP_NO_CONNECTION  it returns no good cookie; `request` has no bytes, as with the next two
  *     DCCP_TOO_LONG
@@ -582,7 +582,7 @@ void dccp_listener_free(dccp_listener *listener);
  * dccp_listener_number. If the table is full, the rules may end a flow to make room, which dccp_listener_evicted names. If the datagram shows that
  * the peer has begun anew from its port (a Reset with code 4 that acknowledges the last Sync of its flow), the rules end that flow and leave no
  * frame (DCCP_TOLD_SYNCED), and the peer's next Request opens another. Answers that anybody may cause are limited: a datagram that its flow would
- * answer by one Sync too many is left out (DCCP_CAUSE_LIMIT), and so is a frame for a peer without a flow that is one too many.
+ * answer by one Sync too many is ignored (DCCP_CAUSE_LIMIT), and a frame for a peer without a flow that is one too many is not made.
  * With cookies a Request needs no flow, and the packet that returns its cookie opens one: dccp_listener_way shows both.
  *     DCCP_OK         `told` says what became of it, and is unchanged with all others; a flow that it has ended is gone
  *     DCCP_BUSY       there is no room for it; nothing has changed, and the frame is a Reset with code 9, Too Busy: forget a flow to make
@@ -596,7 +596,7 @@ void dccp_listener_free(dccp_listener *listener);
 dccp_status dccp_listener_arrive(dccp_listener *listener, const dccp_peer *peer, uint64_t first_number, const uint8_t *datagram, size_t length,
                                  uint64_t now, dccp_frame *frame, dccp_told *told);
 
-/* The next event of the last call; with all other statuses `event` is unchanged. Ask until it answers DCCP_NO_EVENT: events that were not taken
+/* The next event of the last call; with all other statuses `event` is unchanged. Ask until it returns DCCP_NO_EVENT: events that were not taken
  * before the next call of dccp_listener_arrive, _refuse, _send, _prefer, _close, _abort, _timer, _tick or _forget are lost. Each flow has at most
  * one DCCP_EVENT_OPENED, and DCCP_EVENT_ENDED as its last event, even if its handshake was never complete. A flow in DCCP_PHASE_TIMEWAIT is over.
  *     DCCP_OK
@@ -631,7 +631,7 @@ size_t dccp_listener_held(dccp_listener *listener, const dccp_peer *peer);
 dccp_status dccp_listener_set_user(dccp_listener *listener, const dccp_peer *peer, uint64_t user);
 
 /* Whether a datagram would open a flow, and for which Service Code, so that a program can decide before it calls dccp_listener_arrive. It hands the
- * datagram on, refuses it, or leaves it out.
+ * datagram on, refuses it, or ignores it.
  *     DCCP_OK
  *     DCCP_TOO_LONG       over 2,044 bytes; `service` is unchanged, as with the next two
  *     DCCP_NOT_MADE
@@ -722,16 +722,16 @@ dccp_status dccp_listener_feature(dccp_listener *listener, const dccp_peer *peer
  *     DCCP_NOTHING_DUE  it has nothing to do in this phase, which is no fault */
 dccp_status dccp_listener_timer(dccp_listener *listener, const dccp_peer *peer, uint32_t timer, uint64_t now, dccp_frame *frame);
 
-/* Fires the first timer of a flow that has run out, and names its peer. Where none has, a flow that has been in its phase, or silent,
- * for too long by the rules is given up.
- *     DCCP_OK           also where that leaves no frame: call it again until it answers DCCP_NOTHING_DUE
+/* Fires the first timer of a flow that has run out, and names its peer. If none has, it gives up a flow that has been in its
+ * phase, or silent, for too long by the rules.
+ *     DCCP_OK           even if it leaves no frame: call it again until it returns DCCP_NOTHING_DUE
  *     DCCP_GAVE_UP      `peer` was given up, and the frame is its Reset, with code 2, Aborted: call it again
  *     DCCP_NOTHING_DUE  `peer` is as it was
  *     DCCP_NOT_MADE     `peer` is as it was */
 dccp_status dccp_listener_tick(dccp_listener *listener, uint64_t now, dccp_peer *peer, dccp_frame *frame);
 
-/* How many milliseconds it is until dccp_listener_tick has something to do; DCCP_NEVER where it never has. Ask again after other calls.
- * Neither goes through the flows, and what has been due for longest is told first. */
+/* How many milliseconds it is until dccp_listener_tick has something to do; DCCP_NEVER if it never will. Ask again after other calls.
+ * Neither call goes through all flows, and what has been due for longest is done first. */
 uint64_t dccp_listener_until_first(dccp_listener *listener, uint64_t now);
 
 /* Reads the end of a peer.
