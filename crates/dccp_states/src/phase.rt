@@ -9,9 +9,9 @@ pub enum Role {
     Server,
 }
 
-/// The states of an end (RFC 4340, section 8.4). `docs/PROTOCOL.md` draws them, under "The phases": there the plain
-/// arrows are the packets that an end takes, with its reply (`after`), and the dotted ones its own calls and timers,
-/// which are not in the tables of this crate.
+/// The states of an end (RFC 4340, section 8.4). `docs/PROTOCOL.md` has a picture of them, under "The phases": its
+/// arrows are the packets that an end takes, with the reply (`after`), and the end's calls and timers, which are not in
+/// the tables of this crate.
 #[derive(Clone, Copy, Debug, PartialEq, Eq)]
 pub enum Phase {
     /// Not opened, or given up.
