@@ -6,8 +6,8 @@ const RESET: u8 = 7;
 /// The Reset Code by which a client in REQUEST answers what is no Response (RFC 4340, section 8.5, step 4).
 const PACKET_ERROR: u8 = 4;
 
-/// The last Sync of a server's end. A client that begins anew asks by a Request, which the old connection's end answers with a Sync, and
-/// refuses that by a Reset. Only who gets the Sync knows its number, so no stranger can end a connection in this way (own).
+/// The last Sync of a server's end. A client that begins anew sends a Request, which the old connection's end answers with a Sync; the client
+/// refuses that by a Reset. Only the receiver of the Sync knows its number, so no stranger can end a connection in this way (own).
 #[derive(Debug, Default)]
 pub(crate) struct LastSync {
     number: Option<u64>,
@@ -15,8 +15,8 @@ pub(crate) struct LastSync {
 }
 
 impl LastSync {
-    /// Whether a datagram is the Reset that refuses it. Its numbers are not valid for the old connection, so the end answered it with a
-    /// Sync, or left it out since it had answered too many.
+    /// Whether a datagram is the Reset that refuses it. Its numbers are not valid for the old connection, so the end answered it with a Sync, or
+    /// ignored it since it had answered too many.
     pub(crate) fn is_refused(&mut self, told: &sys::Told, datagram: &[u8]) -> bool {
         let is_left_out = told.kind == sys::TOLD_DROPPED && told.cause == sys::CAUSE_LIMIT;
         let is_not_valid = told.kind == sys::TOLD_SYNCED || is_left_out;
@@ -25,7 +25,7 @@ impl LastSync {
         self.was_refused
     }
 
-    /// Whether it was refused: then the end hears nothing more, and the client's next Request is for another.
+    /// Whether the Sync was refused: then the end hears nothing more, and the client's next Request is for another connection.
     pub(crate) fn was_refused(&self) -> bool {
         self.was_refused
     }

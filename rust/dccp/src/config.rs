@@ -1,10 +1,10 @@
-//! What a connection is made from.
+//! The configuration of a connection.
 
 use crate::origins::Paths;
 use crate::{Feature, Place, sys};
 use std::net::{IpAddr, Ipv6Addr, SocketAddr, SocketAddrV4};
 
-/// What an end is made from: client or server, addresses, and wishes for its features.
+/// The configuration of an end: client or server, addresses, and wishes for its features.
 #[derive(Clone, Debug)]
 pub struct Config {
     settings: sys::Settings,
@@ -75,8 +75,8 @@ impl Config {
         self
     }
 
-    /// The Service Codes of a [`Listener`](crate::Listener), at most 16, each once; of none, the one that it was made with. A connection
-    /// has its own alone.
+    /// The Service Codes of a [`Listener`](crate::Listener), at most 16, each once; if there are none, the one that it was made with. A
+    /// connection has only its own.
     pub fn services(mut self, services: &[u32]) -> Config {
         self.services = services.to_vec();
         self
@@ -207,18 +207,17 @@ pub enum PathRule {
     WideWindow,
     /// It measures the round trip, and its timers wait by that.
     RoundTrip,
-    /// Its Acks go out after 50 milliseconds, at once where data show a hole, and each 20 seconds at least.
+    /// Its Acks go out after 50 milliseconds, at once if there is a gap before the data that arrive, and every 20 seconds at least.
     SoonAcks,
     /// The Ack Ratio of its data follows its window, under CCID 2.
     AckRatio,
-    /// It asks its peer for a sign of life before it takes a large window for lost.
+    /// It asks its peer for a sign of life before it counts a large window as lost.
     Probes,
     /// It does not hear datagrams that would bring too many Syncs.
     Limits,
     /// It asks a silent peer, and gives it up.
     GivingUp,
-    /// Its data wait where the peer reports that the application which reads them is slow, that its buffer is full, or that none listens
-    /// any more.
+    /// Its data wait if the peer reports that the application which reads them is slow, that its buffer is full, or that none listens any more.
     Heed,
 }
 
@@ -236,7 +235,7 @@ impl PathRule {
     ];
 }
 
-/// An address in network order; of IPv4 the first four bytes, or the mapped address where the other is of IPv6.
+/// An address in network order; of IPv4 the first four bytes, or the mapped address if the other is of IPv6.
 fn address(ip: IpAddr, is_v6: bool) -> [u8; 16] {
     match ip {
         IpAddr::V4(v4) if !is_v6 => {

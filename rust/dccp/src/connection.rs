@@ -16,8 +16,8 @@ use std::time::{Duration, Instant};
 pub struct Transmit {
     /// At most 2,044 bytes.
     pub bytes: Vec<u8>,
-    /// Whether it is a Sync or a Reset that answers a packet. Anybody may cause these: limit how many go out in a second (RFC 4340,
-    /// sections 7.5.4 and 8.3.1). One that is left out counts as a lost frame.
+    /// Whether it is a Sync or a Reset that answers a packet. Anybody may cause these: limit how many go out in a second (RFC 4340, sections
+    /// 7.5.4 and 8.3.1). One that is not sent counts as a lost frame.
     pub is_answer: bool,
 }
 
@@ -61,8 +61,7 @@ impl RoundTrip {
 pub enum Event {
     /// The data of one packet arrived, maybe no bytes. No packet's data arrive twice.
     Data(Vec<u8>),
-    /// Data came, of one packet, and wait for [`Connection::read`], or [`Listener::read`](crate::Listener::read): so it is with
-    /// [`Config::holding`].
+    /// With [`Config::holding`]: the data of one packet came, and wait for [`Connection::read`], or [`Listener::read`](crate::Listener::read).
     Waits,
     /// Data arrived and were dropped: the application stopped reading (code 1), or there was no room (code 2; RFC 4340, section 11.7).
     Dropped {
@@ -634,7 +633,7 @@ impl Connection {
         status == sys::DONE
     }
 
-    /// When [`Connection::handle_timeout`] has something to do; None where no timer runs. Ask again after every other call.
+    /// When [`Connection::handle_timeout`] has something to do; None if no timer runs. Ask again after every other call.
     pub fn poll_timeout(&self) -> Option<Instant> {
         self.due
     }
@@ -644,8 +643,8 @@ impl Connection {
         self.outgoing.frames.pop_front()
     }
 
-    /// Writes frames for the peer into a buffer, one after another: as many as have one length, except that the last may have fewer
-    /// bytes, at most `most` of them, and as the buffer has room for. None where none waits, or the next has no room; a buffer of
+    /// Writes frames for the peer into a buffer, one after another: as many as have one length, except that the last may have fewer bytes, at
+    /// most `most` of them, and no more than the buffer has room for. None if no frame waits, or there is no room for the next; a buffer of
     /// 2,044 bytes has room for any.
     ///
     /// ```
@@ -688,7 +687,7 @@ impl Connection {
         })
     }
 
-    /// The next that the owner is told.
+    /// The next event for the owner.
     pub fn poll_event(&mut self) -> Option<Event> {
         self.events.pop_front()
     }
@@ -824,7 +823,7 @@ impl Connection {
         }
     }
 
-    /// Looks what a call has made of the end, and when its next timer runs out.
+    /// Looks at what a call has done to the end, and when its next timer runs out.
     pub(crate) fn called(&mut self, now: Instant) {
         self.view = self.end.look();
         let left = self.view.in_flight;
@@ -841,12 +840,12 @@ impl Connection {
     }
 }
 
-/// Whether a frame answers a datagram as anybody may call it forth.
+/// Whether a frame is an answer that anybody can cause by a datagram.
 fn is_answer(told: &sys::Told) -> bool {
     matches!(told.kind, sys::TOLD_SYNCED | sys::TOLD_SENT_RESET)
 }
 
-/// Keeps the frame that a call has left, if any, and answers the call's status.
+/// Keeps the frame that a call has left, if any, and returns the call's status.
 fn queue(outgoing: &mut Outgoing, (status, frame): (u32, &[u8]), is_answer: bool) -> u32 {
     if !frame.is_empty() {
         outgoing.counts.sent.count(frame);

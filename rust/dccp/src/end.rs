@@ -126,7 +126,7 @@ impl End {
         })
     }
 
-    /// The number of the frame that the last call has left; 0 where it left none.
+    /// The number of the frame that the last call has left; 0 if it left none.
     pub fn number(&self) -> u64 {
         self.frame.number
     }

@@ -63,7 +63,7 @@ impl Flows {
         }
     }
 
-    /// The name of a peer; where it has none, one that no flow has.
+    /// The name of a peer; if it has none, one that no flow has.
     fn address(&self, peer: SocketAddr) -> sys::PeerAddress {
         self.origins.known(peer).map(address_of).unwrap_or_default()
     }
@@ -119,7 +119,7 @@ impl Flows {
         })
     }
 
-    /// Drops a peer's data from now on, and answers the status.
+    /// Drops a peer's data from now on, and returns the status.
     pub fn stop_reading(&mut self, peer: SocketAddr) -> u32 {
         let peer = self.address(peer);
         // SAFETY: as the head of this module says.
@@ -369,7 +369,7 @@ impl Flows {
         unsafe { sys::dccp_listener_flows(&mut self.handle) }
     }
 
-    /// What is known of a peer's flow beside its end, if it has one.
+    /// What is known of a peer's flow besides its end, if it has one.
     pub fn life(&mut self, peer: SocketAddr) -> Option<sys::FlowLife> {
         let (peer, mut life) = (self.address(peer), sys::FlowLife::default());
         // SAFETY: as the head of this module says.

@@ -19,19 +19,19 @@ pub enum Change {
         /// The number that [`Listener::set_user`] wrote beside it.
         user: u64,
     },
-    /// Data came, of one packet, maybe none. No packet's data come twice.
+    /// The data of one packet came, maybe no bytes. No packet's data come twice.
     Data {
         /// Its bytes.
         data: Vec<u8>,
         /// As above.
         user: u64,
     },
-    /// Data came, of one packet, and wait for [`Listener::read`]: so it is with [`Config::holding`].
+    /// With [`Config::holding`]: the data of one packet came, and wait for [`Listener::read`].
     Waits {
         /// As above.
         user: u64,
     },
-    /// Data came that were dropped, since they are read no more (code 1), or as many wait as may (code 2; RFC 4340, section 11.7).
+    /// Data came and were dropped: they are no longer read (code 1), or there was no room (code 2; RFC 4340, section 11.7).
     Dropped {
         /// The Drop Code, which is reported to the peer.
         code: u8,
@@ -48,7 +48,7 @@ pub enum Change {
     Ended {
         /// Why.
         cause: Cause,
-        /// The Reset Code (RFC 4340, section 5.6), 1 where that was orderly; 0 where no Reset went or came.
+        /// The Reset Code (RFC 4340, section 5.6), 1 if that was orderly; 0 if no Reset was sent or received.
         code: u8,
         /// As above.
         user: u64,
@@ -95,7 +95,7 @@ pub enum Way {
     Plain,
     /// A Request was answered with a cookie, and there is no connection yet.
     Greeted,
-    /// A Request was left out: its options are too long for a cookie, or there was no memory to answer it.
+    /// A Request was ignored: its options are too long for a cookie, or there was no memory to answer it.
     Unanswered,
     /// Its cookie has opened its connection, which has heard it.
     Reopened,
@@ -540,8 +540,8 @@ impl Listener {
     }
 
     /// The Service Code of the connection that a datagram would open, so that an owner can decide before it calls
-    /// [`handle_datagram`](Listener::handle_datagram): it hands the datagram on, refuses it, or leaves it out. None if it would open no
-    /// connection, or the peer has one.
+    /// [`handle_datagram`](Listener::handle_datagram): it hands the datagram on, refuses it, or ignores it. None if it would open no connection,
+    /// or the peer has one.
     ///
     /// ```
     /// use dccp::{Config, Connection, Event, Listener};

@@ -194,7 +194,7 @@ impl Place {
 pub struct Held {
     /// The value that holds.
     pub value: u64,
-    /// Whether this end asks for nothing and waits for nothing. If both ends are so, they hold one value.
+    /// Whether this end asks for nothing and waits for nothing. If that holds at both ends, they hold one value.
     pub is_stable: bool,
 }
 
@@ -341,7 +341,7 @@ refusals! {
     StopError {
         /// The peer has no flow.
         NoFlow = NO_FLOW, "no connection to this peer";
-        /// No memory was to be had for what tells the peer, or unread data of connections that are over have all places.
+        /// There was no memory for the report to the peer, or unread data of connections that are over have all places.
         NoMemory = NO_MEMORY, "no memory for what is to be told";
         /// Data do not wait at this listener ([`Config::holding`](crate::Config::holding)).
         NotHolding = NOTHING_DUE, "data do not wait here";
@@ -349,8 +349,8 @@ refusals! {
 }
 
 refusals! {
-    /// Why a call of a peer's flow was refused: the first cause that holds. No such call takes memory (a law of dccp_c), so none
-    /// fails for want of it.
+    /// Why a call of a peer's flow was refused: the first cause that holds. No such call takes memory (a law of dccp_c), so none fails for lack
+    /// of it.
     FlowError {
         /// The peer has no flow.
         NoFlow = NO_FLOW, "no connection to this peer";

@@ -1,6 +1,6 @@
 //! The addresses from which a listener's peers send, and the names by which the library's listener knows these peers.
 //!
-//! A name is an IPv4 address with a port. A peer that sends from one is known by it. Any other peer, of IPv6 or beyond a router that
+//! A name is an IPv4 address with a port. A peer that sends from IPv4 is known by its address. Any other peer, of IPv6 or beyond a router that
 //! translates addresses, has a name that counts in the checksum as the addresses in its packets do (`dccp_listener_name`).
 
 use crate::sys;
@@ -64,7 +64,7 @@ impl Origins {
         }
     }
 
-    /// What the listener is made from.
+    /// The settings of the listener.
     pub fn listener(&self) -> &sys::Settings {
         &self.paths.listener
     }

@@ -16,8 +16,8 @@ pub enum Cookies {
     Always = 2,
 }
 
-/// By which rules a [`Listener`](crate::Listener) makes room, gives connections up and answers strangers; None is for ever, or without a
-/// limit. The default is what a listener that was just made goes by.
+/// The rules by which a [`Listener`](crate::Listener) makes room, gives connections up and answers strangers; None is for ever, or without a
+/// limit. The default is that of a new listener.
 #[derive(Clone, Copy, Debug, PartialEq, Eq)]
 #[non_exhaustive]
 pub struct FlowRules {

@@ -56,7 +56,7 @@ pub struct Statistics {
     pub not_taken: u64,
     /// Packets of data that count as lost: three later ones were reported, or there was a timeout. A late report changes nothing here.
     pub lost: u64,
-    /// Of a socket: Syncs and Resets that were left out, since the limit was reached.
+    /// Of a socket: Syncs and Resets that were not sent, since the limit was reached.
     pub answers_left_out: u64,
     /// Packets of data that were dropped, since too many waited to be read, or the application reads no more: of a socket, and with
     /// [`Config::holding`](crate::Config::holding).

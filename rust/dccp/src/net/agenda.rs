@@ -49,7 +49,7 @@ impl Agenda {
         }
     }
 
-    /// A connection leaves its frames to the driver, which is woken where it sleeps.
+    /// A connection leaves its frames to the driver, which is woken if it sleeps.
     pub(super) fn leave(&self, peer: SocketAddr) {
         let mut plan = self.plan();
         plan.left.push(peer);

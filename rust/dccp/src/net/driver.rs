@@ -214,7 +214,7 @@ impl Driver {
         let Some(reception) = &mut self.reception else {
             return;
         };
-        // Where the system gives no number, or no address, the peer asks again.
+        // If the system gives no number, or no address, the peer asks again.
         let Ok(config) = config_for(reception, &self.wire, peer, asked) else {
             return;
         };
@@ -308,8 +308,8 @@ impl Driver {
         self.half_open.remove(&peer);
     }
 
-    /// What a stranger's datagram finds. A Request where there is a place is looked at, and others as many as may be answered. A peer
-    /// whose connection has ended has the place of that.
+    /// What a stranger's datagram finds. A Request is looked at if there is a place, and of other datagrams as many as may be answered. A peer
+    /// whose connection has ended has its place.
     fn place_for(&mut self, peer: SocketAddr, is_request: bool) -> Room {
         let (now, had_place) = (Instant::now(), self.lines.contains_key(&peer));
         let Some(reception) = &mut self.reception else {
@@ -331,8 +331,8 @@ impl Driver {
         }
     }
 
-    /// Lets the connection go that has been there the longest without being open, if it has been for long enough. Where it has not, the
-    /// peer had better ask again.
+    /// Drops the connection that has been there the longest without being open, if that is long enough. If it is not, it is better that the peer
+    /// asks again.
     fn make_room(&mut self, now: Instant, shortest_stay: Duration) -> Room {
         let idle = self
             .lines

@@ -57,8 +57,8 @@ impl Options {
         self
     }
 
-    /// Names of the client and the server on which both have agreed, for addresses that are translated on the way. They are in each packet
-    /// and its checksum in place of addresses and ports. Any will do, if they are the same at both ends.
+    /// Names of the client and the server on which both have agreed, for addresses that are translated on the way. They are in each packet and
+    /// its checksum in place of addresses and ports. Any addresses are possible, if they are the same at both ends.
     pub fn names(mut self, client: SocketAddr, server: SocketAddr) -> Options {
         self.names = Some((client, server));
         self
@@ -79,32 +79,31 @@ impl Options {
     }
 
     /// How many packets of data are kept for an owner that does not read them; 4,096 by default. Further ones are dropped, and counted as
-    /// [`Statistics::unread_dropped`](crate::Statistics::unread_dropped), but the peer does not hear of it: for that, see
-    /// [`Options::holding`].
+    /// [`Statistics::unread_dropped`](crate::Statistics::unread_dropped), but the peer is not told: for that, see [`Options::holding`].
     pub fn most_waiting(mut self, most: usize) -> Options {
         self.most_waiting = most;
         self
     }
 
-    /// Data wait in the end itself, in place of [`Options::most_waiting`], for up to this many packets, 1,024 at most. Each takes 2 KB, from
-    /// the beginning. The end then reports drops and little room to its peer, which sends less, down to one packet in a round trip (RFC
-    /// 4340, sections 11.6 and 11.7), and has [`Fate::Dropped`](crate::Fate::Dropped) of what was dropped.
+    /// Data wait in the end itself, in place of [`Options::most_waiting`], for up to this many packets, 1,024 at most. Each takes 2 KB, from the
+    /// beginning. The end then reports drops and a nearly full buffer to its peer, which sends less, down to one packet in a round trip (RFC
+    /// 4340, sections 11.6 and 11.7). The peer has [`Fate::Dropped`](crate::Fate::Dropped) for what was dropped.
     pub fn holding(mut self, most: usize) -> Options {
         self.holding = most;
         self
     }
 
-    /// How many connections a listener has at a time; 1,000 by default. Each takes 123 KB. One more Request takes the place of the
-    /// connection that has ended, or not opened, for the longest time, if that is at least a second. Otherwise it gets no answer, and its
-    /// client asks again; if all are open, it is answered by a Reset with code 9.
+    /// How many connections a listener has at a time; 1,000 by default. Each takes 123 KB. One more Request takes the place of the connection
+    /// that ended, or has been half open, for the longest time, if that is at least a second. Otherwise it gets no answer, and its client asks
+    /// again; if all are open, it is answered by a Reset with code 9.
     pub fn most_connections(mut self, most: usize) -> Options {
         self.most_connections = most;
         self
     }
 
-    /// How many connections of a listener may be open for one host at a time; by default as many as there are. More Requests of the host
-    /// are answered by a Reset with code 9, and a connection that opens beyond it is aborted. A host is an address of IPv4, or the first 64
-    /// bits of one of IPv6. Clients beyond one router count as one host.
+    /// How many connections of a listener may be open for one host at a time; by default as many as there are. More Requests of the host are
+    /// answered by a Reset with code 9, and a connection that opens beyond it is aborted. A host is an address of IPv4, or the first 64 bits of
+    /// one of IPv6. All clients that share the address of one router count as one host.
     pub fn most_per_host(mut self, most: usize) -> Options {
         self.most_per_host = most;
         self

@@ -192,9 +192,9 @@ impl Socket {
         (sender, Receiver { owned: self.owned })
     }
 
-    /// Closes in order, once all that was sent is reported or half of the time is over, and waits for the end. Returns how the connection
-    /// ended, or [`Error::TimedOut`], for example if the peer is gone; then closing goes on in the background. If this end answered the
-    /// peer's Close, it waits for some 400 ms more, in which the peer may repeat that: a program that has ended answers nothing.
+    /// Closes in order, once all that was sent is reported or half of the time is over, and waits for the end. Returns how the connection ended,
+    /// or [`Error::TimedOut`], for example if the peer is gone; then closing goes on in the background. If this end answered the peer's Close,
+    /// it waits for some 400 ms more, since the peer may repeat its Close, and a program that has ended answers nothing.
     pub fn close(self, wait: Duration) -> Result<End, Error> {
         self.line().close(wait)
     }
@@ -339,7 +339,7 @@ fn send_batch<T: AsRef<[u8]>>(line: &Line, packets: &[T]) -> Result<Sent, Error>
                 }
                 Ok(_) => sent.count += 1,
                 Err(fault) if sent.count == 0 => return Err(fault),
-                // What was sent counts; the next call waits for room, or returns the error.
+                // What was sent counts. The next call waits for room, or returns the error.
                 Err(_) => break,
             }
         }
