@@ -58,6 +58,25 @@ def heaviest_of(needed, seconds):
     return [it for it in chain if seconds.get(it, 60) >= HEAVY]
 
 
+def beside(needed, crate):
+    """Returns the crates that neither use a crate nor are below it, in the map's order."""
+
+    def is_above(it, other):
+        return other in needed[it] or any(is_above(below, other) for below in needed[it] if below in needed)
+
+    return [it for it in needed if it != crate and not is_above(it, crate) and not is_above(crate, it)]
+
+
+# How much memory a proof beside another takes at most, in bytes.
+MEMORY = 4 * 2**30
+
+
+def lanes_beside():
+    """Returns how many crates are proved beside a heavy one: as many as leave it two processors, and as memory holds beside it."""
+    whole = os.sysconf("SC_PAGE_SIZE") * os.sysconf("SC_PHYS_PAGES")
+    return max(0, min((os.cpu_count() or 1) - 2, whole // MEMORY - 2))
+
+
 def minutes_left(needed, proved, seconds):
     """Says about how many minutes the rest takes: its longest chain, or all of it shared by the processors."""
 
