@@ -2,7 +2,7 @@
 //
 // A dccp::socket is a client or a server over the system's UDP, without a thread (dccp_socket.c has to be linked). A dccp::end is one end, and
 // a dccp::listener a server of many peers, without socket and clock, for a program with its own loop. A failure that a peer may cause, such as
-// sending over a full window, is returned; a mistake, or want of memory, is thrown.
+// sending over a full window, is returned; a mistake, or a lack of memory, is thrown.
 //
 //     auto socket = dccp::socket::connect("192.0.2.1", "5001", 42);
 //     while (auto event = socket.poll()) {
@@ -131,7 +131,7 @@ class connection {
     // The longest data that fit a frame of so many bytes now.
     std::size_t longest_data(std::size_t most) const { return dccp_connection_longest_data(it_, most); }
 
-    // The data that have waited longest, where the options have `holding`; none: none wait.
+    // The data that have waited longest, if the options have `holding`; none: none wait.
     std::optional<dccp_data> read() const {
         dccp_data data;
         if (dccp_connection_read(it_, &data) != DCCP_OK) return std::nullopt;
@@ -300,7 +300,7 @@ class end {
         return state;
     }
 
-    // The data that have waited longest, where the settings have `most_held`; none: none wait.
+    // The data that have waited longest, if the settings have `most_held`; none: none wait.
     std::optional<dccp_data> read() {
         dccp_data data;
         if (dccp_read(&it_, &data) != DCCP_OK) return std::nullopt;
@@ -375,9 +375,9 @@ class listener {
     void shut(bool is_shut) { check(dccp_listener_shut(&it_, is_shut)); }
     dccp_status tick(uint64_t now, dccp_peer &peer) { return dccp_listener_tick(&it_, now, &peer, &frame_); }
     void set_rules(const dccp_flow_rules &rules) { check(dccp_listener_rules(&it_, &rules)); }
-    // Its Init Cookies are written by this key from now on: 32 random bytes, drawn anew each hour or so.
+    // Its Init Cookies are written with this key from now on: 32 random bytes, drawn anew each hour or so.
     void rekey(const dccp_key &key, uint64_t now) { check(dccp_listener_rekey(&it_, &key, now)); }
-    // In which way the last datagram was met.
+    // How the last datagram was treated.
     dccp_way way() { return dccp_listener_way(&it_); }
     // How many flows there are.
     uint16_t flows() { return dccp_listener_flows(&it_); }
@@ -393,7 +393,7 @@ class listener {
         if (dccp_listener_look(&it_, &peer, &view) != DCCP_OK) return std::nullopt;
         return view;
     }
-    // The data of a peer that have waited longest, where the settings have `most_held`; none: none wait.
+    // The data of a peer that have waited longest, if the settings have `most_held`; none: none wait.
     std::optional<dccp_data> read(const dccp_peer &peer) {
         dccp_data data;
         if (dccp_listener_read(&it_, &peer, &data) != DCCP_OK) return std::nullopt;

@@ -20,7 +20,7 @@ typedef struct rattle_block {
     void *at;
 } rattle_block;
 
-/* A block of `size` bytes at a multiple of `alignment`. Its bytes may have any values. If `ok` is false, the call of the library answers
+/* A block of `size` bytes at a multiple of `alignment`. Its bytes may have any values. If `ok` is false, the call of the library returns
  * DCCP_NO_MEMORY. */
 rattle_block rattle_alloc(size_t size, size_t alignment);
 

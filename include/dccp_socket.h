@@ -32,8 +32,8 @@ typedef struct dccp_socket dccp_socket;
 typedef struct dccp_connection dccp_connection;
 
 typedef enum dccp_end_cause {
-    DCCP_END_RESET = 0,     /* by a Reset with `code` (RFC 4340, section 5.6): 1 is orderly, and so is 3, which comes after an own close if the last
-                               Reset was lost */
+    DCCP_END_RESET = 0,     /* by a Reset with `code` (RFC 4340, section 5.6): 1 is orderly, and so is 3, which comes after this end closed, if
+                               the last Reset was lost */
     DCCP_END_SILENT = 1,    /* the peer was silent for too long, or never answered */
     DCCP_END_ABORTED = 2,   /* by dccp_connection_abort */
     DCCP_END_FORGOTTEN = 3, /* by a Reset with code 3 to an end that had not closed: the peer does not know the connection. It was started again, or
@@ -50,7 +50,7 @@ typedef struct dccp_address {
 
 /* An event of a connection; `kind` is a dccp_event_kind of dccp.h. DCCP_EVENT_OPENED: data may be sent; a server's client has shown that it hears
  * the answers. DCCP_EVENT_DATA: `length` bytes at `data`, maybe none, which stay until the next call of dccp_socket_poll. DCCP_EVENT_ROOM: the
- * window has room again, after dccp_connection_send answered DCCP_WINDOW_FULL or DCCP_NOT_NEGOTIATED. DCCP_EVENT_ENDED: it has ended, for `cause`.
+ * window has room again, after dccp_connection_send returned DCCP_WINDOW_FULL or DCCP_NOT_NEGOTIATED. DCCP_EVENT_ENDED: it has ended, for `cause`.
  * If the options have `holding`, there are in place of DCCP_EVENT_DATA: DCCP_EVENT_WAITS, the data of a packet wait for dccp_connection_read; and
  * DCCP_EVENT_DROPPED, they were dropped, with the Drop Code `code` (RFC 4340, section 11.7). A server's connection that never opened has no
  * event. */
@@ -79,14 +79,14 @@ typedef struct dccp_statistics {
     dccp_traffic sent;         /* handed to the system; a network may lose them */
     dccp_traffic received;     /* taken */
     uint64_t not_taken;        /* datagrams that were dropped, or answered by a Sync, or by a Reset for a fault */
-    uint64_t answers_left_out; /* Syncs and Resets that were left out, since the limit was reached */
+    uint64_t answers_left_out; /* Syncs and Resets that were not sent, since the limit was reached */
     uint64_t lost;             /* packets of data that count as lost: three later ones were reported, or there was a timeout */
     uint64_t unread_dropped;   /* packets of data that were dropped, since too many waited to be read, or the application reads no more */
 } dccp_statistics;
 
 #define DCCP_STATISTICS_INIT {sizeof(dccp_statistics), {0, 0, 0, 0, 0, 0}, {0, 0, 0, 0, 0, 0}, 0, 0, 0, 0}
 
-/* What a socket is made from. Begin with DCCP_SOCKET_OPTIONS_INIT. A number of 0 is the usual one. */
+/* The options of a socket. Begin with DCCP_SOCKET_OPTIONS_INIT. A number of 0 is the usual one. */
 typedef struct dccp_socket_options {
     size_t size;             /* sizeof(dccp_socket_options): later versions have more fields */
     const dccp_wish *wishes; /* of each end, besides the usual ones; 16 at most */
@@ -101,7 +101,7 @@ typedef struct dccp_socket_options {
     uint32_t most_per_host;  /* connections of a server that may be open for one host: as many as there are. More Requests of the host are answered by
                                 a Reset with code 9. A host is an address of IPv4, or the first 64 bits of one of IPv6 */
     uint32_t holding;        /* how many packets' data wait at an end for dccp_connection_read, 1,024 at most, each of which takes 2 KB from the
-                                beginning. The peer is told of drops and of little room: 0, which is none */
+                                beginning. The peer is told of drops and of a nearly full buffer. 0: none */
 } dccp_socket_options;
 
 #define DCCP_SOCKET_OPTIONS_INIT {sizeof(dccp_socket_options), NULL, 0, NULL, NULL, 0, 0, 0, 0, 0}

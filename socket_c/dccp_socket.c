@@ -428,7 +428,7 @@ static bool is_refusal(const dccp_socket *udp, size_t length, uint64_t *number) 
     return true;
 }
 
-/* Whether the client begins anew: its Request was answered with a Sync, and it refuses this last Sync, whose number only who gets it knows. The
+/* Whether the client begins anew: its Request was answered with a Sync, and it refuses this last Sync, whose number only its receiver knows. The
  * Reset's numbers are not valid here, so it was answered with another Sync, or left out since too many were. Else notes a Sync's number, except one
  * that answers such a Reset: so two exchanges at a time do not hide each other's numbers (own). */
 static bool begins_anew(dccp_connection *it, const dccp_told *told, const dccp_frame *frame, size_t length) {
