@@ -1,7 +1,7 @@
 use Rattle.std.proofs.Common.{◌≡◌, ◌∙◌, sym, arith, length, ap, slice_get, Some, slice_index_or}
 use Rattle.std.proofs.lemmas.Option.{slice_get-get_or}
 use Rattle.feature_machine.proofs.Asking.{due_taken}
-use Rattle.feature_machine.proofs.due.DueIterator.next.Goals as goal
+use Rattle.feature_machine.proofs.due.DueRowsIterator.next.Goals as goal
 
 pub returns-clause-steps : goal.returns-clause-steps
 returns-clause-steps c =
