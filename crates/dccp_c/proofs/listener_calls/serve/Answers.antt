@@ -1,7 +1,7 @@
 use Rattle.std.proofs.Common.{rules, ◌∙◌}
 use Rattle.dccp_c.specs.Framing.{handed_in}
 use Rattle.dccp_c.specs.Listening.{holding_of}
-use Rattle.dccp_c.proofs.Hearing.{met_for_c, shut_for_c}
+use Rattle.dccp_c.proofs.Hearing.{met_for_c}
 use Rattle.dccp_c.proofs.listener_calls.serve.Goals as goal
 
 pub returns-in-Ok : goal.returns-in-Ok
