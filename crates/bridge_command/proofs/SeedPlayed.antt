@@ -7,7 +7,7 @@ use Rattle.rand_pcg.specs.Lcg.{Lcg}
 use Rattle.ccid_two.specs.Kinds.{Both, kinds_control}
 use Rattle.dccp_io.specs.Lines.{lines_of, most_input_bytes}
 use Rattle.dccp_states.specs.declared.phase.Role.TheVariants as role
-use Rattle.fault_campaign.specs.Draws.{after_two, after_word, generator, initial_number, word}
+use Rattle.fault_campaign.specs.Draws.{after_two, after_one, generator, initial_number, word}
 use Rattle.fault_campaign.specs.Reports.{nothing, settled_of, with_seen}
 use Rattle.fault_campaign.specs.Seeded.{Running, after_event, begun_run, frames_of, goes_on, goes_on_for, next_event, next_events, opened_run, played, seeded, seeded_events, seeded_report, usual_from}
 use Rattle.fault_campaign.specs.declared.report.Report.{Report}
@@ -161,7 +161,7 @@ seeded-can law seed events few =
     let run = seeded seed events in
     let short : IsShort (events - 1 + 1) run = after-so-many seed events in (
       law seed events (omega (arith, few)),
-      brief-drawn (word run.words) (word (after_word run.words)) (frames_of run Client) (frames_of run Server) (omega (arith, few, short.clients))
+      brief-drawn (word run.words) (word (after_one run.words)) (frames_of run Client) (frames_of run Server) (omega (arith, few, short.clients))
           (omega (arith, few, short.servers)),
     )
 

@@ -17,7 +17,7 @@ use Rattle.world_events.specs.declared.event.Side.TheVariants.{Client, Server}
 use Rattle.world_events.specs.declared.event.WorldFault.{WorldFault}
 use Rattle.world_events.specs.declared.event.WorldFault.TheVariants as fault
 use Rattle.two_ends.specs.declared.frames.SentFrame.{SentFrame}
-use Rattle.fault_campaign.specs.Draws.{after_word, drawn, drawn_delivery, drawn_index, ending, event_numbered, generator, preference, word}
+use Rattle.fault_campaign.specs.Draws.{after_one, drawn, drawn_delivery, drawn_index, ending, event_numbered, generator, preference, word}
 use Rattle.fault_campaign.specs.Seeded.{Running, begun_run, next_event, seeded}
 use Rattle.fault_campaign.proofs.Schedules.{NeverFar, seeded-near}
 use Rattle.fault_campaign.proofs.Short.{IsShort, after-so-many}
@@ -150,7 +150,7 @@ next-or-far seed events few =
     let run = seeded seed events in
     let short : IsShort (events - 1 + 1) run = after-so-many seed events in
     happens run.world (next_event run) (roomy (events - 1 + 1) run (omega arith) short)
-    (drawn-can run.world.world (said_by kinds_control (congestion_of run.world (actor (next_event run)))) (word run.words) (word (after_word run.words)))
+    (drawn-can run.world.world (said_by kinds_control (congestion_of run.world (actor (next_event run)))) (word run.words) (word (after_one run.words)))
 
 -- The events of a run are too few for a frame to be far.
 pub next-happens : NeverFar → (seed events : ℕ) → events < 2 ^ 23

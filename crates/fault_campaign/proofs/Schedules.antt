@@ -16,7 +16,7 @@ use Rattle.world_events.specs.declared.event.Event.{Event}
 use Rattle.world_events.specs.declared.event.Event.TheVariants.{Open}
 use Rattle.world_events.specs.declared.event.WorldFault.{WorldFault}
 use Rattle.world_events.specs.declared.event.WorldFault.TheVariants as fault
-use Rattle.fault_campaign.specs.Draws.{after_two, after_word, generator, initial_number, word}
+use Rattle.fault_campaign.specs.Draws.{after_two, after_one, generator, initial_number, word}
 use Rattle.fault_campaign.specs.Seeded.{Running, after_event, begun_run, goes_on, goes_on_for, next_event, next_events, opened_run, played, seeded, seeded_events, usual_from}
 
 after-world : (run : Running) (result : Result (ControlledStep Both) WorldFault) → (after_event run result).world ≡ controlled_after run.world result
@@ -60,7 +60,7 @@ joined-fits : (high low : ℕ) → low < 2 ^ 32 → high % 65536 * 2 ^ 32 + low 
 joined-fits high low fits = omega arith
 
 pub number-fits : (g : Lcg) → initial_number g < 2 ^ 48
-number-fits g = joined-fits (word g) (word (after_word g)) (word-fits (after_word g))
+number-fits g = joined-fits (word g) (word (after_one g)) (word-fits (after_one g))
 
 client-fits : (number : ℕ) → number < 2 ^ 48 → Fits (usual_from role.Client number)
 client-fits number fits = record { own_port = lit< tt; peer_port = lit< tt; service = lit< tt; iss = fits; lists = usual_are_lists }

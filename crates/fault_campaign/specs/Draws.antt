@@ -22,16 +22,16 @@ unfoldable pub word : Lcg → ℕ
 word g = (pcg32 g).0
 
 -- the generator once a word was drawn from it
-unfoldable pub after_word : Lcg → Lcg
-after_word g = (pcg32 g).1
+unfoldable pub after_one : Lcg → Lcg
+after_one g = (pcg32 g).1
 
 -- after two words
 abbrev pub after_two : Lcg → Lcg
-after_two g = after_word (after_word g)
+after_two g = after_one (after_one g)
 
 -- an initial sequence number: the last 16 bits of a word, and the next word
 abbrev pub initial_number : Lcg → ℕ
-initial_number g = word g % 65536 * 2 ^ 32 + word (after_word g)
+initial_number g = word g % 65536 * 2 ^ 32 + word (after_one g)
 
 -- which of n frames is delivered: at times any, mostly one of the last eight
 abbrev pub drawn_index : ℕ → ℕ → ℕ

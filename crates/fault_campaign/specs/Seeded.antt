@@ -16,7 +16,7 @@ use Rattle.world_events.specs.declared.event.Event.TheVariants.{Open}
 use Rattle.world_events.specs.declared.event.Side.{Side}
 use Rattle.world_events.specs.declared.event.Side.TheVariants.{Client, Server}
 use Rattle.world_events.specs.declared.event.WorldFault.{WorldFault}
-use Rattle.fault_campaign.specs.Draws.{generator, word, after_word, after_two, initial_number, drawn}
+use Rattle.fault_campaign.specs.Draws.{generator, word, after_one, after_two, initial_number, drawn}
 use Rattle.fault_campaign.specs.Reports.{nothing, with_seen, settled_of}
 use Rattle.fault_campaign.specs.declared.report.Report.{Report}
 
@@ -54,7 +54,7 @@ played run event = after_event run (happens_to kinds_control run.world event)
 
 -- one event more, drawn from two words
 abbrev pub next_event : Running → Event
-next_event run = drawn (word run.words) (word (after_word run.words)) (frames_of run Client) (frames_of run Server)
+next_event run = drawn (word run.words) (word (after_one run.words)) (frames_of run Client) (frames_of run Server)
 
 -- a run after its next event, for which two words were drawn
 abbrev pub goes_on : Running → Running

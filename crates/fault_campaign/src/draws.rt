@@ -1,7 +1,7 @@
 //! What two words of the generator make happen.
 ghost use Rattle.std.specs.Prelude.{◌≡◌, ◌<◌, ◌≤◌, length};
 ghost use Rattle.world_events.specs.declared.event.Event.{Event};
-ghost use Rattle.fault_campaign.specs.Draws.{after_two, after_word, drawn, drawn_delivery, drawn_index, drawn_timer, ending, generator, initial_number, preference, sending, word};
+ghost use Rattle.fault_campaign.specs.Draws.{after_two, after_one, drawn, drawn_delivery, drawn_index, drawn_timer, ending, generator, initial_number, preference, sending, word};
 
 use dccp_endpoint::Timer;
 use feature_lists::{Feature, Place};
@@ -20,10 +20,10 @@ pub(crate) fn generator(seed: u64) -> Pcg32
 }
 
 /// Its next word.
-#[tactic(auto, unfolding(crate::specs::Draws::word, crate::specs::Draws::after_word))]
+#[tactic(auto, unfolding(crate::specs::Draws::word, crate::specs::Draws::after_one))]
 pub(crate) fn next_word(words: &mut Pcg32) -> u32
     ensures value { result ≡ word words.old }
-    ensures rest { words.new ≡ after_word words.old }
+    ensures rest { words.new ≡ after_one words.old }
 {
     words.next_word()
 }

@@ -9,7 +9,7 @@ ghost use Rattle.feature_lists.specs.declared.features.Place.TheVariants.{Here, 
 ghost use Rattle.two_ends.specs.World.{half_of};
 ghost use Rattle.world_events.specs.declared.event.Event.TheVariants.{Open, Prefer, Send};
 ghost use Rattle.world_events.specs.declared.event.Side.TheVariants.{Client, Server};
-ghost use Rattle.fault_campaign.specs.Draws.{after_two, after_word, drawn, generator, word};
+ghost use Rattle.fault_campaign.specs.Draws.{after_two, after_one, drawn, generator, word};
 ghost use Rattle.rand_pcg.specs.Lcg.{Lcg};
 ghost use Rattle.fault_campaign.specs.Reports.{plus, size};
 ghost use Rattle.fault_campaign.specs.Seeded.{begun_run, next_event, seeded, seeded_events, seeded_report};
@@ -65,11 +65,11 @@ pub fn parts_of_a_campaign_add_up()
 /// this order.
 #[tactic(auto, unfolding(crate::specs::Draws::drawn, crate::specs::Seeded::begun_run))]
 pub fn draws_that_no_count_shows()
-    ensures client { (g : Lcg) → word g ≡ 866585574 → word (after_word g) ≡ 2109535214
+    ensures client { (g : Lcg) → word g ≡ 866585574 → word (after_one g) ≡ 2109535214
         → (half_of (begun_run g).world.world Client).end.marks.iss ≡ 13084579918830 }
-    ensures server { (g : Lcg) → word (after_two g) ≡ 3403630417 → word (after_word (after_two g)) ≡ 296513984
+    ensures server { (g : Lcg) → word (after_two g) ≡ 3403630417 → word (after_one (after_two g)) ≡ 296513984
         → (half_of (begun_run g).world.world Server).end.marks.iss ≡ 78413514437056 }
-    ensures greatest { (g : Lcg) → word g ≡ 65535 → word (after_word g) ≡ 4294967295
+    ensures greatest { (g : Lcg) → word g ≡ 65535 → word (after_one g) ≡ 4294967295
         → (half_of (begun_run g).world.world Client).end.marks.iss ≡ 281474976710655 }
     ensures data { (clients servers : ℕ) → drawn 24 441867712 clients servers ≡ Send Client (26 ∷ 86 ∷ 93 ∷ 192 ∷ []) }
     ensures data_of_the_server { (clients servers : ℕ) → drawn 25 1 clients servers ≡ Send Server (0 ∷ 0 ∷ 0 ∷ 1 ∷ []) }

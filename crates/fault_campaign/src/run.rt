@@ -2,7 +2,7 @@
 ghost use Rattle.std.specs.Prelude.{◌≡◌, ℕ, ◌+◌, ◌*◌, ◌^◌, ◌<◌, ◌≤◌, IfOk, OnOk};
 ghost use Rattle.dccp_endpoint.specs.ShortForm.{is_stable};
 ghost use Rattle.fault_campaign.specs.Reports.{is_settled, settled_at, settles, size};
-ghost use Rattle.fault_campaign.specs.Draws.{after_two, after_word, drawn, drawn_delivery, ending, generator, preference, sending, word};
+ghost use Rattle.fault_campaign.specs.Draws.{after_two, after_one, drawn, drawn_delivery, ending, generator, preference, sending, word};
 ghost use Rattle.fault_campaign.specs.Seeded.{begun_run, frames_of, goes_on, goes_on_for, next_event, played, run_report, seeded_report, usual_from};
 ghost use Rattle.two_ends.specs.Pairs.{place_at};
 
@@ -94,7 +94,7 @@ impl Run {
     // The next two words.
     fn next_words(&mut self) -> (u32, u32)
         ensures first { result.0 ≡ word self.old.words }
-        ensures second { result.1 ≡ word (after_word self.old.words) }
+        ensures second { result.1 ≡ word (after_one self.old.words) }
         ensures rest { self.new ≡ record self.old { words = after_two self.old.words } }
     {
         (next_word(&mut self.words), next_word(&mut self.words))
