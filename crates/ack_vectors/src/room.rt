@@ -3,9 +3,7 @@ ghost use Rattle.std.specs.Prelude.{◌≡◌};
 ghost use Rattle.ack_vectors.specs.Vector.{room_of};
 
 use arrayvec::ArrayVec;
-
-// The bytes of data that one option has room for (RFC 4340, section 5.8).
-const OPTION_ROOM: usize = 253;
+use dccp_options::MOST_OPTION_BYTES;
 
 // The bytes that two options have room for.
 const MOST_ROOM: usize = 506;
@@ -28,7 +26,7 @@ pub(crate) fn room_of(vectors: Vectors) -> usize
     ensures { result ≡ room_of vectors }
 {
     match vectors {
-        Vectors::One => OPTION_ROOM,
+        Vectors::One => MOST_OPTION_BYTES,
         Vectors::Two => MOST_ROOM,
     }
 }

@@ -5,10 +5,11 @@ ghost use Rattle.data_dropped.specs.Drops.{code_table, up_to_last_code};
 
 use arrayvec::ArrayVec;
 use circular_buffer::HeapCircularBuffer;
+use dccp_options::MOST_OPTION_BYTES;
 use seq_circle::Seq48;
 
 /// The bytes of a Data Dropped option: at most 253 (RFC 4340, section 5.8).
-pub type DropBytes = ArrayVec<u8, 253>;
+pub type DropBytes = ArrayVec<u8, MOST_OPTION_BYTES>;
 
 /// How many drops count, and how many numbers a report covers at most (own).
 pub(crate) const SPAN: usize = 2048;

@@ -6,10 +6,8 @@ ghost use Rattle.dccp_ecn.specs.EcnVector.{ecn_bytes, ecn_states, is_ecn_whole};
 
 use crate::EcnReceived;
 use ack_vectors::VectorBytes;
+use dccp_options::MOST_OPTION_BYTES;
 use seq_circle::Seq48;
-
-// The bytes of data that one option has room for (RFC 4340, section 5.8).
-const OPTION_ROOM: usize = 253;
 
 // How many numbers a byte covers at most (RFC 4340, section 11.4).
 const MOST: u64 = 64;
@@ -46,7 +44,7 @@ pub(crate) fn put_states(out: &mut VectorBytes, received: &EcnReceived, ack: Seq
     let mut top = ack;
     let mut left = floor.distance(ack) + 1;
     while left > 0 {
-        if out.len() == OPTION_ROOM {
+        if out.len() == MOST_OPTION_BYTES {
             return false;
         }
         let state = received.state(top);

@@ -21,6 +21,6 @@ pub use crate::laws::{
     vectors_continue_each_other, written_options_are_listed, zeros_part_options,
 };
 pub use crate::list::{OptList, options};
-pub use crate::option::{Opt, OptFault};
+pub use crate::option::{MOST_OPTION_BYTES, Opt, OptFault};
 pub use crate::report::{AckReport, ReportRuns, Run};
 pub use crate::writer::{OptFull, OptWriter};

@@ -4,6 +4,9 @@ ghost use Rattle.dccp_options.specs.Kinds as spec;
 
 use crate::kinds::is_understood;
 
+/// The most bytes of data that an option has: its length counts its type and itself too (RFC 4340, section 5.8).
+pub const MOST_OPTION_BYTES: usize = 253;
+
 /// An option of a packet's option area (RFC 4340, section 5.8).
 #[derive(Clone, Copy, Debug, PartialEq, Eq)]
 pub struct Opt<'a> {

@@ -10,10 +10,11 @@ use crate::route::RouteBytes;
 use crate::{Opening, Route};
 use arrayvec::ArrayVec;
 use byteorder::{BigEndian, ByteOrder};
+use dccp_options::MOST_OPTION_BYTES;
 use seq_circle::Seq48;
 
 /// The data of an Init Cookie, at most 253 bytes (RFC 4340, section 8.1.4).
-pub type CookieBytes = ArrayVec<u8, 253>;
+pub type CookieBytes = ArrayVec<u8, MOST_OPTION_BYTES>;
 
 // The bytes of a tag.
 const TAG: usize = 8;

@@ -4,8 +4,8 @@ ghost use Rattle.dccp_options.specs.Written.{spelled};
 ghost use Rattle.init_cookies.specs.CookieOptions.{cookie_options, first_cookie, one_cookie};
 
 use arrayvec::ArrayVec;
-use dccp_options::OptList;
 use dccp_options::kinds::INIT_COOKIE;
+use dccp_options::{MOST_OPTION_BYTES, OptList};
 
 /// An Init Cookie as it is among options: its type, its length and its data.
 pub type CookieOption = ArrayVec<u8, 256>;
@@ -56,7 +56,7 @@ pub fn one_cookie(options: &OptList<'_>, out: &mut CookieOption)
     let Some(body) = next_cookie(&mut rest) else {
         return;
     };
-    if next_cookie(&mut rest).is_none() && body.len() <= 253 {
+    if next_cookie(&mut rest).is_none() && body.len() <= MOST_OPTION_BYTES {
         init_cookie(body, out);
     }
 }

@@ -4,10 +4,8 @@ ghost use Rattle.tool_text.specs.Left.{left_of};
 ghost use Rattle.schedule_text.specs.Frames as spec;
 
 use crate::{FrameDigits, FrameLine, LineFault, LineWhy};
+use dccp_packets::MOST_FRAME_BYTES;
 use tool_text::{Hex, Row, Words, is_text, read_line};
-
-// A packet that is too long for this has no frame.
-const MOST_OF_FRAME: usize = 2044;
 
 // The checksum is the last of a packet's first eight bytes.
 const SEALED: usize = 8;
@@ -16,7 +14,7 @@ const SEALED: usize = 8;
 fn size_cause(seal: bool, length: usize) -> Option<LineWhy>
     ensures { result ≡ spec.size_cause seal length }
 {
-    if MOST_OF_FRAME < length {
+    if MOST_FRAME_BYTES < length {
         Some(LineWhy::FrameTooLong)
     } else if seal && length < SEALED {
         Some(LineWhy::SealShort)

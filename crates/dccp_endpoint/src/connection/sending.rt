@@ -14,8 +14,8 @@ use super::{Connection, fit};
 use crate::outgoing::{put_alone, put_frame};
 use crate::speaking::{asking, open_offers, put_changes, put_confirms, send_all};
 use ack_vectors::VectorBytes;
-use dccp_options::OptWriter;
 use dccp_options::kinds::ACK_VECTOR_0;
+use dccp_options::{MOST_OPTION_BYTES, OptWriter};
 use dccp_packets::{Kind, Number, Outbox};
 use feature_lists::{Feature, Place};
 use feature_machine::{ConfirmOut, Held, Stand};
@@ -30,9 +30,6 @@ fn is_settled_on_one(held: &Held) -> bool
 {
     matches!(held.stand, Stand::Stable) && held.value == 1
 }
-
-// The bytes of data that one option has room for (RFC 4340, section 5.8).
-const OPTION_ROOM: usize = 253;
 
 // Writes one option of an Ack Vector.
 fn put_option(area: &mut OptWriter, part: &[u8])
@@ -52,7 +49,7 @@ fn put_two(area: &mut OptWriter, bytes: &[u8])
     ensures bytes { area.new ≡ area.old ++ (spelled false 38 (take 253 bytes.now) ++ spelled false 38 (drop 253 bytes.now)) }
     ensures short { length area.new ≤ length area.old + 510 }
 {
-    let (first, second) = bytes.split_at(OPTION_ROOM);
+    let (first, second) = bytes.split_at(MOST_OPTION_BYTES);
     put_option(area, first);
     put_option(area, second);
 }
@@ -65,7 +62,7 @@ fn put_options(area: &mut OptWriter, bytes: &[u8])
     ensures bytes { area.new ≡ area.old ++ written (map vector_item (option_data bytes.now)) }
     ensures short { length area.new ≤ length area.old + 510 }
 {
-    if bytes.len() <= OPTION_ROOM {
+    if bytes.len() <= MOST_OPTION_BYTES {
         put_option(area, bytes);
     } else {
         put_two(area, bytes);

@@ -5,18 +5,18 @@ use Rattle.dccp_ecn.specs.EcnVector.{ecn_states}
 use Rattle.dccp_ecn.proofs.ByPieces.{bytes_down, bytes_down-first, bytes_down-some, full-vector, whole-vector}
 use Rattle.dccp_ecn.proofs.writing.put_states.Goals as goal
 
-pub returns-then-len-eq-OPTION_ROOM-clause-bytes : goal.returns-then-len-eq-OPTION_ROOM-clause-bytes
-returns-then-len-eq-OPTION_ROOM-clause-bytes c =
+pub returns-then-len-eq-MOST_OPTION_BYTES-clause-bytes : goal.returns-then-len-eq-MOST_OPTION_BYTES-clause-bytes
+returns-then-len-eq-MOST_OPTION_BYTES-clause-bytes c =
     let states = ecn_states c.args.received.now in
-    let full : length c.loop-left.out.items ≡ 253 = omega (arith, c.len.ensures.value, c.if-len-eq-OPTION_ROOM.true) in
+    let full : length c.loop-left.out.items ≡ 253 = omega (arith, c.len.ensures.value, c.if-len-eq-MOST_OPTION_BYTES.true) in
     let some : 0 < c.loop-left.left = omega (arith, c.loop-left-test.true) in
     (full-vector 253 c.loop-left.out.items (bytes_down states c.loop-left.left c.loop-left.top) _ full
     (bytes_down-some states c.loop-left.left c.loop-left.top some) c.loop-left.invariant.joins).0
 
-pub returns-then-len-eq-OPTION_ROOM-clause-whole : goal.returns-then-len-eq-OPTION_ROOM-clause-whole
-returns-then-len-eq-OPTION_ROOM-clause-whole c =
+pub returns-then-len-eq-MOST_OPTION_BYTES-clause-whole : goal.returns-then-len-eq-MOST_OPTION_BYTES-clause-whole
+returns-then-len-eq-MOST_OPTION_BYTES-clause-whole c =
     let states = ecn_states c.args.received.now in
-    let full : length c.loop-left.out.items ≡ 253 = omega (arith, c.len.ensures.value, c.if-len-eq-OPTION_ROOM.true) in
+    let full : length c.loop-left.out.items ≡ 253 = omega (arith, c.len.ensures.value, c.if-len-eq-MOST_OPTION_BYTES.true) in
     let some : 0 < c.loop-left.left = omega (arith, c.loop-left-test.true) in
     sym (full-vector 253 c.loop-left.out.items (bytes_down states c.loop-left.left c.loop-left.top) _ full
     (bytes_down-some states c.loop-left.left c.loop-left.top some) c.loop-left.invariant.joins).1
@@ -33,7 +33,7 @@ loop-left-preserved c =
     bytes_down-first states state left count top c.loop-left.invariant.top c.alike-count.ensures.some (rw most at c.alike-count.ensures.few)
     c.alike-count.ensures.alike (rw most at c.alike-count.ensures.other) in
     record {
-      fits = omega (arith, c.push.ensures.len, c.loop-left.invariant.fits, c.len.ensures.value, c.if-len-eq-OPTION_ROOM.false);
+      fits = omega (arith, c.push.ensures.len, c.loop-left.invariant.fits, c.len.ensures.value, c.if-len-eq-MOST_OPTION_BYTES.false);
       top = rw c.sub-top.ensures (omega arith);
       joins =
           rw (c.push.ensures.items, c.sub-top.ensures, append_assoc c.loop-left.out.items _ _)
