@@ -2,7 +2,8 @@
 use Rattle.std.proofs.Common.{arith, ◌≡◌, ◌∙◌, sym, ap, refl, ℕ, ◌+◌, ◌-◌, ◌≤◌, List, [], ◌∷◌, ◌++◌, length, length-append, length-drop, take, drop}
 use Rattle.std.proofs.lemmas.List.{length-take-le}
 use Rattle.byteorder.specs.Endian.{big_bytes}
-use Rattle.bridge_links.specs.Extensions.{bytes_at, plain_length, without_extensions}
+use Rattle.capture_reader.specs.Records.{bytes_at}
+use Rattle.bridge_links.specs.Extensions.{plain_length, without_extensions}
 use Rattle.bridge_links.specs.declared.extensions.Upper.{Upper}
 
 -- some bytes that are there

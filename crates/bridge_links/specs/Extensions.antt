@@ -1,6 +1,7 @@
 -- An IPv6 packet whose extension headers are taken out (RFC 8200, section 4).
 use Rattle.std.specs.Prelude.{ℕ, zero, suc, ◌+◌, ◌-◌, ◌*◌, ◌/◌, ◌&&◌, ◌||◌, ◌==◌, Bool, not, nat_le, nat_lt, if◌then◌else◌, List, [], ◌∷◌, ◌++◌, length, drop, take, slice_index, Option, Some, None}
 use Rattle.byteorder.specs.Endian.{big_bytes}
+use Rattle.capture_reader.specs.Records.{bytes_at}
 use Rattle.dccp_packets.specs.Grammar.{number_at}
 use Rattle.bridge_links.specs.declared.extensions.Upper.{Upper}
 
@@ -47,10 +48,6 @@ upper_of ip = upper_from 16 (slice_index ip 6) 40 24 ip
 -- IPv6 with an extension header after its own
 abbrev pub is_extended : List ℕ → Bool
 is_extended ip = nat_le 40 (length ip) && (slice_index ip 0 / 16 == 6 && is_extension (slice_index ip 6))
-
--- some bytes from a place on
-abbrev pub bytes_at : ℕ → ℕ → List ℕ → List ℕ
-bytes_at place count bytes = take count (drop place bytes)
 
 -- the payload length of the packet without them
 abbrev pub plain_length : Upper → List ℕ → ℕ

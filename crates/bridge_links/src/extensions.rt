@@ -2,6 +2,7 @@
 ghost use Rattle.std.specs.Prelude.{◌≡◌, ◌++◌, ◌+◌, ◌≤◌, length, option_map, true, IfOk, IfSome, OnOk};
 ghost use Rattle.byteorder.specs.Endian.{big_bytes};
 ghost use Rattle.dccp_packets.specs.Grammar.{number_at};
+ghost use Rattle.capture_reader.specs.Records.{bytes_at};
 ghost use Rattle.bridge_links.specs.Extensions as spec;
 
 use crate::numbers::read_u16;
@@ -156,7 +157,7 @@ fn put_u16(text: &mut Vec<u8>, value: u16) -> Result<(), NoMemory>
 // Some bytes from a place on.
 fn bytes_at(bytes: &[u8], place: usize, count: usize) -> &[u8]
     requires { place + count ≤ length bytes.now }
-    ensures { result.now ≡ spec.bytes_at place count bytes.now }
+    ensures { result.now ≡ bytes_at place count bytes.now }
 {
     &bytes[place..place + count]
 }

@@ -93,6 +93,10 @@ holds_after size (Err why) = true
 abbrev pub is_record_settled : Order → ℕ → List ℕ → Bool
 is_record_settled order room pending = nat_le 16 (length pending) && holds_after (length pending - 16) (header_in order room pending)
 
+-- some bytes from a place on
+abbrev pub bytes_at : ℕ → ℕ → List ℕ → List ℕ
+bytes_at place count bytes = take count (drop place bytes)
+
 -- the record with this number, header and bytes
 abbrev pub entry_with : Format → ℕ → RecordHeader → List ℕ → RecordParts
 entry_with format number header bytes = record {

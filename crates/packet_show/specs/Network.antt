@@ -1,7 +1,8 @@
 -- Where a captured record carries DCCP: Ethernet, IPv4 (RFC 791, section 3.1) and IPv6 (RFC 8200, section 3).
-use Rattle.std.specs.Prelude.{ℕ, ◌≤◌, ◌+◌, ◌-◌, ◌*◌, ◌/◌, ◌%◌, Bool, ◌&&◌, ◌==◌, nat_le, nat_lt, if◌then◌else◌, List, length, take, drop, slice_index, Option, Some, None, option_map}
+use Rattle.std.specs.Prelude.{ℕ, ◌≤◌, ◌+◌, ◌-◌, ◌*◌, ◌/◌, ◌%◌, Bool, ◌&&◌, ◌==◌, nat_le, nat_lt, if◌then◌else◌, List, length, drop, slice_index, Option, Some, None, option_map}
 use Rattle.dccp_sum.specs.declared.pseudo_header.Pseudo.{Pseudo}
 use Rattle.dccp_sum.specs.declared.pseudo_header.Pseudo.TheVariants.{V4, V6}
+use Rattle.capture_reader.specs.Records.{bytes_at}
 use Rattle.packet_show.specs.declared.network.Datagram.{Datagram}
 use Rattle.dccp_packets.specs.Grammar.{number_at}
 
@@ -22,10 +23,6 @@ parts_in = option_map carried_by
 -- a datagram's bytes have an IP length
 abbrev pub FitsIp : Datagram → Type 0
 FitsIp d = length d.bytes.now ≤ 65535
-
--- some bytes from a place on
-abbrev pub bytes_at : ℕ → ℕ → List ℕ → List ℕ
-bytes_at place count bytes = take count (drop place bytes)
 
 -- the IP version: the first four bits
 abbrev pub version : List ℕ → ℕ

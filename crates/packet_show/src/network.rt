@@ -1,6 +1,7 @@
 //! DCCP in captured records: Ethernet, IPv4 (RFC 791, section 3.1) and IPv6 (RFC 8200, section 3).
 ghost use Rattle.std.specs.Prelude.{◌≡◌, ◌+◌, ◌≤◌, length, take, IfSome};
-ghost use Rattle.packet_show.specs.Network.{FitsIp, after_v4, after_v6, bytes_at, carried, carried_by, in_ethernet, in_frame, in_ip, in_v4, in_v6, is_unfragmented, is_v4, is_v6, parts_in, v4_header, v4_total, v6_payload, version};
+ghost use Rattle.capture_reader.specs.Records.{bytes_at};
+ghost use Rattle.packet_show.specs.Network.{FitsIp, after_v4, after_v6, carried, carried_by, in_ethernet, in_frame, in_ip, in_v4, in_v6, is_unfragmented, is_v4, is_v6, parts_in, v4_header, v4_total, v6_payload, version};
 ghost use Rattle.dccp_packets.specs.Grammar.{number_at};
 
 use byteorder::{BigEndian, ByteOrder};
