@@ -1,6 +1,7 @@
 -- What C finds once it has called an end (own; the steps are the end's).
-use Rattle.std.specs.Prelude.{ℕ, ◌^◌, ◌-◌, Bool, true, false, List, [], ◌∷◌, Option, Some, None, unwrap_or, if◌then◌else◌}
+use Rattle.std.specs.Prelude.{ℕ, Bool, true, false, List, [], ◌∷◌, Option, Some, None, unwrap_or, if◌then◌else◌}
 use Rattle.data_dropped.specs.declared.drops.DropEntry.{DropEntry}
+use Rattle.dccp_server.specs.Due.{never}
 use Rattle.dccp_uses.specs.Timed.{every_due, first_due_of, first_wait_left}
 use Rattle.dccp_uses.specs.declared.timed_end.Due.{Due}
 use Rattle.dccp_c.specs.Framing.{Handed, handed_of, nothing_handed}
@@ -15,10 +16,6 @@ c_tells now s (Some it) = record { after = (c_told it now s).after; frame = (c_t
 -- the first of the six timers and the rules that is due is told
 abbrev pub c_ticks : ℕ → CDoing Bool
 c_ticks now s = c_tells now s (first_due_of s.timed now every_due)
-
--- no time at all: 2^64 - 1
-abbrev pub never : ℕ
-never = 2 ^ 64 - 1
 
 -- how long it is until something of an end is due, if anything will be
 abbrev pub c_waits : ℕ → Option CEnd → ℕ

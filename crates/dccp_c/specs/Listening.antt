@@ -46,7 +46,7 @@ use Rattle.dccp_c.specs.Framing.{Handed, handed_of, nothing_handed}
 use Rattle.dccp_c.specs.Outcomes.{told_arrival, told_heard, told_outcome}
 use Rattle.dccp_c.specs.declared.told.Told.{Told}
 use Rattle.dccp_c.specs.Codes.{restraint_code, timer_code}
-use Rattle.dccp_c.specs.Doing.{never}
+use Rattle.dccp_server.specs.Due.{never}
 use Rattle.dccp_c.specs.KeepingListener.{InnerListener}
 use Rattle.dccp_c.specs.Seeing.{seen_within}
 use Rattle.dccp_c.specs.Telling.{is_short}
