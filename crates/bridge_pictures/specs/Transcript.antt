@@ -5,6 +5,7 @@ use Rattle.dccp_packets.specs.Grammar.{Parts, decoded}
 use Rattle.dccp_packets.specs.declared.header.Kind.{Kind}
 use Rattle.dccp_packets.specs.declared.reading.Malformed.{Malformed}
 use Rattle.packet_show.specs.Lines.{words_text}
+use Rattle.schedule_text.specs.Printing.{side_letter}
 use Rattle.tool_jobs.specs.Peers.{peer_text}
 use Rattle.tool_text.specs.Jobs.{Accepted, Gone, Job, Refused, Verdict, gone_through, refusal_told, text_apart}
 use Rattle.tool_text.specs.Names.{malformed_name}
@@ -19,11 +20,6 @@ use Rattle.bridge_pictures.specs.declared.ladder.lines.LadderLine.{LadderLine}
 use Rattle.bridge_pictures.specs.declared.ladder.lines.LadderLine.TheVariants as draws
 use Rattle.bridge_pictures.specs.declared.ladder.phases.Fate.{Fate}
 use Rattle.bridge_pictures.specs.declared.ladder.scene.Subject.TheVariants as subjects
-
--- the letter of a side's frames
-abbrev pub side_letter : Side → List ℕ
-side_letter Client = codes "c"
-side_letter Server = codes "s"
 
 -- what a packet says, or why bytes are none
 abbrev pub words_by : Result Parts Malformed → List ℕ

@@ -21,7 +21,9 @@ pub use crate::laws::{
     the_first_fault_is_answered, the_first_fault_of_a_frame_is_answered,
 };
 pub use crate::line::{FrameDigits, FrameLine, Line};
-pub use crate::printing::{print_event, print_result, print_seen, put_result, side_name};
+pub use crate::printing::{
+    print_event, print_result, print_seen, put_result, side_letter, side_name,
+};
 pub use crate::reading::{payload_of, read_line, read_line_into};
 pub use dccp_states::Timer;
 pub use tool_text::{LineFault, LineWhy, words_stand_at_their_columns};

@@ -25,7 +25,8 @@ pub fn side_name(side: Side) -> &'static [u8]
     }
 }
 
-fn side_letter(side: Side) -> &'static [u8]
+/// The letter of a side's frames (own).
+pub fn side_letter(side: Side) -> &'static [u8]
     ensures { result.now ≡ side_letter side }
 {
     match side {

@@ -15,7 +15,7 @@ use dccp_io::{Sink, Source};
 use dccp_listener::Peer;
 use dccp_packets::{Kind, MOST_FRAME_BYTES, decode};
 use packet_show::put_words;
-use schedule_text::FrameLine;
+use schedule_text::{FrameLine, side_letter};
 use seq_circle::NoMemory;
 use std::alloc::Global;
 use tool_jobs::put_peer;
@@ -24,15 +24,6 @@ use tool_text::{
     run_lines_apart,
 };
 use world_events::Side;
-
-fn side_letter(side: Side) -> &'static [u8]
-    ensures { result.now ≡ spec.side_letter side }
-{
-    match side {
-        Side::Client => b"c",
-        Side::Server => b"s",
-    }
-}
 
 // Puts what a frame says.
 fn put_packet_words(text: &mut Vec<u8>, bytes: &[u8]) -> Result<(), NoMemory>
