@@ -22,7 +22,8 @@ use Rattle.schedule_text.specs.Frames.{replay_row}
 use Rattle.schedule_text.specs.declared.line.FrameLine.{FrameLine}
 use Rattle.tool_jobs.specs.Peers.{peer_of}
 use Rattle.bridge_command.specs.Capturing.{timed_arrival, by_told, capture_job, first_clock, frames_capture, timed, transcript_gone, transcript_judged, travel_in}
-use Rattle.bridge_command.specs.TranscriptLines.{CanArrive, came_by, came_said, frame_name_read, frame_told, is_other, line_said, numbered, sent_said, told_first, told_of_line, without_colon}
+use Rattle.bridge_pictures.specs.LadderLines.{without_colon}
+use Rattle.bridge_command.specs.TranscriptLines.{CanArrive, came_by, came_said, frame_name_read, frame_told, is_other, line_said, numbered, sent_said, told_first, told_of_line}
 use Rattle.bridge_command.specs.FrameReading.{FitsFrame, travels}
 use Rattle.bridge_command.specs.FrameRecords.{TimedFrame, frame_record}
 use Rattle.capture_reader.specs.Records.{captured}

@@ -1,6 +1,7 @@
 -- What the lines of a transcript tell: those that `run`, `replay` and `listen` write, and between them what came (own).
-use Rattle.std.specs.Prelude.{◌≡◌, ◌≤◌, ℕ, true, ◌^◌, ◌-◌, ◌==◌, ◌||◌, ◌&&◌, nat_lt, Bool, if◌then◌else◌, List, [], ◌∷◌, length, take, slice_index, codes, Option, Some, None, Result, Ok, Err}
+use Rattle.std.specs.Prelude.{◌≡◌, ◌≤◌, ℕ, true, ◌^◌, ◌==◌, ◌||◌, nat_lt, Bool, if◌then◌else◌, List, [], ◌∷◌, length, codes, Option, Some, None, Result, Ok, Err}
 use Rattle.std.specs.Str.{bytes_eq}
+use Rattle.bridge_pictures.specs.LadderLines.{without_colon}
 use Rattle.dccp_listener.specs.declared.peer.Peer.{Peer}
 use Rattle.schedule_text.specs.Frames.{replay_row}
 use Rattle.tool_jobs.specs.Peers.{peer_of}
@@ -45,11 +46,6 @@ frame_name_read (letter ∷ index) =
 -- the first words of the lines of ends and of flows; that of a refusal is none, so what was refused is refused again
 abbrev pub is_other : List ℕ → Bool
 is_other word = (bytes_eq word (codes "end") || bytes_eq word (codes "flows")) || bytes_eq word (codes "flow")
-
--- a word without the colon at its end, if one is there
-abbrev pub without_colon : List ℕ → List ℕ
-without_colon word =
-    if nat_lt 0 (length word) && slice_index word (length word - 1) == 58 then take (length word - 1) word else word
 
 -- the number of a line, where one was found
 abbrev pub numbered : Result ℕ Flaw → Result TranscriptLine Flaw

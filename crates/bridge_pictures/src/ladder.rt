@@ -9,4 +9,5 @@ mod scene;
 mod transcript;
 
 pub use crate::ladder::flow::ladder_of_flow;
+pub use crate::ladder::lines::without_colon;
 pub use crate::ladder::transcript::ladder_of_transcript;

@@ -12,6 +12,6 @@ mod svg;
 mod walk;
 mod windows;
 
-pub use crate::ladder::{ladder_of_flow, ladder_of_transcript};
+pub use crate::ladder::{ladder_of_flow, ladder_of_transcript, without_colon};
 pub use crate::walk::{FlowEnds, ends_by, record_of_ip, side_from};
 pub use crate::windows::{windows_of_flow, windows_of_schedule};

@@ -1,9 +1,10 @@
 //! What a line of a transcript tells.
 ghost use Rattle.std.specs.Prelude.{◌≡◌, IfErr, IfOk, IfSome};
 ghost use Rattle.tool_text.specs.Left.{left_of};
-ghost use Rattle.bridge_command.specs.TranscriptLines.{CanArrive, came_said, frame_came, frame_name_read, frame_of_sender, to_peer_named, is_other, line_said, sent_said, told_first, told_of_line, without_colon};
+ghost use Rattle.bridge_command.specs.TranscriptLines.{CanArrive, came_said, frame_came, frame_name_read, frame_of_sender, to_peer_named, is_other, line_said, sent_said, told_first, told_of_line};
 
 use crate::capture::records::Travel;
+use bridge_pictures::without_colon;
 use dccp_listener::Peer;
 use schedule_text::{FrameLine, FrameWords};
 use tool_jobs::peer_of;
@@ -88,20 +89,6 @@ fn is_other(word: &[u8]) -> bool
     ensures { result ≡ is_other word.now }
 {
     is_text(word, b"end") || is_text(word, b"flows") || is_text(word, b"flow")
-}
-
-// A word without the colon at its end, if one is there.
-fn without_colon(word: &[u8]) -> &[u8]
-    ensures { result.now ≡ without_colon word.now }
-{
-    if word.is_empty() {
-        return word;
-    }
-    let last = word.len() - 1;
-    if word[last] == b':' {
-        return &word[..last];
-    }
-    word
 }
 
 // What the first word of a line tells that is no line of a frame.

@@ -50,8 +50,8 @@ pub(crate) enum LadderLine<'a> {
     Arrived(Option<Peer>, FrameLine<'a>),
 }
 
-// A word without the colon at its end, if one is there.
-fn without_colon(word: &[u8]) -> &[u8]
+/// A word without the colon at its end, if one is there (own).
+pub fn without_colon(word: &[u8]) -> &[u8]
     ensures { result.now ≡ spec.without_colon word.now }
 {
     if word.is_empty() {
