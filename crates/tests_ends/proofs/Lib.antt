@@ -1,6 +1,7 @@
 pub mod RowsSeen
 pub mod Rows
 pub mod RowsAdditive
+pub mod RowsAlarms
 pub mod RowsAsked
 pub mod RowsAtAClient
 pub mod RowsAtAServer

@@ -1,8 +1,13 @@
--- What an owner begins with, and in which phases he times packets, computed from the definitions. The values are those of docs/PROTOCOL.md and of
--- RFC 4340: an Ack Ratio of 2 (section 11.3), and the phases in which the first packet of an end waits for its answer (sections 8.1.1 and 8.1.3).
-use Rattle.std.proofs.Common.{◌≡◌, refl, true, false}
+-- What an owner begins with, in which phases he times packets, and which of them he hears, computed from the definitions. The values are those of
+-- docs/PROTOCOL.md and of RFC 4340: an Ack Ratio of 2 (section 11.3), the phases in which the first packet of an end waits for its answer (sections
+-- 8.1.1 and 8.1.3), and those in which windows judge what arrives (section 8.5, steps 5 and 6).
+use Rattle.std.proofs.Common.{◌≡◌, refl, true, false, Some, None}
 use Rattle.dccp_states.specs.declared.phase.Phase.TheVariants as phases
+use Rattle.validity_windows.specs.declared.verdict.Verdict.TheVariants.{Drop, SyncFor, Valid}
 use Rattle.dccp_uses.specs.Path.{classic_pace, is_handshake, is_open_phase, path_begins, usual_pace}
+use Rattle.dccp_uses.specs.Syncs.{admitted_by, admitted_within, has_windows, is_sync_verdict, noticed_if}
+use Rattle.dccp_uses.specs.declared.notice.Notice.{Notice}
+use Rattle.dccp_uses.specs.declared.path.Path.{Path}
 
 -- all rules, and none
 all_rules_or_none :
@@ -26,3 +31,34 @@ phases_of_a_handshake :
     × (is_open_phase phases.Respond ≡ false) × (is_open_phase phases.PartOpen ≡ false) × (is_open_phase phases.Open ≡ true)
     × (is_open_phase phases.CloseReq ≡ false) × (is_open_phase phases.Closing ≡ false) × (is_open_phase phases.TimeWait ≡ false)
 phases_of_a_handshake = (refl, refl, refl, refl, refl, refl, refl, refl, refl, refl, refl, refl, refl, refl, refl, refl, refl, refl)
+
+-- RESPOND to CLOSING; and of the three verdicts one is a Sync
+phases_with_windows :
+    (has_windows phases.Closed ≡ false) × (has_windows phases.Listen ≡ false) × (has_windows phases.Request ≡ false) × (has_windows phases.Respond ≡ true)
+    × (has_windows phases.PartOpen ≡ true) × (has_windows phases.Open ≡ true) × (has_windows phases.CloseReq ≡ true) × (has_windows phases.Closing ≡ true)
+    × (has_windows phases.TimeWait ≡ false)
+    × (is_sync_verdict Valid ≡ false) × (is_sync_verdict (SyncFor 7) ≡ true) × (is_sync_verdict Drop ≡ false)
+phases_with_windows = (refl, refl, refl, refl, refl, refl, refl, refl, refl, refl, refl, refl)
+
+-- The last near number is 2^24 - 1 from 1001, and each number has a bucket for its distance: of 20 tokens, and of one.
+abbrev usual : Path
+usual = path_begins usual_pace
+
+which_numbers_share_a_bucket :
+    ((admitted_by usual (Some 16778216) 1001 1000).path ≡ record usual { near = record { thousandths = 19000; since = 1000 } })
+    × ((admitted_by usual (Some 16778217) 1001 1000).path ≡ record usual { far = record { thousandths = 0; since = 1000 } })
+    × ((admitted_by usual (Some 281474959934442) 1001 1000).path ≡ record usual { near = record { thousandths = 19000; since = 1000 } })
+    × ((admitted_by usual (Some 281474959934441) 1001 1000).path ≡ record usual { far = record { thousandths = 0; since = 1000 } })
+    × ((admitted_by usual None 1001 1000) ≡ record { heard = true; path = usual })
+    × ((admitted_by usual (Some 1001) 1001 1000).heard ≡ true)
+    × ((admitted_by (record usual { near = record { thousandths = 999; since = 1000 } }) (Some 1001) 1001 1000).heard ≡ false)
+    × ((admitted_within (record usual { near = record { thousandths = 999; since = 1000 } }) (Some 1001) 1001 1000).heard ≡ false)
+    × ((admitted_within (record (path_begins classic_pace) { near = record { thousandths = 999; since = 1000 } }) (Some 1001) 1001 1000).heard ≡ true)
+which_numbers_share_a_bucket = (refl, refl, refl, refl, refl, refl, refl, refl, refl)
+
+-- A datagram's word counts where the datagram is heard, and the rule is followed.
+when_a_word_counts : (word : Notice) →
+    ((noticed_if true word (record { heard = true; path = usual })).path ≡ record usual { notice = word })
+    × ((noticed_if true word (record { heard = false; path = record usual { notice = word } })).path ≡ usual)
+    × ((noticed_if false word (record { heard = true; path = usual })).path ≡ usual)
+when_a_word_counts word = (refl, refl, refl)
