@@ -70,7 +70,7 @@ c_sends payload now s = beside_cookie s.cookie (steps_beside s.inbox (timed_send
 abbrev pub c_prefers : Feature → Place → List ℕ → ℕ → CCall PreferFault
 c_prefers feature place values now s = beside_cookie s.cookie (steps_beside s.inbox (timed_prefers kinds_control now s.timed feature place values))
 
--- a timer has run out, whoever keeps it
+-- a timer has run out: the end's own, or one that its owner keeps
 abbrev pub c_fires : Timer → ℕ → CDoing Bool
 c_fires timer now s = beside_cookie s.cookie (steps_beside s.inbox (timed_fires kinds_control now s.timed timer))
 

@@ -577,7 +577,7 @@ pub extern "C" fn dccp_listener_abort(
     )
 }
 
-/// `Server::ask` with `UserCall::Timer`, for the timer of this number: for whoever keeps the timers of a flow himself.
+/// `Server::ask` with `UserCall::Timer`, for the timer of this number: for an owner that keeps the timers of a flow itself.
 /// Answers DONE, NOT_MADE, NO_FLOW, NOTHING_DUE, or NO_TIMER where there is none of this number; then nothing changes.
 #[unsafe(no_mangle)]
 pub extern "C" fn dccp_listener_timer(

@@ -1,4 +1,4 @@
-//! What whoever links the library compares with its header (own).
+//! What a program that links the library compares with its header (own).
 ghost use Rattle.std.specs.Prelude.{◌≡◌};
 
 /// The number of the border, which rises with every change of a function, a struct or a number that crosses it.

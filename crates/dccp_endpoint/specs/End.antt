@@ -141,7 +141,7 @@ phase_entered phase.TimeWait = phase.TimeWait
 -- What holds of every end: its phase is one of its role's, and so are its rows, which are sound; and its windows are as
 -- wide as the rows say and as they may be. Without the first a Request that opens could be unexpected, and `Synced`
 -- would have to tell of packets that also set the first number received. That the set of marked numbers is sound is no
--- part of it: the type of `Received` keeps that, and whoever is above has it from `floor`.
+-- part of it: the type of `Received` keeps that, and crates above have it from `floor`.
 pub record IsProper (e : EndState) : Type 0 where
   pub phase_fits : is_phase_of e.phase e.config.role ≡ true
   pub rows : AreRowsOf (end_of e.config.role) e.rows

@@ -1,4 +1,4 @@
-//! An end that is handed many frames, whoever made them.
+//! An end that is handed many frames of any sender.
 ghost use Rattle.std.specs.Prelude.{◌≡◌, ◌<◌, ◌^◌, length};
 ghost use Rattle.dccp_endpoint.specs.Feeding.{after_frame, count_of_outcome, count_of_taken, fed, receiving};
 

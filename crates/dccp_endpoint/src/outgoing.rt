@@ -1,5 +1,5 @@
-//! The packets that go out between the ends of a configuration, whoever numbers them: a frame is written where it stands
-//! in the Outbox, with its checksum.
+//! The packets that go out between the ends of a configuration, under any numbers: a frame is written at its place in the
+//! Outbox, with its checksum.
 ghost use Rattle.std.specs.Prelude.{◌≡◌, ◌≤◌, ◌+◌, Some, true, false, length};
 ghost use Rattle.dccp_endpoint.specs.Drafts.{alone, framed, sent_as, sent_of};
 ghost use Rattle.dccp_endpoint.specs.Receiving.{number_without_connection};

@@ -265,7 +265,7 @@ pub has_place : {V : Type 0} (end : Option FlowEnd) (kept : List (Peer × V)) (p
 has_place {V} None kept peer there = tt
 has_place {V} (Some e) kept peer there = there
 
--- and whoever has none, and an end, has a place
+-- and a peer with an end has a place
 pub place_there_if : {V : Type 0} (found : Option FlowEnd) (e : FlowEnd) (kept : List (Peer × V)) (peer : Peer) → found ≡ Some e → HasPlaceIf found kept peer
     → IsSome (lookup (is_peer peer) kept)
 place_there_if {V} found e kept peer is has = subst (λ (x : Option FlowEnd). HasPlaceIf x kept peer) is has

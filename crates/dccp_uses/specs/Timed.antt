@@ -200,7 +200,7 @@ abbrev pub timed_told : {C : Type 0} → Control C → ℕ → TimedState C → 
 timed_told control now s timer step =
     timers_go_on_after control now 0 (rung_by (path_waits s.path) s.alarms timer now) (told_timer s.path timer (sight_of control step.after) now) step
 
--- whoever keeps it
+-- the timer is the end's own, or one that its owner keeps
 abbrev pub timed_fires : {C : Type 0} → Control C → ℕ → TimedState C → Timer → TimedStep C Bool
 timed_fires control now s timer =
     timed_told control now s timer (with_control control s.end.congestion (fires s.end.state timer (has_in_flight control s.end.congestion)))

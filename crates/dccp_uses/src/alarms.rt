@@ -1,4 +1,4 @@
-//! When each timer of an end runs out. The times are those of whoever owns the end, in milliseconds from any beginning.
+//! When each timer of an end runs out. The times are its owner's, in milliseconds from any beginning.
 ghost use Rattle.std.specs.Prelude.{◌≡◌};
 ghost use Rattle.dccp_uses.specs.Alarms.{alarm_after, alarm_of, arranged_by, arranged_alarm_by, ack_hurried_by, first_again, has_run_out, time_left, next_wait, no_alarms, progressed_by, rung_by, runs_in, set_back, sooner, starting_wait_by};
 ghost use Rattle.dccp_uses.specs.Timed.{acks_now};

@@ -279,7 +279,7 @@ impl<C: Congestion> TimedEnd<C> {
         outcome
     }
 
-    /// A timer has run out, whoever keeps it. False where it has nothing to do.
+    /// A timer has run out: the end's own, or one that its owner keeps. False where it has nothing to do.
     pub fn timer(&mut self, timer: Timer, now: u64, out: &mut Outbox) -> bool
         ensures { record { timed = self.new; frame = out.new; answer = result } ≡ timed_fires C.control now self.old timer }
     {

@@ -86,7 +86,7 @@ small workers job claims view now (Ok r) most some few have =
     subst (λ (x : Report). size x < 2 ^ 62) (sym have.whole.sum) (sum-size job now.view.numbers some few (omega (arith, have.few)))
 small workers job claims view now (Err lacks) most some few have = tt
 
--- whoever has all numbers once has the report of all seeds
+-- a claimer that has all numbers once has the report of all seeds
 pub all-seeds : ((f : ℕ → ℕ) (m : ℕ) (numbers : List ℕ) → AreOnceBelow m numbers → sum_by f numbers ≡ sum_below f m)
     → ((limit drawn : ℕ) (numbers : List ℕ) → AreOnceBelow (min limit drawn) numbers → length numbers < drawn → AreOnceBelow limit numbers)
     → (job : Job) (seeds word : ℕ) (view : View) (report : Result Report NoMemory) → view.limit ≡ seeds → word ≡ view.drawn

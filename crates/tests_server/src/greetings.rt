@@ -177,7 +177,7 @@ fn foreign_ack(alloc: Global) -> Option<Frame> {
     )
 }
 
-// Whoever returns a cookie takes the place of the flow that has been half open for longest.
+// A client that returns a cookie takes the place of the flow that has been half open for longest.
 fn makes_way(server: &mut Server, ack: &[u8]) -> Option<bool> {
     let mut out = Outbox::new();
     let first = met(server, 3, &REQUESTS[1], 50, &mut out)?;
@@ -247,7 +247,7 @@ fn a_cookie_opens_its_flow(rt: HostRuntime) {
 }
 
 #[test]
-fn whoever_returns_a_cookie_takes_a_place(rt: HostRuntime) {
+fn a_returned_cookie_takes_a_place(rt: HostRuntime) {
     assert!(rt; takes_a_place(rt.alloc()) == Some(true));
 }
 
