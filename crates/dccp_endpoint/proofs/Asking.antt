@@ -14,7 +14,7 @@ use Rattle.feature_machine.specs.Turns.{turned}
 use Rattle.feature_machine.specs.declared.row.Row.{Row}
 use Rattle.feature_machine.specs.declared.stands.Stand.{Stand}
 use Rattle.feature_machine.specs.declared.stands.Stand.TheVariants as stand
-use Rattle.feature_machine.proofs.DueRows.{due_order}
+use Rattle.feature_machine.proofs.DueKeys.{due_order}
 use Rattle.feature_machine.proofs.Places.{put_there, same_feature, same_number, same_place}
 use Rattle.dccp_endpoint.specs.Heeding.{Due}
 use Rattle.dccp_endpoint.specs.Speaking.{AreChanging, AreDue, asking, is_confirmed, unconfirmed}

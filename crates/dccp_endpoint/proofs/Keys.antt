@@ -18,7 +18,7 @@ use Rattle.feature_machine.specs.Negotiating.{IsNegotiation, due_keys, every_pla
 use Rattle.feature_machine.specs.Rows.{RowEvent, Offers, Sends}
 use Rattle.feature_machine.specs.Turns.{Turn, events_of}
 use Rattle.feature_machine.specs.declared.row.Row.{Row}
-use Rattle.feature_machine.proofs.DueRows.{due_asks, due_distinct}
+use Rattle.feature_machine.proofs.DueKeys.{due_asks, due_distinct}
 use Rattle.feature_machine.proofs.Places.{same_feature, same_number, same_place}
 use Rattle.dccp_endpoint.specs.Heeding.{Due}
 use Rattle.dccp_endpoint.specs.Saying.{body_if, confirm_for, has_key, is_key, once_if, times_confirmed}

@@ -1,6 +1,6 @@
 pub mod Asking
 pub mod Causes
-pub mod DueRows
+pub mod DueKeys
 pub mod Listing
 pub mod Openings
 pub mod Places

@@ -1,4 +1,4 @@
-use Rattle.feature_machine.proofs.DueRows.{due_order, due_asks, due_distinct, every_stands}
+use Rattle.feature_machine.proofs.DueKeys.{due_order, due_asks, due_distinct, every_stands}
 use Rattle.feature_machine.proofs.rows.due_rows_are_those_that_ask.Goals as goal
 
 pub returns-clause-order : goal.returns-clause-order
