@@ -32,19 +32,19 @@ ccid_fits held row is its = held_fits Ccid Here held row is its
 pub ratio_fits : (held : Held) (row : Row) → held ≡ held_by row → IsRowOf AckRatio Here row → held.value < 65536
 ratio_fits held row is its = held_fits AckRatio Here held row is its
 
-module _ {C Answer : Type 0} (control : Control C) (old : C) where
+module _ {C EndAnswer : Type 0} (control : Control C) (old : C) where
   -- a step beside a congestion control
-  abbrev beside : C → Step Answer → EndStep C Answer
+  abbrev beside : C → Step EndAnswer → EndStep C EndAnswer
   beside congestion step = record { after = record { state = step.after; congestion = congestion }; frame = step.frame; answer = step.answer }
 
   -- what was due was handed over
-  pub handed : (step made : Step Answer) (calls : List Call) (new : C) → made ≡ step → new ≡ after_calls control old calls
+  pub handed : (step made : Step EndAnswer) (calls : List Call) (new : C) → made ≡ step → new ≡ after_calls control old calls
       → beside new made ≡ with_control control old (with_calls calls step)
   handed step made calls new same due =
       ap (beside new) same ∙ ap (λ (congestion : C). beside congestion step) due
 
   -- what is told of the end alone
-  pub of_the_end : (step : Step Answer) (made : EndStep C Answer) → made ≡ with_control control old step
+  pub of_the_end : (step : Step EndAnswer) (made : EndStep C EndAnswer) → made ≡ with_control control old step
       → record { after = made.after.state; frame = made.frame; calls = step.calls; answer = made.answer } ≡ step
   of_the_end step made same =
-      ap (λ (m : EndStep C Answer). record { after = m.after.state; frame = m.frame; calls = step.calls; answer = m.answer }) same
+      ap (λ (m : EndStep C EndAnswer). record { after = m.after.state; frame = m.frame; calls = step.calls; answer = m.answer }) same

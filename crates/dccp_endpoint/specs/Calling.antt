@@ -44,15 +44,15 @@ Called Fault = Step (Result (Unit {0}) Fault)
 
 -- A client asks for its service (section 8.1.1). The Request opens the offered rows, and carries the Changes of these
 -- and of all others that ask. Once their Changes have gone out:
-abbrev pub requests_asking : {Answer : Type 0} → EndState → List Key → Answer → Step Answer
+abbrev pub requests_asking : {EndAnswer : Type 0} → EndState → List Key → EndAnswer → Step EndAnswer
 requests_asking e keys answer = sends e (saying (kind.Request e.config.service) [] e.rows keys) answer
 
 -- once the offers have come up
-abbrev pub requests_offering : {Answer : Type 0} → EndState → List Key → Answer → Step Answer
+abbrev pub requests_offering : {EndAnswer : Type 0} → EndState → List Key → EndAnswer → Step EndAnswer
 requests_offering e keys answer = requests_asking (asks e keys) keys answer
 
 -- a Request with all offers, and the Change of every row that asks once they have come up
-abbrev pub requests : {Answer : Type 0} → EndState → Answer → Step Answer
+abbrev pub requests : {EndAnswer : Type 0} → EndState → EndAnswer → Step EndAnswer
 requests e answer = requests_offering (offers e []) (asking (offers e []).rows []) answer
 
 -- open: a client sends its Request once
@@ -108,11 +108,11 @@ unfoldable pub aborts : EndState → Called AbortFault
 aborts e = aborts_in e e.phase
 
 -- An Ack with the Changes of these rows; once they have gone out:
-abbrev pub acks_asking : {Answer : Type 0} → EndState → List Key → Answer → Step Answer
+abbrev pub acks_asking : {EndAnswer : Type 0} → EndState → List Key → EndAnswer → Step EndAnswer
 acks_asking e keys answer = sends_ack e (saying (kind.Ack (Long e.marks.gsr)) [] e.rows keys) answer
 
 -- these rows ask at once, and an Ack carries their Changes
-abbrev pub asks_now : {Answer : Type 0} → EndState → List Key → Answer → Step Answer
+abbrev pub asks_now : {EndAnswer : Type 0} → EndState → List Key → EndAnswer → Step EndAnswer
 asks_now e keys answer = acks_asking (asks e keys) keys answer
 
 -- prefer: a row in STABLE asks at once, any other on a later occasion (own)

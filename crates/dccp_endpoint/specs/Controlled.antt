@@ -21,10 +21,10 @@ abbrev pub end_with : {C : Type 0} → EndState → C → End C
 end_with state congestion = record { state = state; congestion = congestion }
 
 -- both after a step, the frame that goes out, if any, and the answer
-pub record EndStep (C Answer : Type 0) : Type 0 where
+pub record EndStep (C EndAnswer : Type 0) : Type 0 where
   pub after : End C
   pub frame : Option Outgoing
-  pub answer : Answer
+  pub answer : EndAnswer
 
 -- A start with a CCID that the congestion control does not know is passed over (own); all other calls are made.
 abbrev pub is_made : {C : Type 0} → Control C → Call → Bool
@@ -38,7 +38,7 @@ abbrev pub after_calls : {C : Type 0} → Control C → C → List Call → C
 after_calls control congestion calls = run control congestion (filter (is_made control) calls)
 
 -- a step of an end with what it makes of the congestion control
-abbrev pub with_control : {C Answer : Type 0} → Control C → C → Step Answer → EndStep C Answer
+abbrev pub with_control : {C EndAnswer : Type 0} → Control C → C → Step EndAnswer → EndStep C EndAnswer
 with_control control congestion step =
     record {
       after = record { state = step.after; congestion = after_calls control congestion step.calls };

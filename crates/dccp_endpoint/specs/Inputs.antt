@@ -25,21 +25,21 @@ pub data Input : Type 0 where
   Fires : (timer : Timer) (in_flight : Bool) → Input
 
 -- what the end answers
-pub data Answer : Type 0 where
-  Received : (outcome : Outcome) → Answer
-  Opened : (result : Result (Unit {0}) OpenFault) → Answer
-  Closed : (result : Result (Unit {0}) CloseFault) → Answer
-  Aborted : (result : Result (Unit {0}) AbortFault) → Answer
-  Fired : (applies : Bool) → Answer
-  Preferred : (result : Result (Unit {0}) PreferFault) → Answer
-  Sent : (result : Result (Unit {0}) SendFault) → Answer
+pub data EndAnswer : Type 0 where
+  Received : (outcome : Outcome) → EndAnswer
+  Opened : (result : Result (Unit {0}) OpenFault) → EndAnswer
+  Closed : (result : Result (Unit {0}) CloseFault) → EndAnswer
+  Aborted : (result : Result (Unit {0}) AbortFault) → EndAnswer
+  Fired : (applies : Bool) → EndAnswer
+  Preferred : (result : Result (Unit {0}) PreferFault) → EndAnswer
+  Sent : (result : Result (Unit {0}) SendFault) → EndAnswer
 
 -- a step with its answer as one of these
-abbrev pub step_shown : {A : Type 0} → (A → Answer) → Step A → Step Answer
+abbrev pub step_shown : {A : Type 0} → (A → EndAnswer) → Step A → Step EndAnswer
 step_shown show step = record { after = step.after; frame = step.frame; calls = step.calls; answer = show step.answer }
 
 -- what an end does on an input: it receives the bytes, takes the call, or fires the timer
-abbrev pub end_stepped : EndState → Input → Step Answer
+abbrev pub end_stepped : EndState → Input → Step EndAnswer
 end_stepped e (Arrives bytes) = step_shown Received (receives e bytes)
 end_stepped e Opens = step_shown Opened (opens e)
 end_stepped e Closes = step_shown Closed (closes e)

@@ -130,6 +130,6 @@ abbrev pub reporting : EndState → Draft → Draft
 reporting e draft = record draft { options = vector_items (sends_vectors e.rows) e.config.vectors e.received.set e.marks.gsr ++ draft.options }
 
 -- an Ack or a DataAck goes out under the next number
-abbrev pub sends_ack : {Answer : Type 0} → EndState → Draft → Answer → Step Answer
+abbrev pub sends_ack : {EndAnswer : Type 0} → EndState → Draft → EndAnswer → Step EndAnswer
 sends_ack e draft answer =
     record { after = acknowledged e; frame = Some (next_frame e (reporting e draft)); calls = []; answer = answer }

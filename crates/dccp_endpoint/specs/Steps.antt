@@ -12,14 +12,14 @@ use Rattle.dccp_states.specs.declared.outcome.Fault.{Fault}
 
 -- An end after a step, the frame that it sends with its numbers, if any, the calls that are due to its congestion control, in order, and
 -- its answer.
-pub record Step (Answer : Type 0) : Type 0 where
+pub record Step (EndAnswer : Type 0) : Type 0 where
   pub after : EndState
   pub frame : Option Outgoing
   pub calls : List Call
-  pub answer : Answer
+  pub answer : EndAnswer
 
 -- nothing changes and nothing is sent
-abbrev pub idle : {Answer : Type 0} → EndState → Answer → Step Answer
+abbrev pub idle : {EndAnswer : Type 0} → EndState → EndAnswer → Step EndAnswer
 idle e answer = record { after = e; frame = None; calls = []; answer = answer }
 
 -- the number of the next packet (section 7.1)
@@ -35,12 +35,12 @@ abbrev pub next_frame : EndState → Draft → Outgoing
 next_frame e draft = sent_of e.config (goes_short e draft) (next_number e) draft
 
 -- a packet goes out under the next number
-abbrev pub sends : {Answer : Type 0} → EndState → Draft → Answer → Step Answer
+abbrev pub sends : {EndAnswer : Type 0} → EndState → Draft → EndAnswer → Step EndAnswer
 sends e draft answer =
     record { after = with_next_number e; frame = Some (next_frame e draft); calls = []; answer = answer }
 
 -- the step with these calls due to the congestion control
-abbrev pub with_calls : {Answer : Type 0} → List Call → Step Answer → Step Answer
+abbrev pub with_calls : {EndAnswer : Type 0} → List Call → Step EndAnswer → Step EndAnswer
 with_calls calls step = record step { calls = calls }
 
 -- the three bytes of a Reset's detail

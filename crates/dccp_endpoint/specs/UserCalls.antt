@@ -2,7 +2,7 @@
 use Rattle.std.specs.Prelude.{Bool, Result, Ok, Err}
 use Rattle.congestion_trait.specs.Control.{Control, may_send}
 use Rattle.dccp_endpoint.specs.Controlled.{End, EndStep, has_in_flight, with_control}
-use Rattle.dccp_endpoint.specs.Inputs.{Answer, Input, end_stepped}
+use Rattle.dccp_endpoint.specs.Inputs.{EndAnswer, Input, end_stepped}
 use Rattle.dccp_endpoint.specs.Inputs as input
 use Rattle.dccp_endpoint.specs.Steps.{Step}
 use Rattle.dccp_states.specs.Refusals.{refusal_of, send_refusal_of}
@@ -30,7 +30,7 @@ seen_of_call named (Ok _) = seen.Called (Ok tt)
 seen_of_call named (Err fault) = seen.Called (Err (named fault))
 
 -- an outcome, the result of a call, or whether a timer applied
-abbrev pub seen_of : Answer → Seen
+abbrev pub seen_of : EndAnswer → Seen
 seen_of (input.Received outcome) = seen.Received outcome
 seen_of (input.Opened result) = seen_of_call (λ fault. refusal.NotFresh) result
 seen_of (input.Preferred result) = seen_of_call refusal_of result
@@ -40,7 +40,7 @@ seen_of (input.Aborted result) = seen_of_call (λ fault. refusal.NotLive) result
 seen_of (input.Fired applies) = seen.Fired applies
 
 -- a step with what is seen of it
-abbrev pub step_seen : Step Answer → Step Seen
+abbrev pub step_seen : Step EndAnswer → Step Seen
 step_seen step = record { after = step.after; frame = step.frame; calls = step.calls; answer = seen_of step.answer }
 
 -- What an end does on its user's call, whose congestion control hears of it, and what is seen.

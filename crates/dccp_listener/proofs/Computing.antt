@@ -5,7 +5,7 @@ use Rattle.std.proofs.lemmas.Map.Keys.{IsDistinct-from_sorted}
 use Rattle.std.specs.Map.{keys_of, remove_entry, set_value}
 use Rattle.ccid_two.specs.Kinds.{Both}
 use Rattle.dccp_endpoint.specs.Controlled.{EndStep}
-use Rattle.dccp_endpoint.specs.Inputs.{Answer}
+use Rattle.dccp_endpoint.specs.Inputs.{EndAnswer}
 use Rattle.dccp_endpoint.specs.UserCalls.{seen_of}
 use Rattle.dccp_endpoint.specs.Strangers.{stays_in}
 use Rattle.dccp_listener.specs.Calls.{IsStep}
@@ -18,7 +18,7 @@ use Rattle.dccp_listener.proofs.InOrder.{found_insert, in_order_insert, in_order
 use Rattle.dccp_listener.proofs.OnePeer.{peers_alike}
 
 -- a step of which this end is left
-abbrev shows : Option FlowEnd → EndStep Both Answer → ChainStep
+abbrev shows : Option FlowEnd → EndStep Both EndAnswer → ChainStep
 shows after step = record { after = after; frame = step.frame; seen = Some (seen_of step.answer) }
 
 abbrev nothing_shown : Option FlowEnd → ChainStep
@@ -69,7 +69,7 @@ meets : (l : Listening) (peer : Peer) (iss : ℕ) (bytes : List ℕ) → end_of_
     })
     (fresh_met l peer iss bytes (flow_step (fresh_end l.config peer iss bytes) (Arrives iss bytes)) stays full).told
 meets l peer iss bytes found false full is =
-    let step : EndStep Both Answer = flow_step (fresh_end l.config peer iss bytes) (Arrives iss bytes) in
+    let step : EndStep Both EndAnswer = flow_step (fresh_end l.config peer iss bytes) (Arrives iss bytes) in
     record {
       own = ap (λ (x : Option FlowEnd). shows x step) found ∙ ap (λ (b : Bool). shows (if b then Some step.after else None) step) (sym is)
           ∙ ap (λ (x : Option FlowEnd). chain_step l.config peer x (Arrives iss bytes)) (sym found);
@@ -78,7 +78,7 @@ meets l peer iss bytes found false full is =
     }
 meets l peer iss bytes found true true is = refl
 meets l peer iss bytes found true false is =
-    let step : EndStep Both Answer = flow_step (fresh_end l.config peer iss bytes) (Arrives iss bytes) in
+    let step : EndStep Both EndAnswer = flow_step (fresh_end l.config peer iss bytes) (Arrives iss bytes) in
     record {
       own = ap (λ (x : Option FlowEnd). shows x step)
           (found_insert peer peer step.after l.flows ∙ ap (λ (b : Bool). cond b (Some step.after) (end_of_peer l.flows peer)) (peers_alike.refl peer))
@@ -108,7 +108,7 @@ order-with : (peer : Peer) (e : FlowEnd) (flows : Flows) (over : Bool) → AreIn
 order-with peer e flows true ordered = in_order_remove (is_peer peer) flows ordered
 order-with peer e flows false ordered = in_order_set (is_peer peer) flows e ordered
 
-order-met : (l : Listening) (peer : Peer) (iss : ℕ) (bytes : List ℕ) (step : EndStep Both Answer) (stays full : Bool) → AreInOrder l.flows
+order-met : (l : Listening) (peer : Peer) (iss : ℕ) (bytes : List ℕ) (step : EndStep Both EndAnswer) (stays full : Bool) → AreInOrder l.flows
     → AreInOrder (fresh_met l peer iss bytes step stays full).flows
 order-met l peer iss bytes step false full ordered = ordered
 order-met l peer iss bytes step true true ordered = ordered

@@ -2,7 +2,7 @@
 use Rattle.std.proofs.Common.{◌≡◌, ℕ, Bool, true, false, List, Option, Some, None, cond, ap, ◌∙◌}
 use Rattle.ccid_two.specs.Kinds.{Both}
 use Rattle.dccp_endpoint.specs.Controlled.{EndStep}
-use Rattle.dccp_endpoint.specs.Inputs.{Answer}
+use Rattle.dccp_endpoint.specs.Inputs.{EndAnswer}
 use Rattle.dccp_endpoint.specs.Strangers.{stays_in}
 use Rattle.dccp_listener.specs.Chain.{Arrives, flow_step, fresh_end}
 use Rattle.dccp_listener.specs.Greeting.{GreetingsOpen}
@@ -13,7 +13,7 @@ use Rattle.dccp_listener.proofs.InOrder.{found_insert}
 use Rattle.dccp_listener.proofs.OnePeer.{peers_alike}
 
 module _ (l : Listening) (peer : Peer) (iss : ℕ) (bytes : List ℕ) where
-  abbrev step : EndStep Both Answer
+  abbrev step : EndStep Both EndAnswer
   step = flow_step (fresh_end l.config peer iss bytes) (Arrives iss bytes)
 
   -- the datagram opens a flow

@@ -17,7 +17,7 @@ use Rattle.feature_lists.specs.declared.features.Feature.{Feature}
 use Rattle.feature_lists.specs.declared.features.Place.{Place}
 use Rattle.dccp_endpoint.specs.Configured.{configured}
 use Rattle.dccp_endpoint.specs.Controlled.{EndStep, begins, has_in_flight, with_control}
-use Rattle.dccp_endpoint.specs.Inputs.{Answer, Input, end_stepped}
+use Rattle.dccp_endpoint.specs.Inputs.{EndAnswer, Input, end_stepped}
 use Rattle.dccp_endpoint.specs.Inputs as input
 use Rattle.dccp_endpoint.specs.declared.config.Config.{Config}
 use Rattle.dccp_states.specs.declared.seen.Seen.{Seen}
@@ -79,7 +79,7 @@ input_of_deed (Arrives iss bytes) congestion = input.Arrives bytes
 input_of_deed (Calls call) congestion = input_of_call call congestion
 
 -- one step of a peer's end, whose congestion control hears of it
-abbrev pub flow_step : FlowEnd → Deed → EndStep Both Answer
+abbrev pub flow_step : FlowEnd → Deed → EndStep Both EndAnswer
 flow_step e deed = with_control kinds_control e.congestion (end_stepped e.state (input_of_deed deed e.congestion))
 
 -- the Service Code that a Request asks for (RFC 4340, section 5.1)
@@ -139,7 +139,7 @@ pub record ChainStep : Type 0 where
   pub seen : Option Seen
 
 -- the step of an end, of which this stays
-abbrev pub chained : (FlowEnd → Option FlowEnd) → EndStep Both Answer → ChainStep
+abbrev pub chained : (FlowEnd → Option FlowEnd) → EndStep Both EndAnswer → ChainStep
 chained stays step = record { after = stays step.after; frame = step.frame; seen = Some (seen_of step.answer) }
 
 -- One deed of a peer that has this end or none. A datagram of a peer without one meets a fresh end.

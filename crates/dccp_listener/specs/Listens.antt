@@ -5,7 +5,7 @@ use Rattle.std.specs.List.Sorted.{IsStrictlySortedBy}
 use Rattle.std.specs.Map.{keys_of, remove_entry, set_value}
 use Rattle.ccid_two.specs.Kinds.{Both}
 use Rattle.dccp_endpoint.specs.Controlled.{EndStep}
-use Rattle.dccp_endpoint.specs.Inputs.{Answer}
+use Rattle.dccp_endpoint.specs.Inputs.{EndAnswer}
 use Rattle.dccp_packets.specs.Grammar.{decoded}
 use Rattle.dccp_endpoint.specs.UserCalls.{seen_of}
 use Rattle.dccp_packets.specs.Outgoing.{Outgoing}
@@ -27,11 +27,11 @@ abbrev pub with_end : Flows → Peer → FlowEnd → Flows
 with_end flows peer e = if is_given_up e.state.phase then remove_entry (is_peer peer) flows else set_value (is_peer peer) flows e
 
 -- an end has flow_answered, and these are the flows then
-abbrev pub flow_answered : Flows → EndStep Both Answer → Listened
+abbrev pub flow_answered : Flows → EndStep Both EndAnswer → Listened
 flow_answered flows step = record { flows = flows; frame = step.frame; told = Stepped (Some (seen_of step.answer)) }
 
 -- A fresh end has met a datagram. Unless it stays nothing else changes; if it would, there has to be room.
-abbrev pub fresh_met : Listening → Peer → ℕ → List ℕ → EndStep Both Answer → (stays full : Bool) → Listened
+abbrev pub fresh_met : Listening → Peer → ℕ → List ℕ → EndStep Both EndAnswer → (stays full : Bool) → Listened
 fresh_met l peer iss bytes step false full = flow_answered l.flows step
 fresh_met l peer iss bytes step true true =
     record { flows = l.flows; frame = busy_frame (config_for l.config peer iss bytes) (decoded bytes); told = WasBusy }

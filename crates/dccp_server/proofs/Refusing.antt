@@ -16,7 +16,7 @@ use Rattle.dccp_endpoint.specs.Calling.{aborts, aborts_in, closes, closes_in, is
 use Rattle.dccp_endpoint.specs.Controlled.{with_control}
 use Rattle.dccp_endpoint.specs.Early.{early_fault, sends_early}
 use Rattle.dccp_endpoint.specs.End.{EndState, is_connected}
-use Rattle.dccp_endpoint.specs.Inputs.{Aborted, Answer, Closed, Opened, Preferred, Sent, step_shown}
+use Rattle.dccp_endpoint.specs.Inputs.{Aborted, EndAnswer, Closed, Opened, Preferred, Sent, step_shown}
 use Rattle.dccp_endpoint.specs.Steps.{Step}
 use Rattle.dccp_endpoint.specs.Turns.{Key}
 use Rattle.dccp_endpoint.specs.UserCalls.{seen_of}
@@ -48,13 +48,13 @@ use Rattle.dccp_server.proofs.Tying.{all_after, begun_tied, found_among, none_fr
 -- an end that refuses a call is as it was
 
 module _ (e : EndState) (c : Both) where
-  abbrev after : Step Answer → FlowEnd
+  abbrev after : Step EndAnswer → FlowEnd
   after step = (with_control kinds_control c step).after
 
   abbrev itself : FlowEnd
   itself = record { state = e; congestion = c }
 
-  abbrev is-refused : Step Answer → Type 0
+  abbrev is-refused : Step EndAnswer → Type 0
   is-refused step = is_refusal (Stepped (Some (seen_of step.answer))) ≡ true
 
   close-same : (phase : Phase) → is-refused (step_shown Closed (closes_in e phase))

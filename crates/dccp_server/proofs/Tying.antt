@@ -12,7 +12,7 @@ use Rattle.ccid_two.specs.Kinds.{Both}
 use Rattle.dccp_endpoint.specs.Strangers.{stays_in}
 use Rattle.dccp_packets.specs.Outgoing.{Outgoing}
 use Rattle.dccp_endpoint.specs.Controlled.{EndStep}
-use Rattle.dccp_endpoint.specs.Inputs.{Answer}
+use Rattle.dccp_endpoint.specs.Inputs.{EndAnswer}
 use Rattle.dccp_listener.proofs.Computing.{computed_runs}
 use Rattle.dccp_listener.proofs.InOrder.{found_insert}
 use Rattle.dccp_listener.proofs.OnePeer.{peers_alike, peers_total}
@@ -148,7 +148,7 @@ module _ {V : Type 0} (peer : Peer) (kept : List (Peer × V)) (value : FlowEnd �
       put e ∙ ap (λ (ks : List Peer). with-peer ks peer) tied
       ∙ once peer (keys_of flows) ordered (sym (found_among (is_peer peer) flows) ∙ ap is_some is)
 
-  met : (l : Listening) (iss : ℕ) (bytes : List ℕ) (step : EndStep Both Answer) (stays full : Bool) → keys_of kept ≡ keys_of l.flows
+  met : (l : Listening) (iss : ℕ) (bytes : List ℕ) (step : EndStep Both EndAnswer) (stays full : Bool) → keys_of kept ≡ keys_of l.flows
       → end_of_peer l.flows peer ≡ None
       → then' (end_of_peer (fresh_met l peer iss bytes step stays full).flows peer) ≡ keys_of (fresh_met l peer iss bytes step stays full).flows
   met l iss bytes step false full tied none = untouched l.flows tied none

@@ -8,7 +8,7 @@ use Rattle.dccp_endpoint.specs.Strangers.{stays_in}
 use Rattle.dccp_endpoint.specs.Calling.{aborts, closes, opens, prefers, sends_payload}
 use Rattle.dccp_endpoint.specs.Early.{sends_early}
 use Rattle.dccp_endpoint.specs.Controlled.{EndStep}
-use Rattle.dccp_endpoint.specs.Inputs.{Answer}
+use Rattle.dccp_endpoint.specs.Inputs.{EndAnswer}
 use Rattle.dccp_listener.specs.Chain.{Deed, Arrives, Calls, Opens, Sends, SendsEarly, Fires, Closes, Aborts, Prefers, flow_step, fresh_end}
 use Rattle.dccp_listener.specs.Listens.{Listened, fresh_met, is_table_full, listening_after, listens, listens_by}
 use Rattle.dccp_listener.specs.Peers.{FlowEnd, Flows, Listening, end_of_peer}
@@ -41,7 +41,7 @@ step-told e (Calls Opens) = call-told (λ fault. refusal.NotFresh) (opens e.stat
 step-told e (Calls (SendsEarly payload)) = call-told send_refusal_of (sends_early e.state payload (may_send kinds_control e.congestion)).answer
 step-told e (Calls (Prefers feature place values)) = call-told refusal_of (prefers e.state (feature, place) values).answer
 
-met-told : (l : Listening) (peer : Peer) (iss : ℕ) (bytes : List ℕ) (step : EndStep Both Answer) (stays full : Bool) → IsSeenOf bytes (seen_of step.answer)
+met-told : (l : Listening) (peer : Peer) (iss : ℕ) (bytes : List ℕ) (step : EndStep Both EndAnswer) (stays full : Bool) → IsSeenOf bytes (seen_of step.answer)
     → CanBeTold bytes (fresh_met l peer iss bytes step stays full).told
 met-told l peer iss bytes step false full told = told
 met-told l peer iss bytes step true true told = tt
@@ -50,7 +50,7 @@ met-told l peer iss bytes step true false told = told
 listens-told : (l : Listening) (peer : Peer) (found : Option FlowEnd) (deed : Deed) → CanBeTold (arriving_bytes deed) (listens_by l peer found deed).told
 listens-told l peer (Some e) deed = step-told e deed
 listens-told l peer None (Arrives iss bytes) =
-    let step : EndStep Both Answer = flow_step (fresh_end l.config peer iss bytes) (Arrives iss bytes) in
+    let step : EndStep Both EndAnswer = flow_step (fresh_end l.config peer iss bytes) (Arrives iss bytes) in
     met-told l peer iss bytes step (stays_in step.after.state.phase) (is_table_full l) (step-told (fresh_end l.config peer iss bytes) (Arrives iss bytes))
 listens-told l peer None (Calls call) = tt
 

@@ -18,7 +18,7 @@ use Rattle.dccp_endpoint.specs.Causes.{AreTurns, Came, EveryStepHasOneEffect}
 use Rattle.dccp_endpoint.specs.Effects.{Effect, Heard, Taken, count_by}
 use Rattle.dccp_endpoint.specs.End.{EndState, marked_of}
 use Rattle.dccp_endpoint.specs.Incoming.{Incoming}
-use Rattle.dccp_endpoint.specs.Inputs.{Answer, Arrives, Input, end_stepped}
+use Rattle.dccp_endpoint.specs.Inputs.{EndAnswer, Arrives, Input, end_stepped}
 use Rattle.dccp_endpoint.specs.Inputs as input
 use Rattle.dccp_endpoint.specs.Outcomes.{HasCause, HasForm, IsTaken, IsValid, OpensConnection, ResponseToRequest, PacketInWindow, hears_first}
 use Rattle.dccp_endpoint.specs.Receiving.{receives}
