@@ -26,7 +26,7 @@ use Rattle.dccp_endpoint.specs.Causes.{HasEffect, HasFrame, Says, SaysNothing, S
 use Rattle.dccp_endpoint.specs.Drafts.{Draft, IsSendable, ReadsAs, alone, own_header, sent_of}
 use Rattle.dccp_endpoint.specs.Effects.{Effect, Sending, end_after, frame_by, greatest_by, rows_by, told_by}
 use Rattle.dccp_endpoint.specs.End.{EndState, IsProper}
-use Rattle.dccp_endpoint.specs.Heeding.{Due}
+use Rattle.dccp_endpoint.specs.Heeding.{DueConfirm}
 use Rattle.dccp_endpoint.specs.Inputs.{Input, end_stepped}
 use Rattle.dccp_endpoint.specs.Reporting.{is_acking, sends_vectors, vector_item, vector_items}
 use Rattle.dccp_endpoint.specs.Steps.{next_number}
@@ -65,7 +65,7 @@ confirm-other : (left : Bool) → (confirm_type left == data_dropped) ≡ false
 confirm-other true = refl
 confirm-other false = refl
 
-confirms-other : (confirms : List Due) → All IsOther (confirm_items confirms)
+confirms-other : (confirms : List DueConfirm) → All IsOther (confirm_items confirms)
 confirms-other [] = All-nil IsOther
 confirms-other (due ∷ rest) = All-cons IsOther (confirm_item due) (confirm_items rest) (confirm-other due.left) (confirms-other rest)
 
@@ -78,7 +78,7 @@ changes-other rows [] = All-nil IsOther
 changes-other rows (k ∷ keys) =
     All-cons IsOther (change_item k (row_at rows k.0 k.1)) (change_items rows keys) (change-other k.1) (changes-other rows keys)
 
-own-other : (e : EndState) (f : Effect) (k : Kind) (confirms : List Due) (keys : List Key)
+own-other : (e : EndState) (f : Effect) (k : Kind) (confirms : List DueConfirm) (keys : List Key)
     → All IsOther (vector_of e f k ++ (confirm_items confirms ++ change_items (rows_by e.rows f) keys))
 own-other e f k confirms keys =
     All-append IsOther (vector_of e f k) (confirm_items confirms ++ change_items (rows_by e.rows f) keys)
@@ -219,7 +219,7 @@ never : (draft : Draft) → false ≡ true → may_be_short (packet_type draft.k
 never draft is = absurd cc
 
 -- what is sent
-sending-tells : (held : InboxState) {e : EndState} {f : Effect} {confirms : List Due} {keys : List Key} {sending : Sending}
+sending-tells : (held : InboxState) {e : EndState} {f : Effect} {confirms : List DueConfirm} {keys : List Key} {sending : Sending}
     → Says e f confirms keys sending → HasFrame sending → (own : Outgoing) → frame_by e f sending ≡ Some own
     → TellsItsDrops e.config.pseudo_out held own (buffered_sent e.config.pseudo_out held own)
 sending-tells held (SaysNothing no_confirms no_keys) framed sent is = absurd cc

@@ -16,7 +16,7 @@ use Rattle.feature_machine.specs.declared.stands.Stand.{Stand}
 use Rattle.feature_machine.specs.declared.stands.Stand.TheVariants as stand
 use Rattle.feature_machine.proofs.DueKeys.{due_order}
 use Rattle.feature_machine.proofs.Places.{put_there, same_feature, same_number, same_place}
-use Rattle.dccp_endpoint.specs.Heeding.{Due}
+use Rattle.dccp_endpoint.specs.Heeding.{DueConfirm}
 use Rattle.dccp_endpoint.specs.Speaking.{AreChanging, AreDue, asking, is_confirmed, unconfirmed}
 use Rattle.dccp_endpoint.specs.Turns.{Key, offerings, sendings}
 
@@ -104,7 +104,7 @@ pub due_are_due : (rows : List Row) → IsNegotiation rows → AreDue rows (due_
 due_are_due rows sound = subst (λ keys. AreDue rows keys) (sym (due_order rows sound)) (tested-due rows every_place)
 
 -- so are those that ask
-pub asking_are_due : (rows : List Row) (confirms : List Due) → IsNegotiation rows → AreDue rows (asking rows confirms)
+pub asking_are_due : (rows : List Row) (confirms : List DueConfirm) → IsNegotiation rows → AreDue rows (asking rows confirms)
 asking_are_due rows confirms sound = passing-due rows (λ k. not (is_confirmed confirms k)) (due_keys rows) (due_are_due rows sound)
 
 -- without Confirms all are asked for

@@ -24,7 +24,7 @@ use Rattle.dccp_endpoint.specs.Causes.{HasEffect, Acknowledges, AcknowledgesHear
 use Rattle.dccp_endpoint.specs.Drafts.{Draft, IsSendable, alone}
 use Rattle.dccp_endpoint.specs.Effects.{Effect, frame_by, Hearing, Unheard, Sending, Silent, Next, effect_of, end_after, greatest_by, heard_by, owed_by, rows_by, told_by}
 use Rattle.dccp_endpoint.specs.End.{EndState, IsProper, is_begun, is_connected, is_live, is_phase_of, with_rows, with_widths}
-use Rattle.dccp_endpoint.specs.Heeding.{Due}
+use Rattle.dccp_endpoint.specs.Heeding.{DueConfirm}
 use Rattle.dccp_endpoint.specs.Inputs.{Input, Arrives}
 use Rattle.dccp_endpoint.specs.Outcomes.{HasCause, HasEffectOf, HasForm}
 use Rattle.dccp_endpoint.specs.Reporting.{is_acking, looked_by, sends_vectors, vector_items}
@@ -109,7 +109,7 @@ quiet =
     }
 
 -- The rows hear a packet, and nothing else.
-abbrev pub hearing : {e : EndState} {given : Input} {h : Hearing} {heard : List Turn} {confirms : List Due} → AreHeard e given h heard confirms
+abbrev pub hearing : {e : EndState} {given : Input} {h : Hearing} {heard : List Turn} {confirms : List DueConfirm} → AreHeard e given h heard confirms
     → AreTurns e given h heard
 hearing {heard = heard} {confirms = confirms} hears =
     record {
@@ -125,10 +125,10 @@ hearing {heard = heard} {confirms = confirms} hears =
     }
 
 -- The rows hear a packet, all offers come up, and the Changes go out of all that ask then and have no Confirm.
-abbrev pub offered_keys : EndState → List Turn → List Due → List Key
+abbrev pub offered_keys : EndState → List Turn → List DueConfirm → List Key
 offered_keys e heard confirms = asking (turned e.rows (heard ++ offerings (is_confirmed confirms) every_place)) confirms
 
-abbrev pub offered_turns : EndState → List Turn → List Due → List Turn
+abbrev pub offered_turns : EndState → List Turn → List DueConfirm → List Turn
 offered_turns e heard confirms = heard ++ (offerings (is_confirmed confirms) every_place ++ sendings (next_number e) (offered_keys e heard confirms))
 
 not-so : (b : Bool) → not b ≡ true → b ≡ false
@@ -136,10 +136,10 @@ not-so true is = cc is
 not-so false is = refl
 
 -- the rows that ask have no Confirm
-pub asking-apart : (confirms : List Due) (keys : List Key) → All (λ k. is_confirmed confirms k ≡ false) (filter (λ k. not (is_confirmed confirms k)) keys)
+pub asking-apart : (confirms : List DueConfirm) (keys : List Key) → All (λ k. is_confirmed confirms k ≡ false) (filter (λ k. not (is_confirmed confirms k)) keys)
 asking-apart confirms keys = λ i d inside. not-so _ (filter_passes (λ k. not (is_confirmed confirms k)) keys i d inside)
 
-abbrev pub offering : {e : EndState} {given : Input} {h : Hearing} {heard : List Turn} {confirms : List Due} → AreHeard e given h heard confirms
+abbrev pub offering : {e : EndState} {given : Input} {h : Hearing} {heard : List Turn} {confirms : List DueConfirm} → AreHeard e given h heard confirms
     → AreTurns e given h (offered_turns e heard confirms)
 offering {e = e} {heard = heard} {confirms = confirms} hears =
     record {
@@ -268,7 +268,7 @@ abbrev pub calling : List Call → Effect → Effect
 calling calls f = record f { calls = calls }
 
 -- what is said is the same whatever is called
-pub says-calling : {e : EndState} {f : Effect} {confirms : List Due} {keys : List Key} {s : Sending} (calls : List Call) → Says e f confirms keys s
+pub says-calling : {e : EndState} {f : Effect} {confirms : List DueConfirm} {keys : List Key} {s : Sending} (calls : List Call) → Says e f confirms keys s
     → Says e (calling calls f) confirms keys s
 says-calling calls (SaysNothing none unasked) = SaysNothing none unasked
 says-calling calls (SaysAll packet says answers) = SaysAll packet says answers

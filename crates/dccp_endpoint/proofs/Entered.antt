@@ -31,7 +31,7 @@ use Rattle.dccp_endpoint.specs.Drafts.{alone}
 use Rattle.dccp_endpoint.specs.Effects.{Effect, Hearing, Heard, Next, Passing, Refused, Sending, Shut, Silent, Taken, effect_of, end_after, frame_by, greatest_or, is_acking_sent, raising}
 use Rattle.dccp_endpoint.specs.End.{EndState, IsProper, is_begun, is_connected, is_live, is_open, is_phase_of, phase_entered, with_rows}
 use Rattle.dccp_endpoint.specs.Faults.{counts}
-use Rattle.dccp_endpoint.specs.Heeding.{Due, Heeding, heeds, unheeded}
+use Rattle.dccp_endpoint.specs.Heeding.{DueConfirm, Heeding, heeds, unheeded}
 use Rattle.dccp_endpoint.specs.Incoming.{Incoming}
 use Rattle.dccp_endpoint.specs.Inputs.{Arrives}
 use Rattle.dccp_endpoint.specs.Outcomes.{HasCause, HasForm, data_sent, effect_of_closing, effect_of_reset, hears_first, offered_with, replying, IsAdmitted, IsReset, IsValid, IsValidPacket, WrongService, Faulted, AnswersClose, is_for_another, IsTaken, IsTaking, kind_sent, unacked_by}
@@ -58,7 +58,7 @@ opening-so e ph to true true opens was same = StaysSo (λ is. open-is e.phase (s
 opening-so e ph to true false opens was same = BecomesOpen (open-is to opens) (λ is. false≢true (sym was ∙ same ∙ ap is_open is))
 opening-so e ph to false was opens so same = StaysSo (λ is. absurd (false≢true (sym opens ∙ ap is_open is)))
 
-none-have : (confirms : List Due) → has_confirms confirms ≡ false → confirms ≡ []
+none-have : (confirms : List DueConfirm) → has_confirms confirms ≡ false → confirms ≡ []
 none-have [] is = refl
 none-have (due ∷ rest) is = cc is
 

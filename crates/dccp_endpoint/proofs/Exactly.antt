@@ -6,7 +6,7 @@ use Rattle.dccp_states.specs.declared.reply.Reply.{Reply}
 use Rattle.dccp_states.specs.declared.reply.Reply.TheVariants as reply
 use Rattle.dccp_endpoint.specs.Causes.{Came}
 use Rattle.dccp_endpoint.specs.End.{EndState, with_rows}
-use Rattle.dccp_endpoint.specs.Heeding.{Due}
+use Rattle.dccp_endpoint.specs.Heeding.{DueConfirm}
 use Rattle.dccp_endpoint.specs.Incoming.{Incoming}
 use Rattle.dccp_endpoint.specs.Inputs.{Input, Arrives}
 use Rattle.dccp_endpoint.specs.Outcomes.{HasCause, HasNoOtherCause, IsAdmitted, IsReset, IsValid, IsValidPacket, IsValidReset, OutOfWindow, Unexpected, NoConnection, OtherService, NoAnswer, OtherType, OtherRequest, WrongService, Faulted, AnswersClose, OpensConnection, ResponseToRequest, PacketInWindow, ResetToRequest, ResetInWindow, StrayWithoutConnection, StrayInRequest}
@@ -33,7 +33,7 @@ no-reset : (a : Incoming) (e : EndState) (t : PacketType) → t ≢ types.Reset 
 no-reset a e types.Reset other = absurd (other refl)
 no-reset a e _ other = record { passes = λ x. refl; rises = refl; responds = refl; fails = refl }
 
-taken-answers : (e : EndState) (a : Incoming) (confirms : List Due) (took : Outcome) (r : Reply) → r ≢ reply.ResetClosed
+taken-answers : (e : EndState) (a : Incoming) (confirms : List DueConfirm) (took : Outcome) (r : Reply) → r ≢ reply.ResetClosed
     → (replies e a confirms took r).answer ≡ took
 taken-answers e a confirms took reply.ResetClosed no_reset = absurd (no_reset refl)
 taken-answers e a confirms took reply.Nothing no_reset = by (needs_ack e.phase confirms e.rows e.unacked) where

@@ -17,7 +17,7 @@ use Rattle.feature_machine.specs.Rows.{RowAnswer, Confirms, Ignored, Settled, Fa
 use Rattle.feature_machine.specs.declared.row.Row.{Row}
 use Rattle.dccp_endpoint.specs.Faults.{mandatory_fault}
 use Rattle.dccp_endpoint.specs.FirstFault.{BeginsWithByte, ChangeFails, ConfirmFails, GoesWrong, HasFirstFault, IsFirstFor, ItemFits, MandatoryMisplaced, NotUnderstood, ReadingGoesThrough, ReadingStopsAtTheFirstFault, is_same_letter, speaks_for}
-use Rattle.dccp_endpoint.specs.Heeding.{Due, Heeding, by_answered, by_settling, counted, fault_of, heeds, heeds_body, heeds_change, heeds_entry, heeds_feature, heeds_first, heeds_item, heeds_then, is_change, is_left, is_of_negotiation, met, misunderstood, place_in_used, unheeded}
+use Rattle.dccp_endpoint.specs.Heeding.{DueConfirm, Heeding, by_answered, by_settling, counted, fault_of, heeds, heeds_body, heeds_change, heeds_entry, heeds_feature, heeds_first, heeds_item, heeds_then, is_change, is_left, is_of_negotiation, met, misunderstood, place_in_used, unheeded}
 use Rattle.dccp_endpoint.specs.Saying.{begins_with_number, changes_among, has_feature_number, is_change_item, negotiates_by, once_if}
 use Rattle.dccp_states.specs.declared.outcome.Fault.{Fault}
 
@@ -43,7 +43,7 @@ data Way (count : Bool) (ack : Option ℕ) (h : Heeding) : ListItem → Result H
   Says : (entry : Entry) → (count && negotiates_by entry) ≡ false → Way count ack h (Ok entry) (Ok h)
   Again : (entry : Entry) (number : ℕ) (list : List ℕ) → Spoken count entry number list → was_met h entry number ≡ true
       → Way count ack h (Ok entry) (Ok (record h { changes = counted h.changes (is_change entry.kind) }))
-  Meets : (entry : Entry) (number : ℕ) (list : List ℕ) (rows : List Row) (confirms : List Due) (change : Bool) → is_change entry.kind ≡ change
+  Meets : (entry : Entry) (number : ℕ) (list : List ℕ) (rows : List Row) (confirms : List DueConfirm) (change : Bool) → is_change entry.kind ≡ change
       → Spoken count entry number list → Way count ack h (Ok entry) (Ok (met h (place_in_used (is_left entry.kind) number) change rows confirms))
   ChangeWrong : (entry : Entry) (number : ℕ) (list : List ℕ) (code : ℕ) → Spoken count entry number list → is_change entry.kind ≡ true
       → was_met h entry number ≡ false → nat_lt h.changes 64 ≡ true

@@ -20,7 +20,7 @@ use Rattle.feature_machine.specs.Turns.{Turn, events_of}
 use Rattle.feature_machine.specs.declared.row.Row.{Row}
 use Rattle.feature_machine.proofs.DueKeys.{due_asks, due_distinct}
 use Rattle.feature_machine.proofs.Places.{same_feature, same_number, same_place}
-use Rattle.dccp_endpoint.specs.Heeding.{Due}
+use Rattle.dccp_endpoint.specs.Heeding.{DueConfirm}
 use Rattle.dccp_endpoint.specs.Saying.{body_if, confirm_for, has_key, is_key, once_if, times_confirmed}
 use Rattle.dccp_endpoint.specs.Speaking.{asking, is_confirmed, is_for, is_of_place, unconfirmed}
 use Rattle.dccp_endpoint.specs.Turns.{Key, offerings, sendings, turn_of}
@@ -126,38 +126,38 @@ has-filter test k (first ∷ rest) = by (test first) refl (is_key k first) refl 
   by false dropped false same later = later
 
 -- the rows without a Confirm
-pub has-unconfirmed : (confirms : List Due) (k : Key) (keys : List Key)
+pub has-unconfirmed : (confirms : List DueConfirm) (k : Key) (keys : List Key)
     → has_key k (unconfirmed confirms keys) ≡ (has_key k keys && not (is_confirmed confirms k))
 has-unconfirmed confirms k keys = has-filter (λ (k : Key). not (is_confirmed confirms k)) k keys
 
 -- nor twice without a Confirm
-pub unconfirmed-distinct : (confirms : List Due) (keys : List Key) → AreDistinct keys → AreDistinct (unconfirmed confirms keys)
+pub unconfirmed-distinct : (confirms : List DueConfirm) (keys : List Key) → AreDistinct keys → AreDistinct (unconfirmed confirms keys)
 unconfirmed-distinct confirms keys distinct =
     AllPairs-filter (λ one other. one ≢ other) (λ (k : Key). not (is_confirmed confirms k)) keys distinct
 
 -- no more keys are without a Confirm than there are
-pub unconfirmed-few : (confirms : List Due) (keys : List Key) → length (unconfirmed confirms keys) ≤ length keys
+pub unconfirmed-few : (confirms : List DueConfirm) (keys : List Key) → length (unconfirmed confirms keys) ≤ length keys
 unconfirmed-few confirms keys = filter-few (λ (k : Key). not (is_confirmed confirms k)) keys
 
 -- the rows that ask on a Request or a Response
-pub has-asking : (rows : List Row) (confirms : List Due) (k : Key) → IsNegotiation rows
+pub has-asking : (rows : List Row) (confirms : List DueConfirm) (k : Key) → IsNegotiation rows
     → has_key k (asking rows confirms) ≡ (is_due (row_at rows k.0 k.1) && not (is_confirmed confirms k))
 has-asking rows confirms k sound =
     has-unconfirmed confirms k (due_keys rows) ∙ ap (λ (due : Bool). due && not (is_confirmed confirms k)) (has-due rows k sound)
 
 -- no key asks twice
-pub asking-distinct : (rows : List Row) (confirms : List Due) → IsNegotiation rows → AreDistinct (asking rows confirms)
+pub asking-distinct : (rows : List Row) (confirms : List DueConfirm) → IsNegotiation rows → AreDistinct (asking rows confirms)
 asking-distinct rows confirms sound = unconfirmed-distinct confirms (due_keys rows) (due_distinct rows sound)
 
 -- a row has a Confirm exactly where one of them is for it
-pub confirm-none : (confirms : List Due) (k : Key) → is_confirmed confirms k ≡ false → confirm_for k confirms ≡ None
+pub confirm-none : (confirms : List DueConfirm) (k : Key) → is_confirmed confirms k ≡ false → confirm_for k confirms ≡ None
 confirm-none [] k is = refl
 confirm-none (due ∷ rest) k is =
     let parts = or_parts (is_for k due) (is_confirmed rest k) is in
     ap (λ (its : Bool). body_if its due.body (confirm_for k rest)) parts.0 ∙ confirm-none rest k parts.1
 
 -- a key without a Confirm has none
-pub none-confirmed : (confirms : List Due) (k : Key) → confirm_for k confirms ≡ None → is_confirmed confirms k ≡ false
+pub none-confirmed : (confirms : List DueConfirm) (k : Key) → confirm_for k confirms ≡ None → is_confirmed confirms k ≡ false
 none-confirmed [] k is = refl
 none-confirmed (due ∷ rest) k is = by (is_for k due) is (λ later. none-confirmed rest k later) where
   by : (its : Bool) → body_if its due.body (confirm_for k rest) ≡ None → (confirm_for k rest ≡ None → is_confirmed rest k ≡ false)
@@ -166,11 +166,11 @@ none-confirmed (due ∷ rest) k is = by (is_for k due) is (λ later. none-confir
   by false is later = later is
 
 -- a key with a Confirm has one
-pub confirmed-some : (confirms : List Due) (k : Key) (body : List ℕ) → confirm_for k confirms ≡ Some body → is_confirmed confirms k ≡ true
+pub confirmed-some : (confirms : List DueConfirm) (k : Key) (body : List ℕ) → confirm_for k confirms ≡ Some body → is_confirmed confirms k ≡ true
 confirmed-some confirms k body some = true_from_ne_false (is_confirmed confirms k) (λ is. cc (confirm-none confirms k is, some))
 
 -- none of the Confirms counts for a row that has none
-pub times-none : (confirms : List Due) (k : Key) → is_confirmed confirms k ≡ false → times_confirmed k confirms ≡ 0
+pub times-none : (confirms : List DueConfirm) (k : Key) → is_confirmed confirms k ≡ false → times_confirmed k confirms ≡ 0
 times-none [] k is = refl
 times-none (due ∷ rest) k is =
     let parts = or_parts (is_for k due) (is_confirmed rest k) is in
@@ -204,7 +204,7 @@ has-one k key = by (is_key k key) where
   by false = refl
 
 -- what holds of all keys holds of one that is found among them
-pub apart-so : (confirms : List Due) (keys : List Key) (k : Key) → All (λ (key : Key). is_confirmed confirms key ≡ false) keys → has_key k keys ≡ true
+pub apart-so : (confirms : List DueConfirm) (keys : List Key) (k : Key) → All (λ (key : Key). is_confirmed confirms key ≡ false) keys → has_key k keys ≡ true
     → is_confirmed confirms k ≡ false
 apart-so confirms keys k apart has = All-contains (λ (key : Key). is_confirmed confirms key ≡ false) keys k apart (has-contains k keys has)
 

@@ -19,7 +19,7 @@ use Rattle.feature_machine.proofs.Turning.{turned-role, turned-sound}
 use Rattle.dccp_endpoint.specs.Causes.{AreHeard, Deaf, Heeds, AreTurns, Occasion, Plain, Offering, Repeating, PrefersNow, PrefersLater, counts_in}
 use Rattle.dccp_endpoint.specs.Effects.{Hearing}
 use Rattle.dccp_endpoint.specs.End.{EndState, IsProper, end_of}
-use Rattle.dccp_endpoint.specs.Heeding.{Due, Heeding, body_turns, entry_turns, event_of, heard_turns, heeds, heeds_item, is_change, is_left, is_of_negotiation, is_too_many, item_turns, place_in_used, turn_known, turns_then, unheeded}
+use Rattle.dccp_endpoint.specs.Heeding.{DueConfirm, Heeding, body_turns, entry_turns, event_of, heard_turns, heeds, heeds_item, is_change, is_left, is_of_negotiation, is_too_many, item_turns, place_in_used, turn_known, turns_then, unheeded}
 use Rattle.dccp_endpoint.specs.Inputs.{Input}
 use Rattle.dccp_endpoint.specs.Speaking.{is_confirmed}
 use Rattle.dccp_endpoint.specs.Steps.{next_number}
@@ -95,7 +95,7 @@ pub preferred-lawful : (k : Key) (values : List ℕ) (wish : Wanted) → wish_of
 preferred-lawful k values wish is = one-lawful (turn_of k (Prefers wish)) ((given k.0 k.1 wish).1 (values, is))
 
 module _ {e : EndState} {input : Input} where
-  occasion-lawful : {heard : List Turn} {confirms : List Due} {offered preferred : List Turn} {keys : List Key}
+  occasion-lawful : {heard : List Turn} {confirms : List DueConfirm} {offered preferred : List Turn} {keys : List Key}
       → Occasion e input heard confirms offered preferred keys → AreLawful offered × AreLawful preferred
   occasion-lawful Plain = (All-nil Fit, All-nil Fit)
   occasion-lawful {confirms = confirms} Offering = (offerings-lawful (is_confirmed confirms) every_place, All-nil Fit)
@@ -104,12 +104,12 @@ module _ {e : EndState} {input : Input} where
   occasion-lawful (PrefersLater k values wish so is later deaf none) = (All-nil Fit, preferred-lawful k values wish is)
 
 module _ {e : EndState} {input : Input} {hearing : Hearing} where
-  said-lawful : {turns : List Turn} {confirms : List Due} → AreHeard e input hearing turns confirms → AreLawful turns
+  said-lawful : {turns : List Turn} {confirms : List DueConfirm} → AreHeard e input hearing turns confirms → AreLawful turns
   said-lawful Deaf = All-nil Fit
   said-lawful (Heeds a h was is) = heard-lawful (counts_in e a) a.ack (unheeded e.rows) a.options
 
   -- what was heard, and the offers after it
-  pub offered-sound : {turns : List Turn} {confirms : List Due} → IsProper e → AreHeard e input hearing turns confirms
+  pub offered-sound : {turns : List Turn} {confirms : List DueConfirm} → IsProper e → AreHeard e input hearing turns confirms
       → IsNegotiation (turned e.rows (turns ++ offerings (is_confirmed confirms) every_place))
   offered-sound {turns = turns} {confirms = confirms} proper hears =
       let offered : List Turn = offerings (is_confirmed confirms) every_place in

@@ -20,7 +20,7 @@ use Rattle.feature_machine.specs.Turns.{Turn, events_of, confirm_of, reply_due}
 use Rattle.feature_machine.specs.declared.row.Row.{Row}
 use Rattle.feature_machine.proofs.Places.{numbered}
 use Rattle.dccp_endpoint.proofs.FirstFaults.{item-counts}
-use Rattle.dccp_endpoint.specs.Heeding.{Due, Heeding, body_turns, by_answered, by_settling, counted, entry_turns, event_of, fault_of, feature_turns, heard_turns, heeds, heeds_body, heeds_entry, heeds_feature, heeds_first, heeds_then, is_change, is_left, is_of_negotiation, is_too_many, met, misunderstood, place_in_used, turn_known, turns_then, unheeded}
+use Rattle.dccp_endpoint.specs.Heeding.{DueConfirm, Heeding, body_turns, by_answered, by_settling, counted, entry_turns, event_of, fault_of, feature_turns, heard_turns, heeds, heeds_body, heeds_entry, heeds_feature, heeds_first, heeds_then, is_change, is_left, is_of_negotiation, is_too_many, met, misunderstood, place_in_used, turn_known, turns_then, unheeded}
 use Rattle.dccp_endpoint.specs.Saying.{ConfirmsAreSingle, RowsHearThePacket, begins_with_number, changes_among, has_feature_number, is_change_item, negotiates_by, body_if, confirm_for, event_in, once_if, said_to, speaks_to, times_confirmed}
 use Rattle.dccp_endpoint.specs.Speaking.{is_for, is_of_place}
 use Rattle.dccp_endpoint.specs.Turns.{Key}
@@ -28,11 +28,11 @@ use Rattle.dccp_states.specs.declared.outcome.Fault.{Fault}
 use Rattle.dccp_endpoint.proofs.OneRow.{IsBeside, beside-so, changes-leaves, confirmed-leaves, events-append, events-beside, events-own, is_to, letter-answer, letter-place, letter_to, spot, spot-below, to-so}
 
 -- a Confirm that is due for another row, and one for this
-confirm-beside : (k : Key) (due : Due) (confirms : List Due) → is_for k due ≡ false → confirm_for k (confirms ++ due ∷ []) ≡ confirm_for k confirms
+confirm-beside : (k : Key) (due : DueConfirm) (confirms : List DueConfirm) → is_for k due ≡ false → confirm_for k (confirms ++ due ∷ []) ≡ confirm_for k confirms
 confirm-beside k due [] differs = ap (λ its. body_if its due.body None) differs
 confirm-beside k due (first ∷ rest) differs = ap (body_if (is_for k first) first.body) (confirm-beside k due rest differs)
 
-confirm-own : (k : Key) (due : Due) (confirms : List Due) → is_for k due ≡ true → confirm_for k confirms ≡ None
+confirm-own : (k : Key) (due : DueConfirm) (confirms : List DueConfirm) → is_for k due ≡ true → confirm_for k confirms ≡ None
     → confirm_for k (confirms ++ due ∷ []) ≡ Some due.body
 confirm-own k due [] its none = ap (λ its. body_if its due.body None) its
 confirm-own k due (first ∷ rest) its none = by (is_for k first) none (λ later. confirm-own k due rest its later) where
@@ -42,7 +42,7 @@ confirm-own k due (first ∷ rest) its none = by (is_for k first) none (λ later
   by true none later = cc none
   by false none later = later none
 
-times-more : (k : Key) (due : Due) (confirms : List Due) → times_confirmed k (confirms ++ due ∷ []) ≡ times_confirmed k confirms + once_if (is_for k due)
+times-more : (k : Key) (due : DueConfirm) (confirms : List DueConfirm) → times_confirmed k (confirms ++ due ∷ []) ≡ times_confirmed k confirms + once_if (is_for k due)
 times-more k due [] = omega arith
 times-more k due (first ∷ rest) = let later = times-more k due rest in omega (arith, later)
 
@@ -101,7 +101,7 @@ still-passes k h = record {
   times = refl;
 }
 
-met-keeps : (h : Heeding) (place : ℕ) (change : Bool) (rows : List Row) (confirms : List Due) → length rows ≡ length h.rows
+met-keeps : (h : Heeding) (place : ℕ) (change : Bool) (rows : List Row) (confirms : List DueConfirm) → length rows ≡ length h.rows
     → Keeps h (met h place change rows confirms)
 met-keeps h place change rows confirms size = record { rows = size; used = length-set h.used place true }
 
@@ -118,7 +118,7 @@ module _ (k : Key) (ack : Option ℕ) (h next : Heeding) (entry : Entry) (left :
   abbrev place : ℕ
   place = place_in_used left number
 
-  met-passes : (change : Bool) (rows : List Row) (confirms : List Due) (turns : List Turn) → row_at rows k.0 k.1 ≡ row_at h.rows k.0 k.1
+  met-passes : (change : Bool) (rows : List Row) (confirms : List DueConfirm) (turns : List Turn) → row_at rows k.0 k.1 ≡ row_at h.rows k.0 k.1
       → length rows ≡ length h.rows → confirm_for k confirms ≡ confirm_for k h.confirms
       → times_confirmed k confirms ≡ times_confirmed k h.confirms → events_of k.0 k.1 turns ≡ []
       → Passes k h (met h place change rows confirms) turns
@@ -144,7 +144,7 @@ module _ (k : Key) (ack : Option ℕ) (h next : Heeding) (entry : Entry) (left :
   answer-passes : (rows : List Row) → row_at rows k.0 k.1 ≡ row_at h.rows k.0 k.1 → length rows ≡ length h.rows → (answer : RowAnswer)
       → by_answered h place rows entry (answered left number answer) ≡ Ok next → Passes k h next (its_turns true)
   answer-passes rows row size (Confirms its) is =
-      let due : Due = record { left = not left; number = number; body = its } in
+      let due : DueConfirm = record { left = not left; number = number; body = its } in
       let same : met h place true rows (h.confirms ++ due ∷ []) ≡ next = cc is in
       let more = times-more k due h.confirms in
       let none : once_if (is_for k due) ≡ 0 = ap once_if beside.due in
@@ -241,7 +241,7 @@ module _ (k : Key) (ack : Option ℕ) (h next : Heeding) (entry : Entry) (body :
   answer-tells : (rows : List Row) → length rows ≡ length h.rows → (its : RowAnswer) → answer true ≡ its
       → by_answered h (spot k) rows entry (answered (letter_to k.1) (feature_number k.0) its) ≡ Ok next → Tells k h next (event true) (own_turns true)
   answer-tells rows same_size (Confirms its) so is =
-      let due : Due = record { left = not (letter_to k.1); number = feature_number k.0; body = its } in
+      let due : DueConfirm = record { left = not (letter_to k.1); number = feature_number k.0; body = its } in
       let same : met h (spot k) true rows (h.confirms ++ due ∷ []) ≡ next = cc is in
       let more = times-more k due h.confirms in
       let own : is_for k due ≡ true =

@@ -17,7 +17,7 @@ use Rattle.feature_machine.specs.Negotiating.{row_at, opposite}
 use Rattle.feature_machine.specs.Rows.{RowEvent, Change, Confirm}
 use Rattle.feature_machine.specs.declared.row.Row.{Row}
 use Rattle.run_list.specs.MarkedSet.{MarkedSet, has}
-use Rattle.dccp_endpoint.specs.Heeding.{Due, event_of, is_change, is_left, is_of_negotiation}
+use Rattle.dccp_endpoint.specs.Heeding.{DueConfirm, event_of, is_change, is_left, is_of_negotiation}
 use Rattle.dccp_endpoint.specs.Saying.{OwnPacketsSayOfARow, OwnPacketsSpeakOnce, body_if, change_if, confirm_for, event_in, has_key, is_key, once_if, own_options, said_of, said_to, speaks_to, times_confirmed, times_said_to}
 use Rattle.dccp_endpoint.specs.Speaking.{change_item, change_items, change_type, confirm_item, confirm_items, confirm_type, is_confirmed, is_for, is_of_place, wish_bytes}
 use Rattle.dccp_endpoint.specs.Turns.{Key}
@@ -44,7 +44,7 @@ confirm-letter test true There = refl
 confirm-letter test false Here = refl
 confirm-letter test false There = refl
 
-confirm-speaks : (k : Key) (place : ℕ) (due : Due) → speaks_to (theirs k) (entry_of place (confirm_item due)) ≡ is_for k due
+confirm-speaks : (k : Key) (place : ℕ) (due : DueConfirm) → speaks_to (theirs k) (entry_of place (confirm_item due)) ≡ is_for k due
 confirm-speaks k place due = confirm-letter (due.number == feature_number k.0) due.left k.1
 
 change-letter : (test : Bool) (here place : Place)
@@ -67,7 +67,7 @@ change-speaks k key place row =
     ∙ ap (λ (test : Bool). test && is_of_place (is_of_place true k.1) key.1) (turned-test (feature_number key.0) (feature_number k.0))
 
 -- what they say
-confirm-event : (ack : Option ℕ) (place : ℕ) (due : Due) → event_in ack (entry_of place (confirm_item due)) ≡ Confirm due.body ack
+confirm-event : (ack : Option ℕ) (place : ℕ) (due : DueConfirm) → event_in ack (entry_of place (confirm_item due)) ≡ Confirm due.body ack
 confirm-event ack place due = by due.left where
   by : (left : Bool) → event_of ack (entry_of place (confirm_item due)) (is_change (confirm_type left)) due.body ≡ Confirm due.body ack
   by true = refl
@@ -111,7 +111,7 @@ module _ (ack : Option ℕ) (rows : List Row) (k : Key) where
       by false other speaks others =
           cond-false (speaks_to (theirs k) entry) (event_in ack entry ∷ []) (said_to true ack (theirs k) later) (speaks ∙ other) ∙ others
 
-  all-said : (confirms : List Due) (keys : List Key) (place : ℕ)
+  all-said : (confirms : List DueConfirm) (keys : List Key) (place : ℕ)
       → said_to true ack (theirs k) (as_read place (confirm_items confirms ++ change_items rows keys))
       ≡ said_of (confirm_for k confirms) (has_key k keys) ack k (row_at rows k.0 k.1)
   all-said [] keys place = changes-said keys place
@@ -159,7 +159,7 @@ parts-say-nothing : (ack : Option ℕ) (place : ℕ) (parts : List (List ℕ)) (
 parts-say-nothing ack place [] items k = refl
 parts-say-nothing ack place (part ∷ parts) items k = parts-say-nothing ack (following place (vector_item part)) parts items k
 
-vector-says-nothing : (ack : Option ℕ) (has_vector : Bool) (vectors : Vectors) (set : MarkedSet) (greatest : ℕ) (confirms : List Due) (rows : List Row)
+vector-says-nothing : (ack : Option ℕ) (has_vector : Bool) (vectors : Vectors) (set : MarkedSet) (greatest : ℕ) (confirms : List DueConfirm) (rows : List Row)
     (keys : List Key) (k : Key)
     → said_to true ack (theirs k) (as_read 0 (own_options has_vector vectors set greatest confirms rows keys))
     ≡ said_to true ack (theirs k) (as_read (after_vector has_vector vectors set greatest) (confirm_items confirms ++ change_items rows keys))
@@ -200,7 +200,7 @@ module _ (rows : List Row) (k : Key) where
           let now : once_if (speaks_to (theirs k) entry) ≡ 0 = ap once_if (speaks ∙ other) in
           omega (arith, now, others)
 
-  all-times : (confirms : List Due) (keys : List Key) (place : ℕ) → AreDistinct keys
+  all-times : (confirms : List DueConfirm) (keys : List Key) (place : ℕ) → AreDistinct keys
       → times_said_to (theirs k) (as_read place (confirm_items confirms ++ change_items rows keys))
       ≡ times_confirmed k confirms + once_if (has_key k keys)
   all-times [] keys place distinct = let changes = changes-times keys place distinct in omega (arith, changes)
@@ -214,7 +214,7 @@ parts-never-speak : (place : ℕ) (parts : List (List ℕ)) (items : List Item) 
 parts-never-speak place [] items k = refl
 parts-never-speak place (part ∷ parts) items k = let rest = parts-never-speak (following place (vector_item part)) parts items k in omega (arith, rest)
 
-vector-never-speaks : (has_vector : Bool) (vectors : Vectors) (set : MarkedSet) (greatest : ℕ) (confirms : List Due) (rows : List Row) (keys : List Key)
+vector-never-speaks : (has_vector : Bool) (vectors : Vectors) (set : MarkedSet) (greatest : ℕ) (confirms : List DueConfirm) (rows : List Row) (keys : List Key)
     (k : Key)
     → times_said_to (theirs k) (as_read 0 (own_options has_vector vectors set greatest confirms rows keys))
     ≡ times_said_to (theirs k) (as_read (after_vector has_vector vectors set greatest) (confirm_items confirms ++ change_items rows keys))
@@ -231,7 +231,7 @@ own_packets_speak = λ has_vector vectors set greatest confirms rows keys k sing
     ∙ all-times rows k confirms keys (after_vector has_vector vectors set greatest) distinct in
     by confirms keys k single apart (has_key k keys) refl times
   where
-    by : (confirms : List Due) (keys : List Key) (k : Key) → times_confirmed k confirms ≤ 1
+    by : (confirms : List DueConfirm) (keys : List Key) (k : Key) → times_confirmed k confirms ≤ 1
         → (has_key k keys ≡ true → is_confirmed confirms k ≡ false) → (asks : Bool) → has_key k keys ≡ asks → {n : ℕ}
         → n ≡ times_confirmed k confirms + once_if (has_key k keys) → n ≤ 1
     by confirms keys k single apart true is times =

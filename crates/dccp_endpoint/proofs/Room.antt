@@ -42,7 +42,7 @@ use Rattle.feature_machine.specs.declared.stands.Stand.TheVariants as stand
 use Rattle.feature_machine.proofs.Steps.{stepped_negotiation}
 use Rattle.dccp_endpoint.specs.Causes.{is_code_without_connection}
 use Rattle.dccp_endpoint.specs.Drafts.{IsSendable}
-use Rattle.dccp_endpoint.specs.Heeding.{Due, Heeding, by_answered, by_settling, counted, fault_of, heeds, heeds_body, heeds_change, heeds_confirm, heeds_feature, heeds_item, heeds_then, is_change, is_left, is_of_negotiation, met, misunderstood, place_in_used, unheeded}
+use Rattle.dccp_endpoint.specs.Heeding.{DueConfirm, Heeding, by_answered, by_settling, counted, fault_of, heeds, heeds_body, heeds_change, heeds_confirm, heeds_feature, heeds_item, heeds_then, is_change, is_left, is_of_negotiation, met, misunderstood, place_in_used, unheeded}
 use Rattle.dccp_endpoint.specs.Reporting.{vector_item, vector_items}
 use Rattle.dccp_endpoint.specs.Saying.{ConfirmsHaveRoom, once_if}
 use Rattle.dccp_endpoint.specs.Speaking.{HaveRoom, asking, change_item, change_items, change_type, confirm_item, confirm_items, confirm_type, confirming, is_confirmed, saying, wish_bytes}
@@ -264,11 +264,11 @@ length-written (item ∷ rest) more =
     let later = length-written rest more in
     omega (arith, all, old, later)
 
-length-confirm : (due : Due) → length (written (confirm_items (due ∷ []))) ≡ 3 + length due.body
+length-confirm : (due : DueConfirm) → length (written (confirm_items (due ∷ []))) ≡ 3 + length due.body
 length-confirm due =
     let alone = ap length (append-nil (spelled false (confirm_type due.left) (due.number ∷ due.body))) in omega (arith, alone)
 
-length-confirms : (confirms : List Due) (due : Due)
+length-confirms : (confirms : List DueConfirm) (due : DueConfirm)
     → length (written (confirm_items (confirms ++ due ∷ []))) ≡ length (written (confirm_items confirms)) + (3 + length due.body)
 length-confirms confirms due =
     let joined : confirm_items (confirms ++ due ∷ []) ≡ confirm_items confirms ++ confirm_items (due ∷ []) = map-append confirm_item confirms (due ∷ []) in
@@ -282,15 +282,15 @@ answered-bounded : (h : Heeding) (place : ℕ) (rows : List Row) (entry : Entry)
     → rows_used h.used every_place + its ≤ rows_used (slice_set h.used place true) every_place → IsBounded h → nat_lt h.changes 64 ≡ true → IsNegotiation rows
     → IsShort (9 * its) answer → IsBoundedReading (by_answered h place rows entry (answered left number answer))
 answered-bounded h place rows entry left number (Confirms body) its one used b few sound short =
-    let due : Due = record { left = not left; number = number; body = body } in
+    let due : DueConfirm = record { left = not left; number = number; body = body } in
     let more : counted h.changes true ≡ h.changes + 1 = rw few refl in
     record {
       rows = sound;
       size = length-set h.used place true ∙ b.size;
       few = (let long = length-append h.confirms (due ∷ []) in let old = b.few in omega (arith, long, old, more));
       most = (counted-more h.changes true b.most).1;
-      short = All-append (λ (d : Due). length d.body ≤ 9) h.confirms (due ∷ []) b.short
-          (All-cons (λ (d : Due). length d.body ≤ 9) due [] (omega (arith, short, one)) (All-nil (λ (d : Due). length d.body ≤ 9)));
+      short = All-append (λ (d : DueConfirm). length d.body ≤ 9) h.confirms (due ∷ []) b.short
+          (All-cons (λ (d : DueConfirm). length d.body ≤ 9) due [] (omega (arith, short, one)) (All-nil (λ (d : DueConfirm). length d.body ≤ 9)));
       room = (let long = length-confirms h.confirms due in let old = b.room in omega (arith, long, old, more, used, short));
     }
 answered-bounded h place rows entry left number (Fatal code) its one used b few sound short = refl
@@ -373,18 +373,18 @@ reading-bounded count ack rows items sound =
       size = length-replicate 512 false;
       few = omega arith;
       most = omega arith;
-      short = All-nil (λ (due : Due). length due.body ≤ 9);
+      short = All-nil (λ (due : DueConfirm). length due.body ≤ 9);
       room = omega arith;
     })
 
 -- the Confirms that are due after a packet's options
-pub record AreShort (confirms : List Due) : Type 0 where
+pub record AreShort (confirms : List DueConfirm) : Type 0 where
   pub few : length confirms ≤ 64
   pub short : All (λ due. length due.body ≤ 9) confirms
   pub room : HaveRoom confirms
 
 pub no-confirms : AreShort []
-no-confirms = record { few = omega arith; short = All-nil (λ (due : Due). length due.body ≤ 9); room = omega arith }
+no-confirms = record { few = omega arith; short = All-nil (λ (due : DueConfirm). length due.body ≤ 9); room = omega arith }
 
 pub confirms-short : (count : Bool) (ack : Option ℕ) (rows : List Row) (items : List (Result Entry OptFault)) (read : Heeding) → IsNegotiation rows
     → heeds count ack (unheeded rows) items ≡ Ok read → AreShort read.confirms
@@ -418,7 +418,7 @@ small-by item least most short =
     let long = length-append (mark item.mandatory) (item.kind ∷ (length item.body + 2) ∷ item.body) in
     record { writable = record { has_length = least; is_byte = most; fits = omega (arith, short) }; short = omega (arith, short, long) }
 
-confirm-small : (due : Due) → length due.body ≤ 9 → IsSmall (confirm_item due)
+confirm-small : (due : DueConfirm) → length due.body ≤ 9 → IsSmall (confirm_item due)
 confirm-small due short = small-by (confirm_item due) (least due.left) (most due.left) (omega (arith, short)) where
   least : (left : Bool) → 32 ≤ confirm_type left
   least true = omega arith
@@ -469,11 +469,11 @@ all-writable [] small = All-nil IsWritable
 all-writable (item ∷ rest) small =
     All-cons IsWritable item rest (All-head IsSmall item rest small).writable (all-writable rest (All-tail IsSmall item rest small))
 
-confirms-small : (confirms : List Due) → All (λ due. length due.body ≤ 9) confirms → All IsSmall (confirm_items confirms)
+confirms-small : (confirms : List DueConfirm) → All (λ due. length due.body ≤ 9) confirms → All IsSmall (confirm_items confirms)
 confirms-small [] short = All-nil IsSmall
 confirms-small (due ∷ rest) short =
-    All-cons IsSmall (confirm_item due) (confirm_items rest) (confirm-small due (All-head (λ (d : Due). length d.body ≤ 9) due rest short))
-    (confirms-small rest (All-tail (λ (d : Due). length d.body ≤ 9) due rest short))
+    All-cons IsSmall (confirm_item due) (confirm_items rest) (confirm-small due (All-head (λ (d : DueConfirm). length d.body ≤ 9) due rest short))
+    (confirms-small rest (All-tail (λ (d : DueConfirm). length d.body ≤ 9) due rest short))
 
 -- options of so many bytes can be sent on every type but Data
 padded-room : (area : List ℕ) → length area ≤ 984 → length (padded area) ≤ 984
@@ -560,7 +560,7 @@ front-asking-sendable k front rows keys long detail other first sound few =
     front-sendable k front (change_items rows keys) long detail other first changes.0 (let room = changes.1 in omega (arith, room))
 
 -- Confirms and Changes, and nothing in front
-pub saying-sendable : (k : Kind) (confirms : List Due) (rows : List Row) (keys : List Key) → has_forms true k ≡ true → HasDetail k
+pub saying-sendable : (k : Kind) (confirms : List DueConfirm) (rows : List Row) (keys : List Key) → has_forms true k ≡ true → HasDetail k
     → is_data (packet_type k) ≡ false → AreShort confirms → IsNegotiation rows → length keys ≤ 18 → IsSendable (saying k confirms rows keys)
 saying-sendable k confirms rows keys long detail other short sound few =
     let changes = changes-fit rows keys sound few in
@@ -571,13 +571,13 @@ saying-sendable k confirms rows keys long detail other short sound few =
     (let more = changes.1 in omega (arith, all, room, more))
 
 -- options in front, and Confirms alone
-pub front-confirming-sendable : (k : Kind) (front : List Item) (confirms : List Due) → has_forms true k ≡ true → HasDetail k → is_data (packet_type k) ≡ false
+pub front-confirming-sendable : (k : Kind) (front : List Item) (confirms : List DueConfirm) → has_forms true k ≡ true → HasDetail k → is_data (packet_type k) ≡ false
     → IsFront front → AreShort confirms → IsSendable (record { kind = k; options = front ++ confirm_items confirms; payload = [] })
 front-confirming-sendable k front confirms long detail other first short =
     front-sendable k front (confirm_items confirms) long detail other first (all-writable (confirm_items confirms) (confirms-small confirms short.short))
     (let room = short.room in omega (arith, room))
 
-pub confirming-sendable : (k : Kind) (confirms : List Due) → has_forms true k ≡ true → HasDetail k → is_data (packet_type k) ≡ false → AreShort confirms
+pub confirming-sendable : (k : Kind) (confirms : List DueConfirm) → has_forms true k ≡ true → HasDetail k → is_data (packet_type k) ≡ false → AreShort confirms
     → IsSendable (confirming k confirms)
 confirming-sendable k confirms long detail other short = front-confirming-sendable k [] confirms long detail other no-front short
 
@@ -591,7 +591,7 @@ due-few rows sound =
     let size = sound.size in
     omega (arith, long, passed, fewer, size)
 
-pub asking-few : (rows : List Row) (confirms : List Due) → IsNegotiation rows → length (asking rows confirms) ≤ 18
+pub asking-few : (rows : List Row) (confirms : List DueConfirm) → IsNegotiation rows → length (asking rows confirms) ≤ 18
 asking-few rows confirms sound =
     let test : (Key → Bool) = λ k. not (is_confirmed confirms k) in
     let long = length-filter test (due_keys rows) in

@@ -17,7 +17,7 @@ use Rattle.run_list.specs.MarkedSet.{MarkedSet, has}
 use Rattle.dccp_endpoint.specs.Calling.{has_keys}
 use Rattle.dccp_endpoint.specs.Drafts.{carrying}
 use Rattle.dccp_endpoint.specs.End.{EndState}
-use Rattle.dccp_endpoint.specs.Heeding.{Due, is_of_negotiation}
+use Rattle.dccp_endpoint.specs.Heeding.{DueConfirm, is_of_negotiation}
 use Rattle.dccp_endpoint.specs.Reporting.{reporting, sends_vectors, vector_item, vector_items}
 use Rattle.dccp_endpoint.specs.ShortForm.{allows_short, goes_short, is_negotiating}
 use Rattle.dccp_endpoint.specs.Speaking.{change_items, change_type, confirm_items, confirm_type, has_confirms, saying}
@@ -42,7 +42,7 @@ changes_negotiate Here = refl
 changes_negotiate There = refl
 
 -- Confirms and Changes do
-says_negotiate : (confirms : List Due) (rows : List Row) (keys : List Key)
+says_negotiate : (confirms : List DueConfirm) (rows : List Row) (keys : List Key)
     → list_any is_negotiating (confirm_items confirms ++ change_items rows keys) ≡ (has_confirms confirms || has_keys keys)
 says_negotiate [] rows [] = refl
 says_negotiate [] rows (k ∷ keys) = ap (λ (b : Bool). b || list_any is_negotiating (change_items rows keys)) (changes_negotiate k.1)
@@ -50,7 +50,7 @@ says_negotiate (due ∷ rest) rows keys =
     ap (λ (b : Bool). b || list_any is_negotiating (confirm_items rest ++ change_items rows keys)) (confirms_negotiate due.left)
 
 -- whether an Ack goes out with short numbers
-pub short_ack : (e : EndState) (k : Kind) (confirms : List Due) (rows : List Row) (keys : List Key) → may_be_short (packet_type k) ≡ true
+pub short_ack : (e : EndState) (k : Kind) (confirms : List DueConfirm) (rows : List Row) (keys : List Key) → may_be_short (packet_type k) ≡ true
     → goes_short e (reporting e (saying k confirms rows keys)) ≡ (allows_short e && not (has_confirms confirms || has_keys keys))
 short_ack e k confirms rows keys may =
     ap (λ (b : Bool). b && (allows_short e && not (list_any is_negotiating (reporting e (saying k confirms rows keys)).options))) may

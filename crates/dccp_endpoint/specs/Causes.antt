@@ -32,7 +32,7 @@ use Rattle.dccp_endpoint.specs.Drafts.{Draft, IsSendable, alone}
 use Rattle.dccp_endpoint.specs.Effects.{Effect, Passing, Refused, Shut, Taken, Hearing, Unheard, Heard, Sending, Silent, Next, WithoutConnection, greatest_by, end_after, frame_by, rows_by, told_by}
 use Rattle.dccp_endpoint.specs.End.{EndState, IsProper, is_phase_of, is_live, is_begun, is_connected, phase_entered}
 use Rattle.dccp_endpoint.specs.Faults.{counts}
-use Rattle.dccp_endpoint.specs.Heeding.{Due, Heeding, heard_turns, heeds, unheeded}
+use Rattle.dccp_endpoint.specs.Heeding.{DueConfirm, Heeding, heard_turns, heeds, unheeded}
 use Rattle.dccp_packets.specs.Kinds.{ack_of}
 use Rattle.dccp_endpoint.specs.Incoming.{Incoming, incoming}
 use Rattle.dccp_endpoint.specs.Inputs.{Input, Arrives, Opens, end_stepped}
@@ -190,12 +190,12 @@ pub data IsLooking (e : EndState) (given : Input) (hearing : Hearing) : Option �
   Looks : (number : ℕ) (a : Incoming) → WasTaken e given hearing a → is_acking a.kind ≡ true → a.ack ≡ Some number → IsLooking e given hearing (Some number)
 
 -- What the rows heard of a packet that was taken, and the Confirms that are due for it.
-pub data AreHeard (e : EndState) (given : Input) (hearing : Hearing) : List Turn → List Due → Type 0 where
+pub data AreHeard (e : EndState) (given : Input) (hearing : Hearing) : List Turn → List DueConfirm → Type 0 where
   Deaf : AreHeard e given hearing [] []
   Heeds : (a : Incoming) (h : Heeding) → WasTaken e given hearing a → AreOptionsRead e a h → AreHeard e given hearing (turns_in e a) h.confirms
 
 -- What else happens to rows in the step, and whose Changes go out.
-pub data Occasion (e : EndState) (given : Input) (heard : List Turn) (confirms : List Due) : List Turn → List Turn → List Key → Type 0 where
+pub data Occasion (e : EndState) (given : Input) (heard : List Turn) (confirms : List DueConfirm) : List Turn → List Turn → List Key → Type 0 where
   -- nothing
   Plain : Occasion e given heard confirms [] [] []
   -- A Request or a Response: all offers come up, and the Changes go out of the rows that ask then and have no Confirm in the packet.
@@ -216,7 +216,7 @@ pub data Occasion (e : EndState) (given : Input) (heard : List Turn) (confirms :
 -- out beside a Confirm for it.
 pub record AreTurns (e : EndState) (given : Input) (hearing : Hearing) (turns : List Turn) : Type 0 where
   pub heard : List Turn
-  pub confirms : List Due
+  pub confirms : List DueConfirm
   pub offered : List Turn
   pub preferred : List Turn
   pub keys : List Key
@@ -260,7 +260,7 @@ vector_of e f k =
 
 -- What goes out says all that is due: the Ack Vector, the Confirms, on a packet that acknowledges the one that they
 -- answer, then the Changes of the rows as they are after the step.
-pub data Says (e : EndState) (f : Effect) (confirms : List Due) (keys : List Key) : Sending → Type 0 where
+pub data Says (e : EndState) (f : Effect) (confirms : List DueConfirm) (keys : List Key) : Sending → Type 0 where
   SaysNothing : confirms ≡ [] → keys ≡ [] → Says e f confirms keys Silent
   SaysAll : (packet : Draft) → packet.options ≡ vector_of e f packet.kind ++ (confirm_items confirms ++ change_items (rows_by e.rows f) keys)
       → (confirms ≡ []) ⊎ AcknowledgesHeard f.hearing (ack_of packet.kind) → Says e f confirms keys (Next packet)

@@ -26,13 +26,13 @@ use Rattle.dccp_endpoint.specs.Turns.{turn_of}
 use Rattle.dccp_states.specs.declared.outcome.Fault.{Fault}
 
 -- A Confirm that is due: whether it is Confirm L or Confirm R, its feature number, and the data after that.
-pub record Due : Type 0 where
+pub record DueConfirm : Type 0 where
   pub left : Bool
   pub number : ℕ
   pub body : List ℕ
 
 -- a Confirm that the rows answer, as one that is due
-abbrev pub due_of : ConfirmOut → Due
+abbrev pub due_of : ConfirmOut → DueConfirm
 due_of out = record { left = out.left; number = out.feature; body = out.body.items }
 
 -- What reading has come to: the rows; which features were spoken of by L and by R; how many Changes were met, up to 64;
@@ -41,7 +41,7 @@ pub record Heeding : Type 0 where
   pub rows : List Row
   pub used : List Bool
   pub changes : ℕ
-  pub confirms : List Due
+  pub confirms : List DueConfirm
 
 -- nothing was read yet
 abbrev pub unheeded : List Row → Heeding
@@ -74,7 +74,7 @@ counted changes true = if nat_lt changes 64 then changes + 1 else changes
 counted changes false = changes
 
 -- The option was met: no other one speaks of its feature by its letter.
-abbrev pub met : Heeding → ℕ → Bool → List Row → List Due → Heeding
+abbrev pub met : Heeding → ℕ → Bool → List Row → List DueConfirm → Heeding
 met h place change rows confirms =
     record { rows = rows; used = slice_set h.used place true; changes = counted h.changes change; confirms = confirms }
 

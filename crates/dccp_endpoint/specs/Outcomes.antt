@@ -32,7 +32,7 @@ use Rattle.dccp_endpoint.specs.Congesting.{calls_for}
 use Rattle.dccp_endpoint.specs.Drafts.{alone}
 use Rattle.dccp_endpoint.specs.Effects.{Effect, Passing, Sending, Silent, Next, WithoutConnection, Heard, Refused, Shut, Taken, effect_of, effect_of_sending, end_after, frame_by, greatest_or, is_acking_sent, raising, rows_by}
 use Rattle.dccp_endpoint.specs.End.{EndState, is_live, phase_entered}
-use Rattle.dccp_endpoint.specs.Heeding.{Due, Heeding}
+use Rattle.dccp_endpoint.specs.Heeding.{DueConfirm, Heeding}
 use Rattle.dccp_endpoint.specs.Incoming.{Incoming}
 use Rattle.dccp_endpoint.specs.Inputs.{Arrives}
 use Rattle.dccp_endpoint.specs.Receiving.{acknowledges_in_window, becomes_open, is_of_connection, is_other_service, is_own_service, is_unexpected, needs_ack, number_without_connection, packet_fault, reads_options, started, with_raised_marks, takes_short}
@@ -257,7 +257,7 @@ data_sent (Next packet) = packet.payload
 data_sent (WithoutConnection number packet) = []
 
 -- the offers that come up with a reply: all that were not made yet with a Response, and none with another
-abbrev pub offered_with : Reply → List Due → List Turn
+abbrev pub offered_with : Reply → List DueConfirm → List Turn
 offered_with reply.Response confirms = offerings (is_confirmed confirms) every_place
 offered_with _ confirms = []
 

@@ -45,7 +45,7 @@ use Rattle.validity_windows.specs.declared.verdict.Verdict.TheVariants as verdic
 use Rattle.dccp_endpoint.specs.Drafts.{alone, sent_of}
 use Rattle.dccp_endpoint.specs.End.{EndState, is_connected, is_live, is_open, value_in, with_rows}
 use Rattle.dccp_endpoint.specs.Faults.{counts}
-use Rattle.dccp_endpoint.specs.Heeding.{Due, Heeding, heeds, unheeded}
+use Rattle.dccp_endpoint.specs.Heeding.{DueConfirm, Heeding, heeds, unheeded}
 use Rattle.dccp_endpoint.specs.Incoming.{Incoming, incoming}
 use Rattle.dccp_packets.specs.ResetCodes.{number_of_code}
 use Rattle.dccp_packets.specs.declared.reset_code.ResetCode.TheVariants as codes
@@ -259,28 +259,28 @@ resets e ack fault = sends e (reset_of ack fault) (SentReset fault.code (detail_
 
 -- A Response opens the offered rows that have no Confirm in it, and carries the Changes of these and of all others that
 -- ask. Once their Changes have gone out:
-abbrev pub responds_asking : EndState → List Due → List Key → Outcome → Step Outcome
+abbrev pub responds_asking : EndState → List DueConfirm → List Key → Outcome → Step Outcome
 responds_asking e confirms keys took = sends e (saying (kind.Response e.marks.gsr e.config.service) confirms e.rows keys) took
 
 -- once the offers have come up
-abbrev pub responds_offering : EndState → List Due → List Key → Outcome → Step Outcome
+abbrev pub responds_offering : EndState → List DueConfirm → List Key → Outcome → Step Outcome
 responds_offering e confirms keys took = responds_asking (asks e keys) confirms keys took
 
 -- a Response with the Confirms that are due, all offers, and the Changes of the rows that ask and meet no Confirm in it
-abbrev pub responds : EndState → List Due → Outcome → Step Outcome
+abbrev pub responds : EndState → List DueConfirm → Outcome → Step Outcome
 responds e confirms took = responds_offering (offers e confirms) confirms (asking (offers e confirms).rows confirms) took
 
 -- an Ack with the Confirms that are due
-abbrev pub acknowledges : EndState → List Due → Outcome → Step Outcome
+abbrev pub acknowledges : EndState → List DueConfirm → Outcome → Step Outcome
 acknowledges e confirms took = sends_ack e (confirming (kind.Ack (Long e.marks.gsr)) confirms) took
 
 -- Where the table has no reply, an Ack goes out in PARTOPEN and OPEN if Confirms are due (own), and in OPEN if enough
 -- data packets are not acknowledged (section 11.3).
-abbrev pub needs_ack : Phase → List Due → List Row → ℕ → Bool
+abbrev pub needs_ack : Phase → List DueConfirm → List Row → ℕ → Bool
 needs_ack phase confirms rows unacked = is_connected phase && (has_confirms confirms || (is_open phase && is_enough rows unacked))
 
 -- What the table sends, with the outcome of a packet that was taken; a Reset has left at step 9.
-abbrev pub replies : EndState → Incoming → List Due → Outcome → Reply → Step Outcome
+abbrev pub replies : EndState → Incoming → List DueConfirm → Outcome → Reply → Step Outcome
 replies e a confirms took reply.Nothing = if needs_ack e.phase confirms e.rows e.unacked then acknowledges e confirms took else idle e took
 replies e a confirms took reply.Response = responds e confirms took
 replies e a confirms took reply.Ack = acknowledges e confirms took
@@ -290,11 +290,11 @@ replies e a confirms took reply.SyncAck = sends e (confirming (kind.SyncAck a.nu
 replies e a confirms took reply.Torn = idle e took
 
 -- Step 16 comes before the reply, since data that are delivered count for it.
-abbrev pub delivering : EndState → Incoming → List Due → Bool → Reply → Step Outcome
+abbrev pub delivering : EndState → Incoming → List DueConfirm → Bool → Reply → Step Outcome
 delivering e a confirms new reply = replies (counts_data e new) a confirms (Took (delivered_if new a.data_place)) reply
 
 -- steps 10 to 16, whole, by what the mark answered and the row of the table
-abbrev pub moves : EndState → Incoming → List Due → Marked → Phase × Reply → Step Outcome
+abbrev pub moves : EndState → Incoming → List DueConfirm → Marked → Phase × Reply → Step Outcome
 moves e a confirms mark to = delivering (moved_to e to.0 a.number) a confirms (delivers a.kind to.0 mark) to.1
 
 -- The rest of step 8: a packet whose options were read to their end is marked, and what it acknowledges is looked up.
@@ -302,7 +302,7 @@ abbrev pub accounted : EndState → Incoming → EndState
 accounted e a = looks_up (marks e a.number) (looked_up a.kind a.ack)
 
 -- such a packet, once the rows are stored
-abbrev pub processes : EndState → Incoming → List Due → Step Outcome
+abbrev pub processes : EndState → Incoming → List DueConfirm → Step Outcome
 processes e a confirms = moves (accounted e a) a confirms (answer_to e.received.set a.number) (after e.phase a.kind)
 
 -- A Reset without a connection takes its numbers from the packet, and the end stays as it is (own). Its number is the

@@ -12,7 +12,7 @@ use Rattle.feature_machine.specs.Rows.{RowEvent, Change, Confirm}
 use Rattle.feature_machine.specs.Turns.{events_of, reply_due}
 use Rattle.feature_machine.specs.declared.row.Row.{Row}
 use Rattle.run_list.specs.MarkedSet.{MarkedSet}
-use Rattle.dccp_endpoint.specs.Heeding.{Due, Heeding, event_of, heard_turns, heeds, is_change, is_left, is_of_negotiation, unheeded}
+use Rattle.dccp_endpoint.specs.Heeding.{DueConfirm, Heeding, event_of, heard_turns, heeds, is_change, is_left, is_of_negotiation, unheeded}
 use Rattle.ack_vectors.specs.declared.room.Vectors.{Vectors}
 use Rattle.dccp_endpoint.specs.Reporting.{vector_items}
 use Rattle.dccp_endpoint.specs.Speaking.{HaveRoom, change_items, confirm_items, is_confirmed, is_for, is_of_place, wish_bytes}
@@ -45,7 +45,7 @@ body_if true body later = Some body
 body_if false body later = later
 
 -- of several Confirms for the row, the data of the first
-abbrev pub confirm_for : Key → List Due → Option (List ℕ)
+abbrev pub confirm_for : Key → List DueConfirm → Option (List ℕ)
 confirm_for k [] = None
 confirm_for k (due ∷ rest) = body_if (is_for k due) due.body (confirm_for k rest)
 
@@ -91,7 +91,7 @@ abbrev pub has_key : Key → List Key → Bool
 has_key k keys = list_any (is_key k) keys
 
 -- the options of an end's own packet: its Ack Vector, if it has one, the Confirms and the Changes
-abbrev pub own_options : Bool → Vectors → MarkedSet → ℕ → List Due → List Row → List Key → List Item
+abbrev pub own_options : Bool → Vectors → MarkedSet → ℕ → List DueConfirm → List Row → List Key → List Item
 own_options has_vector vectors set greatest confirms rows keys =
     vector_items has_vector vectors set greatest ++ (confirm_items confirms ++ change_items rows keys)
 
@@ -108,7 +108,7 @@ said_of None asks ack k row = change_if asks k row
 -- to the peer's row of the same feature
 abbrev pub OwnPacketsSayOfARow : Type 0
 OwnPacketsSayOfARow =
-    (ack : Option ℕ) (has_vector : Bool) (vectors : Vectors) (set : MarkedSet) (greatest : ℕ) (confirms : List Due) (rows : List Row) (keys : List Key) (k : Key)
+    (ack : Option ℕ) (has_vector : Bool) (vectors : Vectors) (set : MarkedSet) (greatest : ℕ) (confirms : List DueConfirm) (rows : List Row) (keys : List Key) (k : Key)
     → said_to true ack (k.0, opposite k.1) (map Ok (entries_at 0 (own_options has_vector vectors set greatest confirms rows keys)))
     ≡ said_of (confirm_for k confirms) (has_key k keys) ack k (row_at rows k.0 k.1)
 
@@ -118,7 +118,7 @@ once_if true = 1
 once_if false = 0
 
 -- how many of the Confirms are for the row
-abbrev pub times_confirmed : Key → List Due → ℕ
+abbrev pub times_confirmed : Key → List DueConfirm → ℕ
 times_confirmed k [] = 0
 times_confirmed k (due ∷ rest) = once_if (is_for k due) + times_confirmed k rest
 
@@ -138,6 +138,6 @@ ConfirmsAreSingle =
 -- for it.
 abbrev pub OwnPacketsSpeakOnce : Type 0
 OwnPacketsSpeakOnce =
-    (has_vector : Bool) (vectors : Vectors) (set : MarkedSet) (greatest : ℕ) (confirms : List Due) (rows : List Row) (keys : List Key) (k : Key) → times_confirmed k confirms ≤ 1
+    (has_vector : Bool) (vectors : Vectors) (set : MarkedSet) (greatest : ℕ) (confirms : List DueConfirm) (rows : List Row) (keys : List Key) (k : Key) → times_confirmed k confirms ≤ 1
     → AllPairs (λ one other. one ≢ other) keys → (has_key k keys ≡ true → is_confirmed confirms k ≡ false)
     → times_said_to (k.0, opposite k.1) (map Ok (entries_at 0 (own_options has_vector vectors set greatest confirms rows keys))) ≤ 1

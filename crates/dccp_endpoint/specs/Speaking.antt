@@ -19,7 +19,7 @@ use Rattle.feature_machine.specs.declared.row.Row.{Row}
 use Rattle.feature_machine.specs.declared.stands.Stand.TheVariants.{Changing}
 use Rattle.dccp_endpoint.specs.Drafts.{Draft}
 use Rattle.dccp_endpoint.specs.End.{EndState, with_rows}
-use Rattle.dccp_endpoint.specs.Heeding.{Due}
+use Rattle.dccp_endpoint.specs.Heeding.{DueConfirm}
 use Rattle.dccp_endpoint.specs.Steps.{next_frame, next_number}
 use Rattle.dccp_endpoint.specs.Turns.{Key, offerings, sendings}
 
@@ -62,16 +62,16 @@ confirm_type true = options.confirm_l
 confirm_type false = options.confirm_r
 
 -- a Confirm as it goes out
-abbrev pub confirm_item : Due → Item
+abbrev pub confirm_item : DueConfirm → Item
 confirm_item due = record { mandatory = false; kind = confirm_type due.left; body = due.number ∷ due.body }
 
 -- the Confirms of a packet, in the order in which they became due
-abbrev pub confirm_items : List Due → List Item
+abbrev pub confirm_items : List DueConfirm → List Item
 confirm_items confirms = map confirm_item confirms
 
 -- Confirms that leave room for an Ack Vector or for all Changes: at most 64, of 3 bytes, and of 9 more where a row
 -- answers, of which there are eighteen (own).
-abbrev pub HaveRoom : List Due → Type 0
+abbrev pub HaveRoom : List DueConfirm → Type 0
 HaveRoom confirms = length (written (confirm_items confirms)) ≤ 354
 
 -- Confirm L speaks of a feature here, Confirm R of one at the peer.
@@ -82,39 +82,39 @@ is_of_place false Here = false
 is_of_place false There = true
 
 -- a Confirm is for the row
-abbrev pub is_for : Key → Due → Bool
+abbrev pub is_for : Key → DueConfirm → Bool
 is_for k due = due.number == feature_number k.0 && is_of_place due.left k.1
 
 -- one of the Confirms is for the row
-abbrev pub is_confirmed : List Due → Key → Bool
+abbrev pub is_confirmed : List DueConfirm → Key → Bool
 is_confirmed confirms k = list_any (is_for k) confirms
 
 -- the rows that none of the Confirms is for
-abbrev pub unconfirmed : List Due → List Key → List Key
+abbrev pub unconfirmed : List DueConfirm → List Key → List Key
 unconfirmed confirms keys = filter (λ k. not (is_confirmed confirms k)) keys
 
 -- All offers that were not made yet come up; of the rows that meet a Confirm they are dropped.
-abbrev pub offers : EndState → List Due → EndState
+abbrev pub offers : EndState → List DueConfirm → EndState
 offers e confirms = with_rows e (turned e.rows (offerings (is_confirmed confirms) every_place))
 
 -- whether there are any
-abbrev pub has_confirms : List Due → Bool
+abbrev pub has_confirms : List DueConfirm → Bool
 has_confirms [] = false
 has_confirms (due ∷ rest) = true
 
 -- A packet that says all that is due: the Confirms and the Changes of these rows, as they are once they went out.
-abbrev pub saying : Kind → List Due → List Row → List Key → Draft
+abbrev pub saying : Kind → List DueConfirm → List Row → List Key → Draft
 saying kind confirms rows keys = record { kind = kind; options = confirm_items confirms ++ change_items rows keys; payload = [] }
 
 -- The next frame of an end whose rows ask: it says all that is due, once the Changes of these rows went out.
-abbrev pub asking_frame : EndState → Kind → List Due → List Key → Outgoing
+abbrev pub asking_frame : EndState → Kind → List DueConfirm → List Key → Outgoing
 asking_frame e kind confirms keys = next_frame (asks e keys) (saying kind confirms (asks e keys).rows keys)
 
 -- a packet with Confirms alone
-abbrev pub confirming : Kind → List Due → Draft
+abbrev pub confirming : Kind → List DueConfirm → Draft
 confirming kind confirms = record { kind = kind; options = confirm_items confirms; payload = [] }
 
 -- the rows that ask in a Request or a Response, after the offers: those whose Change is due and that have no Confirm
 -- in it
-abbrev pub asking : List Row → List Due → List Key
+abbrev pub asking : List Row → List DueConfirm → List Key
 asking rows confirms = unconfirmed confirms (due_keys rows)

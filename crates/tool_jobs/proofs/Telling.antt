@@ -13,7 +13,7 @@ use Rattle.run_list.specs.MarkedSet.{answer_to}
 use Rattle.run_list.specs.declared.answers.Marked.{Marked}
 use Rattle.dccp_endpoint.specs.Controlled.{End, EndStep, with_control}
 use Rattle.dccp_endpoint.specs.End.{EndState, with_rows}
-use Rattle.dccp_endpoint.specs.Heeding.{Due, Heeding}
+use Rattle.dccp_endpoint.specs.Heeding.{DueConfirm, Heeding}
 use Rattle.dccp_endpoint.specs.Incoming.{Incoming}
 use Rattle.dccp_endpoint.specs.Receiving.{Course, Goes, Leaves, accounted, acknowledges, arrives, checks_header, delivering, ends_as, heeded, leaves, moved_to, moves, needs_ack, reads_options, received, receives, replies, the_steps, through, with_own_number, with_packet}
 use Rattle.dccp_endpoint.specs.Reporting.{counts_data, delivered_if, delivers}
@@ -47,7 +47,7 @@ acking-in : (bytes : List ℕ) (ack none : Step Outcome) (needed : Bool) → Has
 acking-in bytes ack none true in_ack in_none = in_ack
 acking-in bytes ack none false in_ack in_none = in_none
 
-replied-in : (bytes : List ℕ) (e : EndState) (a : Incoming) (confirms : List Due) (took : Outcome) (answer : Reply) → HasItsData bytes took
+replied-in : (bytes : List ℕ) (e : EndState) (a : Incoming) (confirms : List DueConfirm) (took : Outcome) (answer : Reply) → HasItsData bytes took
     → HasItsData bytes (replies e a confirms took answer).answer
 replied-in bytes e a confirms took reply.Nothing inside =
     acking-in bytes (acknowledges e confirms took) (idle e took) (needs_ack e.phase confirms e.rows e.unacked) inside inside
@@ -58,7 +58,7 @@ replied-in bytes e a confirms took reply.ResetClosed inside = tt
 replied-in bytes e a confirms took reply.SyncAck inside = inside
 replied-in bytes e a confirms took reply.Torn inside = inside
 
-delivering-in : (bytes : List ℕ) (e : EndState) (a : Incoming) (confirms : List Due) (new : Bool) (answer : Reply) → IsPlaceIn bytes (Some a.data_place)
+delivering-in : (bytes : List ℕ) (e : EndState) (a : Incoming) (confirms : List DueConfirm) (new : Bool) (answer : Reply) → IsPlaceIn bytes (Some a.data_place)
     → HasItsData bytes (delivering e a confirms new answer).answer
 delivering-in bytes e a confirms new answer inside =
     replied-in bytes (counts_data e new) a confirms (Took (delivered_if new a.data_place)) answer (delivered-in bytes a.data_place new inside)
@@ -71,7 +71,7 @@ left-in bytes x a exits.PacketError = tt
 left-in bytes x a (exits.Shut fault) = tt
 left-in bytes x a (exits.TimeWait code) = tt
 
-moved-in : (bytes : List ℕ) (e : EndState) (a : Incoming) (confirms : List Due) (mark : Marked) (to : Phase × Reply) → IsPlaceIn bytes (Some a.data_place)
+moved-in : (bytes : List ℕ) (e : EndState) (a : Incoming) (confirms : List DueConfirm) (mark : Marked) (to : Phase × Reply) → IsPlaceIn bytes (Some a.data_place)
     → HasItsData bytes (moves e a confirms mark to).answer
 moved-in bytes e a confirms mark to inside =
     delivering-in bytes (moved_to e to.0 a.number) a confirms (delivers a.kind to.0 mark) to.1 inside

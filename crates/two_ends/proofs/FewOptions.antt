@@ -13,7 +13,7 @@ use Rattle.dccp_options.specs.declared.option.OptFault.{OptFault}
 use Rattle.dccp_packets.specs.declared.reset_code.ResetCode.TheVariants as codes
 use Rattle.dccp_endpoint.proofs.Keys.{due-few, unconfirmed-few}
 use Rattle.dccp_endpoint.proofs.OwnPackets.{parts-are, vector_parts}
-use Rattle.dccp_endpoint.specs.Heeding.{Due, Heeding, by_answered, by_settling, counted, fault_of, heeds, heeds_body, heeds_change, heeds_entry, heeds_feature, heeds_first, heeds_then, is_change, is_left, is_of_negotiation, met, misunderstood, place_in_used}
+use Rattle.dccp_endpoint.specs.Heeding.{DueConfirm, Heeding, by_answered, by_settling, counted, fault_of, heeds, heeds_body, heeds_change, heeds_entry, heeds_feature, heeds_first, heeds_then, is_change, is_left, is_of_negotiation, met, misunderstood, place_in_used}
 use Rattle.dccp_endpoint.specs.Reporting.{vector_item, vector_items}
 use Rattle.dccp_endpoint.specs.Speaking.{asking, change_item, change_items, change_type, confirm_item, confirm_items, confirm_type}
 use Rattle.dccp_endpoint.specs.Turns.{Key}
@@ -130,7 +130,7 @@ change-is Here = refl
 change-is There = refl
 
 -- the Changes written are those of the rows that ask
-pub written-changes : (confirms : List Due) (rows : List Row) (keys : List Key) → changes_in (confirm_items confirms ++ change_items rows keys) ≡ length keys
+pub written-changes : (confirms : List DueConfirm) (rows : List Row) (keys : List Key) → changes_in (confirm_items confirms ++ change_items rows keys) ≡ length keys
 written-changes [] rows [] = refl
 written-changes [] rows (k ∷ keys) =
     ap (λ (b : Bool). one_for b + changes_in (change_items rows keys)) (change-is k.1) ∙ ap (λ (n : ℕ). 1 + n) (written-changes [] rows keys)
@@ -180,7 +180,7 @@ abbrev pub IsNegotiating : Item → Type 0
 IsNegotiating item = is_of_negotiation item.kind ≡ true
 
 -- Confirms and Changes are all that is written so
-pub written-kinds : (confirms : List Due) (rows : List Row) (keys : List Key) → All IsNegotiating (confirm_items confirms ++ change_items rows keys)
+pub written-kinds : (confirms : List DueConfirm) (rows : List Row) (keys : List Key) → All IsNegotiating (confirm_items confirms ++ change_items rows keys)
 written-kinds [] rows [] = All-nil IsNegotiating
 written-kinds [] rows (k ∷ keys) =
     All-cons IsNegotiating (change_item k (row_at rows k.0 k.1)) (change_items rows keys) (change-kind k.1)
@@ -189,14 +189,14 @@ written-kinds (due ∷ confirms) rows keys =
     All-cons IsNegotiating (confirm_item due) (confirm_items confirms ++ change_items rows keys) (confirm-kind due.left) (written-kinds confirms rows keys)
 
 -- one option for each Confirm and each row that asks
-pub written-length : (confirms : List Due) (rows : List Row) (keys : List Key)
+pub written-length : (confirms : List DueConfirm) (rows : List Row) (keys : List Key)
     → length (confirm_items confirms ++ change_items rows keys) ≡ length confirms + length keys
 written-length confirms rows keys =
     length-append (confirm_items confirms) (change_items rows keys)
     ∙ omega (arith, length-map {B = Item} confirms confirm_item, length-map {B = Item} keys (λ (k : Key). change_item k (row_at rows k.0 k.1)))
 
 -- eighteen rows ask at most
-pub asking-few : (rows : List Row) (confirms : List Due) → IsNegotiation rows → length (asking rows confirms) ≤ 18
+pub asking-few : (rows : List Row) (confirms : List DueConfirm) → IsNegotiation rows → length (asking rows confirms) ≤ 18
 asking-few rows confirms its =
     let few = unconfirmed-few confirms (due_keys rows) in
     omega (arith, few, due-few rows its)

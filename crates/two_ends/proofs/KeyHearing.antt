@@ -15,7 +15,7 @@ use Rattle.dccp_endpoint.specs.Causes.{AreHeard, Came, Deaf, Heeds, counts_in, t
 use Rattle.dccp_endpoint.specs.Effects.{Hearing, Heard, Taken}
 use Rattle.dccp_endpoint.specs.End.{EndState, phase_entered}
 use Rattle.dccp_endpoint.specs.Faults.{counts}
-use Rattle.dccp_endpoint.specs.Heeding.{Due, event_of, is_change}
+use Rattle.dccp_endpoint.specs.Heeding.{DueConfirm, event_of, is_change}
 use Rattle.dccp_endpoint.specs.Incoming.{Incoming, incoming}
 use Rattle.dccp_endpoint.specs.Inputs.{Input, Arrives}
 use Rattle.dccp_endpoint.specs.Receiving.{read_number}
@@ -210,7 +210,7 @@ KeyHears act greatest later k events reply =
 -- What a row hears in a step, with the Confirm that is due for it.
 pub key-hears : (act : Act) (greatest later : ℕ) → HeardSo act greatest later act.effect.hearing
     → All (IsWell (config_of act.side).iss) act.peer.log → IsNegotiation (end_of act.side).rows
-    → (k : Key) (heard : List Turn) (confirms : List Due) → AreHeard (end_of act.side) act.given act.effect.hearing heard confirms
+    → (k : Key) (heard : List Turn) (confirms : List DueConfirm) → AreHeard (end_of act.side) act.given act.effect.hearing heard confirms
     → KeyHears act greatest later k (events_of k.0 k.1 heard) (confirm_for k confirms)
 key-hears act greatest later so well rows k _ _ Deaf = by act.effect.hearing so where
   by : (h : Hearing) → HeardSo act greatest later h

@@ -7,7 +7,7 @@ use Rattle.dccp_endpoint.proofs.Keys.{apart-so, confirmed-some}
 use Rattle.dccp_endpoint.specs.Causes.{Says, SaysNothing, SaysAll, SaysApart}
 use Rattle.dccp_endpoint.specs.Effects.{Effect, Sending, Silent, Next, WithoutConnection, rows_by}
 use Rattle.dccp_endpoint.specs.End.{EndState}
-use Rattle.dccp_endpoint.specs.Heeding.{Due}
+use Rattle.dccp_endpoint.specs.Heeding.{DueConfirm}
 use Rattle.dccp_endpoint.specs.Saying.{confirm_for, has_key, said_of}
 use Rattle.dccp_endpoint.specs.Steps.{next_number}
 use Rattle.dccp_endpoint.specs.Turns.{Key}
@@ -66,7 +66,7 @@ module _ (s : KnownStep) where
   abbrev peer_iss : ℕ
   peer_iss = (config_of act.peer).iss
 
-  abbrev due : List Due
+  abbrev due : List DueConfirm
   due = act.because.turns.confirms
 
   abbrev keys : List Key

@@ -15,7 +15,7 @@ use Rattle.dccp_endpoint.specs.Causes.{AcknowledgesHeard, AreHeard, Deaf, Heeds,
 use Rattle.dccp_endpoint.specs.Drafts.{Draft}
 use Rattle.dccp_endpoint.specs.Effects.{Effect, Hearing, Heard, Taken, Sending, end_after, greatest_by, rows_by, told_by}
 use Rattle.dccp_endpoint.specs.End.{EndState, IsProper, floor_of}
-use Rattle.dccp_endpoint.specs.Heeding.{Due, unheeded}
+use Rattle.dccp_endpoint.specs.Heeding.{DueConfirm, unheeded}
 use Rattle.dccp_endpoint.specs.Incoming.{Incoming}
 use Rattle.dccp_endpoint.specs.Reporting.{is_acking, sends_vectors}
 use Rattle.dccp_endpoint.specs.Saying.{times_confirmed, times_said_to, confirm_for, has_key, said_of, said_to}
@@ -190,7 +190,7 @@ pub record IsAnswer (peer_iss later : ℕ) (ack : Option ℕ) : Type 0 where
   pub is_number : IsNumber peer_iss number
   pub counts : count_of peer_iss number ≡ later
 
-pub record AreFew (confirms : List Due) : Type 0 where
+pub record AreFew (confirms : List DueConfirm) : Type 0 where
   pub few : length confirms ≤ 18
   pub single : (k : Key) → times_confirmed k confirms ≤ 1
 
@@ -231,7 +231,7 @@ module _ (s : KnownStep) where
   abbrev heard : List Turn
   heard = act.because.turns.heard
 
-  abbrev due : List Due
+  abbrev due : List DueConfirm
   due = act.because.turns.confirms
 
   abbrev keys : List Key
@@ -339,7 +339,7 @@ module _ (s : KnownStep) where
   keys-few _ _ _ (OccasionLater other values wish called is waits deaf quiet) = omega arith
 
   -- the Confirms are few, and one for each row
-  confirms-few : (turns : List Turn) (ds : List Due) → AreHeard e act.given f.hearing turns ds → AreFew ds
+  confirms-few : (turns : List Turn) (ds : List DueConfirm) → AreHeard e act.given f.hearing turns ds → AreFew ds
   confirms-few _ _ Deaf = record { few = omega arith; single = λ k. omega arith }
   confirms-few _ _ (Heeds a h was heeded) = by f.hearing s.so was.is_heard where
     told : IsFromLog peer_iss act.peer.log a → AreFew h.confirms

@@ -7,7 +7,7 @@ use Rattle.dccp_endpoint.specs.Calling.{is_asking_now}
 use Rattle.dccp_endpoint.specs.Causes.{Occasion, Plain, Offering, Repeating, PrefersNow as OccasionNow, PrefersLater as OccasionLater}
 use Rattle.dccp_endpoint.specs.Effects.{Hearing}
 use Rattle.dccp_endpoint.specs.End.{EndState}
-use Rattle.dccp_endpoint.specs.Heeding.{Due}
+use Rattle.dccp_endpoint.specs.Heeding.{DueConfirm}
 use Rattle.dccp_endpoint.specs.Inputs.{Input}
 use Rattle.dccp_endpoint.specs.Saying.{confirm_for, has_key, is_key}
 use Rattle.dccp_endpoint.specs.Speaking.{asking, is_confirmed}
@@ -69,7 +69,7 @@ does-as a b xs ys p q rows events asks d =
 abbrev pub RowsHeard : List Row → List Turn → Type 0
 RowsHeard rows heard = (k : Key) → IsRowOf k.0 k.1 (row_turned (row_at rows k.0 k.1) (events_of k.0 k.1 heard))
 
-module _ (e : EndState) (input : Input) (rows : IsNegotiation e.rows) (heard : List Turn) (confirms : List Due) (its : RowsHeard e.rows heard) where
+module _ (e : EndState) (input : Input) (rows : IsNegotiation e.rows) (heard : List Turn) (confirms : List DueConfirm) (its : RowsHeard e.rows heard) where
   abbrev row : Key → Row
   row k = row_at e.rows k.0 k.1
 

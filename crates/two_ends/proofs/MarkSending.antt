@@ -14,7 +14,7 @@ use Rattle.dccp_endpoint.specs.Causes.{HasFrame, IsLooking, LooksNowhere, Looks,
 use Rattle.dccp_endpoint.specs.Drafts.{Draft}
 use Rattle.dccp_endpoint.specs.Effects.{Effect, Sending, Silent, Next, end_after, greatest_by, heard_by, is_acking_sent, received_by, rows_by, told_by}
 use Rattle.dccp_endpoint.specs.End.{EndState, floor_of, is_connected, is_live}
-use Rattle.dccp_endpoint.specs.Heeding.{Due}
+use Rattle.dccp_endpoint.specs.Heeding.{DueConfirm}
 use Rattle.dccp_endpoint.specs.Incoming.{Incoming}
 use Rattle.dccp_endpoint.specs.Reporting.{is_acking, looked_by, recorded_by, sends_vectors}
 use Rattle.dccp_endpoint.specs.Speaking.{change_items, confirm_items}
@@ -187,7 +187,7 @@ module _ (act : Act) (own : IsOrdered act.side) (peer_ordered : IsOrdered act.pe
     abbrev has-vector : Bool
     has-vector = sends_vectors (rows_by e.rows f)
 
-    abbrev due : List Due
+    abbrev due : List DueConfirm
     due = act.because.turns.confirms
 
     abbrev keys : List Key

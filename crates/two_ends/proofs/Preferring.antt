@@ -8,7 +8,7 @@ use Rattle.dccp_endpoint.specs.Causes.{AreHeard, AreTurns, Deaf, EveryStepHasOne
 use Rattle.dccp_endpoint.specs.Drafts.{Fits}
 use Rattle.dccp_endpoint.specs.Effects.{Hearing}
 use Rattle.dccp_endpoint.specs.End.{EndState, IsProper, end_of as role_of, is_connected}
-use Rattle.dccp_endpoint.specs.Heeding.{Due, unheeded}
+use Rattle.dccp_endpoint.specs.Heeding.{DueConfirm, unheeded}
 use Rattle.dccp_endpoint.specs.Inputs.{Input, end_stepped}
 use Rattle.dccp_endpoint.specs.Inputs as input
 use Rattle.dccp_endpoint.specs.Saying.{is_key}
@@ -56,11 +56,11 @@ IsCalmInput (input.Prefers key values) = ⊥
 IsCalmInput _ = Unit {0}
 
 module _ {e : EndState} {given : Input} where
-  said-calm : {hearing : Hearing} {turns : List Turn} {confirms : List Due} → AreHeard e given hearing turns confirms → AreCalm turns
+  said-calm : {hearing : Hearing} {turns : List Turn} {confirms : List DueConfirm} → AreHeard e given hearing turns confirms → AreCalm turns
   said-calm Deaf = tt
   said-calm (Heeds a h was is) = heard-calm (counts_in e a) a.ack (unheeded e.rows) a.options
 
-  occasion-calm : {heard : List Turn} {confirms : List Due} {offered preferred : List Turn} {keys : List Key} → IsCalmInput given
+  occasion-calm : {heard : List Turn} {confirms : List DueConfirm} {offered preferred : List Turn} {keys : List Key} → IsCalmInput given
       → Occasion e given heard confirms offered preferred keys → AreCalm offered × AreCalm preferred
   occasion-calm calm Plain = (tt, tt)
   occasion-calm {confirms = confirms} calm Offering = (offerings-calm (is_confirmed confirms) every_place, tt)

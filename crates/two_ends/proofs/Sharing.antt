@@ -6,7 +6,7 @@ use Rattle.dccp_endpoint.specs.Causes.{EveryStepHasOneEffect, Occasion, Offering
 use Rattle.dccp_endpoint.specs.Drafts.{Fits}
 use Rattle.dccp_endpoint.specs.Effects.{end_after}
 use Rattle.dccp_endpoint.specs.End.{EndState, end_of as role_of}
-use Rattle.dccp_endpoint.specs.Heeding.{Due}
+use Rattle.dccp_endpoint.specs.Heeding.{DueConfirm}
 use Rattle.dccp_endpoint.specs.Inputs.{Input, end_stepped}
 use Rattle.dccp_endpoint.specs.Speaking.{is_confirmed}
 use Rattle.dccp_endpoint.specs.Steps.{next_number}
@@ -232,7 +232,7 @@ offerings-own test [] = tt
 offerings-own test (k ∷ keys) = (tt, offerings-own test keys)
 
 module _ {e : EndState} {given : Input} where
-  occasion-own : {heard : List Turn} {confirms : List Due} {offered preferred : List Turn} {keys : List Key}
+  occasion-own : {heard : List Turn} {confirms : List DueConfirm} {offered preferred : List Turn} {keys : List Key}
       → Occasion e given heard confirms offered preferred keys → AreOwn offered × AreOwn preferred
   occasion-own Plain = (tt, tt)
   occasion-own {confirms = confirms} Offering = (offerings-own (is_confirmed confirms) every_place, tt)

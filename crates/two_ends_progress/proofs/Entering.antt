@@ -27,7 +27,7 @@ use Rattle.dccp_endpoint.specs.Congesting.{calls_for}
 use Rattle.dccp_endpoint.specs.Drafts.{Draft, IsSendable, alone, sent_of}
 use Rattle.dccp_endpoint.specs.End.{EndState, IsProper, end_of, is_open, with_rows}
 use Rattle.dccp_endpoint.specs.Faults.{counts}
-use Rattle.dccp_endpoint.specs.Heeding.{Due, Heeding}
+use Rattle.dccp_endpoint.specs.Heeding.{DueConfirm, Heeding}
 use Rattle.dccp_endpoint.specs.Incoming.{Incoming}
 use Rattle.dccp_endpoint.specs.Receiving.{is_unexpected, accounted, heeded, moved_to, moves, reads_options, replies}
 use Rattle.dccp_endpoint.specs.Reporting.{counts_data, delivered_if, delivers, reporting, sends_ack, sends_vectors, vector_items}
@@ -64,7 +64,7 @@ pub record Shuts {A : Type 0} (e : EndState) (s : Step A) : Type 0 where
   pub closed : s.after.phase ≡ phases.Closed
 
 -- Rows that ask, once their offers came up and their Changes went out.
-module _ (r : Role2) (rows : List Row) (its : AreRowsOf r rows) (confirms : List Due) (number : ℕ) where
+module _ (r : Role2) (rows : List Row) (its : AreRowsOf r rows) (confirms : List DueConfirm) (number : ℕ) where
   abbrev offered : List Row
   offered = turned rows (offerings (is_confirmed confirms) every_place)
 
@@ -113,7 +113,7 @@ request-again e in_flight proper is_phase =
 not-open-long : (e : EndState) (d : Draft) → is_open e.phase ≡ false → goes_short e d ≡ false
 not-open-long e d is = rw is (and-false (may_be_short (packet_type d.kind)))
 
-acking-tells : {A : Type 0} (e x : EndState) (confirms : List Due) (answer : A) (to : Phase) → AreShort confirms → x.config ≡ e.config → x.phase ≡ to
+acking-tells : {A : Type 0} (e x : EndState) (confirms : List DueConfirm) (answer : A) (to : Phase) → AreShort confirms → x.config ≡ e.config → x.phase ≡ to
     → is_open x.phase ≡ false → x.marks.gss ≡ e.marks.gss → x.marks.gsr ≡ e.marks.gsr
     → Tells e (sends_ack x (confirming (kind.Ack (Long x.marks.gsr)) confirms) answer) to (kind.Ack (Long e.marks.gsr))
 acking-tells e x confirms answer to short config phase shut gss gsr =

@@ -18,7 +18,7 @@ use Rattle.dccp_endpoint.specs.Congesting.{calls_for}
 use Rattle.dccp_endpoint.specs.Drafts.{Draft, sent_of}
 use Rattle.dccp_endpoint.specs.End.{EndState, IsProper, end_of, with_rows}
 use Rattle.dccp_endpoint.specs.Faults.{counts}
-use Rattle.dccp_endpoint.specs.Heeding.{Due, Heeding}
+use Rattle.dccp_endpoint.specs.Heeding.{DueConfirm, Heeding}
 use Rattle.dccp_endpoint.specs.Incoming.{Incoming}
 use Rattle.dccp_endpoint.specs.Receiving.{accounted, acknowledges, heeded, moved_to, moves, needs_ack, reads_options}
 use Rattle.dccp_options.specs.Written.{Item}
@@ -40,7 +40,7 @@ use Rattle.ack_vectors.specs.declared.room.Vectors.{Vectors}
 use Rattle.two_ends_progress.proofs.Entering.{Shuts, Tells}
 
 -- A step to this phase sends an Ack with these Confirms and Changes, besides its Ack Vector.
-pub record Speaks {A : Type 0} (e : EndState) (s : Step A) (to : Phase) (confirms : List Due) (keys : List Key) : Type 0 where
+pub record Speaks {A : Type 0} (e : EndState) (s : Step A) (to : Phase) (confirms : List DueConfirm) (keys : List Key) : Type 0 where
   pub tells : Tells e s to (kind.Ack (Long e.marks.gsr))
   pub has_vector : Bool
   pub vectors : Vectors

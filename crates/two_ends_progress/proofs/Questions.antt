@@ -28,7 +28,7 @@ use Rattle.dccp_endpoint.specs.Controlled.{has_in_flight}
 use Rattle.dccp_endpoint.specs.Drafts.{Draft, IsSendable}
 use Rattle.dccp_endpoint.specs.End.{EndState, is_begun, is_live}
 use Rattle.dccp_endpoint.specs.Faults.{counts}
-use Rattle.dccp_endpoint.specs.Heeding.{Due, Heeding, heeds, unheeded}
+use Rattle.dccp_endpoint.specs.Heeding.{DueConfirm, Heeding, heeds, unheeded}
 use Rattle.dccp_endpoint.specs.Incoming.{Incoming, is_newest}
 use Rattle.dccp_endpoint.specs.Receiving.{heeded, reads_options, receives, with_raised_marks}
 use Rattle.dccp_endpoint.specs.Saying.{own_options}
@@ -143,7 +143,7 @@ pub record HasAsked (more : ℕ) (v : WorldState) (x y : Side) (their : Half) (r
   pub options_are : draft.options ≡ own_options has_vector vectors set greatest [] (asked rows n) (due_keys rows)
 
 -- An Ack with these Confirms is on its way from a side.
-pub record HasAnswered (half : Half) (gsr before n : ℕ) (confirms : List Due) : Type 0 where
+pub record HasAnswered (half : Half) (gsr before n : ℕ) (confirms : List DueConfirm) : Type 0 where
   pub newer : is_before gsr half.end.marks.gss ≡ true
   pub next_is : half.end.marks.gss ≡ residue (before + 1)
   pub draft : Draft
@@ -189,7 +189,7 @@ pub record IsRound (more : ℕ) (w v : WorldState) (x y : Side) : Type 0 where
   pub none : (k : Key) → (row_at (half_of v x).end.rows k.0 k.1).stand ≢ stand.Unstable
   pub stays : (k : Key) → (row_at (half_of v y).end.rows k.0 k.1).stand ≡ (row_at (half_of w y).end.rows k.0 k.1).stand
 
-pub no-confirms-or : (confirms : List Due) → (confirms ≡ []) ⊎ (has_confirms confirms ≡ true)
+pub no-confirms-or : (confirms : List DueConfirm) → (confirms ≡ []) ⊎ (has_confirms confirms ≡ true)
 no-confirms-or [] = inl refl
 no-confirms-or (due ∷ rest) = inr refl
 

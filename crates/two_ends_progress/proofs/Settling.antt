@@ -20,7 +20,7 @@ use Rattle.dccp_endpoint.proofs.FirstFaults.{changes-few}
 use Rattle.dccp_endpoint.proofs.Heard.{heeds-turns}
 use Rattle.dccp_endpoint.proofs.Keys.{due-distinct, due-few, events-sendings, has-due}
 use Rattle.dccp_endpoint.proofs.OwnPackets.{own_packets_say}
-use Rattle.dccp_endpoint.specs.Heeding.{Due, Heeding, heard_turns, heeds, unheeded}
+use Rattle.dccp_endpoint.specs.Heeding.{DueConfirm, Heeding, heard_turns, heeds, unheeded}
 use Rattle.dccp_endpoint.specs.Saying.{change_if, changes_among, confirm_for, own_options, said_of, said_to}
 use Rattle.dccp_endpoint.specs.Speaking.{change_items, confirm_items, wish_bytes}
 use Rattle.dccp_endpoint.specs.Turns.{Key, sendings}
@@ -43,7 +43,7 @@ entries-length place [] = refl
 entries-length place (item ∷ rest) = ap suc (entries-length (place + length (spelled item.mandatory item.kind item.body)) rest)
 
 -- own options are few
-own-few : (has_vector : Bool) (vectors : Vectors) (set : MarkedSet) (greatest : ℕ) (confirms : List Due) (rows : List Row) (keys : List Key)
+own-few : (has_vector : Bool) (vectors : Vectors) (set : MarkedSet) (greatest : ℕ) (confirms : List DueConfirm) (rows : List Row) (keys : List Key)
     → length confirms + length keys ≤ 62
     → changes_among (map Ok (entries_at 0 (own_options has_vector vectors set greatest confirms rows keys))) ≤ 64
 own-few has_vector vectors set greatest confirms rows keys few =

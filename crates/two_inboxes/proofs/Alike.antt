@@ -7,7 +7,7 @@ use Rattle.data_dropped.specs.Telling.{IsPassedOver, TellsItsDrops, options_in_p
 use Rattle.dccp_endpoint.specs.Congesting.{calls_for, handing, report_calls, reported_from, start_calls}
 use Rattle.dccp_endpoint.specs.End.{EndState, value_in, with_rows}
 use Rattle.dccp_endpoint.specs.Faults.{counts}
-use Rattle.dccp_endpoint.specs.Heeding.{Due, Heeding, heeds, heeds_entry, heeds_item, heeds_then, is_of_negotiation, unheeded}
+use Rattle.dccp_endpoint.specs.Heeding.{DueConfirm, Heeding, heeds, heeds_entry, heeds_item, heeds_then, is_of_negotiation, unheeded}
 use Rattle.dccp_endpoint.specs.Incoming.{Incoming, incoming, is_newest}
 use Rattle.dccp_endpoint.specs.Receiving.{Course, Goes, Leaves, accepts_request, accounted, acknowledges, answers, arrives, by_ports, by_sum, by_verdict, checks_numbers, ends_as, ends_by_reset, expects, heeded, is_other_service, is_own_service, is_unexpected, acknowledges_in_window, leaves, moved_to, moves, needs_ack, opens_connection, processes, raises, reads_options, is_of_connection, received, receives, replies, serves, takes, takes_answer, the_steps, through, with_own_number, with_packet}
 use Rattle.dccp_endpoint.specs.Reporting.{counts_data, delivered_if, delivers}
@@ -241,12 +241,12 @@ module _ (a : Incoming) (options : Listed) (place : ℕ × ℕ) where
       }
 
   -- what the table sends, whatever the outcome tells of data
-  acks-same : (e : EndState) (confirms : List Due) (one two : Outcome) → without_place one ≡ without_place two → (needs : Bool)
+  acks-same : (e : EndState) (confirms : List DueConfirm) (one two : Outcome) → without_place one ≡ without_place two → (needs : Bool)
       → IsSameStep (if needs then acknowledges e confirms one else idle e one) (if needs then acknowledges e confirms two else idle e two)
   acks-same e confirms one two same true = record { same_end = refl; same_frame = refl; same_calls = refl; same_outcome = same }
   acks-same e confirms one two same false = record { same_end = refl; same_frame = refl; same_calls = refl; same_outcome = same }
 
-  replies-same : (e : EndState) (confirms : List Due) (one two : Outcome) (r : Reply) → without_place one ≡ without_place two
+  replies-same : (e : EndState) (confirms : List DueConfirm) (one two : Outcome) (r : Reply) → without_place one ≡ without_place two
       → IsSameStep (replies e other confirms one r) (replies e a confirms two r)
   replies-same e confirms one two reply.Nothing same = acks-same e confirms one two same (needs_ack e.phase confirms e.rows e.unacked)
   replies-same e confirms one two reply.Response same = record { same_end = refl; same_frame = refl; same_calls = refl; same_outcome = same }
@@ -260,7 +260,7 @@ module _ (a : Incoming) (options : Listed) (place : ℕ × ℕ) where
   delivered-same one two true = refl
   delivered-same one two false = refl
 
-  moves-same : (e : EndState) (confirms : List Due) (mark : Marked) (to : Phase × Reply) → IsSameStep (moves e other confirms mark to) (moves e a confirms mark to)
+  moves-same : (e : EndState) (confirms : List DueConfirm) (mark : Marked) (to : Phase × Reply) → IsSameStep (moves e other confirms mark to) (moves e a confirms mark to)
   moves-same e confirms mark to =
       let new : Bool = delivers a.kind to.0 mark in
       replies-same (counts_data (moved_to e to.0 a.number) new) confirms (Took (delivered_if new place)) (Took (delivered_if new a.data_place)) to.1

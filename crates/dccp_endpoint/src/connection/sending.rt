@@ -82,7 +82,7 @@ impl Connection {
     ghost use Rattle.dccp_endpoint.specs.Calling.{sends_data};
     ghost use Rattle.dccp_packets.specs.declared.header.Kind.TheVariants as kind;
     ghost use Rattle.dccp_packets.specs.declared.header.Number.TheVariants.{Long};
-    ghost use Rattle.dccp_endpoint.specs.Heeding.{Due, due_of};
+    ghost use Rattle.dccp_endpoint.specs.Heeding.{DueConfirm, due_of};
     ghost use Rattle.dccp_packets.specs.declared.header.Kind.{Kind};
     ghost use Rattle.dccp_endpoint.specs.Speaking.{HaveRoom, AreChanging, AreDue, asking, asking_frame, asks, confirming, offers, saying};
     ghost use Rattle.dccp_endpoint.specs.Steps.{next_frame, next_number, with_next_number};
@@ -356,9 +356,9 @@ impl Connection {
 
     // No offer is left to come up and no row asks, as mostly: then a packet says no more than its Confirms.
     fn asks_nothing(&self) -> bool
-        ensures stays { result ≡ true → (confirms : List Due)
+        ensures stays { result ≡ true → (confirms : List DueConfirm)
             → asks (offers self.now confirms) (asking (offers self.now confirms).rows confirms) ≡ self.now }
-        ensures said { result ≡ true → (kind : Kind) (confirms : List Due)
+        ensures said { result ≡ true → (kind : Kind) (confirms : List DueConfirm)
             → asking_frame (offers self.now confirms) kind confirms (asking (offers self.now confirms).rows confirms)
             ≡ next_frame self.now (confirming kind confirms) }
     {

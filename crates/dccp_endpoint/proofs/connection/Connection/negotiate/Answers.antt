@@ -6,7 +6,7 @@ use Rattle.dccp_endpoint.specs.Congesting.{calls_for}
 use Rattle.dccp_endpoint.specs.Controlled.{after_calls, with_control}
 use Rattle.dccp_endpoint.specs.End.{EndState, end_of, with_rows}
 use Rattle.dccp_endpoint.specs.Faults.{counts}
-use Rattle.dccp_endpoint.specs.Heeding.{Due, Heeding, due_of, heeding_or}
+use Rattle.dccp_endpoint.specs.Heeding.{DueConfirm, Heeding, due_of, heeding_or}
 use Rattle.dccp_endpoint.specs.Incoming.{Incoming}
 use Rattle.dccp_endpoint.specs.Receiving.{heeded, processes}
 use Rattle.dccp_endpoint.specs.Speaking.{HaveRoom}
@@ -34,7 +34,7 @@ returns-in-Ok g c =
     handed g.C.Congestion.control c.args.congestion.now (processes (with_rows e h.rows) a h.confirms) _ (calls_for a e.rows h.rows) c.hand_over.new.congestion
     (c.process.ensures
     ∙ ap (λ (x : EndState). processes x a (map due_of c.confirms.result.now)) (c.store.ensures ∙ ap (λ (r : List Row). with_rows e r) c.rows-in-Ok-3.ensures)
-    ∙ ap (λ (confirms : List Due). processes (with_rows e h.rows) a confirms) c.confirms.ensures.confirms)
+    ∙ ap (λ (confirms : List DueConfirm). processes (with_rows e h.rows) a confirms) c.confirms.ensures.confirms)
     (c.hand_over.ensures
     ∙ ap (λ (old : List Row). after_calls g.C.Congestion.control c.args.congestion.now (calls_for a old c.rows-in-Ok-2.result.now)) c.rows-in-Ok.ensures.value
     ∙ ap (λ (new : List Row). after_calls g.C.Congestion.control c.args.congestion.now (calls_for a e.rows new)) c.rows-in-Ok-2.ensures)
@@ -46,6 +46,6 @@ process-requires-clause-room g c =
     let e : EndState = c.args.self.now in
     let a : Incoming = c.args.packet.now in
     let h : Heeding = c.read_options.new.reading in
-    subst (λ (confirms : List Due). HaveRoom confirms) (sym c.confirms.ensures.confirms)
+    subst (λ (confirms : List DueConfirm). HaveRoom confirms) (sym c.confirms.ensures.confirms)
     (confirms_have_room (a.newest && counts e.phase a.kind) a.ack e.rows a.options h c.rows.ensures.role.sound
     (sym c.read_options.ensures ∙ ap (heeding_or h) c.in-Ok.is))

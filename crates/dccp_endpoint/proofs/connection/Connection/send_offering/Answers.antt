@@ -2,7 +2,7 @@ use Rattle.std.proofs.Common.{◌≡◌, ◌∙◌, List, Option, Some, ap, map,
 use Rattle.dccp_packets.specs.Outgoing.{Outgoing}
 use Rattle.feature_machine.specs.declared.row.Row.{Row}
 use Rattle.dccp_endpoint.specs.End.{EndState}
-use Rattle.dccp_endpoint.specs.Heeding.{Due, due_of}
+use Rattle.dccp_endpoint.specs.Heeding.{DueConfirm, due_of}
 use Rattle.dccp_endpoint.specs.Speaking.{asking, asks, offers, saying}
 use Rattle.dccp_endpoint.specs.Steps.{next_frame, with_next_number}
 use Rattle.dccp_endpoint.specs.Turns.{Key}
@@ -24,7 +24,7 @@ returns-then-asks_nothing-clause-sent c =
 pub returns-clause-sent : goal.returns-clause-sent
 returns-clause-sent c =
     let e : EndState = c.args.self.now in
-    let confirms : List Due = map due_of c.args.confirms.now in
+    let confirms : List DueConfirm = map due_of c.args.confirms.now in
     let frame : EndState → List Key → Option Outgoing =
     λ x keys. Some (next_frame (asks x keys) (saying c.args.kind confirms (asks x keys).rows keys)) in
     let keys : c.as_slice.result.now ≡ asking (offers e confirms).rows confirms =
