@@ -22,7 +22,7 @@ use Rattle.feature_machine.specs.Negotiating.{due_keys, every_place}
 use Rattle.feature_machine.specs.Turns.{Turn, turned}
 use Rattle.dccp_endpoint.specs.Causes.{HasEffect, Acknowledges, AcknowledgesHeard, AreHeard, AreTurns, CallsNothing, Deaf, HasFrame, HasNext, IsAcknowledging, IsCalling, IsCaused, IsFirst, IsHearing, IsOffering, IsOpened, IsOpening, IsSending, Keeps, LeavesIt, NotNow, Offering, Others, Plain, Refuses, Rests, Says, SaysAll, SaysApart, SaysNothing, StaysSo, Acks, IsLooking, LooksNowhere, is_waiting, vector_of, is_without_connection}
 use Rattle.dccp_endpoint.specs.Drafts.{Draft, IsSendable, alone}
-use Rattle.dccp_endpoint.specs.Effects.{Effect, frame_by, Hearing, Unheard, Sending, Silent, Next, effect_of, end_after, greatest_by, heard_by, owed_by, rows_by, told_by}
+use Rattle.dccp_endpoint.specs.Effects.{Effect, frame_by, HeardNumber, Unheard, Sending, Silent, Next, effect_of, end_after, greatest_by, heard_by, owed_by, rows_by, told_by}
 use Rattle.dccp_endpoint.specs.End.{EndState, IsProper, is_begun, is_connected, is_live, is_phase_of, with_rows, with_widths}
 use Rattle.dccp_endpoint.specs.Heeding.{DueConfirm}
 use Rattle.dccp_endpoint.specs.Inputs.{Input, Arrives}
@@ -50,7 +50,7 @@ pub wide-proper : (o : EndState) → IsProper o → IsProper (wide o)
 wide-proper o proper = subst IsProper (widened o proper) proper
 
 -- what a step made of the end before anything goes out, and why
-pub record Ready (e : EndState) (given : Input) (h : Hearing) (ack : Option ℕ) (opens : Bool) (ph : Phase) (called : Bool) (looked : Option ℕ) : Type 0 where
+pub record Ready (e : EndState) (given : Input) (h : HeardNumber) (ack : Option ℕ) (opens : Bool) (ph : Phase) (called : Bool) (looked : Option ℕ) : Type 0 where
   pub hears : IsHearing e given ph h
   pub acks : IsAcknowledging e given ack
   pub its_role : is_phase_of ph e.config.role ≡ true
@@ -77,7 +77,7 @@ rest proper =
     }
 
 -- it was brought to a phase without windows
-pub left : {e : EndState} {given : Input} {h : Hearing} {ack : Option ℕ} {called : Bool} (ph : Phase) → is_live ph ≡ false → is_phase_of ph e.config.role ≡ true
+pub left : {e : EndState} {given : Input} {h : HeardNumber} {ack : Option ℕ} {called : Bool} (ph : Phase) → is_live ph ≡ false → is_phase_of ph e.config.role ≡ true
     → (is_waiting ph ≡ true → called ≡ true) → (e.phase ≡ phase.Closed → (ph ≡ phase.Closed) ⊎ (called ≡ true))
     → IsHearing e given ph h → IsAcknowledging e given ack → IsOpened e given called → Ready e given h ack false ph called None
 left ph dead its_role waits shut hears acks opened =
@@ -94,7 +94,7 @@ left ph dead its_role waits shut hears acks opened =
     }
 
 -- No row has a turn.
-abbrev pub quiet : {e : EndState} {given : Input} {h : Hearing} → AreTurns e given h []
+abbrev pub quiet : {e : EndState} {given : Input} {h : HeardNumber} → AreTurns e given h []
 quiet =
     record {
       heard = [];
@@ -109,7 +109,7 @@ quiet =
     }
 
 -- The rows hear a packet, and nothing else.
-abbrev pub hearing : {e : EndState} {given : Input} {h : Hearing} {heard : List Turn} {confirms : List DueConfirm} → AreHeard e given h heard confirms
+abbrev pub hearing : {e : EndState} {given : Input} {h : HeardNumber} {heard : List Turn} {confirms : List DueConfirm} → AreHeard e given h heard confirms
     → AreTurns e given h heard
 hearing {heard = heard} {confirms = confirms} hears =
     record {
@@ -139,7 +139,7 @@ not-so false is = refl
 pub asking-apart : (confirms : List DueConfirm) (keys : List Key) → All (λ k. is_confirmed confirms k ≡ false) (filter (λ k. not (is_confirmed confirms k)) keys)
 asking-apart confirms keys = λ i d inside. not-so _ (filter_passes (λ k. not (is_confirmed confirms k)) keys i d inside)
 
-abbrev pub offering : {e : EndState} {given : Input} {h : Hearing} {heard : List Turn} {confirms : List DueConfirm} → AreHeard e given h heard confirms
+abbrev pub offering : {e : EndState} {given : Input} {h : HeardNumber} {heard : List Turn} {confirms : List DueConfirm} → AreHeard e given h heard confirms
     → AreTurns e given h (offered_turns e heard confirms)
 offering {e = e} {heard = heard} {confirms = confirms} hears =
     record {
@@ -155,7 +155,7 @@ offering {e = e} {heard = heard} {confirms = confirms} hears =
     }
 
 -- An effect, part by part, with nothing that is due to the congestion control.
-abbrev pub effect_with : List Turn → Hearing → Option ℕ → Bool → Phase → Bool → Option ℕ → Bool → ℕ → Sending → Effect
+abbrev pub effect_with : List Turn → HeardNumber → Option ℕ → Bool → Phase → Bool → Option ℕ → Bool → ℕ → Sending → Effect
 effect_with turns h ack opens ph called looked owed unacked s =
     record {
       hearing = h;
@@ -177,7 +177,7 @@ no-vector e f k other =
     ap (λ (acks : Bool). vector_items (acks && sends_vectors (rows_by e.rows f)) e.config.vectors (told_by e.received f).set
     (greatest_by e.marks.gsr f.hearing)) (sym other)
 
-module _ {e : EndState} {given : Input} {h : Hearing} {ack : Option ℕ} {opens : Bool} {ph : Phase} {called : Bool} {looked : Option ℕ}
+module _ {e : EndState} {given : Input} {h : HeardNumber} {ack : Option ℕ} {opens : Bool} {ph : Phase} {called : Bool} {looked : Option ℕ}
     (ready : Ready e given h ack opens ph called looked) where
   abbrev pub caused : {turns : List Turn} (owed : Bool) (unacked : ℕ) (at : AreTurns e given h turns) (s : Sending)
       → (is_begun ph ≡ true → (is_begun e.phase ≡ true) ⊎ HasNext s)
@@ -255,7 +255,7 @@ module _ {e : EndState} {given : Input} {h : Hearing} {ack : Option ℕ} {opens 
       (Acks (data_ack_with payload) refl refl connected refl refl) (inl refl)
 
 -- one that says nothing of features, where nothing is looked up
-abbrev pub plain-caused : {e : EndState} {given : Input} {h : Hearing} {ack : Option ℕ} {opens : Bool} {ph : Phase} {called : Bool}
+abbrev pub plain-caused : {e : EndState} {given : Input} {h : HeardNumber} {ack : Option ℕ} {opens : Bool} {ph : Phase} {called : Bool}
     → Ready e given h ack opens ph called None → (k : Kind) → has_forms true k ≡ true → HasDetail k → is_acking (packet_type k) ≡ false
     → Acknowledges e given (greatest_by e.marks.gsr h) (ack_of k) → is_without_connection e.config.role k ≡ false
     → IsCaused e given (effect_of e h ack opens ph called (Next (alone k)))

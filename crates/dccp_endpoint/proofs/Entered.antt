@@ -28,7 +28,7 @@ use Rattle.feature_machine.proofs.Turning.{turned-joined}
 use Rattle.dccp_endpoint.specs.Causes.{is_code_without_connection, is_waiting, IsLooking, Looks, LooksNowhere, AreHeard, AreTurns, Arrived, BecomesOpen, CallsFor, Came, FitsPassing, Greatest, Heeds, InResponse, IsAcknowledging, IsCaused, AreOptionsRead, IsHearing, IsOpening, NotNow, StaysSo, counts_in, turns_in}
 use Rattle.dccp_endpoint.specs.Congesting.{calls_for}
 use Rattle.dccp_endpoint.specs.Drafts.{alone}
-use Rattle.dccp_endpoint.specs.Effects.{Effect, Hearing, Heard, Next, Passing, Refused, Sending, Shut, Silent, Taken, effect_of, end_after, frame_by, greatest_or, is_acking_sent, raising}
+use Rattle.dccp_endpoint.specs.Effects.{Effect, HeardNumber, Heard, Next, Passing, Refused, Sending, Shut, Silent, Taken, effect_of, end_after, frame_by, greatest_or, is_acking_sent, raising}
 use Rattle.dccp_endpoint.specs.End.{EndState, IsProper, is_begun, is_connected, is_live, is_open, is_phase_of, phase_entered, with_rows}
 use Rattle.dccp_endpoint.specs.Faults.{counts}
 use Rattle.dccp_endpoint.specs.Heeding.{DueConfirm, Heeding, heeds, unheeded}
@@ -132,7 +132,7 @@ module _ (o : EndState) (bytes : List ℕ) (proper : IsProper (wide o)) where
     abbrev IsRow : Phase → Reply → Type 0
     IsRow to r = after entry.ph a.kind ≡ (to, r)
 
-    abbrev heard_so : Hearing
+    abbrev heard_so : HeardNumber
     heard_so = Heard entry.first a.number Taken
 
     -- what is looked up

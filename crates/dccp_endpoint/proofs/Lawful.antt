@@ -17,7 +17,7 @@ use Rattle.feature_machine.specs.declared.row.Row.{Row}
 use Rattle.feature_machine.specs.declared.stands.Role2.{Role2}
 use Rattle.feature_machine.proofs.Turning.{turned-role, turned-sound}
 use Rattle.dccp_endpoint.specs.Causes.{AreHeard, Deaf, Heeds, AreTurns, Occasion, Plain, Offering, Repeating, PrefersNow, PrefersLater, counts_in}
-use Rattle.dccp_endpoint.specs.Effects.{Hearing}
+use Rattle.dccp_endpoint.specs.Effects.{HeardNumber}
 use Rattle.dccp_endpoint.specs.End.{EndState, IsProper, end_of}
 use Rattle.dccp_endpoint.specs.Heeding.{DueConfirm, Heeding, body_turns, entry_turns, event_of, heard_turns, heeds, heeds_item, is_change, is_left, is_of_negotiation, is_too_many, item_turns, place_in_used, turn_known, turns_then, unheeded}
 use Rattle.dccp_endpoint.specs.Inputs.{Input}
@@ -103,7 +103,7 @@ module _ {e : EndState} {input : Input} where
   occasion-lawful (PrefersNow k values wish so is now deaf none) = (All-nil Fit, preferred-lawful k values wish is)
   occasion-lawful (PrefersLater k values wish so is later deaf none) = (All-nil Fit, preferred-lawful k values wish is)
 
-module _ {e : EndState} {input : Input} {hearing : Hearing} where
+module _ {e : EndState} {input : Input} {hearing : HeardNumber} where
   said-lawful : {turns : List Turn} {confirms : List DueConfirm} → AreHeard e input hearing turns confirms → AreLawful turns
   said-lawful Deaf = All-nil Fit
   said-lawful (Heeds a h was is) = heard-lawful (counts_in e a) a.ack (unheeded e.rows) a.options

@@ -29,7 +29,7 @@ use Rattle.feature_machine.specs.Turns.{Turn, turned}
 use Rattle.dccp_endpoint.specs.Calling.{is_asking_now}
 use Rattle.dccp_endpoint.specs.Congesting.{calls_for}
 use Rattle.dccp_endpoint.specs.Drafts.{Draft, IsSendable, alone}
-use Rattle.dccp_endpoint.specs.Effects.{Effect, Passing, Refused, Shut, Taken, Hearing, Unheard, Heard, Sending, Silent, Next, WithoutConnection, greatest_by, end_after, frame_by, rows_by, told_by}
+use Rattle.dccp_endpoint.specs.Effects.{Effect, Passing, Refused, Shut, Taken, HeardNumber, Unheard, Heard, Sending, Silent, Next, WithoutConnection, greatest_by, end_after, frame_by, rows_by, told_by}
 use Rattle.dccp_endpoint.specs.End.{EndState, IsProper, is_phase_of, is_live, is_begun, is_connected, phase_entered}
 use Rattle.dccp_endpoint.specs.Faults.{counts}
 use Rattle.dccp_endpoint.specs.Heeding.{DueConfirm, Heeding, heard_turns, heeds, unheeded}
@@ -73,7 +73,7 @@ FitsPassing phase type Shut = phase ≡ phases.Closed
 FitsPassing phase type Taken = Unit {0}
 
 -- why what was received changes
-pub data IsHearing (e : EndState) (given : Input) (phase : Phase) : Hearing → Type 0 where
+pub data IsHearing (e : EndState) (given : Input) (phase : Phase) : HeardNumber → Type 0 where
   Keeps : (is_live phase ≡ true → is_live e.phase ≡ true) → IsHearing e given phase Unheard
   -- the Request that opens, in LISTEN, and the Response to the Request, in REQUEST
   Starts : (a : Incoming) (how : Passing) → Came e given a → a.kind ≢ types.Reset
@@ -98,7 +98,7 @@ HasNext (Next packet) = Unit {0}
 HasNext (WithoutConnection number packet) = ⊥
 
 -- the first packet of the connection was heard
-abbrev pub IsFirst : Hearing → Type 0
+abbrev pub IsFirst : HeardNumber → Type 0
 IsFirst Unheard = ⊥
 IsFirst (Heard first number how) = first ≡ true
 
@@ -116,7 +116,7 @@ is_waiting phases.TimeWait = false
 
 -- Where the phase may go. An end waits for a first packet as long as it heard nothing, or from `open` on; and it leaves
 -- CLOSED by `open` alone.
-pub record IsMoving (e : EndState) (hearing : Hearing) (opens : Bool) (sending : Sending) (phase : Phase) : Type 0 where
+pub record IsMoving (e : EndState) (hearing : HeardNumber) (opens : Bool) (sending : Sending) (phase : Phase) : Type 0 where
   pub its_role : is_phase_of phase e.config.role ≡ true
   pub live : is_live phase ≡ true → (is_live e.phase ≡ true) ⊎ IsFirst hearing
   pub begun : is_begun phase ≡ true → (is_begun e.phase ≡ true) ⊎ HasNext sending
@@ -179,18 +179,18 @@ abbrev pub turns_in : EndState → Incoming → List Turn
 turns_in e a = heard_turns (counts_in e a) a.ack (unheeded e.rows) a.options
 
 -- a packet that came was taken in this step
-pub record WasTaken (e : EndState) (given : Input) (hearing : Hearing) (a : Incoming) : Type 0 where
+pub record WasTaken (e : EndState) (given : Input) (hearing : HeardNumber) (a : Incoming) : Type 0 where
   pub came : Came e given a
   pub first : Bool
   pub is_heard : hearing ≡ Heard first a.number Taken
 
 -- What is looked up was acknowledged by an Ack or a DataAck that was taken.
-pub data IsLooking (e : EndState) (given : Input) (hearing : Hearing) : Option ℕ → Type 0 where
+pub data IsLooking (e : EndState) (given : Input) (hearing : HeardNumber) : Option ℕ → Type 0 where
   LooksNowhere : IsLooking e given hearing None
   Looks : (number : ℕ) (a : Incoming) → WasTaken e given hearing a → is_acking a.kind ≡ true → a.ack ≡ Some number → IsLooking e given hearing (Some number)
 
 -- What the rows heard of a packet that was taken, and the Confirms that are due for it.
-pub data AreHeard (e : EndState) (given : Input) (hearing : Hearing) : List Turn → List DueConfirm → Type 0 where
+pub data AreHeard (e : EndState) (given : Input) (hearing : HeardNumber) : List Turn → List DueConfirm → Type 0 where
   Deaf : AreHeard e given hearing [] []
   Heeds : (a : Incoming) (h : Heeding) → WasTaken e given hearing a → AreOptionsRead e a h → AreHeard e given hearing (turns_in e a) h.confirms
 
@@ -214,7 +214,7 @@ pub data Occasion (e : EndState) (given : Input) (heard : List Turn) (confirms :
 
 -- The rows' turns, in order: what was heard, offers, a preference, and the Changes that go out. No row's Change goes
 -- out beside a Confirm for it.
-pub record AreTurns (e : EndState) (given : Input) (hearing : Hearing) (turns : List Turn) : Type 0 where
+pub record AreTurns (e : EndState) (given : Input) (hearing : HeardNumber) (turns : List Turn) : Type 0 where
   pub heard : List Turn
   pub confirms : List DueConfirm
   pub offered : List Turn
@@ -243,13 +243,13 @@ asks_for_request (input.Fires timers.TimeWait in_flight) = false
 
 -- With what offers come up: the Request, as the client opens and again, and the Response to a packet that was taken
 -- (own).
-pub data IsOffering (given : Input) (hearing : Hearing) : Sending → Type 0 where
+pub data IsOffering (given : Input) (hearing : HeardNumber) : Sending → Type 0 where
   InRequest : (packet : Draft) → asks_for_request given ≡ true → packet_type packet.kind ≡ types.Request → IsOffering given hearing (Next packet)
   InResponse : (packet : Draft) (first : Bool) (number : ℕ) → hearing ≡ Heard first number Taken → packet_type packet.kind ≡ types.Response
       → IsOffering given hearing (Next packet)
 
 -- the acknowledgement number is that of the packet that was heard
-abbrev pub AcknowledgesHeard : Hearing → Option ℕ → Type 0
+abbrev pub AcknowledgesHeard : HeardNumber → Option ℕ → Type 0
 AcknowledgesHeard Unheard ack = ⊥
 AcknowledgesHeard (Heard first number how) ack = ack ≡ Some number
 
@@ -274,7 +274,7 @@ HasData (WithoutConnection number packet) = ⊥
 
 -- Why the congestion control is called: for the report of a packet that was taken, and where the value of CCID changes;
 -- for data that go out; and for its timer, while something is in flight.
-pub data IsCalling (e : EndState) (given : Input) (hearing : Hearing) (sending : Sending) : List Call → Type 0 where
+pub data IsCalling (e : EndState) (given : Input) (hearing : HeardNumber) (sending : Sending) : List Call → Type 0 where
   CallsNothing : IsCalling e given hearing sending []
   CallsFor : (a : Incoming) (h : Heeding) → WasTaken e given hearing a → AreOptionsRead e a h → IsCalling e given hearing sending (calls_for a e.rows h.rows)
   CallsSent : (payload : List ℕ) → given ≡ input.Sends payload true → e.phase ≡ phases.Open → HasData sending

@@ -31,9 +31,9 @@ pub data Passing : Type 0 where
 -- What was heard: nothing new, or a valid packet's number, as the first of the connection or not. That is a Bool of one
 -- constructor, so that each part of the end is computed while the case is still open. Whether OSR changes is a Bool
 -- too, since its new value can only be the number heard.
-pub data Hearing : Type 0 where
-  Unheard : Hearing
-  Heard : (first : Bool) (number : ℕ) (how : Passing) → Hearing
+pub data HeardNumber : Type 0 where
+  Unheard : HeardNumber
+  Heard : (first : Bool) (number : ℕ) (how : Passing) → HeardNumber
 
 -- what goes out: nothing, a packet under the next number, or a Reset without a connection under another
 pub data Sending : Type 0 where
@@ -44,7 +44,7 @@ pub data Sending : Type 0 where
 -- all that a step changes, sends and owes
 pub record Effect : Type 0 where
   -- sets ISR, raises GSR, and is marked where it was taken
-  pub hearing : Hearing
+  pub hearing : HeardNumber
   -- raises GAR
   pub acknowledged : Option ℕ
   -- the number heard becomes OSR
@@ -71,13 +71,13 @@ owed_as Refused old = old
 owed_as Shut old = old
 
 -- a step that hears nothing leaves what was owed before
-abbrev pub owed_by : Bool → Hearing → Bool
+abbrev pub owed_by : Bool → HeardNumber → Bool
 owed_by old Unheard = old
 owed_by old (Heard first number how) = owed_as how old
 
 -- The effect of a step in which no row has a turn, nothing is looked up, nothing is due to a congestion control, and
 -- neither data are delivered nor an Ack or a DataAck goes out.
-abbrev pub effect_of : EndState → Hearing → Option ℕ → Bool → Phase → Bool → Sending → Effect
+abbrev pub effect_of : EndState → HeardNumber → Option ℕ → Bool → Phase → Bool → Sending → Effect
 effect_of e hearing acknowledged opening phase opens sending =
     record {
       hearing = hearing;
@@ -109,17 +109,17 @@ greatest_or true number old = number
 greatest_or false number old = later_of old number
 
 -- ISR, GSR and OSR by what was heard
-abbrev pub first_by : ℕ → Hearing → ℕ
+abbrev pub first_by : ℕ → HeardNumber → ℕ
 first_by old Unheard = old
 first_by old (Heard first number how) = isr_or first number old
 
 -- GSR after a step
-abbrev pub greatest_by : ℕ → Hearing → ℕ
+abbrev pub greatest_by : ℕ → HeardNumber → ℕ
 greatest_by old Unheard = old
 greatest_by old (Heard first number how) = greatest_or first number old
 
 -- OSR begins at the first number, and moves to the number heard where the end becomes OPEN
-abbrev pub osr_by : ℕ → Hearing → Bool → ℕ
+abbrev pub osr_by : ℕ → HeardNumber → Bool → ℕ
 osr_by old Unheard opening = old
 osr_by old (Heard first number how) opening = osr_after (isr_or first number old) number opening
 
@@ -160,7 +160,7 @@ marked_as Refused old number = old
 marked_as Shut old number = old
 
 -- what is kept begins anew with a first number, and then marks a packet that was taken
-abbrev pub heard_by : ReceivedState → Hearing → ReceivedState
+abbrev pub heard_by : ReceivedState → HeardNumber → ReceivedState
 heard_by old Unheard = old
 heard_by old (Heard first number how) = marked_as how (begun_or first number old) number
 
@@ -171,7 +171,7 @@ count_as Refused count old number = count
 count_as Shut count old number = count
 
 -- how many numbers were taken, by what was heard; at a first number the set has just begun
-abbrev pub count_by : ℕ → ReceivedState → Hearing → ℕ
+abbrev pub count_by : ℕ → ReceivedState → HeardNumber → ℕ
 count_by count old Unheard = count
 count_by count old (Heard first number how) = count_as how count (begun_or first number old) number
 
@@ -182,7 +182,7 @@ last_as Refused old number = old
 last_as Shut old number = old
 
 -- the number that was taken last, by what was heard
-abbrev pub last_by : ℕ → Hearing → ℕ
+abbrev pub last_by : ℕ → HeardNumber → ℕ
 last_by old Unheard = old
 last_by old (Heard first number how) = last_as how old number
 

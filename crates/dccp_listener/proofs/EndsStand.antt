@@ -4,7 +4,7 @@ use Rattle.std.proofs.lemmas.Bool.{false≢true}
 use Rattle.dccp_endpoint.proofs.Calling.{every_step_has_an_effect}
 use Rattle.dccp_endpoint.proofs.Staying.{first-proper, proper-after}
 use Rattle.dccp_endpoint.specs.Causes.{ByCall, IsOpened, NotNow, is_waiting}
-use Rattle.dccp_endpoint.specs.Effects.{Hearing, Unheard, end_after}
+use Rattle.dccp_endpoint.specs.Effects.{HeardNumber, Unheard, end_after}
 use Rattle.dccp_endpoint.specs.End.{EndState, IsProper, is_phase_of}
 use Rattle.dccp_endpoint.specs.Inputs.{Input, end_stepped}
 use Rattle.dccp_states.specs.declared.phase.Phase.{Phase}
@@ -39,7 +39,7 @@ waits-in phases.CloseReq role server live fits waits = false≢true waits
 waits-in phases.Closing role server live fits waits = false≢true waits
 waits-in phases.TimeWait role server live fits waits = false≢true waits
 
-no-wait : (e : EndState) (given : Input) (opens : Bool) (hearing : Hearing) → e.config.role ≡ roles.Server → stays_in e.phase ≡ true → IsProper e
+no-wait : (e : EndState) (given : Input) (opens : Bool) (hearing : HeardNumber) → e.config.role ≡ roles.Server → stays_in e.phase ≡ true → IsProper e
     → IsOpened e given opens → ((is_waiting e.phase ≡ true) × (hearing ≡ Unheard)) ⊎ (opens ≡ true) → ⊥
 no-wait e given opens hearing server live proper opened (inl waits) = waits-in e.phase e.config.role server live proper.phase_fits waits.0
 no-wait e given _ hearing server live proper NotNow (inr is) = false≢true is

@@ -7,7 +7,7 @@ use Rattle.dccp_states.specs.declared.phase.Phase.TheVariants as phases
 use Rattle.dccp_states.specs.declared.phase.Role.{Role}
 use Rattle.dccp_states.specs.declared.phase.Role.TheVariants as role
 use Rattle.dccp_endpoint.specs.Causes.{Came, IsHearing, Keeps as KeepsHeard, Starts, Raises, IsOpened, NotNow, ByCall, entrance_of, is_waiting}
-use Rattle.dccp_endpoint.specs.Effects.{Effect, Hearing, Unheard, Heard, Passing, end_after, greatest_by, greatest_or, opened_by}
+use Rattle.dccp_endpoint.specs.Effects.{Effect, HeardNumber, Unheard, Heard, Passing, end_after, greatest_by, greatest_or, opened_by}
 use Rattle.dccp_endpoint.specs.End.{EndState, first_phase, is_live, new_end}
 use Rattle.dccp_endpoint.specs.Incoming.{Incoming, is_newest}
 use Rattle.dccp_endpoint.specs.Inputs.{Input, Arrives, Opens}
@@ -28,7 +28,7 @@ pub record IsHeardTo (iss count greatest : ℕ) (e : EndState) : Type 0 where
   pub tied : 1 ≤ greatest → e.marks.gsr ≡ number_of iss greatest
 
 -- How the count goes on with what is heard: it stays, or a newest packet has a greater one.
-pub data HeardSo (act : Act) (greatest later : ℕ) : Hearing → Type 0 where
+pub data HeardSo (act : Act) (greatest later : ℕ) : HeardNumber → Type 0 where
   NothingNew : later ≡ greatest → HeardSo act greatest later Unheard
   Old : (a : Incoming) (first : Bool) (how : Passing) → Came (end_of act.side) act.given a → later ≡ greatest → a.newest ≡ false
       → (from : IsFromLog (config_of act.peer).iss act.peer.log a)
@@ -108,7 +108,7 @@ module _ (act : Act) (peer : IsOrdered act.peer) (greatest : ℕ) (h : IsHeardTo
         within = within;
         waits =
             λ waiting. elim (act.because.moves.waits waiting) [
-              | inl before ↦ (let none : Hearing.Heard first a.number how ≡ Unheard = is ∙ before.1 in cc none)
+              | inl before ↦ (let none : HeardNumber.Heard first a.number how ≡ Unheard = is ∙ before.1 in cc none)
               | inr opens ↦ absurd (no-call a came opens)
             ];
         unopened =
@@ -140,7 +140,7 @@ module _ (act : Act) (peer : IsOrdered act.peer) (greatest : ℕ) (h : IsHeardTo
         tied = λ one. ap (greatest_by e.marks.gsr) is ∙ h.tied one;
       }
 
-  hears-by : (hearing : Hearing) → IsHearing e act.given f.phase hearing → hearing ≡ f.hearing
+  hears-by : (hearing : HeardNumber) → IsHearing e act.given f.phase hearing → hearing ≡ f.hearing
       → (later : ℕ) × HeardSo act greatest later hearing × IsHeardTo iss (length act.peer.log) later (end_after e f)
   hears-by _ (KeepsHeard live) is = (greatest, NothingNew refl, unheard-on (sym is) live)
   hears-by _ (Starts a how came other entered taken passes) is =

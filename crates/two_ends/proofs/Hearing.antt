@@ -4,7 +4,7 @@ use Rattle.std.proofs.lemmas.Option.{slice_get_within}
 use Rattle.seq_circle.specs.Circle.{residue, is_before, later_of}
 use Rattle.dccp_packets.specs.declared.header.PacketType.TheVariants as types
 use Rattle.dccp_endpoint.specs.Causes.{Came, IsHearing, Keeps as KeepsHeard, Starts, Raises}
-use Rattle.dccp_endpoint.specs.Effects.{Effect, Hearing, end_after}
+use Rattle.dccp_endpoint.specs.Effects.{Effect, HeardNumber, end_after}
 use Rattle.dccp_endpoint.specs.End.{EndState, is_live}
 use Rattle.dccp_endpoint.specs.Incoming.{Incoming}
 use Rattle.dccp_endpoint.proofs.Phases.{begins, check-live}
@@ -40,7 +40,7 @@ module _ (act : Act) (peer : IsOrdered act.peer) where
       let from = came-logged act peer a came other in
       record { place = from.place; was_sent = slice_get_within act.peer.log from.place from.logged from.is_there; same = from.read.number }
 
-  hears-next : (f : Effect) (h : Hearing) → IsHearing (end_of act.side) act.given f.phase h → IsHearingPeer act.side act.peer
+  hears-next : (f : Effect) (h : HeardNumber) → IsHearing (end_of act.side) act.given f.phase h → IsHearingPeer act.side act.peer
       → Hears (config_of act.peer).iss (length act.peer.log) (end_after (end_of act.side) (record f { hearing = h }))
   hears-next f _ (KeepsHeard live) (inl unset) =
       inl (record {

@@ -12,7 +12,7 @@ use Rattle.dccp_packets.specs.Kinds.{ack_of}
 use Rattle.dccp_packets.specs.Widths.{kind_in_widths}
 use Rattle.dccp_packets.specs.declared.header.Kind.{Kind}
 use Rattle.dccp_endpoint.specs.Causes.{AreHeard, Came, Deaf, Heeds, counts_in, turns_in}
-use Rattle.dccp_endpoint.specs.Effects.{Hearing, Heard, Taken}
+use Rattle.dccp_endpoint.specs.Effects.{HeardNumber, Heard, Taken}
 use Rattle.dccp_endpoint.specs.End.{EndState, phase_entered}
 use Rattle.dccp_endpoint.specs.Faults.{counts}
 use Rattle.dccp_endpoint.specs.Heeding.{DueConfirm, event_of, is_change}
@@ -213,7 +213,7 @@ pub key-hears : (act : Act) (greatest later : ℕ) → HeardSo act greatest late
     → (k : Key) (heard : List Turn) (confirms : List DueConfirm) → AreHeard (end_of act.side) act.given act.effect.hearing heard confirms
     → KeyHears act greatest later k (events_of k.0 k.1 heard) (confirm_for k confirms)
 key-hears act greatest later so well rows k _ _ Deaf = by act.effect.hearing so where
-  by : (h : Hearing) → HeardSo act greatest later h
+  by : (h : HeardNumber) → HeardSo act greatest later h
       → KeyHears act greatest later k [] None
   by _ (NothingNew same) = HearsNothing same
   by _ (Old a first how came same old from) = HearsNothing same
@@ -244,7 +244,7 @@ key-hears act greatest later so well rows k _ _ (Heeds a h was heeded) = by act.
       subst (λ (events : List RowEvent). KeyHears act greatest later k events (confirm_for k h.confirms)) (sym law.0)
       (subst (λ (reply : Option (List ℕ)). KeyHears act greatest later k (said_to (counts_in e a) a.ack k a.options) reply) (sym law.1) is)
 
-  by : (hearing : Hearing) → HeardSo act greatest later hearing → hearing ≡ Heard was.first a.number Taken
+  by : (hearing : HeardNumber) → HeardSo act greatest later hearing → hearing ≡ Heard was.first a.number Taken
       → KeyHears act greatest later k (events_of k.0 k.1 (turns_in e a)) (confirm_for k h.confirms)
   by _ (NothingNew same) is = cc is
   by _ (Old b first how came same old from) is =

@@ -13,7 +13,7 @@ use Rattle.dccp_endpoint.proofs.OneConfirm.{confirms_are_single}
 use Rattle.dccp_endpoint.proofs.OwnPackets.{own_packets_say, own_packets_speak}
 use Rattle.dccp_endpoint.specs.Causes.{AcknowledgesHeard, AreHeard, Deaf, Heeds, HasFrame, Occasion, Plain, Offering, Repeating, PrefersNow as OccasionNow, PrefersLater as OccasionLater, Says, SaysNothing, SaysAll, SaysApart, counts_in, vector_of}
 use Rattle.dccp_endpoint.specs.Drafts.{Draft}
-use Rattle.dccp_endpoint.specs.Effects.{Effect, Hearing, Heard, Taken, Sending, end_after, greatest_by, rows_by, told_by}
+use Rattle.dccp_endpoint.specs.Effects.{Effect, HeardNumber, Heard, Taken, Sending, end_after, greatest_by, rows_by, told_by}
 use Rattle.dccp_endpoint.specs.End.{EndState, IsProper, floor_of}
 use Rattle.dccp_endpoint.specs.Heeding.{DueConfirm, unheeded}
 use Rattle.dccp_endpoint.specs.Incoming.{Incoming}
@@ -286,7 +286,7 @@ module _ (s : KnownStep) where
       let nothing : confirm_for k due ≡ None = ap (confirm_for k) none in
       cc (some, nothing)
   this-answer k body ack some (inr answers) = by f.hearing s.so answers where
-    by : (h : Hearing) → HeardSo act greatest later h → AcknowledgesHeard h ack → IsAnswer peer_iss later ack
+    by : (h : HeardNumber) → HeardSo act greatest later h → AcknowledgesHeard h ack → IsAnswer peer_iss later ack
     by _ (NothingNew same) is = absurd is
     by _ (Old a first how came same old from) is = absurd (let newer = (this-reply k body some).newer in omega (arith, same, newer))
     by _ (Newest a first how came above from same) is =
@@ -352,7 +352,7 @@ module _ (s : KnownStep) where
               (omega (arith, changes-few a.options, few-options iss peer_iss act.peer.log s.well a from)) heeded;
         }
 
-    by : (hearing : Hearing) → HeardSo act greatest later hearing → hearing ≡ Heard was.first a.number Taken → AreFew h.confirms
+    by : (hearing : HeardNumber) → HeardSo act greatest later hearing → hearing ≡ Heard was.first a.number Taken → AreFew h.confirms
     by _ (NothingNew same) is = cc is
     by _ (Old b first how came same old from) is =
         told (subst (λ (x : Incoming). IsFromLog peer_iss act.peer.log x) (came-one e act.given b a came was.came) from)

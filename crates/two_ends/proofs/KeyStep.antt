@@ -5,7 +5,7 @@ use Rattle.dccp_endpoint.proofs.Keys.{AreDistinct, asking-distinct, confirmed-so
 use Rattle.dccp_endpoint.proofs.OneRow.{events-append}
 use Rattle.dccp_endpoint.specs.Calling.{is_asking_now}
 use Rattle.dccp_endpoint.specs.Causes.{Occasion, Plain, Offering, Repeating, PrefersNow as OccasionNow, PrefersLater as OccasionLater}
-use Rattle.dccp_endpoint.specs.Effects.{Hearing}
+use Rattle.dccp_endpoint.specs.Effects.{HeardNumber}
 use Rattle.dccp_endpoint.specs.End.{EndState}
 use Rattle.dccp_endpoint.specs.Heeding.{DueConfirm}
 use Rattle.dccp_endpoint.specs.Inputs.{Input}
@@ -199,7 +199,7 @@ module _ (e : EndState) (input : Input) (rows : IsNegotiation e.rows) (heard : L
   keys-distinct _ _ _ (OccasionLater other values wish called is waits deaf quiet) = none-distinct
 
   -- A row's events in the step, in order.
-  pub step-events : (k : Key) (hearing : Hearing) (turns offered preferred : List Turn) (keys : List Key)
+  pub step-events : (k : Key) (hearing : HeardNumber) (turns offered preferred : List Turn) (keys : List Key)
       → Occasion e input heard confirms offered preferred keys
       → turns ≡ heard ++ (offered ++ (preferred ++ sendings (next_number e) keys))
       → events_of k.0 k.1 turns

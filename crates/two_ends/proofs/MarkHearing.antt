@@ -7,7 +7,7 @@ use Rattle.std.specs.List.{All, Contains}
 use Rattle.ack_vectors.specs.Kept.{ReceivedState as KeptNumbers}
 use Rattle.ack_vectors.specs.declared.received.VectorRecord.{VectorRecord}
 use Rattle.dccp_endpoint.specs.Causes.{Came, IsHearing, Keeps as KeepsHeard, Starts, Raises, entrance_of, is_waiting}
-use Rattle.dccp_endpoint.specs.Effects.{Effect, Hearing, Unheard, Heard, Passing, Refused, Shut, Taken, count_by, end_after, first_by, heard_by}
+use Rattle.dccp_endpoint.specs.Effects.{Effect, HeardNumber, Unheard, Heard, Passing, Refused, Shut, Taken, count_by, end_after, first_by, heard_by}
 use Rattle.dccp_endpoint.specs.End.{EndState, is_live}
 use Rattle.dccp_endpoint.specs.Incoming.{Incoming}
 use Rattle.dccp_endpoint.specs.Reporting.{is_acking, is_new, one_more_taken}
@@ -184,15 +184,15 @@ module _ (act : Act) (peer_ordered : IsOrdered act.peer) (view peer : MarkSide) 
         heard = unheard-on act peer_ordered view.greatest here.heard (sym is) live;
         first = λ some. ap (first_by e.marks.isr) (sym is) ∙ here.first some;
         unset = λ none.
-            (ap (first_by e.marks.isr) (sym is) ∙ (here.unset none).0, ap (λ (h : Hearing). (heard_by e.received h).set.floor) (sym is) ∙ (here.unset none).1);
-        set = λ some. subst (λ (h : Hearing). IsMarked iss (heard_by e.received h).set view) is (here.set some);
+            (ap (first_by e.marks.isr) (sym is) ∙ (here.unset none).0, ap (λ (h : HeardNumber). (heard_by e.received h).set.floor) (sym is) ∙ (here.unset none).1);
+        set = λ some. subst (λ (h : HeardNumber). IsMarked iss (heard_by e.received h).set view) is (here.set some);
         closed = still-closed;
         numbers = [];
         processed = no-more;
         newly = newly-none same;
         marked = omega (arith, same);
         packets = All-nil (IsPacketOf iss act.peer.log);
-        records = λ r. subst (λ (h : Hearing). Contains (heard_by e.received h).records r → Contains e.received.records r) is (λ there. there);
+        records = λ r. subst (λ (h : HeardNumber). Contains (heard_by e.received h).records r → Contains e.received.records r) is (λ there. there);
         some = λ first number how heard. (let none : Unheard ≡ Heard first number how = is ∙ heard in cc none);
       }
 
@@ -239,7 +239,7 @@ module _ (act : Act) (peer_ordered : IsOrdered act.peer) (view peer : MarkSide) 
           first = λ some. ap (first_by e.marks.isr) (sym is) ∙ c.number;
           unset = λ none. absurd (omega (arith, none));
           set =
-              λ some. subst (λ (h : Hearing). IsMarked iss (heard_by e.received h).set (with_first_frame view count)) is
+              λ some. subst (λ (h : HeardNumber). IsMarked iss (heard_by e.received h).set (with_first_frame view count)) is
               (subst (λ (n : ℕ). IsMarked iss (marked (empty_from n) n) (with_first_frame view count)) (sym c.number)
               (begun_are iss view count fits (omega arith) (omega (arith, c.below, few))));
           closed = λ was. (let not = open-so (inr waiting) in cc (was, not));
@@ -249,7 +249,7 @@ module _ (act : Act) (peer_ordered : IsOrdered act.peer) (view peer : MarkSide) 
           marked = omega (arith, rose);
           packets = All-cons (IsPacketOf iss act.peer.log) a.number [] c.is_packet (All-nil (IsPacketOf iss act.peer.log));
           records =
-              λ r. subst (λ (h : Hearing). Contains (heard_by e.received h).records r → Contains e.received.records r) is
+              λ r. subst (λ (h : HeardNumber). Contains (heard_by e.received h).records r → Contains e.received.records r) is
               (λ there. absurd (omega (arith, there.1)));
           some = λ first number how heard. omega arith;
         }
@@ -267,7 +267,7 @@ module _ (act : Act) (peer_ordered : IsOrdered act.peer) (view peer : MarkSide) 
           first = λ some. ap (first_by e.marks.isr) (sym is) ∙ c.number;
           unset = λ none. absurd (omega (arith, none));
           set =
-              λ some. subst (λ (h : Hearing). IsMarked iss (heard_by e.received h).set (begun_shut view count)) is
+              λ some. subst (λ (h : HeardNumber). IsMarked iss (heard_by e.received h).set (begun_shut view count)) is
               (subst (λ (n : ℕ). IsMarked iss (empty_from n) (begun_shut view count)) (sym c.number)
               (begun_shut_are iss view count fits (omega arith) (omega (arith, c.below, few))));
           closed = λ was. (omega arith, ends);
@@ -277,7 +277,7 @@ module _ (act : Act) (peer_ordered : IsOrdered act.peer) (view peer : MarkSide) 
           marked = omega (arith, same);
           packets = All-nil (IsPacketOf iss act.peer.log);
           records =
-              λ r. subst (λ (h : Hearing). Contains (heard_by e.received h).records r → Contains e.received.records r) is
+              λ r. subst (λ (h : HeardNumber). Contains (heard_by e.received h).records r → Contains e.received.records r) is
               (λ there. absurd (omega (arith, there.1)));
           some = λ first number how heard. omega arith;
         }
@@ -319,14 +319,14 @@ module _ (act : Act) (peer_ordered : IsOrdered act.peer) (view peer : MarkSide) 
         → (heard_by e.received (Heard false a.number how)).set ≡ s
         → IsMarked iss s after → IsMarked iss (heard_by e.received f.hearing).set after
     set-at how s after is same are =
-        subst (λ (h : Hearing). IsMarked iss (heard_by e.received h).set after) is
+        subst (λ (h : HeardNumber). IsMarked iss (heard_by e.received h).set after) is
         (subst (λ (x : MarkedSet). IsMarked iss x after) (sym same) are)
 
     records-at : (how : Passing) → Heard false a.number how ≡ f.hearing → (r : VectorRecord) → Contains (heard_by e.received f.hearing).records r
         → Contains e.received.records r
-    records-at Taken is r = subst (λ (h : Hearing). Contains (heard_by e.received h).records r → Contains e.received.records r) is (λ there. there)
-    records-at Refused is r = subst (λ (h : Hearing). Contains (heard_by e.received h).records r → Contains e.received.records r) is (λ there. there)
-    records-at Shut is r = subst (λ (h : Hearing). Contains (heard_by e.received h).records r → Contains e.received.records r) is (λ there. there)
+    records-at Taken is r = subst (λ (h : HeardNumber). Contains (heard_by e.received h).records r → Contains e.received.records r) is (λ there. there)
+    records-at Refused is r = subst (λ (h : HeardNumber). Contains (heard_by e.received h).records r → Contains e.received.records r) is (λ there. there)
+    records-at Shut is r = subst (λ (h : HeardNumber). Contains (heard_by e.received h).records r → Contains e.received.records r) is (λ there. there)
 
     taking-new : Heard false a.number Taken ≡ f.hearing → answer_to e.received.set a.number ≡ New → Taking
     taking-new is new =
@@ -417,7 +417,7 @@ module _ (act : Act) (peer_ordered : IsOrdered act.peer) (view peer : MarkSide) 
           (counts_are_new iss e.received.set view (here.set has-first) at (omega arith) at-early parts)))))
           (marked-other e.received.set a.number none) (ap (one_more_taken e.marked) old)
 
-  taking-by : (h : Hearing) → IsHearing e act.given f.phase h → h ≡ f.hearing → Taking
+  taking-by : (h : HeardNumber) → IsHearing e act.given f.phase h → h ≡ f.hearing → Taking
   taking-by _ (KeepsHeard live) is = taking-unheard is live
   taking-by _ (Starts a Taken came other entered taken passes) is = taking-first a came other entered is
   taking-by _ (Starts a Shut came other entered taken passes) is = taking-first-shut a came other entered is passes

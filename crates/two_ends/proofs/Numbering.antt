@@ -13,7 +13,7 @@ use Rattle.dccp_states.specs.declared.phase.Role.{Role}
 use Rattle.dccp_endpoint.specs.Causes.{Came, HasFrame, IsHearing, IsSending, Keeps as KeepsHeard, Starts, Raises, Rests, Acks, Others, Refuses, is_without_connection}
 use Rattle.dccp_endpoint.specs.Reporting.{is_acking}
 use Rattle.dccp_endpoint.specs.Drafts.{Draft, Fits, IsSendable, alone}
-use Rattle.dccp_endpoint.specs.Effects.{Effect, Hearing, Sending, Silent, Next, WithoutConnection, end_after, frame_by, greatest_by, gss_by}
+use Rattle.dccp_endpoint.specs.Effects.{Effect, HeardNumber, Sending, Silent, Next, WithoutConnection, end_after, frame_by, greatest_by, gss_by}
 use Rattle.dccp_endpoint.specs.End.{EndState, IsProper, floor_of}
 use Rattle.dccp_endpoint.specs.Incoming.{Incoming}
 use Rattle.dccp_endpoint.specs.ShortForm.{goes_short}
@@ -121,7 +121,7 @@ later-fits gsr number old new = by (is_before gsr number) where
   by false = old
 
 -- GSR stays a number: what raises it is a number of the peer's
-heard-fits : (act : Act) → IsOrdered act.peer → (phase : Phase) (h : Hearing) → IsHearing (end_of act.side) act.given phase h
+heard-fits : (act : Act) → IsOrdered act.peer → (phase : Phase) (h : HeardNumber) → IsHearing (end_of act.side) act.given phase h
     → greatest_by (end_of act.side).marks.gsr h < 2 ^ 48
 heard-fits act peer phase _ (KeepsHeard live) = act.numbers.gsr
 heard-fits act peer phase _ (Starts a how came other entrance taken passes) =

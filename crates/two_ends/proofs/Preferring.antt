@@ -6,7 +6,7 @@ use Rattle.dccp_endpoint.proofs.Lawful.{preferred-lawful}
 use Rattle.dccp_endpoint.specs.Calling.{Called, is_asking_now, preferring, prefers, prefers_in, prefers_so, prefers_wish}
 use Rattle.dccp_endpoint.specs.Causes.{AreHeard, AreTurns, Deaf, EveryStepHasOneEffect, Heeds, Occasion, Offering, Plain, PrefersLater, PrefersNow, Repeating, counts_in}
 use Rattle.dccp_endpoint.specs.Drafts.{Fits}
-use Rattle.dccp_endpoint.specs.Effects.{Hearing}
+use Rattle.dccp_endpoint.specs.Effects.{HeardNumber}
 use Rattle.dccp_endpoint.specs.End.{EndState, IsProper, end_of as role_of, is_connected}
 use Rattle.dccp_endpoint.specs.Heeding.{DueConfirm, unheeded}
 use Rattle.dccp_endpoint.specs.Inputs.{Input, end_stepped}
@@ -56,7 +56,7 @@ IsCalmInput (input.Prefers key values) = ⊥
 IsCalmInput _ = Unit {0}
 
 module _ {e : EndState} {given : Input} where
-  said-calm : {hearing : Hearing} {turns : List Turn} {confirms : List DueConfirm} → AreHeard e given hearing turns confirms → AreCalm turns
+  said-calm : {hearing : HeardNumber} {turns : List Turn} {confirms : List DueConfirm} → AreHeard e given hearing turns confirms → AreCalm turns
   said-calm Deaf = tt
   said-calm (Heeds a h was is) = heard-calm (counts_in e a) a.ack (unheeded e.rows) a.options
 
@@ -68,7 +68,7 @@ module _ {e : EndState} {given : Input} where
   occasion-calm calm (PrefersNow k values wish so is now deaf none) = absurd (subst IsCalmInput so calm)
   occasion-calm calm (PrefersLater k values wish so is later deaf none) = absurd (subst IsCalmInput so calm)
 
-  turns-calm : {hearing : Hearing} {turns : List Turn} → IsCalmInput given → AreTurns e given hearing turns → AreCalm turns
+  turns-calm : {hearing : HeardNumber} {turns : List Turn} → IsCalmInput given → AreTurns e given hearing turns → AreCalm turns
   turns-calm calm at =
       let others = occasion-calm calm at.occasion in
       let sent : List Turn = sendings (next_number e) at.keys in

@@ -10,7 +10,7 @@ use Rattle.dccp_endpoint.proofs.Deriving.{Told}
 use Rattle.dccp_endpoint.proofs.Walking.{told_of_step}
 use Rattle.dccp_endpoint.specs.Causes.{AreTurns, Came, IsHearing, Keeps, Starts, Raises}
 use Rattle.dccp_endpoint.specs.Drafts.{alone}
-use Rattle.dccp_endpoint.specs.Effects.{Effect, Hearing, Unheard, Heard, Passing, Refused, Shut, Taken, Sending, Silent, Next, effect_of_sending, end_after, is_acking_sent}
+use Rattle.dccp_endpoint.specs.Effects.{Effect, HeardNumber, Unheard, Heard, Passing, Refused, Shut, Taken, Sending, Silent, Next, effect_of_sending, end_after, is_acking_sent}
 use Rattle.dccp_endpoint.specs.End.{EndState, IsProper}
 use Rattle.dccp_endpoint.specs.Incoming.{Incoming}
 use Rattle.dccp_endpoint.specs.Inputs.{Arrives, Input}
@@ -40,7 +40,7 @@ came-reset e bytes p a read is came =
     ∙ reset-type p.header.kind is
 
 -- Nothing is heard of a Reset.
-unheard : (e : EndState) (given : Input) (phase : Phase) → ((a : Incoming) → Came e given a → a.kind ≡ types.Reset) → (h : Hearing)
+unheard : (e : EndState) (given : Input) (phase : Phase) → ((a : Incoming) → Came e given a → a.kind ≡ types.Reset) → (h : HeardNumber)
     → IsHearing e given phase h → h ≡ Unheard
 unheard e given phase reset Unheard (Keeps live) = refl
 unheard e given phase reset (Heard true _ how) (Starts a _ came other entrance taken passes) = absurd (other (reset a came))
@@ -70,7 +70,7 @@ module _ (e : EndState) where
 
   as-heard : (f g : Effect) (first : Bool) (number : ℕ) (how : Passing) → g.hearing ≡ Heard first number how → f ≡ g → IsQuiet f
   as-heard f g first number how heard form none =
-      let both : Hearing.Unheard ≡ Heard first number how = sym none ∙ ap (λ (x : Effect). x.hearing) form ∙ heard in
+      let both : HeardNumber.Unheard ≡ Heard first number how = sym none ∙ ap (λ (x : Effect). x.hearing) form ∙ heard in
       cc both
 
   quiet-sync : (bytes : List ℕ) (number : ℕ) (cause : IsSynced e bytes number) (f : Effect) → f ≡ effect_of_sync e bytes number cause → IsQuiet f
@@ -93,7 +93,7 @@ module _ (e : EndState) where
       subst (λ (g : Effect). KeepsReceived e (end_after e g)) (sym form) (still phases.TimeWait Silent refl)
   quiet bytes (SentReset code detail) cause f turns form none = quiet-reset bytes cause.fault cause.why f form none
   quiet bytes (Took delivered) cause f turns form none =
-      let heard : Hearing.Unheard ≡ Heard (hears_first e) cause.packet.number Taken = sym none ∙ form.heard in
+      let heard : HeardNumber.Unheard ≡ Heard (hears_first e) cause.packet.number Taken = sym none ∙ form.heard in
       cc heard
 
 -- whatever the end

@@ -10,7 +10,7 @@ use Rattle.dccp_endpoint.proofs.Deriving.{Told}
 use Rattle.dccp_endpoint.proofs.Phases.{check-live}
 use Rattle.dccp_endpoint.proofs.Walking.{told_of_step}
 use Rattle.dccp_endpoint.specs.Causes.{AreTurns, Came, EveryStepHasOneEffect, IsCaused, IsHearing, Keeps as KeepsHeard, Starts, Raises, entrance_of}
-use Rattle.dccp_endpoint.specs.Effects.{Effect, Hearing, Unheard, Heard, Passing, Refused, Shut, Taken, count_by, end_after, frame_by, greatest_by}
+use Rattle.dccp_endpoint.specs.Effects.{Effect, HeardNumber, Unheard, Heard, Passing, Refused, Shut, Taken, count_by, end_after, frame_by, greatest_by}
 use Rattle.dccp_endpoint.specs.End.{EndState, first_phase, is_live}
 use Rattle.dccp_endpoint.specs.Incoming.{Incoming}
 use Rattle.dccp_endpoint.specs.Inputs.{Input, Arrives, end_stepped}
@@ -218,7 +218,7 @@ module _ (act : Act) (own : SideInvariant act.side act.peer) (peers : SideInvari
   by-order a Refused came other checked is shuts true order =
       Refuses a.number (sym is) (ap (greatest_by e.marks.gsr) (sym is) ∙ ap (λ (b : Bool). if b then a.number else e.marks.gsr) order)
 
-  meets-by : (hearing : Hearing) → IsHearing e act.given f.phase hearing → hearing ≡ f.hearing → Meets act
+  meets-by : (hearing : HeardNumber) → IsHearing e act.given f.phase hearing → hearing ≡ f.hearing → Meets act
   meets-by _ (KeepsHeard live) is = stays-unheard is live
   meets-by _ (Starts a Taken came other entered taken passes) is =
       processes a came
@@ -297,14 +297,14 @@ asked-given e frames (Arrives bytes) is = absurd is
 asked-given e frames _ is = tt
 
 -- at a call nothing is heard
-asked-deaf : (e : EndState) (given : Input) (phase : Phase) (hearing : Hearing) (number : ℕ) → IsAsked given → IsHearing e given phase hearing
+asked-deaf : (e : EndState) (given : Input) (phase : Phase) (hearing : HeardNumber) (number : ℕ) → IsAsked given → IsHearing e given phase hearing
     → hearing ≡ Heard false number Refused → ⊥
 asked-deaf e given phase _ number asked (KeepsHeard live) is = cc is
 asked-deaf e given phase _ number asked (Starts a _ came other entered taken passes) is = subst IsAsked came.is_given asked
 asked-deaf e given phase _ number asked (Raises a _ came other checked valid passes) is = subst IsAsked came.is_given asked
 
 -- what is heard has the number of the frame that arrives
-numbered-so : (act : Act) → SideInvariant act.peer act.side → (hearing : Hearing) → IsHearing (end_of act.side) act.given act.effect.phase hearing
+numbered-so : (act : Act) → SideInvariant act.peer act.side → (hearing : HeardNumber) → IsHearing (end_of act.side) act.given act.effect.phase hearing
     → (number : ℕ) → hearing ≡ Heard false number Refused → act.arrived ≡ Some number
 numbered-so act peers _ (KeepsHeard live) number is = cc is
 numbered-so act peers _ (Starts a _ came other entered taken passes) number is =
