@@ -4,7 +4,7 @@ use Rattle.std.specs.List.{All, concat}
 use Rattle.std.proofs.lemmas.Bool.{cases_Bool, le-leb, lt-leb, leb-true, leb-false}
 use Rattle.std.proofs.lemmas.List.{take_all}
 use Rattle.std.proofs.lemmas.List.Elements.{All-nil, All-cons}
-use Rattle.dccp_options.specs.Vectors.{Report, joined_report, states}
+use Rattle.dccp_options.specs.Vectors.{VectorReport, joined_report, states}
 use Rattle.dccp_options.proofs.States.{states-append}
 use Rattle.ack_vectors.specs.declared.room.Vectors.{Vectors}
 use Rattle.ack_vectors.specs.declared.room.Vectors.TheVariants.{One, Two}
@@ -40,7 +40,7 @@ options-read ack bytes =
           ∙ ap (reported_as ack) (take-append-drop 253 bytes)
     ]
   where
-    reported_as : ℕ → List ℕ → Option Report
+    reported_as : ℕ → List ℕ → Option VectorReport
     reported_as ack bytes = Some (record { ack = ack; bytes = bytes })
 
 -- no option holds more than it has room for

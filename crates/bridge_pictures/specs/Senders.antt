@@ -5,7 +5,7 @@ use Rattle.ccid_two.specs.Window.{State, ccid_control}
 use Rattle.congestion_trait.specs.Control.{may_send}
 use Rattle.congestion_trait.specs.Flight.{pipe_of}
 use Rattle.dccp_options.specs.Grammar.{options_of}
-use Rattle.dccp_options.specs.Vectors.{Report, report_of, state_at}
+use Rattle.dccp_options.specs.Vectors.{VectorReport, report_of, state_at}
 use Rattle.dccp_packets.specs.Grammar.{Parts, packet_type}
 use Rattle.dccp_packets.specs.Kinds.{ack_of, is_data}
 use Rattle.dccp_packets.specs.declared.header.Header.{Header}
@@ -54,7 +54,7 @@ unfoldable pub send_seen : State → Header → State
 send_seen s header = send_of s (data_number header)
 
 -- a report came, where the peer acknowledges every second packet
-abbrev pub report_given : State → Option Report → State
+abbrev pub report_given : State → Option VectorReport → State
 report_given s None = s
 report_given s (Some report) = ccid_control.with_report s (state_at report.ack report.bytes) 2
 

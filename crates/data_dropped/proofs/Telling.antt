@@ -2,7 +2,7 @@
 use Rattle.std.proofs.Common.{◌≡◌, ℕ, ◌^◌, ◌<◌, Bool, true, false, List, [], ◌++◌, length, Option, Some, None, ap, sym, subst, ◌∙◌, inl, inr, append-nil}
 use Rattle.std.proofs.lemmas.Bool.{cases_eq, eq-eqb, ne_eqb}
 use Rattle.std.proofs.lemmas.Option.{same_Some}
-use Rattle.dccp_options.specs.Vectors.{Report, joined_report}
+use Rattle.dccp_options.specs.Vectors.{VectorReport, joined_report}
 use Rattle.dccp_sum.specs.declared.pseudo_header.Pseudo.{Pseudo}
 use Rattle.dccp_packets.specs.Outgoing.{Outgoing}
 use Rattle.dccp_endpoint.specs.End.{EndState, IsProper}
@@ -14,20 +14,20 @@ use Rattle.data_dropped.specs.Telling.{FrameTells, IsReadAsDrops, TellsItsDrops,
 use Rattle.data_dropped.proofs.OwnFrames.{step-tells}
 use Rattle.data_dropped.proofs.ReadBack.{all_codes_read, only_codes_read}
 
-option-is : (ack : ℕ) (bytes : List ℕ) (r : Report) → joined_report ack (one_option bytes) ≡ Some r → record { ack = ack; bytes = bytes } ≡ r
+option-is : (ack : ℕ) (bytes : List ℕ) (r : VectorReport) → joined_report ack (one_option bytes) ≡ Some r → record { ack = ack; bytes = bytes } ≡ r
 option-is ack bytes r is =
     elim (cases_eq (length bytes) 0) [
-      | inl none ↦ let nothing : ◌≡◌ {A = Option Report} None (Some r) = rw (eq-eqb (length bytes) 0 none) at is in absurd cc
+      | inl none ↦ let nothing : ◌≡◌ {A = Option VectorReport} None (Some r) = rw (eq-eqb (length bytes) 0 none) at is in absurd cc
       | inr some ↦
-          let one : ◌≡◌ {A = Option Report} (Some (record { ack = ack; bytes = bytes ++ [] })) (Some r) = rw (ne_eqb (length bytes) 0 some) at is in
+          let one : ◌≡◌ {A = Option VectorReport} (Some (record { ack = ack; bytes = bytes ++ [] })) (Some r) = rw (ne_eqb (length bytes) 0 some) at is in
           ap (λ (all : List ℕ). record { ack = ack; bytes = all }) (sym (append-nil bytes)) ∙ same_Some _ r one
     ]
 
-told-is : (ack : ℕ) (says : Bool) (bytes : List ℕ) (r : Report) → joined_report ack (told_if says bytes) ≡ Some r → record { ack = ack; bytes = bytes } ≡ r
+told-is : (ack : ℕ) (says : Bool) (bytes : List ℕ) (r : VectorReport) → joined_report ack (told_if says bytes) ≡ Some r → record { ack = ack; bytes = bytes } ≡ r
 told-is ack true bytes r is = option-is ack bytes r is
 told-is ack false bytes r is = absurd cc
 
-pub read_as_drops : (pseudo : Pseudo) (held : InboxState) (own frame : Outgoing) (tells : TellsItsDrops pseudo held own frame) (ack : ℕ) (r : Report)
+pub read_as_drops : (pseudo : Pseudo) (held : InboxState) (own frame : Outgoing) (tells : TellsItsDrops pseudo held own frame) (ack : ℕ) (r : VectorReport)
     → acknowledged_by frame.ack tells.packet.header.kind ≡ Some ack → report_in_packet ack tells.packet ≡ Some r → HaveCodes held.drops → ack < 2 ^ 48
     → IsReadAsDrops held ack r
 read_as_drops pseudo held own frame tells ack r acks is have fits =
@@ -38,7 +38,7 @@ read_as_drops pseudo held own frame tells ack r acks is have fits =
     tells.tells ∙ ap (told_by_ack held tells.before) before in
     let report : record { ack = ack; bytes = drop_bytes held.drops ack } ≡ r =
     told-is ack (says_more tells.before (said held ack)) (drop_bytes held.drops ack) r (sym (ap (joined_report ack) told) ∙ is) in
-    subst (λ (x : Report). IsReadAsDrops held ack x) report
+    subst (λ (x : VectorReport). IsReadAsDrops held ack x) report
     (record {
       only = λ n code small found. only_codes_read held.drops ack n code have fits small found;
       all = λ n small whole near. all_codes_read held.drops ack n have fits small whole near;

@@ -3,7 +3,7 @@ use Rattle.std.specs.Prelude.{ℕ, ◌==◌, List, [], ◌∷◌, ◌++◌, Opti
 use Rattle.std.specs.List.{concat}
 use Rattle.dccp_options.specs.Grammar.{Entry}
 use Rattle.dccp_options.specs.Kinds.{data_dropped}
-use Rattle.dccp_options.specs.Vectors.{Report, joined_report}
+use Rattle.dccp_options.specs.Vectors.{VectorReport, joined_report}
 use Rattle.dccp_options.specs.declared.option.OptFault.{OptFault}
 
 -- the data of an item of the list, if it is a Data Dropped option
@@ -21,5 +21,5 @@ abbrev pub drop_data : List (Result Entry OptFault) → List ℕ
 drop_data items = concat (drop_options items)
 
 -- what the options of a packet with this acknowledgement number report; none where no Data Dropped is there
-abbrev pub drop_report : ℕ → List (Result Entry OptFault) → Option Report
+abbrev pub drop_report : ℕ → List (Result Entry OptFault) → Option VectorReport
 drop_report ack items = joined_report ack (drop_options items)

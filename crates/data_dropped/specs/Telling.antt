@@ -5,7 +5,7 @@ use Rattle.seq_circle.specs.Circle.{distance}
 use Rattle.dccp_options.specs.Grammar.{Entry, options_of}
 use Rattle.dccp_options.specs.Kinds.{data_dropped, slow_receiver}
 use Rattle.dccp_options.specs.declared.option.OptFault.{OptFault}
-use Rattle.dccp_options.specs.Vectors.{Report, joined_report}
+use Rattle.dccp_options.specs.Vectors.{VectorReport, joined_report}
 use Rattle.dccp_packets.specs.Grammar.{Parts, decoded, packet_type}
 use Rattle.dccp_packets.specs.Kinds.{is_data}
 use Rattle.dccp_packets.specs.Outgoing.{Outgoing}
@@ -72,11 +72,11 @@ pub record FrameTells (pseudo : Pseudo) (held : InboxState) (own : Outgoing) (se
   pub tells : TellsItsDrops pseudo held own frame
 
 -- what is read of the Data Dropped options of a packet that acknowledges this number
-abbrev pub report_in_packet : ℕ → Parts → Option Report
+abbrev pub report_in_packet : ℕ → Parts → Option VectorReport
 report_in_packet ack p = joined_report ack (drops_in_packet p)
 
 -- From a frame that reports its drops, a code of a number is read only if it is that number's; and if nothing was cut
 -- off, each of the 2,048 numbers from the acknowledgement number down has its code.
-pub record IsReadAsDrops (held : InboxState) (ack : ℕ) (r : Report) : Type 0 where
+pub record IsReadAsDrops (held : InboxState) (ack : ℕ) (r : VectorReport) : Type 0 where
   pub only : (n code : ℕ) → n < 2 ^ 48 → code_at r.ack r.bytes n ≡ Some code → drop_code held.drops n ≡ Some code
   pub all : (n : ℕ) → n < 2 ^ 48 → IsTrue (tells_all held.drops ack) → distance n ack < 2048 → code_at r.ack r.bytes n ≡ drop_code held.drops n

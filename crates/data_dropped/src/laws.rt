@@ -2,7 +2,7 @@
 ghost use Rattle.std.specs.Prelude.{◌≡◌, ℕ, ◌^◌, ◌<◌, ◌≤◌, ◌==◌, nat_lt, List, [], ◌∷◌, ◌++◌, IsTrue, Some, None, length, if◌then◌else◌};
 ghost use Rattle.std.specs.List.{list_any};
 ghost use Rattle.seq_circle.specs.Circle.{distance};
-ghost use Rattle.dccp_options.specs.Vectors.{Report};
+ghost use Rattle.dccp_options.specs.Vectors.{VectorReport};
 ghost use Rattle.dccp_sum.specs.declared.pseudo_header.Pseudo.{Pseudo};
 ghost use Rattle.dccp_endpoint.specs.End.{IsProper, last_taken};
 ghost use Rattle.dccp_endpoint.specs.Receiving.{receives};
@@ -86,7 +86,7 @@ pub fn every_frame_tells_its_drops<C: Congestion>()
 /// What is read from such a frame: a code of a number only if it is that number's, and every code if nothing was cut
 /// off.
 pub fn a_frame_is_read_as_its_drops()
-    ensures { (pseudo : Pseudo) (held : InboxState) (own frame : Outgoing) (tells : TellsItsDrops pseudo held own frame) (ack : ℕ) (r : Report)
+    ensures { (pseudo : Pseudo) (held : InboxState) (own frame : Outgoing) (tells : TellsItsDrops pseudo held own frame) (ack : ℕ) (r : VectorReport)
         → acknowledged_by frame.ack tells.packet.header.kind ≡ Some ack → report_in_packet ack tells.packet ≡ Some r → HaveCodes held.drops → ack < 2 ^ 48
         → IsReadAsDrops held ack r }
 {}

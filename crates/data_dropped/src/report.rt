@@ -19,10 +19,10 @@ pub struct DropReport<'a> {
 }
 
 impl<'a> Model for DropReport<'a> {
-    ghost use Rattle.dccp_options.specs.Vectors.{Report};
+    ghost use Rattle.dccp_options.specs.Vectors.{VectorReport};
     ghost use Rattle.data_dropped.specs.Reports.{drop_data};
 
-    ghost Value = { Report };
+    ghost Value = { VectorReport };
 
     ghost view = { λ report. record { ack = report.ack; bytes = drop_data report.options } };
 }

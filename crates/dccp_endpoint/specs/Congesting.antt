@@ -2,7 +2,7 @@
 use Rattle.std.specs.Prelude.{◌==◌, if◌then◌else◌, ℕ, List, [], ◌∷◌, ◌++◌, Option, Some, None, Result}
 use Rattle.congestion_trait.specs.Calls.{Call, Reports, Starts}
 use Rattle.dccp_options.specs.Grammar.{Entry}
-use Rattle.dccp_options.specs.Vectors.{Report, report_of, state_at}
+use Rattle.dccp_options.specs.Vectors.{VectorReport, report_of, state_at}
 use Rattle.dccp_options.specs.declared.option.OptFault.{OptFault}
 use Rattle.dccp_packets.specs.declared.header.PacketType.{PacketType}
 use Rattle.dccp_packets.specs.declared.header.PacketType.TheVariants as types
@@ -18,7 +18,7 @@ reported_from types.Sync ack = None
 reported_from _ ack = ack
 
 -- a report as it is handed over, with the Ack Ratio
-abbrev pub handing : Option Report → ℕ → List Call
+abbrev pub handing : Option VectorReport → ℕ → List Call
 handing None ratio = []
 handing (Some report) ratio = Reports (state_at report.ack report.bytes) ratio ∷ []
 

@@ -8,7 +8,7 @@ use Rattle.dccp_options.specs.Grammar.{Entry}
 use Rattle.dccp_options.specs.Kinds.{ack_vector_0, ack_vector_1}
 
 -- an acknowledgement number and the bytes of the vectors that go down from it
-pub record Report : Type 0 where
+pub record VectorReport : Type 0 where
   pub ack : ℕ
   pub bytes : List ℕ
 
@@ -31,12 +31,12 @@ abbrev pub vector_bytes : List (Result Entry OptFault) → List ℕ
 vector_bytes items = concat (ack_vectors items)
 
 -- what the options of a packet with this acknowledgement number report, or none where no Ack Vector is there
-abbrev pub joined_report : ℕ → List (List ℕ) → Option Report
+abbrev pub joined_report : ℕ → List (List ℕ) → Option VectorReport
 joined_report ack [] = None
 joined_report ack (vector ∷ others) = Some (record { ack = ack; bytes = concat (vector ∷ others) })
 
 -- all Ack Vectors of the packet are one report, which begins at the acknowledgement number
-abbrev pub report_of : ℕ → List (Result Entry OptFault) → Option Report
+abbrev pub report_of : ℕ → List (Result Entry OptFault) → Option VectorReport
 report_of ack items = joined_report ack (ack_vectors items)
 
 -- the state in a byte's upper two bits: 0 received, 1 received ECN marked, 3 not yet received (RFC 4340, section 11.4);

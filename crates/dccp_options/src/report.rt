@@ -28,10 +28,10 @@ pub struct AckReport<'a> {
 
 impl<'a> Model for AckReport<'a> {
     ghost use Rattle.std.specs.Prelude.{◌≤◌, length};
-    ghost use Rattle.dccp_options.specs.Vectors.{Report};
+    ghost use Rattle.dccp_options.specs.Vectors.{VectorReport};
     ghost use Rattle.dccp_options.specs.Left.{bytes_left};
 
-    ghost Value = { Report };
+    ghost Value = { VectorReport };
 
     ghost view = { λ report. record { ack = report.ack; bytes = bytes_left report.bytes } };
 

@@ -13,7 +13,7 @@ use Rattle.data_dropped.specs.Reports.{drop_options}
 use Rattle.data_dropped.specs.declared.drops.DropEntry.{DropEntry}
 use Rattle.data_dropped.proofs.Table.{drop_code-push}
 use Rattle.dccp_options.specs.Grammar.{options_of}
-use Rattle.dccp_options.specs.Vectors.{Report, joined_report}
+use Rattle.dccp_options.specs.Vectors.{VectorReport, joined_report}
 use Rattle.dccp_packets.specs.Grammar.{Parts, decoded, packet_type}
 use Rattle.dccp_packets.specs.Kinds.{is_data}
 use Rattle.dccp_packets.specs.declared.reading.Malformed.{Malformed}
@@ -73,7 +73,7 @@ counted_one_more whole mark code drops left n some it =
       few = few-by (is_code 2 (code n)) drops.full left some it.few;
     }
 
-module _ (reader : Reader) (report : Report) where
+module _ (reader : Reader) (report : VectorReport) where
   -- nothing is counted yet
   abbrev IsCountedThere : Drops → ℕ → ℕ → Type 0
   IsCountedThere drops left n = IsCounted (drops_told reader report) reader.mark (code_at report.ack report.bytes) drops left n

@@ -5,7 +5,7 @@ use Rattle.data_dropped.specs.Drops.{code_at}
 use Rattle.data_dropped.specs.Reports.{drop_report}
 use Rattle.data_dropped.specs.declared.drops.DropEntry.{DropEntry}
 use Rattle.dccp_options.specs.Grammar.{options_of}
-use Rattle.dccp_options.specs.Vectors.{Report}
+use Rattle.dccp_options.specs.Vectors.{VectorReport}
 use Rattle.dccp_packets.specs.Grammar.{Parts, decoded, packet_type}
 use Rattle.dccp_packets.specs.Kinds.{is_data}
 use Rattle.dccp_packets.specs.declared.reading.Malformed.{Malformed}
@@ -26,7 +26,7 @@ all_recorded one code [] drops = drops
 all_recorded one code (n ∷ rest) drops = all_recorded one code rest (recorded_if one n (code n) drops)
 
 -- those that a report, if there is one, is the first to tell
-abbrev pub report_recorded : {R : Type 0} → (ℕ → ℕ → R → R) → Option ℕ → Option Report → R → R
+abbrev pub report_recorded : {R : Type 0} → (ℕ → ℕ → R → R) → Option ℕ → Option VectorReport → R → R
 report_recorded one counted None drops = drops
 report_recorded one counted (Some report) drops = all_recorded one (code_at report.ack report.bytes) (new_numbers counted report.ack) drops
 

@@ -10,7 +10,7 @@ use Rattle.dccp_endpoint.specs.Congesting.{reported_from}
 use Rattle.dccp_endpoint.specs.End.{EndState}
 use Rattle.dccp_options.specs.Grammar.{Entry, options_of}
 use Rattle.dccp_options.specs.Kinds.{slow_receiver}
-use Rattle.dccp_options.specs.Vectors.{Report}
+use Rattle.dccp_options.specs.Vectors.{VectorReport}
 use Rattle.dccp_options.specs.declared.option.OptFault.{OptFault}
 use Rattle.dccp_packets.specs.Forms.{ack_near}
 use Rattle.dccp_packets.specs.Grammar.{Parts, packet_type}
@@ -79,16 +79,16 @@ abbrev pub no_drops : Drops
 no_drops = record { full = 0; refused = false; stopped = false; marked = false }
 
 -- what a report of drops is the first to tell
-abbrev pub drops_told : Reader → Report → Drops
+abbrev pub drops_told : Reader → VectorReport → Drops
 drops_told reader report = drops_among reader.mark (code_at report.ack report.bytes) (new_numbers reader.counted report.ack)
 
 -- what a packet tells, whether it is from a slow receiver, by its report of drops, if it has one
-abbrev pub notice_with : Reader → Bool → Option Report → Notice
+abbrev pub notice_with : Reader → Bool → Option VectorReport → Notice
 notice_with reader slow None = record { slow = slow; drops = no_drops; ack = None }
 notice_with reader slow (Some report) = record { slow = slow; drops = drops_told reader report; ack = Some report.ack }
 
 -- what its options report from this number downwards, if there is one
-abbrev pub drops_reported : Option ℕ → List (Result Entry OptFault) → Option Report
+abbrev pub drops_reported : Option ℕ → List (Result Entry OptFault) → Option VectorReport
 drops_reported None items = None
 drops_reported (Some ack) items = drop_report ack items
 

@@ -7,7 +7,7 @@ ghost use Rattle.data_dropped.specs.Telling.{TellsItsDrops, options_in_packet, r
 ghost use Rattle.data_dropped.specs.declared.drops.DropEntry.{DropEntry};
 ghost use Rattle.dccp_endpoint.specs.End.{EndState};
 ghost use Rattle.dccp_endpoint.specs.Receiving.{receives};
-ghost use Rattle.dccp_options.specs.Vectors.{Report, report_of, state_at};
+ghost use Rattle.dccp_options.specs.Vectors.{VectorReport, report_of, state_at};
 ghost use Rattle.dccp_packets.specs.Grammar.{Parts, decoded};
 ghost use Rattle.dccp_packets.specs.Outgoing.{Outgoing};
 ghost use Rattle.seq_circle.specs.Circle.{distance};
@@ -76,11 +76,11 @@ pub fn frames_are_true_of_what_was_taken<C: Congestion>()
     ensures processed { (w : InboxPair C) → ReachedWithInboxes C.control w → (side : Side) (n : ℕ)
         → Contains (data_numbers (inbox_at w side).past.taken) n → Contains (half_of w.ends.world side).processed n }
     ensures dropped { (w : InboxPair C) → ReachedWithInboxes C.control w → (side : Side) (index ack n code : ℕ) (frame : SentFrame) (bytes : List ℕ)
-        (packet : Parts) (report : Report) → slice_get (half_of w.ends.world side).frames index ≡ Some frame → slice_get (inbox_at w side).said index ≡ Some bytes
+        (packet : Parts) (report : VectorReport) → slice_get (half_of w.ends.world side).frames index ≡ Some frame → slice_get (inbox_at w side).said index ≡ Some bytes
         → decoded bytes ≡ Ok packet → frame.ack ≡ Some ack → ack < 2 ^ 48 → report_in_packet ack packet ≡ Some report → n < 2 ^ 48
         → code_at report.ack report.bytes n ≡ Some code → Contains (data_numbers (inbox_at w side).past.taken) n → ⊥ }
     ensures missing { (w : InboxPair C) → ReachedWithInboxes C.control w → (side : Side) (index ack n : ℕ) (frame : SentFrame) (bytes : List ℕ)
-        (packet : Parts) (report : Report) → slice_get (half_of w.ends.world side).frames index ≡ Some frame → slice_get (inbox_at w side).said index ≡ Some bytes
+        (packet : Parts) (report : VectorReport) → slice_get (half_of w.ends.world side).frames index ≡ Some frame → slice_get (inbox_at w side).said index ≡ Some bytes
         → decoded bytes ≡ Ok packet → frame.ack ≡ Some ack → ack < 2 ^ 48 → report_of ack (options_in_packet packet) ≡ Some report
         → frame.floor < 2 ^ 48 → n < 2 ^ 48 → Contains (data_numbers (inbox_at w side).past.taken) n
         → Contains (processed_by (half_of w.ends.world side) frame) n → state_at report.ack report.bytes n ≡ Some 3 → ⊥ }

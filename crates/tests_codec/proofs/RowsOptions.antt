@@ -6,7 +6,7 @@ use Prim.Native.String.{String}
 use Rattle.seq_circle.specs.Circle.{down}
 use Rattle.dccp_options.specs.Grammar.{Entry, options_of}
 use Rattle.dccp_options.specs.Kinds.{is_understood}
-use Rattle.dccp_options.specs.Vectors.{Report, report_of, run_length, runs_of, state_at, state_of}
+use Rattle.dccp_options.specs.Vectors.{VectorReport, report_of, run_length, runs_of, state_at, state_of}
 use Rattle.dccp_options.specs.Written.{spelled}
 use Rattle.dccp_options.specs.declared.option.OptFault.{OptFault}
 use Rattle.dccp_options.specs.declared.option.OptFault.TheVariants as faults
@@ -18,14 +18,14 @@ abbrev pub run : ℕ → ℕ → ℕ → Run
 run hi count state = record { hi = hi; count = count; state = state }
 
 -- what the options of a packet report by their Ack Vectors, with its acknowledgement number: run by run, and at numbers so far below that
-abbrev pub runs_in : Option Report → List Run
+abbrev pub runs_in : Option VectorReport → List Run
 runs_in None = []
 runs_in (Some report) = runs_of report.ack report.bytes
 
 abbrev pub runs : ℕ → String → Bool → List Run
 runs ack digits on_data = runs_in (report_of ack (options_of (bytes digits) on_data))
 
-abbrev pub states_in : List ℕ → Option Report → Option (List (Option ℕ))
+abbrev pub states_in : List ℕ → Option VectorReport → Option (List (Option ℕ))
 states_in below None = None
 states_in below (Some report) = Some (map (λ steps. state_at report.ack report.bytes (down report.ack steps)) below)
 

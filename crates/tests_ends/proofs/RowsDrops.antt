@@ -4,10 +4,10 @@ use Prim.Native.String.{String}
 use Rattle.data_dropped.specs.Drops.{code_at}
 use Rattle.data_dropped.specs.Reports.{drop_report}
 use Rattle.dccp_options.specs.Grammar.{options_of}
-use Rattle.dccp_options.specs.Vectors.{Report}
+use Rattle.dccp_options.specs.Vectors.{VectorReport}
 
 -- the codes that a report gives so many numbers, from one down
-abbrev codes_down : Report → ℕ → ℕ → List (Option ℕ)
+abbrev codes_down : VectorReport → ℕ → ℕ → List (Option ℕ)
 codes_down r number zero = []
 codes_down r number (suc count) = code_at r.ack r.bytes number ∷ codes_down r (number - 1) count
 
@@ -15,7 +15,7 @@ codes_down r number (suc count) = code_at r.ack r.bytes number ∷ codes_down r 
 abbrev spelled : String → List (Option ℕ)
 spelled digits = map (λ code. if code == 45 then None else Some (code - 48)) (codes digits)
 
-abbrev told : Option Report → ℕ → Option (List (Option ℕ))
+abbrev told : Option VectorReport → ℕ → Option (List (Option ℕ))
 told None count = None
 told (Some r) count = Some (codes_down r 20 count)
 

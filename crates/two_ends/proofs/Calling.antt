@@ -4,7 +4,7 @@ use Rattle.std.proofs.lemmas.Option.{same_Some}
 use Rattle.std.specs.List.{concat, filter, list_any}
 use Rattle.congestion_trait.specs.Calls.{Call, Sends, Starts, call_sends, tells}
 use Rattle.dccp_options.specs.Grammar.{Entry}
-use Rattle.dccp_options.specs.Vectors.{Report, ack_vectors, is_received, joined_report, report_of, state_at}
+use Rattle.dccp_options.specs.Vectors.{VectorReport, ack_vectors, is_received, joined_report, report_of, state_at}
 use Rattle.dccp_options.specs.declared.option.OptFault.{OptFault}
 use Rattle.dccp_packets.specs.declared.header.PacketType.{PacketType}
 use Rattle.dccp_packets.specs.declared.header.PacketType.TheVariants as types
@@ -61,14 +61,14 @@ pub record IsToldBy (ack : Option ℕ) (options : List (Result Entry OptFault)) 
   pub reports : report_of number options ≡ Some (record { ack = number; bytes = bytes })
   pub received : is_received (state_at number bytes n) ≡ true
 
-joined-ack : (ack : ℕ) (vectors : List (List ℕ)) (report : Report) → joined_report ack vectors ≡ Some report
+joined-ack : (ack : ℕ) (vectors : List (List ℕ)) (report : VectorReport) → joined_report ack vectors ≡ Some report
     → report ≡ record { ack = ack; bytes = report.bytes }
 joined-ack ack [] report is = cc is
 joined-ack ack (vector ∷ others) report is =
-    let same : ◌≡◌ {A = Report} (record { ack = ack; bytes = concat (vector ∷ others) }) report = same_Some _ report is in
-    sym same ∙ ap (λ (bytes : List ℕ). record { ack = ack; bytes = bytes }) (ap (λ (r : Report). r.bytes) same)
+    let same : ◌≡◌ {A = VectorReport} (record { ack = ack; bytes = concat (vector ∷ others) }) report = same_Some _ report is in
+    sym same ∙ ap (λ (bytes : List ℕ). record { ack = ack; bytes = bytes }) (ap (λ (r : VectorReport). r.bytes) same)
 
-handed-tells : (n number : ℕ) (options : List (Result Entry OptFault)) (ratio : ℕ) (rest : List Call) (report : Option Report)
+handed-tells : (n number : ℕ) (options : List (Result Entry OptFault)) (ratio : ℕ) (rest : List Call) (report : Option VectorReport)
     → report_of number options ≡ report → list_any (tells n) rest ≡ false → list_any (tells n) (handing report ratio ++ rest) ≡ true
     → IsToldBy (Some number) options n
 handed-tells n number options ratio rest None reads none is = cc (none, is)
@@ -80,7 +80,7 @@ handed-tells n number options ratio rest (Some report) reads none is =
       acknowledges = refl;
       reports = reads ∙ ap Some whole;
       received =
-          sym (ap (λ (r : Report). is_received (state_at r.ack r.bytes n)) whole)
+          sym (ap (λ (r : VectorReport). is_received (state_at r.ack r.bytes n)) whole)
           ∙ or-first (is_received (state_at report.ack report.bytes n)) (list_any (tells n) rest) none is;
     }
 
@@ -93,7 +93,7 @@ report-sends : (n : ℕ) (ack : Option ℕ) (options : List (Result Entry OptFau
     → list_any (call_sends n) (report_calls ack options ratio ++ rest) ≡ false
 report-sends n None options ratio rest none = none
 report-sends n (Some number) options ratio rest none = by (report_of number options) where
-  by : (report : Option Report) → list_any (call_sends n) (handing report ratio ++ rest) ≡ false
+  by : (report : Option VectorReport) → list_any (call_sends n) (handing report ratio ++ rest) ≡ false
   by None = none
   by (Some report) = none
 

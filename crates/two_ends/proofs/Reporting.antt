@@ -10,7 +10,7 @@ use Rattle.ack_vectors.specs.Vector.{is_whole_under, room_of, vector_under}
 use Rattle.ack_vectors.specs.declared.room.Vectors.{Vectors}
 use Rattle.dccp_endpoint.proofs.OwnPackets.{vector_parts}
 use Rattle.dccp_endpoint.specs.End.{floor_of}
-use Rattle.dccp_options.specs.Vectors.{Report, ack_vectors, is_received, joined_report, report_of, state_at}
+use Rattle.dccp_options.specs.Vectors.{VectorReport, ack_vectors, is_received, joined_report, report_of, state_at}
 use Rattle.dccp_packets.specs.Grammar.{Parts}
 use Rattle.dccp_packets.specs.Kinds.{ack_of}
 use Rattle.dccp_packets.specs.Widths.{kind_in_widths}
@@ -37,7 +37,7 @@ use Rattle.two_ends.proofs.SentAt.{no-reset, read-in, sent-at}
 use Rattle.two_ends.proofs.Shown.{IsPacketOf}
 use Rattle.two_ends.proofs.Vectors.{IsFrame, frame-of, frames-length}
 
-abbrev bytes_in : Option Report → List ℕ
+abbrev bytes_in : Option VectorReport → List ℕ
 bytes_in None = []
 bytes_in (Some r) = r.bytes
 

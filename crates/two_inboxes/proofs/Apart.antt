@@ -34,7 +34,7 @@ use Rattle.dccp_endpoint.specs.Receiving.{receives}
 use Rattle.dccp_endpoint.specs.Reporting.{is_acking}
 use Rattle.dccp_endpoint.specs.UserCalls.{seen_of, seen_of_call}
 use Rattle.dccp_endpoint.specs.declared.config.Config.{Config}
-use Rattle.dccp_options.specs.Vectors.{Report, is_received, joined_report, report_of, state_at}
+use Rattle.dccp_options.specs.Vectors.{VectorReport, is_received, joined_report, report_of, state_at}
 use Rattle.dccp_packets.specs.Grammar.{Parts, packet_type}
 use Rattle.dccp_packets.specs.Outgoing.{Outgoing}
 use Rattle.dccp_packets.specs.declared.reading.Malformed.{Malformed}
@@ -542,9 +542,9 @@ module _ {C : Type 0} (control : Control C) (effects : EveryStepHasOneEffect) wh
 
 -- What is read of the frames of such a side.
 
-joined-of : (ack : ℕ) (parts : List (List ℕ)) (report : Report) → joined_report ack parts ≡ Some report → report ≡ record { ack = ack; bytes = report.bytes }
+joined-of : (ack : ℕ) (parts : List (List ℕ)) (report : VectorReport) → joined_report ack parts ≡ Some report → report ≡ record { ack = ack; bytes = report.bytes }
 joined-of ack [] report is = cc is
-joined-of ack (part ∷ parts) report is = let same = same_Some _ report is in sym same ∙ ap (λ (r : Report). record { ack = ack; bytes = r.bytes }) same
+joined-of ack (part ∷ parts) report is = let same = same_Some _ report is in sym same ∙ ap (λ (r : VectorReport). record { ack = ack; bytes = r.bytes }) same
 
 module _ {C : Type 0} (control : Control C) (w : InboxPair C) (safe : Safe control w.ends) (side : Side)
     (is : IsTrueSide (half_of w.ends.world side) (inbox_at w side)) where
@@ -570,7 +570,7 @@ module _ {C : Type 0} (control : Control C) (w : InboxPair C) (safe : Safe contr
     packet-is : told-so.tells.packet ≡ packet
     packet-is = let both : Ok told-so.tells.packet ≡ Ok packet = sym told-so.tells.is_packet ∙ went.is_packet in cc both
 
-    acks-by : (report : Report) → report_in_packet ack told-so.tells.packet ≡ Some report → (acking : Bool)
+    acks-by : (report : VectorReport) → report_in_packet ack told-so.tells.packet ≡ Some report → (acking : Bool)
         → is_acking (packet_type told-so.tells.packet.header.kind) ≡ acking → acknowledged_by frame.ack told-so.tells.packet.header.kind ≡ Some ack
     acks-by report reads true is_so = ap (λ (b : Bool). if b then frame.ack else None) is_so ∙ went.acknowledges
     acks-by report reads false is_so =
@@ -578,10 +578,10 @@ module _ {C : Type 0} (control : Control C) (w : InboxPair C) (safe : Safe contr
         ap (acknowledged_by frame.ack) (sym told-so.tells.same_kind) ∙ ap (λ (b : Bool). if b then frame.ack else None) is_so
         in
         let silent : drops_in_packet told-so.tells.packet ≡ [] = told-so.tells.tells ∙ ap (told_by_ack told-so.held told-so.tells.before) none in
-        let never : ◌≡◌ {A = Option Report} None (Some report) = sym (ap (joined_report ack) silent) ∙ reads in
+        let never : ◌≡◌ {A = Option VectorReport} None (Some report) = sym (ap (joined_report ack) silent) ∙ reads in
         cc never
 
-    dropped-so : (n code : ℕ) (report : Report) → report_in_packet ack packet ≡ Some report → n < 2 ^ 48 → code_at report.ack report.bytes n ≡ Some code
+    dropped-so : (n code : ℕ) (report : VectorReport) → report_in_packet ack packet ≡ Some report → n < 2 ^ 48 → code_at report.ack report.bytes n ≡ Some code
         → Contains (data_numbers x.past.taken) n → ⊥
     dropped-so n code report reads small found taken =
         let its : report_in_packet ack told-so.tells.packet ≡ Some report = ap (report_in_packet ack) packet-is ∙ reads in
@@ -591,7 +591,7 @@ module _ {C : Type 0} (control : Control C) (w : InboxPair C) (safe : Safe contr
         in
         is.apart n (taken-kept n taken) (told-so.among n code (read.only n code small found))
 
-    vectors-same : (report : Report) → report_of ack (options_in_packet packet) ≡ Some report → report_of ack (options_in frame.bytes) ≡ Some report
+    vectors-same : (report : VectorReport) → report_of ack (options_in_packet packet) ≡ Some report → report_of ack (options_in frame.bytes) ≡ Some report
     vectors-same report reads =
         let tells = told-so.tells in
         let before : options_in frame.bytes ≡ options_in_packet tells.before =
@@ -603,15 +603,15 @@ module _ {C : Type 0} (control : Control C) (w : InboxPair C) (safe : Safe contr
         ∙ ap (λ (p : Parts). report_of ack (options_in_packet p)) packet-is
         ∙ reads
 
-    received-by : (n state : ℕ) (report : Report) → report_of ack (options_in_packet packet) ≡ Some report → frame.floor < 2 ^ 48 → n < 2 ^ 48
+    received-by : (n state : ℕ) (report : VectorReport) → report_of ack (options_in_packet packet) ≡ Some report → frame.floor < 2 ^ 48 → n < 2 ^ 48
         → Contains (processed_by (half_of w.ends.world side) frame) n → state_at report.ack report.bytes n ≡ Some state → (received : Bool)
         → is_received (Some state) ≡ received → received ≡ true
     received-by n state report reads floor_fits small early told true shown = refl
     received-by n state report reads floor_fits small early told false shown =
         let whole : report ≡ record { ack = ack; bytes = report.bytes } = joined-of ack _ report reads in
         absurd (missing-none w.ends.world safe.truthful side went.index frame ack n report.bytes went.is_kept
-        (record { acknowledges = went.acknowledges; carries = vectors-same report reads ∙ ap (λ (r : Report). Some r) whole })
-        state floor_fits went.ack_fits small (ap (λ (a : ℕ). state_at a report.bytes n) (sym (ap (λ (r : Report). r.ack) whole)) ∙ told) shown early)
+        (record { acknowledges = went.acknowledges; carries = vectors-same report reads ∙ ap (λ (r : VectorReport). Some r) whole })
+        state floor_fits went.ack_fits small (ap (λ (a : ℕ). state_at a report.bytes n) (sym (ap (λ (r : VectorReport). r.ack) whole)) ∙ told) shown early)
 
   pub tells-of-its-data : TellsOfItsData w side
   tells-of-its-data =

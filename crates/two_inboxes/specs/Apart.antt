@@ -8,7 +8,7 @@ use Rattle.data_dropped.specs.Telling.{options_in_packet, report_in_packet}
 use Rattle.data_dropped.specs.declared.drops.DropEntry.{DropEntry}
 use Rattle.dccp_endpoint.specs.Drafts.{Fits}
 use Rattle.dccp_endpoint.specs.declared.config.Config.{Config}
-use Rattle.dccp_options.specs.Vectors.{Report, is_received, report_of, state_at}
+use Rattle.dccp_options.specs.Vectors.{VectorReport, is_received, report_of, state_at}
 use Rattle.dccp_packets.specs.Grammar.{Parts, decoded}
 use Rattle.dccp_states.specs.declared.phase.Role.TheVariants as role
 use Rattle.two_ends.specs.Reported.{processed_by}
@@ -40,10 +40,10 @@ pub record WentOut {C : Type 0} (w : InboxPair C) (side : Side) (frame : SentFra
 -- Vector of that frame says that it is missing.
 pub record TellsOfItsData {C : Type 0} (w : InboxPair C) (side : Side) : Type 0 where
   pub taken_are_processed : (n : ℕ) → Contains (data_numbers (inbox_at w side).past.taken) n → Contains (half_of w.ends.world side).processed n
-  pub dropped_are_not_taken : (n code ack : ℕ) (frame : SentFrame) (packet : Parts) (report : Report) → WentOut w side frame packet ack
+  pub dropped_are_not_taken : (n code ack : ℕ) (frame : SentFrame) (packet : Parts) (report : VectorReport) → WentOut w side frame packet ack
       → report_in_packet ack packet ≡ Some report → n < 2 ^ 48 → code_at report.ack report.bytes n ≡ Some code
       → Contains (data_numbers (inbox_at w side).past.taken) n → ⊥
-  pub taken_are_received : (n state ack : ℕ) (frame : SentFrame) (packet : Parts) (report : Report) → WentOut w side frame packet ack
+  pub taken_are_received : (n state ack : ℕ) (frame : SentFrame) (packet : Parts) (report : VectorReport) → WentOut w side frame packet ack
       → report_of ack (options_in_packet packet) ≡ Some report → frame.floor < 2 ^ 48 → n < 2 ^ 48
       → Contains (data_numbers (inbox_at w side).past.taken) n → Contains (processed_by (half_of w.ends.world side) frame) n
       → state_at report.ack report.bytes n ≡ Some state → is_received (Some state) ≡ true
