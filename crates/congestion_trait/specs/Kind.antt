@@ -14,7 +14,7 @@ pub record Flying (R : Type 0) : Type 0 where
 
 -- the window that the rest shows, the CCIDs that are known, the rest after a start, and what each other call makes of
 -- it; of a report, by the list before it and by what it says
-pub record Rules (R : Type 0) : Type 0 where
+pub record KindRules (R : Type 0) : Type 0 where
   pub window : R → ℕ
   pub is_known : ℕ → Bool
   pub fresh : R
@@ -23,7 +23,7 @@ pub record Rules (R : Type 0) : Type 0 where
   pub timed_out : R → R
 
 -- the congestion control of these rules, with a flight list beside what they keep
-abbrev pub control_by_rules : {R : Type 0} → Rules R → Control (Flying R)
+abbrev pub control_by_rules : {R : Type 0} → KindRules R → Control (Flying R)
 control_by_rules rules = record {
   flight = λ state. state.flight;
   window = λ state. rules.window state.rest;
@@ -38,7 +38,7 @@ control_by_rules rules = record {
 }
 
 -- whatever the rules, the flight list keeps its own; that the window never closes is theirs
-pub kind_is_lawful : {R : Type 0} (rules : Rules R) → KeepsWindow (control_by_rules rules) → IsLawful (control_by_rules rules)
+pub kind_is_lawful : {R : Type 0} (rules : KindRules R) → KeepsWindow (control_by_rules rules) → IsLawful (control_by_rules rules)
 kind_is_lawful rules keeps_window = record {
   start_empties = λ _ _. refl;
   sending_adds = λ _ _. refl;

@@ -4,7 +4,7 @@ use Rattle.std.proofs.Math.Nat.{le-add_right, le-max_right, le_trans}
 use Rattle.congestion_trait.specs.declared.flight.Entry.{Entry}
 use Rattle.congestion_trait.specs.Flight.{States, acked_count, is_congested}
 use Rattle.congestion_trait.specs.Control.{KeepsWindow}
-use Rattle.congestion_trait.specs.Kind.{Rules, control_by_rules}
+use Rattle.congestion_trait.specs.Kind.{KindRules, control_by_rules}
 
 -- A report of any loss or mark halves the window, down to a packet at least; one of something received lets it grow by
 -- a packet, up to 1,024.
@@ -15,7 +15,7 @@ window_reported window entries states ratio =
     else window
 
 -- CCID 249: what is kept beside the flight list is the window alone.
-abbrev pub additive : Rules ℕ
+abbrev pub additive : KindRules ℕ
 additive = record {
   window = λ window. window;
   is_known = λ ccid. ccid == 249;

@@ -2,11 +2,11 @@
 use Rattle.std.specs.Prelude.{◌==◌}
 use Rattle.std.proofs.Math.Nat.{le-add_right}
 use Rattle.congestion_trait.specs.Control.{KeepsWindow}
-use Rattle.congestion_trait.specs.Kind.{Rules, control_by_rules}
+use Rattle.congestion_trait.specs.Kind.{KindRules, control_by_rules}
 
 -- It is in place of CCID 2, whose window is one packet at least: so it never sends faster. Beside the flight list it
 -- keeps nothing.
-abbrev pub one_at_a_time : Rules (Unit {0})
+abbrev pub one_at_a_time : KindRules (Unit {0})
 one_at_a_time = record {
   window = λ _. 1;
   is_known = λ ccid. ccid == 2;
