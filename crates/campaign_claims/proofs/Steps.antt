@@ -9,7 +9,7 @@ use Rattle.atomic_table.specs.Seated.{TableId}
 use Rattle.atomic_table.proofs.Lists.{at_set, at_snoc}
 use Rattle.campaign_claims.specs.declared.rule.View.{View}
 use Rattle.campaign_claims.specs.Numbers.{times, once_below, AreOnceBelow}
-use Rattle.campaign_claims.specs.Views.{Held, held, with_claimed, with_none, claimed, kept, given, both, spent}
+use Rattle.campaign_claims.specs.Views.{Claimant, held, with_claimed, with_none, claimed, kept, given, both, spent}
 use Rattle.campaign_claims.specs.Rule.{all_drawn, ViewFits, Counted, Draws}
 use Rattle.campaign_claims.proofs.Sums.{sum_set, part_of_sum, sum_le, alone}
 use Rattle.campaign_claims.proofs.Below.{is, lie_below, once_below-min, passed, not_passed, below_limit, past_limit}
@@ -186,7 +186,7 @@ ends n id v words items word some_share (s, (rule, at), is_words, homes, values)
     subst (Ends v) found (ends_by n id v s rule at some_share)
 
 -- of a claimer as its callers see it
-pub closes : (n id : ℕ) (table : TableId) (v : View) (last : Held) (words items : List ℕ) (word : ℕ) → held table v ≡ last → 0 < v.share
+pub closes : (n id : ℕ) (table : TableId) (v : View) (last : Claimant) (words items : List ℕ) (word : ℕ) → held table v ≡ last → 0 < v.share
     → Final (Seen (Counted n) id v) words items → get_elem? words 0 ≡ some word → Ends last.view word
 closes n id table v last words items word seen_as some_share final read =
-    subst (λ (h : Held). Ends h.view word) seen_as (ends n id v words items word some_share final read)
+    subst (λ (h : Claimant). Ends h.view word) seen_as (ends n id v words items word some_share final read)

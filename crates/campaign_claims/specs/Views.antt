@@ -4,12 +4,12 @@ use Rattle.atomic_table.specs.Seated.{TableId}
 use Rattle.campaign_claims.specs.declared.rule.View.{View}
 
 -- a claimer: which claims it is of, and what it knows
-pub record Held : Type 0 where
+pub record Claimant : Type 0 where
   pub claims : TableId
   pub view : View
 
 -- a claimer of these claims that knows this
-abbrev pub held : TableId → View → Held
+abbrev pub held : TableId → View → Claimant
 held claims view = record { claims = claims; view = view }
 
 -- the number is the last of these

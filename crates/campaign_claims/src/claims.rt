@@ -38,9 +38,9 @@ pub struct Claimer {
 
 impl Model for Claimer {
     ghost use Rattle.std.specs.Prelude.{◌≡◌, ◌<◌, []};
-    ghost use Rattle.campaign_claims.specs.Views.{Held, held};
+    ghost use Rattle.campaign_claims.specs.Views.{Claimant, held};
 
-    ghost Value = { Held };
+    ghost Value = { Claimant };
 
     ghost view = { λ c. held c.seat.table_id c.seat.me.0 };
 

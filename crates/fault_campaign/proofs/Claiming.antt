@@ -4,7 +4,7 @@ use Rattle.std.proofs.lemmas.List.Elements.{All-head, All-tail}
 use Rattle.atomic_table.specs.Seated.{TableId}
 use Rattle.seq_circle.specs.declared.memory.NoMemory.{NoMemory}
 use Rattle.campaign_claims.specs.Numbers.{AreOnceBelow, sum_below}
-use Rattle.campaign_claims.specs.Views.{Held, held, with_claimed, with_none}
+use Rattle.campaign_claims.specs.Views.{Claimant, held, with_claimed, with_none}
 use Rattle.campaign_claims.specs.declared.rule.View.{View}
 use Rattle.fault_campaign.specs.Reports.{plus, size}
 use Rattle.fault_campaign.specs.Seeded.{seeded_report}
@@ -15,7 +15,7 @@ use Rattle.fault_campaign.proofs.Fields.{all-once, one-more, size-of}
 use Rattle.fault_campaign.proofs.Short.{report-size}
 
 -- No claim was in vain yet, and the numbers rise: a bound of all of them is no less than how many they are.
-pub record IsClaiming (job : Job) (claims : TableId) (view : View) (now : Held) (report : Report) : Type 0 where
+pub record IsClaiming (job : Job) (claims : TableId) (view : View) (now : Claimant) (report : Report) : Type 0 where
   pub can : CanWork 1 job view
   pub same : now.claims ≡ claims
   pub share : now.view.share ≡ view.share
@@ -37,11 +37,11 @@ above-last : (numbers : List ℕ) (index k : ℕ) → All (λ x. x < k) (numbers
 above-last [] index k all = All-head (λ x. x < k) index [] all
 above-last (y ∷ numbers) index k all = above-last numbers index k (All-tail (λ x. x < k) y (numbers ++ index ∷ []) all)
 
-pub one-turn : (job : Job) (claims : TableId) (view : View) (now next : Held) (report after one : Report) (index : ℕ) → IsClaiming job claims view now report
+pub one-turn : (job : Job) (claims : TableId) (view : View) (now next : Claimant) (report after one : Report) (index : ℕ) → IsClaiming job claims view now report
     → next ≡ held now.claims (with_claimed now.view index) → index < now.view.limit → All (λ x. x < index) now.view.numbers
     → one ≡ seeded_report (job.first + index) job.events → after ≡ plus report one → IsClaiming job claims view next after
 one-turn job claims view now next report after one index before is below greater ran added =
-    subst (λ (h : Held). IsClaiming job claims view h after) (sym is)
+    subst (λ (h : Claimant). IsClaiming job claims view h after) (sym is)
     (record {
       can = before.can;
       same = before.same;
@@ -57,7 +57,7 @@ one-turn job claims view now next report after one index before is below greater
       longer = length-append now.view.numbers (index ∷ [])
 
 -- and the sum fits
-pub fits : (job : Job) (claims : TableId) (view : View) (now : Held) (report one : Report) (index : ℕ) → IsClaiming job claims view now report
+pub fits : (job : Job) (claims : TableId) (view : View) (now : Claimant) (report one : Report) (index : ℕ) → IsClaiming job claims view now report
     → one ≡ seeded_report (job.first + index) job.events → size report + size one < 2 ^ 64
 fits job claims view now report one index before ran =
     let few : length now.view.numbers ≤ 1600000 = omega (arith, before.most, before.can.few) in
@@ -66,10 +66,10 @@ fits job claims view now report one index before ran =
     let its : size one ≤ 20499 = subst (λ (x : Report). size x ≤ 20499) (sym ran) (each-size job before.can.some before.can.most (job.first + index)) in
     omega (arith, mine, its)
 
-pub in-vain : (job : Job) (claims : TableId) (view : View) (now last : Held) (report : Report) → IsClaiming job claims view now report
+pub in-vain : (job : Job) (claims : TableId) (view : View) (now last : Claimant) (report : Report) → IsClaiming job claims view now report
     → last ≡ held now.claims (with_none now.view) → HaveWorked 1 job claims view last (Ok report)
 in-vain job claims view now last report before is =
-    subst (λ (h : Held). HaveWorked 1 job claims view h (Ok report)) (sym is)
+    subst (λ (h : Claimant). HaveWorked 1 job claims view h (Ok report)) (sym is)
     (record {
       same = before.same;
       share = before.share;
@@ -79,7 +79,7 @@ in-vain job claims view now last report before is =
     })
 
 -- what workers have counted fits
-pub small : (workers : ℕ) (job : Job) (claims : TableId) (view : View) (now : Held) (report : Result Report NoMemory) → workers ≤ 16 → 1 ≤ job.events
+pub small : (workers : ℕ) (job : Job) (claims : TableId) (view : View) (now : Claimant) (report : Result Report NoMemory) → workers ≤ 16 → 1 ≤ job.events
     → job.events ≤ 4096
     → HaveWorked workers job claims view now report → IfOk report (λ r. size r < 2 ^ 62)
 small workers job claims view now (Ok r) most some few have =

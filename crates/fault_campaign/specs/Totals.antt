@@ -3,7 +3,7 @@ use Rattle.std.specs.Prelude.{◌≡◌, ℕ, ◌+◌, ◌*◌, ◌^◌, ◌<◌
 use Rattle.atomic_table.specs.Seated.{TableId}
 use Rattle.seq_circle.specs.declared.memory.NoMemory.{NoMemory}
 use Rattle.campaign_claims.specs.Numbers.{sum_below}
-use Rattle.campaign_claims.specs.Views.{Held}
+use Rattle.campaign_claims.specs.Views.{Claimant}
 use Rattle.campaign_claims.specs.declared.rule.View.{View}
 use Rattle.fault_campaign.specs.Reports.{of_fields, plus}
 use Rattle.fault_campaign.specs.Seeded.{seeded_report}
@@ -42,7 +42,7 @@ pub record CanWork (workers : ℕ) (job : Job) (view : View) : Type 0 where
   pub most : job.events ≤ 4096
 
 -- So many workers may begin, with what one of them holds of these claims.
-abbrev pub MayBegin : ℕ → Job → TableId → Held → Type 0
+abbrev pub MayBegin : ℕ → Job → TableId → Claimant → Type 0
 MayBegin workers job claims now = (1 ≤ workers) × (workers ≤ 16) × (now.claims ≡ claims) × CanWork workers job now.view
 
 -- What they end with: all seeds of their numbers were run, and a claim was in vain.
@@ -51,7 +51,7 @@ pub record IsWholeReport (job : Job) (view : View) (report : Report) : Type 0 wh
   pub in_vain : length view.numbers < view.drawn
 
 -- so many workers are through: the claims are the same, and a report has all the numbers that were claimed
-pub record HaveWorked (workers : ℕ) (job : Job) (claims : TableId) (view : View) (now : Held) (report : Result Report NoMemory) : Type 0 where
+pub record HaveWorked (workers : ℕ) (job : Job) (claims : TableId) (view : View) (now : Claimant) (report : Result Report NoMemory) : Type 0 where
   pub same : now.claims ≡ claims
   pub share : now.view.share ≡ view.share
   pub limit : now.view.limit ≡ view.limit
