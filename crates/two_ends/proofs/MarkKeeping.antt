@@ -1,11 +1,11 @@
 -- Each move of a side keeps the facts on its numbers, marks and acknowledgements, and one frame more keeps those of its peer.
 use Rattle.std.proofs.Common.{◌≡◌, ℕ, ◌+◌, ◌<◌, ◌≤◌, ◌⊎◌, Bool, true, false, List, [], length, arith, length-append}
-use Rattle.two_ends.specs.MarkView.{Frame, MarkSide, frame_at, frames_with}
+use Rattle.two_ends.specs.MarkView.{MarkFrame, MarkSide, frame_at, frames_with}
 use Rattle.two_ends.specs.MarkMoves.{with_first_frame, begun_shut, with_processed, passed, shut, closed_side, with_floor, told, ack_frame, other_frame, with_sent_frame, unmoved_side}
 use Rattle.two_ends.specs.MarkFacts.{AreSoundNumbers, IsHeeded}
 use Rattle.two_ends.proofs.MarkFrames.{frame_in, frame_cases}
 
-module _ (side : MarkSide) (there : List Frame) (sound : AreSoundNumbers side there) (heeded : IsHeeded side there) where
+module _ (side : MarkSide) (there : List MarkFrame) (sound : AreSoundNumbers side there) (heeded : IsHeeded side there) where
   -- the first frame
   module _ (count : ℕ) (unheard : side.first ≡ 0) (some : 1 ≤ count) (there_is : count ≤ length there) where
     pub begin_sound : AreSoundNumbers (with_first_frame side count) there
@@ -86,10 +86,10 @@ module _ (side : MarkSide) (there : List Frame) (sound : AreSoundNumbers side th
   send_heeded acknowledged = grind (arith, frame_cases)
 
   -- the peer has sent one more
-  pub grown_sound : (frame : Frame) → AreSoundNumbers side (frames_with there frame)
+  pub grown_sound : (frame : MarkFrame) → AreSoundNumbers side (frames_with there frame)
   grown_sound frame = grind (arith, length-append)
 
-  pub grown_heeded : (frame : Frame) → IsHeeded side (frames_with there frame)
+  pub grown_heeded : (frame : MarkFrame) → IsHeeded side (frames_with there frame)
   grown_heeded frame = grind (arith, frame_cases)
 
 pub fresh_sound : AreSoundNumbers unmoved_side []

@@ -1,6 +1,6 @@
 -- What the facts say of two sides that moves reach.
 use Rattle.std.proofs.Common.{◌≡◌, ℕ, suc, ◌<◌, ◌≤◌, List, length, slice_index, ap, sym, ◌∙◌, arith}
-use Rattle.two_ends.specs.MarkView.{Frame, MarkSide}
+use Rattle.two_ends.specs.MarkView.{MarkFrame, MarkSide}
 use Rattle.two_ends.specs.MarkMoves.{MarkMoves, ReachedByMarks}
 use Rattle.two_ends.specs.MarkMoves.MarkMoves.{Done, Next}
 use Rattle.two_ends.specs.MarkMoves.ReachedByMarks.{Server_moves, Client_moves}
@@ -47,7 +47,7 @@ module _ (side peer : MarkSide) (facts : Towards side peer.frames peer.place) wh
       }
 
 -- moves after moves
-pub joined : (there : List Frame) (before middle after : MarkSide) → MarkMoves there before middle → MarkMoves there middle after
+pub joined : (there : List MarkFrame) (before middle after : MarkSide) → MarkMoves there before middle → MarkMoves there middle after
     → MarkMoves there before after
 joined there _ _ after (Done _) rest = rest
 joined there before middle after (Next _ next _ move moves) rest = Next before next after move (joined there next middle after moves rest)

@@ -35,7 +35,7 @@ use Rattle.two_ends.specs.MarkMoves.{MarkMoves, ack_frame, other_frame, with_flo
 use Rattle.two_ends.specs.MarkMoves.MarkMove.{Acks as AcksFrame, Raises, Sends}
 use Rattle.two_ends.specs.MarkMoves.MarkMoves.{Done, Next as NextMove}
 use Rattle.two_ends.specs.MarkSets.{IsMarked}
-use Rattle.two_ends.specs.MarkView.{Frame, MarkSide, frame_at}
+use Rattle.two_ends.specs.MarkView.{MarkFrame, MarkSide, frame_at}
 use Rattle.run_list.specs.MarkedSet.{MarkedSet, has, raised as raised_set}
 use Rattle.seq_circle.specs.Circle.{residue}
 use Rattle.seq_circle.specs.Counts.{number_of}
@@ -133,13 +133,13 @@ module _ (act : Act) (own : IsOrdered act.side) (peer_ordered : IsOrdered act.pe
 
     raises : MarkMoves peer.frames t.after (with_floor t.after (told + 1))
     raises =
-        let at : Frame → Type 0 = λ (g : Frame). MarkMoves peer.frames t.after (with_floor t.after (g.acknowledged + 1)) in
-        let same : frame_at t.after.frames place ≡ frame_at view.frames place = ap (λ (fs : List Frame). frame_at fs place) t.frames in
+        let at : MarkFrame → Type 0 = λ (g : MarkFrame). MarkMoves peer.frames t.after (with_floor t.after (g.acknowledged + 1)) in
+        let same : frame_at t.after.frames place ≡ frame_at view.frames place = ap (λ (fs : List MarkFrame). frame_at fs place) t.frames in
         let to : MarkSide = with_floor t.after ((frame_at t.after.frames place).acknowledged + 1) in
         subst at same
         (NextMove t.after to to
-        (Raises answered.count place first-some answered.is_ack answered.acknowledged (ap (λ (g : Frame). g.has_vector) same ∙ its.has_vector)
-        (ap (λ (g : Frame). g.is_whole) same ∙ its.is_whole ∙ (newest_whole-there number old.records r found).2))
+        (Raises answered.count place first-some answered.is_ack answered.acknowledged (ap (λ (g : MarkFrame). g.has_vector) same ∙ its.has_vector)
+        (ap (λ (g : MarkFrame). g.is_whole) same ∙ its.is_whole ∙ (newest_whole-there number old.records r found).2))
         (Done to))
 
     raised-taking : IsTaking act view peer (raised_by old (Some r))
@@ -203,17 +203,17 @@ module _ (act : Act) (own : IsOrdered act.side) (peer_ordered : IsOrdered act.pe
 
     -- the frames then, and the records
     pub record IsSent (s : Sending) : Type 0 where
-      pub frames : List Frame
+      pub frames : List MarkFrame
       pub moves : MarkMoves peer.frames t.after (record t.after { frames = frames })
       are : AreFrames iss setting (act.side.log ++ logged_by (length (processed_by act.side.half act.arrived f)) (floor_of (end_after e f)) s) frames
       records : (r : VectorRecord) → Contains (recorded_by (is_acking_sent s && has-vector) setting kept-numbers (next_number e) greatest).records r
           → IsRecorded own_iss iss frames r
 
     records-now : (r : VectorRecord) → Contains kept-numbers.records r → IsRecorded own_iss iss t.after.frames r
-    records-now r has_it = subst (λ (fs : List Frame). IsRecorded own_iss iss fs r) (sym t.frames) (here.records r (t.records r has_it))
+    records-now r has_it = subst (λ (fs : List MarkFrame). IsRecorded own_iss iss fs r) (sym t.frames) (here.records r (t.records r has_it))
 
     frames-now : AreFrames iss setting act.side.log t.after.frames
-    frames-now = subst (λ (fs : List Frame). AreFrames iss setting act.side.log fs) (sym t.frames) here.frames
+    frames-now = subst (λ (fs : List MarkFrame). AreFrames iss setting act.side.log fs) (sym t.frames) here.frames
 
     none-sent : (s : Sending) → logged_by (length (processed_by act.side.half act.arrived f)) (floor_of (end_after e f)) s ≡ [] → is_acking_sent s ≡ false
         → IsSent s
@@ -296,7 +296,7 @@ module _ (act : Act) (own : IsOrdered act.side) (peer_ordered : IsOrdered act.pe
         abbrev whole : Bool
         whole = is_whole_under (has kept-numbers.set.numbers) kept-numbers.set.floor (number_of iss t.after.greatest) setting
 
-        abbrev frame : Frame
+        abbrev frame : MarkFrame
         frame = ack_frame t.after has-vector whole
 
         its-frame : IsFrame iss setting logged frame
@@ -335,14 +335,14 @@ module _ (act : Act) (own : IsOrdered act.side) (peer_ordered : IsOrdered act.pe
               number =
                   ap (λ (x : VectorRecord). x.number) is
                   ∙ omega (arith, own.greatest, size);
-              has_vector = ap (λ (g : Frame). g.has_vector) last ∙ vector;
+              has_vector = ap (λ (g : MarkFrame). g.has_vector) last ∙ vector;
               is_whole =
-                  ap (λ (g : Frame). g.is_whole) last
+                  ap (λ (g : MarkFrame). g.is_whole) last
                   ∙ ap (λ (n : ℕ). is_whole_under (has kept-numbers.set.numbers) kept-numbers.set.floor n setting) (sym greatest-is)
                   ∙ ap (λ (x : VectorRecord). x.whole) (sym is);
-              ack = ap (λ (x : VectorRecord). x.ack) is ∙ greatest-is ∙ ap (λ (g : Frame). number_of iss g.acknowledged) (sym last);
-              some = subst (λ (g : Frame). 1 ≤ g.acknowledged) (sym last) some;
-              early = subst (λ (g : Frame). g.acknowledged < 2 ^ 47) (sym last) (omega (arith, t.heard.within, few));
+              ack = ap (λ (x : VectorRecord). x.ack) is ∙ greatest-is ∙ ap (λ (g : MarkFrame). number_of iss g.acknowledged) (sym last);
+              some = subst (λ (g : MarkFrame). 1 ≤ g.acknowledged) (sym last) some;
+              early = subst (λ (g : MarkFrame). g.acknowledged < 2 ^ 47) (sym last) (omega (arith, t.heard.within, few));
             }
 
         records-by : (b : Bool) → has-vector ≡ b → (r : VectorRecord) → Contains (recorded_by b setting kept-numbers (next_number e) greatest).records r

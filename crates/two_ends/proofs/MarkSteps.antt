@@ -1,6 +1,6 @@
 -- Every move keeps the facts. `side` moves, `peer` does not; `turned` exchanges them.
 use Rattle.std.proofs.Common.{◌≡◌, ℕ, ◌+◌, ◌<◌, ◌≤◌, ◌⊎◌, inl, inr, Bool, true, false, List, length, sym, subst, arith}
-use Rattle.two_ends.specs.MarkView.{Frame, MarkSide, frame_at, frames_with, placed_with}
+use Rattle.two_ends.specs.MarkView.{MarkFrame, MarkSide, frame_at, frames_with, placed_with}
 use Rattle.two_ends.specs.MarkMoves.{with_first_frame, begun_shut, with_processed, passed, shut, closed_side, with_floor, told, ack_frame, other_frame, with_sent_frame, unmoved_side, IsReportedBy, MarkMove, ReachedByMarks}
 use Rattle.two_ends.specs.MarkMoves.MarkMove.{Begins, Begins_shut, Joins, Repeats, Refuses, Shuts, Ends, Raises, Hears, Acks, Sends}
 use Rattle.two_ends.specs.MarkMoves.ReachedByMarks.{Starts, Server_moves, Client_moves}
@@ -12,7 +12,7 @@ use Rattle.two_ends.proofs.MarkVectors as vectors
 use Rattle.two_ends.proofs.Told.{AreSettled, more_heard, more_sent, placed_still, join_settled, raise_settled}
 
 -- what holds of one side towards its peer, of which it needs the frames and what was processed
-pub record Towards (side : MarkSide) (there : List Frame) (heard : ℕ → ℕ) : Type 0 where
+pub record Towards (side : MarkSide) (there : List MarkFrame) (heard : ℕ → ℕ) : Type 0 where
   pub sound : AreSoundNumbers side there
   pub heeded : IsHeeded side there
   pub listed : IsListed side.processed side.place
@@ -28,7 +28,7 @@ pub turned : (side peer : MarkSide) → Kept side peer → Kept peer side
 turned side peer facts = record { here = facts.there; there = facts.here }
 
 -- the side has processed one more
-more_done : (peer : MarkSide) (there : List Frame) (heard later : ℕ → ℕ) → ((m : ℕ) → 0 < heard m → 0 < later m)
+more_done : (peer : MarkSide) (there : List MarkFrame) (heard later : ℕ → ℕ) → ((m : ℕ) → 0 < heard m → 0 < later m)
     → Towards peer there heard → Towards peer there later
 more_done peer there heard later grows facts =
     record {
@@ -41,7 +41,7 @@ more_done peer there heard later grows facts =
     }
 
 -- the side has sent one more
-more_frames : (peer : MarkSide) (there : List Frame) (heard : ℕ → ℕ) (frame : Frame) → Towards peer there heard
+more_frames : (peer : MarkSide) (there : List MarkFrame) (heard : ℕ → ℕ) (frame : MarkFrame) → Towards peer there heard
     → Towards peer (frames_with there frame) heard
 more_frames peer there heard frame facts =
     record {

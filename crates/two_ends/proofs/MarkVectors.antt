@@ -1,12 +1,12 @@
 -- Each move of a side keeps the facts on its vectors.
 use Rattle.std.proofs.Common.{◌≡◌, ℕ, ◌≤◌, Bool, false, List, arith, length-append}
-use Rattle.two_ends.specs.MarkView.{Frame, MarkSide}
+use Rattle.two_ends.specs.MarkView.{MarkFrame, MarkSide}
 use Rattle.two_ends.specs.MarkMoves.{with_first_frame, begun_shut, with_processed, passed, shut, closed_side, with_floor, told, ack_frame, other_frame, with_sent_frame, unmoved_side}
 use Rattle.two_ends.specs.MarkFacts.{AreSoundNumbers}
 use Rattle.two_ends.proofs.MarkFacts.{IsTelling}
 use Rattle.two_ends.proofs.MarkFrames.{frame_in, frame_cases}
 
-module _ (side : MarkSide) (there : List Frame) (sound : AreSoundNumbers side there) (telling : IsTelling side) where
+module _ (side : MarkSide) (there : List MarkFrame) (sound : AreSoundNumbers side there) (telling : IsTelling side) where
   pub begin_telling : (count : ℕ) → side.first ≡ 0 → IsTelling (with_first_frame side count)
   begin_telling count unheard = grind (arith, length-append)
 

@@ -8,7 +8,7 @@ use Rattle.ack_vectors.proofs.ReadBack.{vector-same}
 use Rattle.ack_vectors.specs.Vector.{bytes_of_groups, groups, is_whole_under, room_of, set_states, state_told, states_between, vector_under}
 use Rattle.ack_vectors.specs.declared.room.Vectors.{Vectors}
 use Rattle.two_ends.proofs.MarkSets.{from-counts}
-use Rattle.two_ends.specs.MarkView.{Frame, MarkSide, frame_at}
+use Rattle.two_ends.specs.MarkView.{MarkFrame, MarkSide, frame_at}
 use Rattle.run_list.specs.MarkedSet.{has}
 use Rattle.seq_circle.specs.Circle.{IsBefore, distance, is_from}
 use Rattle.seq_circle.specs.Counts.{number_of}
@@ -143,7 +143,7 @@ module _ (x y : Party) (others : IsOrdered y) (m : IsMarking x y) where
   -- a frame of the side, by the place of its packet
   module _ (place : ℕ) (l : Logged) (its : IsFrame iss setting l (frame_at view.frames (suc place)))
       (vector-there : (frame_at view.frames (suc place)).has_vector ≡ true) where
-    abbrev g : Frame
+    abbrev g : MarkFrame
     g = frame_at view.frames (suc place)
 
     abbrev floor : ℕ

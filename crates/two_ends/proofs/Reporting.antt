@@ -17,7 +17,7 @@ use Rattle.dccp_packets.specs.Widths.{kind_in_widths}
 use Rattle.two_ends.proofs.MarkFrames.{frame_in}
 use Rattle.two_ends.specs.MarkLaws.{IsAccountedFor}
 use Rattle.two_ends.specs.MarkLaws.IsAccountedFor.{Far as IsFar, WasTold as ToldBy}
-use Rattle.two_ends.specs.MarkView.{Frame, MarkSide as View, frame_at}
+use Rattle.two_ends.specs.MarkView.{MarkFrame, MarkSide as View, frame_at}
 use Rattle.run_list.specs.MarkedSet.{floor_under, has}
 use Rattle.seq_circle.specs.Circle.{IsBefore, IsWithin, distance}
 use Rattle.seq_circle.specs.Counts.{number_of}
@@ -113,7 +113,7 @@ module _ (w : WorldState) (logs : Side → List Logged) (side : Side) (own : IsO
     abbrev its : IsFrame iss setting l (frame_at view.frames (suc place))
     its = frame-of place l m.here.frames there
 
-    abbrev g : Frame
+    abbrev g : MarkFrame
     g = frame_at view.frames (suc place)
 
     abbrev its-ack : ℕ
@@ -280,7 +280,7 @@ module _ (w : WorldState) (logs : Side → List Logged) (side : Side) (own : IsO
     needs-none (ToldBy (suc place) vector whole low high done) =
         WasTold
         (elim (frame_in view.frames (suc place)) [
-          | inl none ↦ (let silent : (frame_at view.frames (suc place)).has_vector ≡ false = ap (λ (f : Frame). f.has_vector) none in cc (silent, vector))
+          | inl none ↦ (let silent : (frame_at view.frames (suc place)).has_vector ≡ false = ap (λ (f : MarkFrame). f.has_vector) none in cc (silent, vector))
           | inr inside ↦
               (let entry = some-at x.log place (omega (arith, inside.1, frames-length m.here.frames)) in
               told-in place entry.0 entry.1 vector whole low high done)

@@ -15,7 +15,7 @@ use Rattle.two_ends.specs.MarkFacts.{AreSoundNumbers}
 use Rattle.two_ends.specs.MarkMoves.{MarkMoves}
 use Rattle.two_ends.specs.MarkMoves.MarkMoves.{Done, Next}
 use Rattle.two_ends.specs.MarkSets.{IsMarked}
-use Rattle.two_ends.specs.MarkView.{Frame, MarkSide}
+use Rattle.two_ends.specs.MarkView.{MarkFrame, MarkSide}
 use Rattle.seq_circle.specs.Circle.{residue, later_of}
 use Rattle.seq_circle.specs.Counts.{number_of}
 use Rattle.two_ends.proofs.Acting.{Party, config_of, end_of}
@@ -92,7 +92,7 @@ member-at q (n ∷ ns) is = by (q == n) refl is (λ later. member-at q ns later)
       let later = again is in
       (suc later.0, omega (arith, later.1), later.2)
 
-module _ (side : MarkSide) (there : List Frame) (sound : AreSoundNumbers side there) (listed : IsListed side.processed side.place) where
+module _ (side : MarkSide) (there : List MarkFrame) (sound : AreSoundNumbers side there) (listed : IsListed side.processed side.place) where
   pub place-at : (i : ℕ) → i < length side.processed → side.place (slice_index_or side.processed i 0) ≡ suc i
   place-at i below = listed.place_of (suc i) (omega arith) (omega (arith, below))
 

@@ -1,32 +1,32 @@
 -- What is below a side's floor is settled, and stays so.
 use Rattle.std.proofs.Common.{◌≡◌, ℕ, ◌+◌, ◌<◌, ◌≤◌, ◌⊎◌, inl, inr, true, false, List, ap, sym, ◌∙◌, subst, max, arith}
-use Rattle.two_ends.specs.MarkView.{Frame, MarkSide, frame_at, frames_with, floor_with, placed_with}
+use Rattle.two_ends.specs.MarkView.{MarkFrame, MarkSide, frame_at, frames_with, floor_with, placed_with}
 use Rattle.two_ends.specs.MarkLaws.{IsAccountedFor, IsFarBelow}
 use Rattle.two_ends.specs.MarkLaws.IsAccountedFor.{Far, WasTold}
 use Rattle.two_ends.proofs.MarkFrames.{apart, frame_cases, frame_in}
 
 -- every count from the first up to the floor is settled, with the reason
-abbrev pub AreSettled : ℕ → ℕ → List Frame → (ℕ → ℕ) → (ℕ → ℕ) → Type 0
+abbrev pub AreSettled : ℕ → ℕ → List MarkFrame → (ℕ → ℕ) → (ℕ → ℕ) → Type 0
 AreSettled first floor frames place heard = (n : ℕ) → 0 < first → first ≤ n → n < floor → IsAccountedFor frames place heard n
 
 -- a reason outlives more frames, more that the side processed, and more that the peer did
-pub more_placed : (frames : List Frame) (place heard later : ℕ → ℕ) (n : ℕ) → ((m : ℕ) → 0 < place m → 0 < later m)
+pub more_placed : (frames : List MarkFrame) (place heard later : ℕ → ℕ) (n : ℕ) → ((m : ℕ) → 0 < place m → 0 < later m)
     → IsAccountedFor frames place heard n → IsAccountedFor frames later heard n
 more_placed frames place heard later n grows (Far far) =
     Far (record { processed = far.processed; is_processed = grows far.processed far.is_processed; far = far.far })
 more_placed frames place heard later n grows (WasTold k vector whole low high done) = WasTold k vector whole low high done
 
-pub more_heard : (frames : List Frame) (place heard later : ℕ → ℕ) (n : ℕ) → ((m : ℕ) → 0 < heard m → 0 < later m)
+pub more_heard : (frames : List MarkFrame) (place heard later : ℕ → ℕ) (n : ℕ) → ((m : ℕ) → 0 < heard m → 0 < later m)
     → IsAccountedFor frames place heard n → IsAccountedFor frames place later n
 more_heard frames place heard later n grows (Far far) = Far far
 more_heard frames place heard later n grows (WasTold k vector whole low high done) = WasTold k vector whole low high (grows k done)
 
 -- a frame with a vector stays where it is
-stays : (frames : List Frame) (frame : Frame) (k : ℕ) → (frame_at frames k).has_vector ≡ true
+stays : (frames : List MarkFrame) (frame : MarkFrame) (k : ℕ) → (frame_at frames k).has_vector ≡ true
     → frame_at (frames_with frames frame) k ≡ frame_at frames k
 stays frames frame k vector = grind (arith, frame_cases, frame_in)
 
-pub more_sent : (frames : List Frame) (frame : Frame) (place heard : ℕ → ℕ) (n : ℕ) → IsAccountedFor frames place heard n
+pub more_sent : (frames : List MarkFrame) (frame : MarkFrame) (place heard : ℕ → ℕ) (n : ℕ) → IsAccountedFor frames place heard n
     → IsAccountedFor (frames_with frames frame) place heard n
 more_sent frames frame place heard n (Far far) = Far far
 more_sent frames frame place heard n (WasTold k vector whole low high done) =
@@ -71,7 +71,7 @@ raise_settled side heard own vector whole low done settled n some from below =
     either (inr new) = WasTold own vector whole (omega arith) (omega arith) done
 
 -- of a side that sent no vector, by the 2,047 alone
-pub far_alone : (frames : List Frame) (place heard : ℕ → ℕ) (n : ℕ) → ((k : ℕ) → (frame_at frames k).has_vector ≡ false)
+pub far_alone : (frames : List MarkFrame) (place heard : ℕ → ℕ) (n : ℕ) → ((k : ℕ) → (frame_at frames k).has_vector ≡ false)
     → IsAccountedFor frames place heard n → IsFarBelow place n
 far_alone frames place heard n silent (Far far) = far
 far_alone frames place heard n silent (WasTold k vector whole low high done) = absurd (both (sym vector ∙ silent k))

@@ -14,7 +14,7 @@ use Rattle.dccp_options.specs.Written.{Item, entries_at, spelled}
 use Rattle.dccp_packets.specs.Grammar.{has_forms, packet_type}
 use Rattle.dccp_packets.specs.Kinds.{ack_of}
 use Rattle.two_ends.specs.MarkSets.{AreMarks}
-use Rattle.two_ends.specs.MarkView.{Frame, frame_at, frames_with}
+use Rattle.two_ends.specs.MarkView.{MarkFrame, frame_at, frames_with}
 use Rattle.run_list.specs.MarkedSet.{MarkedSet, has}
 use Rattle.seq_circle.specs.Counts.{number_of}
 use Rattle.two_ends.proofs.FewOptions.{IsNegotiating}
@@ -57,7 +57,7 @@ vectors-written has_vector setting set ack rest all =
 
 -- A frame of the view tells what the logged packet does; the peer's packets are numbered from here, and this is how many
 -- options the sender's vectors have.
-pub record IsFrame (iss : ℕ) (setting : Vectors) (l : Logged) (frame : Frame) : Type 0 where
+pub record IsFrame (iss : ℕ) (setting : Vectors) (l : Logged) (frame : MarkFrame) : Type 0 where
   pub long : has_forms true l.draft.kind ≡ true
   pub acks : frame.is_ack ≡ is_acking (packet_type l.draft.kind)
   pub acknowledges : frame.is_ack ≡ true → ack_of l.draft.kind ≡ Some (number_of iss frame.acknowledged)
@@ -73,25 +73,25 @@ pub record IsFrame (iss : ℕ) (setting : Vectors) (l : Logged) (frame : Frame) 
   pub whole : frame.has_vector ≡ true → frame.is_whole ≡ is_whole_under (has set.numbers) set.floor (number_of iss frame.acknowledged) setting
 
 -- frame by frame
-pub data AreFrames (iss : ℕ) (setting : Vectors) : List Logged → List Frame → Type 0 where
+pub data AreFrames (iss : ℕ) (setting : Vectors) : List Logged → List MarkFrame → Type 0 where
   NoneSent : AreFrames iss setting [] []
-  OneSent : {l : Logged} {log : List Logged} {frame : Frame} {frames : List Frame} → IsFrame iss setting l frame
+  OneSent : {l : Logged} {log : List Logged} {frame : MarkFrame} {frames : List MarkFrame} → IsFrame iss setting l frame
       → AreFrames iss setting log frames → AreFrames iss setting (l ∷ log) (frame ∷ frames)
 
 -- a log with one packet more
-pub frames-append : {iss : ℕ} {setting : Vectors} {log : List Logged} {frames : List Frame} {l : Logged} {frame : Frame}
+pub frames-append : {iss : ℕ} {setting : Vectors} {log : List Logged} {frames : List MarkFrame} {l : Logged} {frame : MarkFrame}
     → AreFrames iss setting log frames → IsFrame iss setting l frame → AreFrames iss setting (log ++ l ∷ []) (frames_with frames frame)
 frames-append NoneSent is = OneSent is NoneSent
 frames-append (OneSent first rest) is = OneSent first (frames-append rest is)
 
 -- one frame for each packet of the log
-pub frames-length : {iss : ℕ} {setting : Vectors} {log : List Logged} {frames : List Frame} → AreFrames iss setting log frames
+pub frames-length : {iss : ℕ} {setting : Vectors} {log : List Logged} {frames : List MarkFrame} → AreFrames iss setting log frames
     → length frames ≡ length log
 frames-length NoneSent = refl
 frames-length (OneSent first rest) = ap suc (frames-length rest)
 
 -- the frame of a place of the log
-pub frame-of : {iss : ℕ} {setting : Vectors} {log : List Logged} {frames : List Frame} (place : ℕ) (l : Logged) → AreFrames iss setting log frames
+pub frame-of : {iss : ℕ} {setting : Vectors} {log : List Logged} {frames : List MarkFrame} (place : ℕ) (l : Logged) → AreFrames iss setting log frames
     → slice_get log place ≡ Some l → IsFrame iss setting l (frame_at frames (suc place))
 frame-of place l NoneSent there = cc there
 frame-of {iss} {setting} zero l (OneSent {frame = frame} first rest) there =
@@ -99,19 +99,19 @@ frame-of {iss} {setting} zero l (OneSent {frame = frame} first rest) there =
 frame-of (suc place) l (OneSent first rest) there = frame-of place l rest there
 
 -- a frame more leaves the others, and is the last
-pub frame-before : (frames : List Frame) (frame : Frame) (place : ℕ) → place < length frames
+pub frame-before : (frames : List MarkFrame) (frame : MarkFrame) (place : ℕ) → place < length frames
     → frame_at (frames_with frames frame) (suc place) ≡ frame_at frames (suc place)
 frame-before [] frame place below = absurd (omega (arith, below))
 frame-before (first ∷ rest) frame zero below = refl
 frame-before (first ∷ rest) frame (suc place) below = frame-before rest frame place (omega (arith, below))
 
 -- the last frame is the one that was added
-pub frame-last : (frames : List Frame) (frame : Frame) → frame_at (frames_with frames frame) (suc (length frames)) ≡ frame
+pub frame-last : (frames : List MarkFrame) (frame : MarkFrame) → frame_at (frames_with frames frame) (suc (length frames)) ≡ frame
 frame-last [] frame = refl
 frame-last (first ∷ rest) frame = frame-last rest frame
 
 -- A record is of a frame that carries its vector.
-pub record IsRecorded (own peer : ℕ) (frames : List Frame) (r : VectorRecord) : Type 0 where
+pub record IsRecorded (own peer : ℕ) (frames : List MarkFrame) (r : VectorRecord) : Type 0 where
   pub place : ℕ
   pub there : place < length frames
   pub number : r.number ≡ number_of own (suc place)
@@ -122,7 +122,7 @@ pub record IsRecorded (own peer : ℕ) (frames : List Frame) (r : VectorRecord) 
   pub early : (frame_at frames (suc place)).acknowledged < 2 ^ 47
 
 -- a record stays with one frame more
-pub recorded-before : (own peer : ℕ) (frames : List Frame) (frame : Frame) (r : VectorRecord) → IsRecorded own peer frames r
+pub recorded-before : (own peer : ℕ) (frames : List MarkFrame) (frame : MarkFrame) (r : VectorRecord) → IsRecorded own peer frames r
     → IsRecorded own peer (frames_with frames frame) r
 recorded-before own peer frames frame r is =
     let same : frame_at frames (suc is.place) ≡ frame_at (frames_with frames frame) (suc is.place) = sym (frame-before frames frame is.place is.there) in
@@ -130,13 +130,13 @@ recorded-before own peer frames frame r is =
       place = is.place;
       there = omega (arith, is.there, length-with frames frame);
       number = is.number;
-      has_vector = subst (λ (f : Frame). f.has_vector ≡ true) same is.has_vector;
-      is_whole = subst (λ (f : Frame). f.is_whole ≡ r.whole) same is.is_whole;
-      ack = subst (λ (f : Frame). r.ack ≡ number_of peer f.acknowledged) same is.ack;
-      some = subst (λ (f : Frame). 1 ≤ f.acknowledged) same is.some;
-      early = subst (λ (f : Frame). f.acknowledged < 2 ^ 47) same is.early;
+      has_vector = subst (λ (f : MarkFrame). f.has_vector ≡ true) same is.has_vector;
+      is_whole = subst (λ (f : MarkFrame). f.is_whole ≡ r.whole) same is.is_whole;
+      ack = subst (λ (f : MarkFrame). r.ack ≡ number_of peer f.acknowledged) same is.ack;
+      some = subst (λ (f : MarkFrame). 1 ≤ f.acknowledged) same is.some;
+      early = subst (λ (f : MarkFrame). f.acknowledged < 2 ^ 47) same is.early;
     }
   where
-    length-with : (fs : List Frame) (f : Frame) → length (frames_with fs f) ≡ suc (length fs)
+    length-with : (fs : List MarkFrame) (f : MarkFrame) → length (frames_with fs f) ≡ suc (length fs)
     length-with [] f = refl
     length-with (first ∷ rest) f = ap suc (length-with rest f)

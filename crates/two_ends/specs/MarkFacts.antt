@@ -8,10 +8,10 @@
 -- a vector would be told that nobody read; and no frame's count of processed ones is above its sender's, else a later
 -- one would fall under a vector already sent.
 use Rattle.std.specs.Prelude.{◌≡◌, ℕ, ◌+◌, ◌<◌, ◌≤◌, true, false, List, length}
-use Rattle.two_ends.specs.MarkView.{Frame, MarkSide, frame_at}
+use Rattle.two_ends.specs.MarkView.{MarkFrame, MarkSide, frame_at}
 
 -- the numbers and the marks of a side
-pub record AreSoundNumbers (side : MarkSide) (there : List Frame) : Type 0 where
+pub record AreSoundNumbers (side : MarkSide) (there : List MarkFrame) : Type 0 where
   pub first_taken : side.first ≤ side.greatest
   pub greatest_sent : side.greatest ≤ length there
   -- before the first frame was taken: nothing was, and no Ack went out
@@ -31,7 +31,7 @@ pub record AreSoundNumbers (side : MarkSide) (there : List Frame) : Type 0 where
   pub floor_below : side.floor ≤ side.greatest + 1
 
 -- the acknowledgements of a side
-pub record IsHeeded (side : MarkSide) (there : List Frame) : Type 0 where
+pub record IsHeeded (side : MarkSide) (there : List MarkFrame) : Type 0 where
   -- what an Ack or DataAck acknowledges was taken
   pub acknowledged_first : (k : ℕ) → (frame_at side.frames k).is_ack ≡ true → side.first ≤ (frame_at side.frames k).acknowledged
   pub acknowledged_taken : (k : ℕ) → (frame_at side.frames k).is_ack ≡ true

@@ -1,6 +1,6 @@
 -- What holds of a side towards its peer, whatever moves both made (own; the words are those of RFC 4340, section 11.4).
 use Rattle.std.specs.Prelude.{◌≡◌, ℕ, ◌+◌, ◌<◌, ◌≤◌, ◌↔◌, true, false, List, length, slice_index}
-use Rattle.two_ends.specs.MarkView.{Frame, MarkSide, frame_at, processed_at}
+use Rattle.two_ends.specs.MarkView.{MarkFrame, MarkSide, frame_at, processed_at}
 
 -- among the first frames that a side processed, as many as this, is the one with this count
 abbrev pub IsAmong : (ℕ → ℕ) → ℕ → ℕ → Type 0
@@ -14,7 +14,7 @@ pub record ArePlaces (side : MarkSide) : Type 0 where
   pub processed : (place : ℕ) → 0 < place → place ≤ length side.processed → side.place (processed_at side.processed place) ≡ place
 
 -- Each frame is processed once, and only where the peer sent it.
-pub record ProcessesOnce (side : MarkSide) (there : List Frame) : Type 0 where
+pub record ProcessesOnce (side : MarkSide) (there : List MarkFrame) : Type 0 where
   pub distinct : (i j : ℕ) → i < length side.processed → j < length side.processed
       → slice_index side.processed i ≡ slice_index side.processed j → i ≡ j
   pub sent : (i : ℕ) → i < length side.processed
@@ -37,7 +37,7 @@ pub record IsFarBelow (place : ℕ → ℕ) (n : ℕ) : Type 0 where
 
 -- Why a side need not speak of a count any more: it lies far below one that the side processed, or a whole vector of
 -- the side told of it and the peer processed its frame.
-pub data IsAccountedFor (frames : List Frame) (place heard : ℕ → ℕ) (n : ℕ) : Type 0 where
+pub data IsAccountedFor (frames : List MarkFrame) (place heard : ℕ → ℕ) (n : ℕ) : Type 0 where
   Far : IsFarBelow place n → IsAccountedFor frames place heard n
   WasTold : (k : ℕ) → (frame_at frames k).has_vector ≡ true → (frame_at frames k).is_whole ≡ true
       → (frame_at frames k).floor ≤ n → n ≤ (frame_at frames k).acknowledged → 0 < heard k → IsAccountedFor frames place heard n

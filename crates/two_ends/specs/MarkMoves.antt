@@ -5,7 +5,7 @@
 -- inside the taking of a packet, so the greatest frame rises and is marked in one move; and it is false of an end that
 -- answered the greatest frame with a Reset, so the fact asks for the phase.
 use Rattle.std.specs.Prelude.{◌≡◌, ℕ, ◌+◌, ◌<◌, ◌≤◌, ◌==◌, ◌&&◌, ◌||◌, ◌⊎◌, max, nat_le, Bool, true, false, List, [], ◌∷◌, ◌++◌, length}
-use Rattle.two_ends.specs.MarkView.{Frame, MarkSide, frame_at, frames_with, floor_with, placed_with}
+use Rattle.two_ends.specs.MarkView.{MarkFrame, MarkSide, frame_at, frames_with, floor_with, placed_with}
 
 -- the first frame of the peer is taken: it is marked
 abbrev pub with_first_frame : MarkSide → ℕ → MarkSide
@@ -58,7 +58,7 @@ told side reported = record side { reported = reported }
 
 -- an Ack or a DataAck, with a vector or without: it acknowledges the greatest frame taken, and a vector says what is
 -- marked
-abbrev pub ack_frame : MarkSide → Bool → Bool → Frame
+abbrev pub ack_frame : MarkSide → Bool → Bool → MarkFrame
 ack_frame side has_vector is_whole =
     record {
       is_ack = true;
@@ -71,7 +71,7 @@ ack_frame side has_vector is_whole =
     }
 
 -- a frame of any other type
-abbrev pub other_frame : MarkSide → ℕ → Frame
+abbrev pub other_frame : MarkSide → ℕ → MarkFrame
 other_frame side acknowledged =
     record {
       is_ack = false;
@@ -84,18 +84,18 @@ other_frame side acknowledged =
     }
 
 -- a frame is sent
-abbrev pub with_sent_frame : MarkSide → Frame → MarkSide
+abbrev pub with_sent_frame : MarkSide → MarkFrame → MarkSide
 with_sent_frame side frame = record side { frames = frames_with side.frames frame }
 
 -- the frame's vector says of this count that it was received
-pub record IsReportedBy (frame : Frame) (count : ℕ) : Type 0 where
+pub record IsReportedBy (frame : MarkFrame) (count : ℕ) : Type 0 where
   pub carries : frame.has_vector ≡ true
   pub from_floor : frame.floor ≤ count
   pub up_to : count ≤ frame.acknowledged
   pub received : frame.says count ≡ true
 
 -- What a step of a side makes of it. Of its peer it sees the frames alone.
-pub data MarkMove (there : List Frame) (side : MarkSide) : MarkSide → Type 0 where
+pub data MarkMove (there : List MarkFrame) (side : MarkSide) : MarkSide → Type 0 where
   -- the first frame, in LISTEN or REQUEST
   Begins : (count : ℕ) → side.first ≡ 0 → side.closed ≡ false → 1 ≤ count → count ≤ length there → MarkMove there side (with_first_frame side count)
   Begins_shut : (count : ℕ) → side.first ≡ 0 → 1 ≤ count → count ≤ length there → MarkMove there side (begun_shut side count)
@@ -122,7 +122,7 @@ pub data MarkMove (there : List Frame) (side : MarkSide) : MarkSide → Type 0 w
   Sends : (acknowledged : ℕ) → MarkMove there side (with_sent_frame side (other_frame side acknowledged))
 
 -- what one step of one side does: some moves after each other
-pub data MarkMoves (there : List Frame) : MarkSide → MarkSide → Type 0 where
+pub data MarkMoves (there : List MarkFrame) : MarkSide → MarkSide → Type 0 where
   Done : (side : MarkSide) → MarkMoves there side side
   Next : (before middle after : MarkSide) → MarkMove there before middle → MarkMoves there middle after → MarkMoves there before after
 

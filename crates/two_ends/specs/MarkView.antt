@@ -9,7 +9,7 @@
 use Rattle.std.specs.Prelude.{ℕ, ◌+◌, ◌-◌, ◌==◌, max, Bool, false, List, [], ◌∷◌, ◌++◌, slice_index_or, if◌then◌else◌}
 
 -- one numbered frame
-pub record Frame : Type 0 where
+pub record MarkFrame : Type 0 where
   -- it is an Ack or a DataAck
   pub is_ack : Bool
   -- the count of the peer's frame that it acknowledges, or 0
@@ -27,7 +27,7 @@ pub record Frame : Type 0 where
 -- one side of the pair: what it sent, and what it took of its peer's frames, by their counts
 pub record MarkSide : Type 0 where
   -- its numbered frames, oldest first
-  pub frames : List Frame
+  pub frames : List MarkFrame
   -- the first frame that it took (ISR), and the greatest (GSR); 0 before that
   pub first : ℕ
   pub greatest : ℕ
@@ -45,16 +45,16 @@ pub record MarkSide : Type 0 where
   pub reported : ℕ → Bool
 
 -- what is read at a count that no frame has
-abbrev pub no_frame : Frame
+abbrev pub no_frame : MarkFrame
 no_frame =
     record { is_ack = false; acknowledged = 0; has_vector = false; is_whole = false; floor = 0; processed = 0; says = λ n. false }
 
 -- the frame with this count
-abbrev pub frame_at : List Frame → ℕ → Frame
+abbrev pub frame_at : List MarkFrame → ℕ → MarkFrame
 frame_at frames count = slice_index_or (no_frame ∷ frames) count no_frame
 
 -- one frame more
-abbrev pub frames_with : List Frame → Frame → List Frame
+abbrev pub frames_with : List MarkFrame → MarkFrame → List MarkFrame
 frames_with frames frame = frames ++ frame ∷ []
 
 -- the frame that was processed at this place, from 1 on

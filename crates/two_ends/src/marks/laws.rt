@@ -1,6 +1,6 @@
 //! The laws on a connection's two sides.
 ghost use Rattle.std.specs.Prelude.{◌≡◌, ℕ, List, true};
-ghost use Rattle.two_ends.specs.MarkView.{Frame, MarkSide};
+ghost use Rattle.two_ends.specs.MarkView.{MarkFrame, MarkSide};
 ghost use Rattle.two_ends.specs.MarkMoves.{MarkMoves, unmoved_side, AreReachable};
 ghost use Rattle.two_ends.specs.MarkFacts.{AreSoundNumbers, IsHeeded};
 ghost use Rattle.two_ends.specs.MarkLaws.{ArePlaces, ProcessesOnce, IsTruthful, IsTold, IsToldAlone, IsHeard};
@@ -8,7 +8,7 @@ ghost use Rattle.two_ends.specs.MarkExchange.{server_exchanged, client_exchanged
 
 /// Two sides are reachable at the start, and after each step of either that is a list of moves.
 pub fn marking_stays_reachable()
-    ensures joined { (there : List Frame) (before middle after : MarkSide)
+    ensures joined { (there : List MarkFrame) (before middle after : MarkSide)
         → MarkMoves there before middle → MarkMoves there middle after → MarkMoves there before after }
     ensures start { AreReachable unmoved_side unmoved_side }
     ensures server_step { (server client after : MarkSide)
