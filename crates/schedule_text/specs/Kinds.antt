@@ -11,7 +11,7 @@ use Rattle.dccp_states.specs.declared.calls.Timer.TheVariants as timer
 use Rattle.tool_text.specs.Numbers.{number_below}
 use Rattle.tool_text.specs.declared.words.faults.LineWhy.TheVariants as why
 use Rattle.tool_text.specs.declared.words.kinds.Flaw.{Flaw}
-use Rattle.tool_text.specs.Kinds.{Kind, flaw_after, found_or, flaw_unless, found_kind, number_kind, name_kind}
+use Rattle.tool_text.specs.Kinds.{KindOfWords, flaw_after, found_or, flaw_unless, found_kind, number_kind, name_kind}
 use Rattle.schedule_text.specs.declared.names.Form.{Form}
 use Rattle.schedule_text.specs.declared.names.Form.TheVariants as form
 use Rattle.schedule_text.specs.Names.{form_name, side_name, place_name, timer_name}
@@ -26,15 +26,15 @@ all_forms =
     ∷ form.Close ∷ form.Abort ∷ []
 
 -- a first word, which tells what the line is
-abbrev pub form_kind : Kind Form
+abbrev pub form_kind : KindOfWords Form
 form_kind = name_kind form_name all_forms
 
 -- a word for a side
-abbrev pub side_kind : Kind Side
+abbrev pub side_kind : KindOfWords Side
 side_kind = name_kind side_name (Client ∷ Server ∷ [])
 
 -- a word for where a feature is located
-abbrev pub place_kind : Kind Place
+abbrev pub place_kind : KindOfWords Place
 place_kind = name_kind place_name (place.Here ∷ place.There ∷ [])
 
 -- all timers of an end
@@ -42,23 +42,23 @@ abbrev pub all_timers : List Timer
 all_timers = timer.Request ∷ timer.Ack ∷ timer.Negotiate ∷ timer.Rto ∷ timer.Close ∷ timer.TimeWait ∷ []
 
 -- a word for a timer
-abbrev pub timer_kind : Kind Timer
+abbrev pub timer_kind : KindOfWords Timer
 timer_kind = name_kind timer_name all_timers
 
 -- an initial sequence number, in decimal digits
-abbrev pub sequence_kind : Kind ℕ
+abbrev pub sequence_kind : KindOfWords ℕ
 sequence_kind = number_kind sequence_numbers
 
 -- a feature by its number, for names are not taken
-abbrev pub feature_kind : Kind Feature
+abbrev pub feature_kind : KindOfWords Feature
 feature_kind = found_kind why.BadNumber feature_of (λ feature text. text ≡ decimal (feature_number feature))
 
 -- a schedule's version, in decimal digits
-abbrev pub version_kind : Kind ℕ
+abbrev pub version_kind : KindOfWords ℕ
 version_kind = found_kind why.BadNumber schedule_version (λ number text. (text ≡ decimal number) × IsVersion number)
 
 -- the list of values for a feature, all in one word
-abbrev pub values_kind : Kind (List ℕ)
+abbrev pub values_kind : KindOfWords (List ℕ)
 values_kind = found_kind why.BadNumber values_of (λ values text. (text ≡ values_text values) × AreValues values)
 
 -- a sender and an index, where one was found
@@ -86,7 +86,7 @@ name_flaw (letter ∷ index) =
     else Some (flaw_after 0 why.UnknownWord)
 
 -- a frame's name: the letter of its sender and its index
-abbrev pub frame_kind : Kind (Side × ℕ)
+abbrev pub frame_kind : KindOfWords (Side × ℕ)
 frame_kind = record {
   reads = frame_named;
   flaw = name_flaw;

@@ -3,7 +3,7 @@ use Rattle.std.specs.Prelude.{ℕ, ◌^◌, ◌==◌, List, [], ◌∷◌, codes
 use Rattle.dccp_ecn.specs.declared.event.EcnEvent.{EcnEvent}
 use Rattle.dccp_ecn.specs.declared.event.EcnEvent.TheVariants as event
 use Rattle.tool_text.specs.declared.words.faults.LineFault.{LineFault}
-use Rattle.tool_text.specs.Kinds.{Kind, name_kind, number_kind}
+use Rattle.tool_text.specs.Kinds.{KindOfWords, name_kind, number_kind}
 use Rattle.tool_text.specs.Rows.{Row, ◌▷◌, choice, end_row, row_as}
 use Rattle.tool_text.specs.Lines.{line_read}
 use Rattle.tool_jobs.specs.declared.ecn.names.Form.{Form}
@@ -23,15 +23,15 @@ abbrev pub ecn_forms : List Form
 ecn_forms = form.Send ∷ form.Deliver ∷ form.Mark ∷ form.Report ∷ form.Check ∷ form.Forge ∷ []
 
 -- the first word of a line, as a kind of words
-abbrev pub ecn_form_kind : Kind Form
+abbrev pub ecn_form_kind : KindOfWords Form
 ecn_form_kind = name_kind ecn_form_name ecn_forms
 
 -- a nonce: 0 or 1
-abbrev pub nonce_kind : Kind ℕ
+abbrev pub nonce_kind : KindOfWords ℕ
 nonce_kind = number_kind 2
 
 -- the index of a packet or of a report, below 2^47
-abbrev pub index_kind : Kind ℕ
+abbrev pub index_kind : KindOfWords ℕ
 index_kind = number_kind (2 ^ 47)
 
 -- The rows after the first word, by the form that it names.

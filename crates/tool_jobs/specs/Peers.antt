@@ -3,7 +3,7 @@ use Rattle.std.specs.Prelude.{◌≡◌, ℕ, ◌<◌, ◌++◌, List, [], ◌�
 use Rattle.dccp_listener.specs.declared.peer.Peer.{Peer}
 use Rattle.tool_text.specs.Numbers.{number_below}
 use Rattle.tool_text.specs.Text.{v4_text}
-use Rattle.tool_text.specs.Kinds.{Kind, found_kind}
+use Rattle.tool_text.specs.Kinds.{KindOfWords, found_kind}
 use Rattle.tool_text.specs.Words.{parted_by}
 use Rattle.tool_text.specs.declared.words.faults.LineWhy.TheVariants as why
 
@@ -42,5 +42,5 @@ pub record IsPeer (peer : Peer) : Type 0 where
   pub small : peer.port < 65536
 
 -- peers, each with its only spelling
-abbrev pub peer_kind : Kind Peer
+abbrev pub peer_kind : KindOfWords Peer
 peer_kind = found_kind why.BadPeer peer_of (λ peer text. (text ≡ peer_text peer) × IsPeer peer)

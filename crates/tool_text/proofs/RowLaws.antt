@@ -9,7 +9,7 @@ use Rattle.tool_text.specs.declared.words.faults.LineWhy.TheVariants as why
 use Rattle.tool_text.specs.declared.words.kinds.Flaw.{Flaw}
 use Rattle.tool_text.specs.Refusals.{fault_at}
 use Rattle.tool_text.specs.Words.{WordAt, WordsLeft, words_left, first_word, later, word_at, texts_of}
-use Rattle.tool_text.specs.Kinds.{Kind, IsExactKind, word_read, read_at, judged_word, flaw_fault, flaw_in, flaw_after, is_whole_word}
+use Rattle.tool_text.specs.Kinds.{KindOfWords, IsExactKind, word_read, read_at, judged_word, flaw_fault, flaw_in, flaw_after, is_whole_word}
 use Rattle.tool_text.specs.Rows.{Row, IsExactRow, ◌>>=◌, ◌>>◌, first_or, fault_in, none_left, nothing_more, end_row, then_row, AreBoth, ◌▷◌, made, row_as, chosen_fault, AreChosen, choice, ByTest, AreAfter, after_word, allowed, cause_at, refused_at, judged_row, flag_read, flag_flaw, flag_said, flag_fault, flag_row}
 use Rattle.tool_text.proofs.Bytes.{and-true, word-some}
 
@@ -111,7 +111,7 @@ end-is = record {
 }
 
 -- a word, and then a row
-module _ {A B : Type 0} (kind : Kind A) (row : Row B) (is_kind : IsExactKind kind) (is_row : IsExactRow row) where
+module _ {A B : Type 0} (kind : KindOfWords A) (row : Row B) (is_kind : IsExactKind kind) (is_row : IsExactRow row) where
   both-first : (left : WordsLeft)
       → fault_in {A = A × B} (then_row kind.reads row.said left) ≡ first_or (judged_word kind.flaw (first_word left)) (row.fault (later left))
   both-first left =
@@ -179,7 +179,7 @@ module _ {A B : Type 0} (make : A → B) (row : Row A) (is_row : IsExactRow row)
   }
 
 -- a choice
-module _ {A B : Type 0} (kind : Kind A) (rows : A → Row B) (is_kind : IsExactKind kind) (are_rows : (which : A) → IsExactRow (rows which)) where
+module _ {A B : Type 0} (kind : KindOfWords A) (rows : A → Row B) (is_kind : IsExactKind kind) (are_rows : (which : A) → IsExactRow (rows which)) where
   chosen-by : (r : Result A Flaw) (which : A) (left : WordsLeft) → r ≡ Ok which → fault_in ((rows which).said left) ≡ chosen_fault rows r left
   chosen-by r which left is = (are_rows which).first left ∙ ap (λ (s : Result A Flaw). chosen_fault rows s left) (sym is)
 

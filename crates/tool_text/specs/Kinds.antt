@@ -13,7 +13,7 @@ use Rattle.tool_text.specs.Digits.{digits_flaw, bytes_of_digits, AreSomeDigits, 
 
 -- a kind of words: what a word is read as, what is wrong with one that is not of the kind, and which words spell a
 -- value
-pub record Kind (A : Type 0) : Type 1 where
+pub record KindOfWords (A : Type 0) : Type 1 where
   pub reads : List ℕ → Result A Flaw
   pub flaw : List ℕ → Option Flaw
   pub Spells : A → List ℕ → Type 0
@@ -66,7 +66,7 @@ flaw_in (Err flaw) = Some flaw
 
 -- the three parts of a kind say one thing: a word that is there is read exactly where it has no flaw, and as the value
 -- that it spells
-pub record IsExactKind {A : Type 0} (kind : Kind A) : Type 0 where
+pub record IsExactKind {A : Type 0} (kind : KindOfWords A) : Type 0 where
   pub flaws : (text : List ℕ) → flaw_in (kind.reads text) ≡ kind.flaw text
   pub spelled : (text : List ℕ) (x : A) → (length text == 0) ≡ false → kind.reads text ≡ Ok x → kind.Spells x text
   pub read_back : (text : List ℕ) (x : A) → kind.Spells x text → kind.reads text ≡ Ok x
@@ -84,7 +84,7 @@ abbrev pub flaw_unless : Bool → Flaw → Option Flaw
 flaw_unless fits flaw = if fits then None else Some flaw
 
 -- the words in which this function finds something; any other has this flaw
-abbrev pub found_kind : {A : Type 0} → LineWhy → (List ℕ → Option A) → (A → List ℕ → Type 0) → Kind A
+abbrev pub found_kind : {A : Type 0} → LineWhy → (List ℕ → Option A) → (A → List ℕ → Type 0) → KindOfWords A
 found_kind cause find Spells = record {
   reads = λ text. found_or cause (find text);
   flaw = λ text. flaw_unless (is_some (find text)) (flaw_after 0 cause);
@@ -96,7 +96,7 @@ abbrev pub IsDecimal : ℕ → ℕ → List ℕ → Type 0
 IsDecimal limit number text = (text ≡ decimal number) × (number < limit)
 
 -- decimal numbers below this one
-abbrev pub number_kind : ℕ → Kind ℕ
+abbrev pub number_kind : ℕ → KindOfWords ℕ
 number_kind limit = found_kind why.BadNumber (number_below limit) (IsDecimal limit)
 
 -- the first of these that has this name
@@ -105,7 +105,7 @@ named_in name [] word = None
 named_in name (x ∷ xs) word = if bytes_eq word (name x) then Some x else named_in name xs word
 
 -- the names of these
-abbrev pub name_kind : {A : Type 0} → (A → List ℕ) → List A → Kind A
+abbrev pub name_kind : {A : Type 0} → (A → List ℕ) → List A → KindOfWords A
 name_kind name all = found_kind why.UnknownWord (named_in name all) (λ x text. text ≡ name x)
 
 -- each of these is found by its name, which is a word
@@ -124,7 +124,7 @@ bad_hex None = None
 bad_hex (Some place) = Some (flaw_after place why.BadHex)
 
 -- digits of one byte or more, in either case
-abbrev pub hex_kind : Kind (List ℕ)
+abbrev pub hex_kind : KindOfWords (List ℕ)
 hex_kind = record {
   reads = λ text. digits_or_bad text (digits_flaw text);
   flaw = λ text. bad_hex (digits_flaw text);
@@ -132,7 +132,7 @@ hex_kind = record {
 }
 
 -- the same, or a dash for no bytes
-abbrev pub dash_kind : Kind (List ℕ)
+abbrev pub dash_kind : KindOfWords (List ℕ)
 dash_kind = record {
   reads = λ text. if bytes_eq text (codes "-") then Ok [] else digits_or_bad text (digits_flaw text);
   flaw = λ text. if bytes_eq text (codes "-") then None else bad_hex (digits_flaw text);

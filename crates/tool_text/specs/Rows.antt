@@ -8,7 +8,7 @@ use Rattle.tool_text.specs.declared.words.faults.LineWhy.TheVariants as why
 use Rattle.tool_text.specs.declared.words.kinds.Flaw.{Flaw}
 use Rattle.tool_text.specs.Refusals.{fault_at}
 use Rattle.tool_text.specs.Words.{WordAt, WordsLeft, first_word, later, word_at, texts_of}
-use Rattle.tool_text.specs.Kinds.{Kind, word_read, judged_word, flaw_after, is_whole_word}
+use Rattle.tool_text.specs.Kinds.{KindOfWords, word_read, judged_word, flaw_after, is_whole_word}
 
 infixr 30 ◌▷◌
 -- the first fault of what follows, or what it gives
@@ -86,7 +86,7 @@ AreBoth Spells Rest both [] = ⊥
 AreBoth Spells Rest both (word ∷ words) = Spells both.0 word × Rest both.1 words
 
 -- a word of a kind, and then a row
-abbrev pub ◌▷◌ : {A B : Type 0} → Kind A → Row B → Row (A × B)
+abbrev pub ◌▷◌ : {A B : Type 0} → KindOfWords A → Row B → Row (A × B)
 kind ▷ row = record {
   said = then_row kind.reads row.said;
   fault = λ left. first_or (judged_word kind.flaw (first_word left)) (row.fault (later left));
@@ -114,12 +114,12 @@ chosen_fault rows (Ok which) left = (rows which).fault left
 chosen_fault rows (Err flaw) left = None
 
 -- a word that chooses, and the words of the row that it chose
-abbrev pub AreChosen : {A B : Type 0} → Kind A → (A → Row B) → B → List (List ℕ) → Type 0
+abbrev pub AreChosen : {A B : Type 0} → KindOfWords A → (A → Row B) → B → List (List ℕ) → Type 0
 AreChosen kind rows y [] = ⊥
 AreChosen {A = A} kind rows y (word ∷ words) = (which : A) × kind.Spells which word × (rows which).Spells y words
 
 -- a word of a kind, and the row that it chooses
-abbrev pub choice : {A B : Type 0} → Kind A → (A → Row B) → Row B
+abbrev pub choice : {A B : Type 0} → KindOfWords A → (A → Row B) → Row B
 choice kind rows = record {
   said = λ left. word_read kind.reads (first_word left) >>= (λ which. (rows which).said (later left));
   fault = λ left.
