@@ -19,7 +19,7 @@ use Rattle.schedule_text.specs.declared.line.Line as words
 use Rattle.schedule_text.specs.declared.line.Line.TheVariants as line
 use Rattle.schedule_text.proofs.LineForms.{event-read, spelled-line}
 use Rattle.schedule_text.proofs.RowsAre.{number-length, side-length}
-use Rattle.tool_text.specs.Jobs.{Gone, Verdict, Accepted, Refused, gone_by, gone_from, most_events}
+use Rattle.tool_text.specs.Jobs.{Gone, LineVerdict, Accepted, Refused, gone_by, gone_from, most_events}
 use Rattle.tool_jobs.proofs.SchedulesRunning.{every-run, run-last, run-text}
 use Rattle.tool_jobs.specs.Scenes.{Scene, scene_events, scene_text}
 use Rattle.tool_jobs.specs.Transcript.{by_line, by_scene, by_step, event_shown, first_play, is_refused, judged_line, performed, run_job, says_event, starts, transcript, with_header, with_iss, world_at_first, world_of, world_or_start}
@@ -114,7 +114,7 @@ event-goes play number given event rest run last more here few ok brief room beh
         ≡ gone_by play number given (Accepted (Some (scene_of play number event step)) next)
         (λ (p : Play). gone_from run_job p (number + 1) (given + (length (event_text event) + 1)) (lines_of rest)) =
         line-goes play number given (event_text event) rest (line.Event event) (event-read event brief.printable) (omega (arith, room, short))
-        ∙ ap (λ (v : Verdict Scene Play). gone_by play number given v
+        ∙ ap (λ (v : LineVerdict Scene Play). gone_by play number given v
         (λ (p : Play). gone_from run_job p (number + 1) (given + (length (event_text event) + 1)) (lines_of rest)))
         (event-accepted play number event step run.world here few is) in
         subst (Follows run.report last (event ∷ more) play) (sym whole)

@@ -4,7 +4,7 @@ use Rattle.bridge_records.specs.Writing.{file_header, raw_record}
 use Rattle.dccp_listener.specs.declared.peer.Peer.{Peer}
 use Rattle.schedule_text.specs.declared.line.FrameLine.{FrameLine}
 use Rattle.tool_jobs.specs.Ends.{arriving}
-use Rattle.tool_text.specs.Jobs.{Accepted, Gone, Job, Refused, Verdict, gone_through, refusal_told, text_apart}
+use Rattle.tool_text.specs.Jobs.{Accepted, Gone, Job, Refused, LineVerdict, gone_through, refusal_told, text_apart}
 use Rattle.tool_text.specs.declared.lines.refusals.Refusal.{Refusal}
 use Rattle.tool_text.specs.declared.words.faults.LineFault.{LineFault}
 use Rattle.world_events.specs.Actors.{other}
@@ -35,7 +35,7 @@ abbrev pub timed_arrival : Clock → Travel → FrameLine → TimedFrame
 timed_arrival clock travel frame = timed clock travel (arriving (travels travel) frame)
 
 -- A line with a number sets the time, one with a frame has its record, and an end alone that opens is a client.
-abbrev pub by_told : Clock → Result (Option TranscriptLine) LineFault → Verdict TimedFrame Clock
+abbrev pub by_told : Clock → Result (Option TranscriptLine) LineFault → LineVerdict TimedFrame Clock
 by_told clock (Err fault) = Refused fault
 by_told clock (Ok None) = Accepted None clock
 by_told clock (Ok (Some told.Other)) = Accepted None clock
@@ -45,7 +45,7 @@ by_told clock (Ok (Some (told.Sent travel frame))) = Accepted (Some (timed clock
 by_told clock (Ok (Some (told.Came peer frame))) = Accepted (Some (timed_arrival clock (travel_in clock peer) frame)) clock
 
 -- A line of a transcript, without its newline.
-unfoldable pub transcript_judged : Clock → ℕ → List ℕ → Verdict TimedFrame Clock
+unfoldable pub transcript_judged : Clock → ℕ → List ℕ → LineVerdict TimedFrame Clock
 transcript_judged clock number line = by_told clock (told_of_line line)
 
 -- What `capture` makes of the lines: a frame's text is its record, and nothing follows the last.

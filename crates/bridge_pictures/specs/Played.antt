@@ -4,7 +4,7 @@ use Rattle.ccid_two.specs.Kinds.{Both}
 use Rattle.tool_jobs.specs.Scenes.{Scene}
 use Rattle.tool_jobs.specs.Transcript.{first_play, run_job}
 use Rattle.tool_jobs.specs.declared.run.play.Play.{Play}
-use Rattle.tool_text.specs.Jobs.{Accepted, Gone, Job, Refused, Verdict, gone_through, line_text, refusal_told, text_apart}
+use Rattle.tool_text.specs.Jobs.{Accepted, Gone, Job, Refused, LineVerdict, gone_through, line_text, refusal_told, text_apart}
 use Rattle.tool_text.specs.declared.lines.refusals.Refusal.{Refusal}
 use Rattle.two_ends.specs.Controlled.{Controlled, end_of_side}
 use Rattle.two_ends.specs.World.{half_of}
@@ -63,7 +63,7 @@ abbrev pub behind_line : Played → Play → List ℕ → Played
 behind_line p next said = event_drawn (record p { play = next }) said
 
 -- what a line comes to, by what it comes to in `run`
-abbrev pub played_by : Played → Verdict Scene Play → Verdict (Unit {0}) Played
+abbrev pub played_by : Played → LineVerdict Scene Play → LineVerdict (Unit {0}) Played
 played_by p (Refused fault) = Refused fault
 played_by p (Accepted deed next) = Accepted None (behind_line p next (line_text run_job deed))
 

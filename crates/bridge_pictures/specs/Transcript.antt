@@ -7,7 +7,7 @@ use Rattle.dccp_packets.specs.declared.reading.Malformed.{Malformed}
 use Rattle.packet_show.specs.Lines.{words_text}
 use Rattle.schedule_text.specs.Printing.{side_letter}
 use Rattle.tool_jobs.specs.Peers.{peer_text}
-use Rattle.tool_text.specs.Jobs.{Accepted, Gone, Job, Refused, Verdict, gone_through, refusal_told, text_apart}
+use Rattle.tool_text.specs.Jobs.{Accepted, Gone, Job, Refused, LineVerdict, gone_through, refusal_told, text_apart}
 use Rattle.tool_text.specs.Names.{malformed_name}
 use Rattle.tool_text.specs.declared.lines.refusals.Refusal.{Refusal}
 use Rattle.tool_text.specs.declared.words.faults.LineFault.{LineFault}
@@ -87,13 +87,13 @@ drawn_on d line draws.ListenerTold = listener_told d line
 drawn_on d line (draws.Arrived peer frame) = arrival_drawn_beside d peer (arrival_label frame.bytes)
 
 -- what a line comes to: it is drawn, or refused, or says nothing
-abbrev pub line_drawn : Drawing → List ℕ → Result (Option LadderLine) LineFault → Verdict (Unit {0}) Drawing
+abbrev pub line_drawn : Drawing → List ℕ → Result (Option LadderLine) LineFault → LineVerdict (Unit {0}) Drawing
 line_drawn d line (Err fault) = Refused fault
 line_drawn d line (Ok None) = Accepted None d
 line_drawn d line (Ok (Some drawn)) = Accepted None (drawn_on d line drawn)
 
 -- A line of a transcript, without its newline.
-unfoldable pub line_judged : Drawing → ℕ → List ℕ → Verdict (Unit {0}) Drawing
+unfoldable pub line_judged : Drawing → ℕ → List ℕ → LineVerdict (Unit {0}) Drawing
 line_judged d number line = line_drawn d line (drawn_by_line line)
 
 -- What `ladder` makes of the lines: each is drawn, and at the end stands the picture.

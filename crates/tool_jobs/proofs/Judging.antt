@@ -2,7 +2,7 @@
 use Rattle.std.proofs.Common.{◌≡◌, ap, sym, subst, ℕ, ◌+◌, ◌<◌, Bool, true, false, if◌then◌else◌, List, Some, Result, Ok, Err}
 use Rattle.std.proofs.lemmas.Bool.{lt-ltb}
 use Rattle.ccid_two.specs.Kinds.{Both}
-use Rattle.tool_text.specs.Jobs.{Judges, Refused, Verdict, most_events}
+use Rattle.tool_text.specs.Jobs.{Judges, Refused, LineVerdict, most_events}
 use Rattle.tool_jobs.specs.Scenes.{Scene}
 use Rattle.tool_jobs.specs.Transcript.{ShowsEvent, by_scene, event_shown, run_job, says_event, world_of}
 use Rattle.tool_jobs.specs.declared.run.play.Play.{Play}
@@ -40,7 +40,7 @@ module _ (old : Play) (text new : List ℕ) (after : Controlled Both) where
         → Judges run_job (says_event old number event) text new (record made { events = made.events + 1; world = Some after }) (Ok tt)
     judged-then made is shown =
         subst (λ (p : Play). Judges run_job (says_event old number event) text new (record p { events = p.events + 1; world = Some after }) (Ok tt)) (sym is)
-        (subst (λ (v : Verdict Scene Play). Judges run_job v text new (led_on old after) (Ok tt)) (sym says)
+        (subst (λ (v : LineVerdict Scene Play). Judges run_job v text new (led_on old after) (Ok tt)) (sym says)
         (judged-ok (event_shown number (world_of old) event) shown))
 
     pub judged-else : (next : Play) (w : Controlled Both) → w ≡ world_of old → (error : LineError) → ShowsEvent (event_shown number w event) text new after (Err error)
@@ -48,5 +48,5 @@ module _ (old : Play) (text new : List ℕ) (after : Controlled Both) where
     judged-else next w is error shown =
         let here : ShowsEvent (event_shown number (world_of old) event) text new after (Err error) =
         subst (λ (world : Controlled Both). ShowsEvent (event_shown number world event) text new after (Err error)) is shown in
-        subst (λ (v : Verdict Scene Play). Judges run_job v text new next (Err error)) (sym says)
+        subst (λ (v : LineVerdict Scene Play). Judges run_job v text new next (Err error)) (sym says)
         (judged-not next error (event_shown number (world_of old) event) here)

@@ -13,7 +13,7 @@ use Rattle.dccp_listener.specs.Listens.{AreInOrder, fresh_met, is_table_full, li
 use Rattle.dccp_listener.specs.Peers.{FlowEnd, Listening, end_of_peer}
 use Rattle.dccp_listener.specs.Runs.{CallTold, WasBusy}
 use Rattle.dccp_listener.specs.declared.peer.Peer.{Peer}
-use Rattle.tool_text.specs.Jobs.{Accepted, Gone, Refused, Verdict, by_next, deeds_of, gone_by, gone_from, last_lines, most_events}
+use Rattle.tool_text.specs.Jobs.{Accepted, Gone, Refused, LineVerdict, by_next, deeds_of, gone_by, gone_from, last_lines, most_events}
 use Rattle.tool_text.specs.Refusals.{whole_line}
 use Rattle.tool_text.specs.declared.words.faults.LineFault.{LineFault}
 use Rattle.tool_text.specs.declared.words.faults.LineWhy.TheVariants as why
@@ -26,7 +26,7 @@ use Rattle.tool_jobs.specs.declared.listen.serving.Serving.{Serving}
 use Rattle.tool_jobs.proofs.PeersRunning.{input-ordered}
 
 -- an accepted line does what it says
-abbrev Does : List (ℕ × Peer × Deed) → Verdict Exchange Serving → Type 0
+abbrev Does : List (ℕ × Peer × Deed) → LineVerdict Exchange Serving → Type 0
 Does said (Accepted deed next) = map exchange_said (deeds_of deed) ≡ said
 Does said (Refused fault) = Unit {0}
 
@@ -50,7 +50,7 @@ next-does s number (Long front) = tt
 next-does s number Much = tt
 next-does s number End = refl
 
-does-by : (s : Serving) (number given : ℕ) (verdict : Verdict Exchange Serving) (rest : Serving → Gone Exchange Serving)
+does-by : (s : Serving) (number given : ℕ) (verdict : LineVerdict Exchange Serving) (rest : Serving → Gone Exchange Serving)
     (said later : List (ℕ × Peer × Deed)) → Does said verdict
     → ((next : Serving) → is_some (rest next).refusal ≡ false → map exchange_said (rest next).deeds ≡ later)
     → is_some (gone_by s number given verdict rest).refusal ≡ false → map exchange_said (gone_by s number given verdict rest).deeds ≡ said ++ later

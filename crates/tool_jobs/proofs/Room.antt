@@ -8,7 +8,7 @@ use Rattle.dccp_endpoint.specs.Inputs.{Input, end_stepped}
 use Rattle.dccp_endpoint.specs.Inputs as input
 use Rattle.dccp_endpoint.specs.declared.config.Config.{Config}
 use Rattle.dccp_io.specs.Lines.{lines_of, next_in_lines}
-use Rattle.tool_text.specs.Jobs.{Gone, Verdict, Accepted, Refused, by_next, gone_by, gone_from, most_events}
+use Rattle.tool_text.specs.Jobs.{Gone, LineVerdict, Accepted, Refused, by_next, gone_by, gone_from, most_events}
 use Rattle.tool_text.specs.declared.words.faults.LineFault.{LineFault}
 use Rattle.dccp_endpoint.specs.Drafts.{Fits}
 use Rattle.tool_jobs.proofs.Peers.{peers-last}
@@ -141,11 +141,11 @@ record Room (play : Play) : Type 0 where
   few : IfSome play.world (λ w. SentFew w play.events)
   events : play.events ≤ 16384
 
-abbrev RoomAfter : Verdict Scene Play → Type 0
+abbrev RoomAfter : LineVerdict Scene Play → Type 0
 RoomAfter (Accepted scene next) = Room next
 RoomAfter (Refused why) = ⊤
 
-room-after : (play : Play) (verdict : Verdict Scene Play) → Turns play verdict → Room play → RoomAfter verdict
+room-after : (play : Play) (verdict : LineVerdict Scene Play) → Turns play verdict → Room play → RoomAfter verdict
 room-after play (Accepted None next) turns room = record {
   few =
       subst (λ (n : ℕ). IfSome next.world (λ w. SentFew w n)) (sym turns.events)
@@ -164,7 +164,7 @@ room-after play (Accepted (Some scene) next) turns room =
 room-after play (Refused why) turns room = tt
 
 room-by : (rest : Play → Gone Scene Play) (number given : ℕ) → ((next : Play) → Room next → Room (rest next).last) → (play : Play) → Room play
-    → (verdict : Verdict Scene Play) → Turns play verdict → Room (gone_by play number given verdict rest).last
+    → (verdict : LineVerdict Scene Play) → Turns play verdict → Room (gone_by play number given verdict rest).last
 room-by rest number given later play room (Accepted scene next) turns = later next (room-after play (Accepted scene next) turns room)
 room-by rest number given later play room (Refused why) turns = room
 

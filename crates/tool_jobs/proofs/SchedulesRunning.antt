@@ -12,7 +12,7 @@ use Rattle.dccp_states.specs.declared.phase.Role.TheVariants as role
 use Rattle.schedule_text.specs.Reading.{read_line}
 use Rattle.schedule_text.specs.declared.line.Line as words
 use Rattle.schedule_text.specs.declared.line.Line.TheVariants as line
-use Rattle.tool_text.specs.Jobs.{Gone, Verdict, Accepted, Refused, by_next, gone_by, gone_from, gone_through, last_lines, most_events}
+use Rattle.tool_text.specs.Jobs.{Gone, LineVerdict, Accepted, Refused, by_next, gone_by, gone_from, gone_through, last_lines, most_events}
 use Rattle.tool_text.specs.Refusals.{whole_line}
 use Rattle.tool_text.specs.declared.words.faults.LineFault.{LineFault}
 use Rattle.tool_text.specs.declared.words.faults.LineWhy.TheVariants as why
@@ -46,7 +46,7 @@ pub record LeadsOn (play : Play) (scene : Scene) (next : Play) : Type 0 where
   pub events : next.events ≡ play.events + 1
   pub configured : Configured play next
 
-abbrev pub Turns : Play → Verdict Scene Play → Type 0
+abbrev pub Turns : Play → LineVerdict Scene Play → Type 0
 Turns play (Accepted None next) = Keeps play next
 Turns play (Accepted (Some scene) next) = LeadsOn play scene next
 Turns play (Refused fault) = ⊤
@@ -117,7 +117,7 @@ abbrev RunsOn : Controlled Both → Play → Gone Scene Play → Type 0
 RunsOn w play whole = IsRun w whole.deeds (world_of whole.last) × Configured play whole.last
 
 runs-by : (rest : Play → Gone Scene Play) (number given : ℕ) → ((next : Play) (w : Controlled Both) → next.world ≡ Some w → RunsOn w next (rest next))
-    → (play : Play) (w : Controlled Both) → play.world ≡ Some w → (verdict : Verdict Scene Play) → Turns play verdict
+    → (play : Play) (w : Controlled Both) → play.world ≡ Some w → (verdict : LineVerdict Scene Play) → Turns play verdict
     → RunsOn w play (gone_by play number given verdict rest)
 runs-by rest number given on play w is (Accepted None next) turns =
     let same = turns.configured (ap is_some is) in
@@ -143,7 +143,7 @@ abbrev RunsFirst : Gone Scene Play → Type 0
 RunsFirst whole = IsRun (world_at_first whole) whole.deeds (world_of whole.last)
 
 first-by : (rest : Play → Gone Scene Play) (number given : ℕ) → ((next : Play) (w : Controlled Both) → next.world ≡ Some w → RunsOn w next (rest next))
-    → ((next : Play) → next.world ≡ None → RunsFirst (rest next)) → (play : Play) → play.world ≡ None → (verdict : Verdict Scene Play) → Turns play verdict
+    → ((next : Play) → next.world ≡ None → RunsFirst (rest next)) → (play : Play) → play.world ≡ None → (verdict : LineVerdict Scene Play) → Turns play verdict
     → RunsFirst (gone_by play number given verdict rest)
 first-by rest number given on first play is (Accepted None next) turns = first next (turns.world ∙ is)
 first-by rest number given on first play is (Accepted (Some scene) next) turns =

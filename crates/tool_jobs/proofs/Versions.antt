@@ -17,7 +17,7 @@ use Rattle.feature_machine.specs.Lists.{with_offer}
 use Rattle.schedule_text.specs.Reading.{read_line}
 use Rattle.schedule_text.specs.declared.line.Line as words
 use Rattle.schedule_text.specs.declared.line.Line.TheVariants as line
-use Rattle.tool_text.specs.Jobs.{Gone, Verdict, Accepted, Refused, by_next, gone_by, gone_from, most_events}
+use Rattle.tool_text.specs.Jobs.{Gone, LineVerdict, Accepted, Refused, by_next, gone_by, gone_from, most_events}
 use Rattle.tool_jobs.specs.Scenes.{Scene}
 use Rattle.tool_jobs.specs.Transcript.{by_line, by_scene, config_of, configures, event_shown, first_play, judged_line, offering, performed, run_job, says_event, says_plain, says_version, vectors_of, wishing, with_config, with_header, with_iss, with_offered, with_set, with_vectors, world_of}
 use Rattle.tool_jobs.specs.Versions.{HaveVectors, vectors_by, vectors_next, vectors_said}
@@ -70,7 +70,7 @@ offered-keeps side feature place mandatory play = config-keeps side _ play (offe
 
 -- A settled play
 
-abbrev Stays : Play → Verdict Scene Play → Type 0
+abbrev Stays : Play → LineVerdict Scene Play → Type 0
 Stays play (Accepted deed next) = IsSettled next × ((vectors : Vectors) → HaveVectors vectors play → HaveVectors vectors next)
 Stays play (Refused fault) = ⊤
 
@@ -124,7 +124,7 @@ next-stays play number End settled = (settled, λ vectors have. have)
 
 stays-by : (rest : Play → Gone Scene Play) (number given : ℕ) (vectors : Vectors)
     → ((next : Play) → IsSettled next → HaveVectors vectors next → HaveVectors vectors (rest next).last) → (play : Play) → HaveVectors vectors play
-    → (verdict : Verdict Scene Play) → Stays play verdict → HaveVectors vectors (gone_by play number given verdict rest).last
+    → (verdict : LineVerdict Scene Play) → Stays play verdict → HaveVectors vectors (gone_by play number given verdict rest).last
 stays-by rest number given vectors on play have (Accepted deed next) stays = on next stays.0 (stays.1 vectors have)
 stays-by rest number given vectors on play have (Refused fault) stays = have
 
@@ -138,7 +138,7 @@ lines-stay (line ∷ lines) number given vectors play settled have =
 
 -- A play in which nothing is said
 
-data Opens (play : Play) (vectors : Vectors → Vectors) : Verdict Scene Play → Type 0 where
+data Opens (play : Play) (vectors : Vectors → Vectors) : LineVerdict Scene Play → Type 0 where
   Waits : ((later : Vectors) → vectors later ≡ later) → Opens play vectors (Accepted None play)
   Settles : (deed : Option Scene) (next : Play) → IsSettled next → ((later : Vectors) → HaveVectors (vectors later) next)
       → Opens play vectors (Accepted deed next)
@@ -202,7 +202,7 @@ have-by one other play same have = record { client = have.client ∙ sym same; s
 opens-by : (rest : Play → Gone Scene Play) (number given : ℕ) (later : Vectors) (vectors : Vectors → Vectors)
     → ((next : Play) (own : Vectors) → IsSettled next → HaveVectors own next → HaveVectors own (rest next).last)
     → ((next : Play) → IsUnsaid next → HaveVectors later (rest next).last) → (play : Play) → IsUnsaid play
-    → (verdict : Verdict Scene Play) → Opens play vectors verdict → HaveVectors (vectors later) (gone_by play number given verdict rest).last
+    → (verdict : LineVerdict Scene Play) → Opens play vectors verdict → HaveVectors (vectors later) (gone_by play number given verdict rest).last
 opens-by rest number given later vectors stay first play unsaid _ (Waits same) = have-by (vectors later) later _ (same later) (first play unsaid)
 opens-by rest number given later vectors stay first play unsaid _ (Settles deed next settled have) = stay next (vectors later) settled (have later)
 opens-by rest number given later vectors stay first play unsaid _ (Stops fault one) = have-by (vectors later) One play (one later) unsaid.have

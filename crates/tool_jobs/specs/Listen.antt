@@ -10,7 +10,7 @@ use Rattle.dccp_listener.specs.declared.peer.Peer.{Peer}
 use Rattle.dccp_sum.specs.declared.pseudo_header.Pseudo.{Pseudo}
 use Rattle.dccp_sum.specs.declared.pseudo_header.Pseudo.TheVariants.{V4}
 use Rattle.feature_machine.specs.Lists.{usual_lists}
-use Rattle.tool_text.specs.Jobs.{Accepted, Gone, Job, Refused, Verdict, gone_through, text_of_job, most_events}
+use Rattle.tool_text.specs.Jobs.{Accepted, Gone, Job, Refused, LineVerdict, gone_through, text_of_job, most_events}
 use Rattle.tool_jobs.specs.Ends.{arriving}
 use Rattle.tool_text.specs.Refusals.{whole_line}
 use Rattle.tool_text.specs.declared.words.faults.LineFault.{LineFault}
@@ -59,22 +59,22 @@ abbrev pub exchange_at : Listening → ℕ → Peer → Deed → Exchange
 exchange_at l number peer deed = record { number = number; before = l; peer = peer; deed = deed }
 
 -- it happens: one line more counts, and the listener is as it leaves it
-abbrev pub by_exchange : Serving → Exchange → Verdict Exchange Serving
+abbrev pub by_exchange : Serving → Exchange → LineVerdict Exchange Serving
 by_exchange s x = Accepted (Some x) (record { listener = listening_after x.before x.peer x.deed; events = s.events + 1 })
 
 -- a line by which something happens is refused once there were as many as are allowed
-abbrev pub by_call : Serving → ℕ → Peer → PeerCall → Verdict Exchange Serving
+abbrev pub by_call : Serving → ℕ → Peer → PeerCall → LineVerdict Exchange Serving
 by_call s number peer said =
     if nat_lt s.events most_events then by_exchange s (exchange_at s.listener number peer (deed_of peer said)) else Refused (whole_line why.TooManyEvents)
 
 -- a line that says nothing is accepted and does nothing
-abbrev pub by_peer_line : Serving → ℕ → Result (Option (Peer × PeerCall)) LineFault → Verdict Exchange Serving
+abbrev pub by_peer_line : Serving → ℕ → Result (Option (Peer × PeerCall)) LineFault → LineVerdict Exchange Serving
 by_peer_line s number (Err fault) = Refused fault
 by_peer_line s number (Ok None) = Accepted None s
 by_peer_line s number (Ok (Some said)) = by_call s number said.0 said.1
 
 -- a line without its newline
-unfoldable pub peer_line_judged : Serving → ℕ → List ℕ → Verdict Exchange Serving
+unfoldable pub peer_line_judged : Serving → ℕ → List ℕ → LineVerdict Exchange Serving
 peer_line_judged s number line = by_peer_line s number (read_call line)
 
 -- What a line does is an exchange, and the flows are the last.

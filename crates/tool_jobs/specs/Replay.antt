@@ -14,7 +14,7 @@ use Rattle.schedule_text.specs.declared.line.FrameLine.{FrameLine}
 use Rattle.tool_text.specs.declared.words.faults.LineFault.{LineFault}
 use Rattle.tool_jobs.specs.EndLines.{bytes_line, end_line}
 use Rattle.tool_jobs.specs.Ends.{arriving, config_without_offers, role_of}
-use Rattle.tool_text.specs.Jobs.{Accepted, Gone, Job, Refused, Verdict, gone_through, text_of_job}
+use Rattle.tool_text.specs.Jobs.{Accepted, Gone, Job, Refused, LineVerdict, gone_through, text_of_job}
 
 -- The state of a replay: how many frames its end has sent, whose end it is, and the end.
 pub record ReplayState (E : Type 0) : Type 0 where
@@ -88,22 +88,22 @@ abbrev pub begun_replay : {E : Type 0} → Acts E → Side → E → Begun E
 begun_replay acts side end = begun_from acts (first_replay side end) side
 
 -- a line whose frame arrived is accepted, whatever its end made of the frame
-abbrev pub by_act : {E : Type 0} → ReplayState E → Act E → Verdict (List ℕ) (ReplayState E)
+abbrev pub by_act : {E : Type 0} → ReplayState E → Act E → LineVerdict (List ℕ) (ReplayState E)
 by_act replay act = Accepted (Some (act_lines replay act)) (after_act replay act)
 
 -- a line that says nothing is accepted and does nothing, and one with a frame reaches the end
-abbrev pub by_frame_line : {E : Type 0} → Acts E → ReplayState E → ℕ → Result (Option FrameLine) LineFault → Verdict (List ℕ) (ReplayState E)
+abbrev pub by_frame_line : {E : Type 0} → Acts E → ReplayState E → ℕ → Result (Option FrameLine) LineFault → LineVerdict (List ℕ) (ReplayState E)
 by_frame_line acts replay number (Err fault) = Refused fault
 by_frame_line acts replay number (Ok None) = Accepted None replay
 by_frame_line acts replay number (Ok (Some frame)) =
     by_act replay (acts.hearing replay.end number (arriving (usual (role_of replay.side)).pseudo_in frame))
 
 -- a line that says what the end should do is accepted
-abbrev pub by_heeded : {E : Type 0} → ReplayState E → Heeded E → Verdict (List ℕ) (ReplayState E)
+abbrev pub by_heeded : {E : Type 0} → ReplayState E → Heeded E → LineVerdict (List ℕ) (ReplayState E)
 by_heeded replay heeded = Accepted (Some heeded.text) (record { sent = replay.sent; side = replay.side; end = heeded.after })
 
 -- A line without its newline.
-unfoldable pub replay_judged : {E : Type 0} → Acts E → ReplayState E → ℕ → List ℕ → Verdict (List ℕ) (ReplayState E)
+unfoldable pub replay_judged : {E : Type 0} → Acts E → ReplayState E → ℕ → List ℕ → LineVerdict (List ℕ) (ReplayState E)
 replay_judged acts replay number line =
     if acts.is_own line then by_heeded replay (acts.heeding replay.end number line) else by_frame_line acts replay number (read_frame line)
 

@@ -33,7 +33,7 @@ use Rattle.tool_text.specs.declared.words.faults.LineWhy.{LineWhy}
 use Rattle.tool_text.specs.declared.words.faults.LineWhy.TheVariants as why
 use Rattle.tool_jobs.specs.declared.run.play.Play.{Play}
 use Rattle.tool_jobs.specs.Ends.{config_without_offers}
-use Rattle.tool_text.specs.Jobs.{Gone, Job, Verdict, Accepted, Refused, gone_through, text_of_job, most_events}
+use Rattle.tool_text.specs.Jobs.{Gone, Job, LineVerdict, Accepted, Refused, gone_through, text_of_job, most_events}
 use Rattle.tool_jobs.specs.Scenes.{Scene, scene_text}
 use Rattle.tool_jobs.specs.WorldLines.{end_lines}
 
@@ -63,7 +63,7 @@ abbrev pub with_header : Play → Play
 with_header play = record play { is_configured = true }
 
 -- A line that comes before all events changes the configurations.
-abbrev pub configures : Play → (Play → Play) → Verdict Scene Play
+abbrev pub configures : Play → (Play → Play) → LineVerdict Scene Play
 configures play change = if is_some play.world then Refused (whole_line why.HeaderLate) else Accepted None (change (with_header play))
 
 -- the configuration of a side, as the lines so far have it
@@ -86,7 +86,7 @@ with_vectors vectors play =
     record play { client = record play.client { vectors = vectors }; server = record play.server { vectors = vectors } }
 
 -- The version comes before every other line that says something, and therefore only once.
-abbrev pub says_version : Play → ℕ → Verdict Scene Play
+abbrev pub says_version : Play → ℕ → LineVerdict Scene Play
 says_version play version =
     if play.is_configured then Refused (whole_line why.HeaderLate) else configures play (with_vectors (vectors_of version))
 
@@ -130,12 +130,12 @@ abbrev pub event_shown : ℕ → Controlled Both → Event → Result Scene Line
 event_shown number before event = by_step number before event (happens_to kinds_control before event)
 
 -- an event that took place is counted, and the schedule goes on from the world that it left
-abbrev pub by_scene : Play → Result Scene LineFault → Verdict Scene Play
+abbrev pub by_scene : Play → Result Scene LineFault → LineVerdict Scene Play
 by_scene play (Ok scene) = Accepted (Some scene) (record play { events = play.events + 1; world = Some scene.step.after })
 by_scene play (Err fault) = Refused fault
 
 -- the line of an event, which is refused once a schedule has the most events that it may have
-abbrev pub says_event : Play → ℕ → Event → Verdict Scene Play
+abbrev pub says_event : Play → ℕ → Event → LineVerdict Scene Play
 says_event play number event =
     if nat_lt play.events most_events then by_scene play (event_shown number (world_of play) event) else Refused (whole_line why.TooManyEvents)
 
@@ -150,7 +150,7 @@ abbrev pub in_place : Play → LineFault → LineFault
 in_place play fault = if is_some play.world && is_of_wish fault.why then whole_line why.HeaderLate else fault
 
 -- what a line says changes a configuration, makes an event happen, or does nothing
-abbrev pub by_line : Play → ℕ → Result Line LineFault → Verdict Scene Play
+abbrev pub by_line : Play → ℕ → Result Line LineFault → LineVerdict Scene Play
 by_line play number (Err fault) = Refused (in_place play fault)
 by_line play number (Ok line.Nothing) = Accepted None play
 by_line play number (Ok (line.Version version)) = says_version play version
@@ -162,7 +162,7 @@ by_line play number (Ok (line.Event event)) = says_event play number event
 
 -- A line of this number, without its newline. Its faults are judged in this order: the line by itself up to its words,
 -- that it comes before all events, what an end may wish, the count of events, the frame that it names.
-unfoldable pub judged_line : Play → ℕ → List ℕ → Verdict Scene Play
+unfoldable pub judged_line : Play → ℕ → List ℕ → LineVerdict Scene Play
 judged_line play number line = by_line play number (read_line line)
 
 -- What `run` does with the lines of an input: the events that take place, and at its end the two end lines.

@@ -6,7 +6,7 @@ use Rattle.std.specs.Io.KnownBytes.{append_known, prepend_known}
 use Rattle.std.specs.Prelude.{flat_map, is_some}
 use Rattle.dccp_io.specs.Fronts.{GivesAtMost}
 use Rattle.dccp_io.specs.Lines.{Line, first_line, lines_of, next_in_bytes, text_of}
-use Rattle.tool_text.specs.Jobs.{Job, Verdict, Accepted, Refused, Judges, Gone, GoesIn, by_next, deeds_of, gone_by, gone_from, gone_so_far, gone_through, last_in, line_text, onto, refusal_at, refusal_in, refusal_told, text_in}
+use Rattle.tool_text.specs.Jobs.{Job, LineVerdict, Accepted, Refused, Judges, Gone, GoesIn, by_next, deeds_of, gone_by, gone_from, gone_so_far, gone_through, last_in, line_text, onto, refusal_at, refusal_in, refusal_told, text_in}
 use Rattle.tool_text.specs.Turns.{Leaves}
 use Rattle.tool_text.proofs.FirstLine.{gone-cut, is-line}
 use Rattle.tool_text.specs.Ends.{HasBegun, IsCutOff, IsMovedOut}
@@ -73,7 +73,7 @@ module _ {P V : Type 0} (job : Job P V) (first : V) where
 
   accepted-by : (state next : V) (number given further : ℕ) (left following : Option (List ℕ)) (front text after : List ℕ) (before taken : Option (List ℕ))
       (input : List ℕ)
-      (along : Along job first state number given left front text before taken input) (rest : List (List ℕ)) (verdict : Verdict P V)
+      (along : Along job first state number given left front text before taken input) (rest : List (List ℕ)) (verdict : LineVerdict P V)
       → following ≡ Some (drop further input) → lines_of (drop further input) ≡ rest
       → gone_from job state number given (lines_of (drop given input)) ≡ gone_by state number given verdict (λ v. gone_from job v (number + 1) further rest)
       → Judges job verdict text after next (Ok tt) → Along job first next (number + 1) further following front after before taken input
@@ -198,7 +198,7 @@ module _ {P V : Type 0} (job : Job P V) (first : V) where
     refused-by [] fault is = cc is
     refused-by (byte ∷ bytes) fault is =
         gone-cut job state number given (byte ∷ bytes) (omega arith)
-        ∙ ap (λ (v : Verdict P V). gone_by state number given v (λ (next : V).
+        ∙ ap (λ (v : LineVerdict P V). gone_by state number given v (λ (next : V).
         gone_from job next (number + 1) (given + length (first_line (byte ∷ bytes))) (lines_of (drop (length (first_line (byte ∷ bytes))) (byte ∷ bytes))))) is
 
     -- what comes next is refused

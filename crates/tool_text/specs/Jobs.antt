@@ -13,14 +13,14 @@ use Rattle.tool_text.specs.declared.words.faults.LineWhy.TheVariants as why
 
 -- The result of a line: it is accepted, with what it does, if it does anything, and the state after it; or it is
 -- refused.
-pub data Verdict (P V : Type 0) : Type 0 where
-  Accepted : (deed : Option P) (next : V) → Verdict P V
-  Refused : (fault : LineFault) → Verdict P V
+pub data LineVerdict (P V : Type 0) : Type 0 where
+  Accepted : (deed : Option P) (next : V) → LineVerdict P V
+  Refused : (fault : LineFault) → LineVerdict P V
 
 -- A job over lines: the result of a line without its newline, by the state and its number; the text of what it does;
 -- and the text at the input's end.
 pub record Job (P V : Type 0) : Type 0 where
-  pub judged : V → ℕ → List ℕ → Verdict P V
+  pub judged : V → ℕ → List ℕ → LineVerdict P V
   pub told : P → List ℕ
   pub ending : V → List ℕ
 
@@ -31,7 +31,7 @@ line_text job (Some deed) = job.told deed
 
 -- A line was judged with this result: an accepted one adds its text at the text's end and leads on, a refused one
 -- leaves the text as it was. If memory ran out, nothing is known of the line.
-abbrev pub Judges : {P V : Type 0} → Job P V → Verdict P V → List ℕ → List ℕ → V → Result (Unit {0}) LineError → Type 0
+abbrev pub Judges : {P V : Type 0} → Job P V → LineVerdict P V → List ℕ → List ℕ → V → Result (Unit {0}) LineError → Type 0
 Judges job verdict old new after (Err line_error.NoMemory) = Unit {0}
 Judges job (Accepted deed next) old new after answer = (new ≡ old ++ line_text job deed) × (after ≡ next) × (answer ≡ Ok tt)
 Judges job (Refused fault) old new after answer = (new ≡ old) × (answer ≡ Err (line_error.Refused fault))
@@ -46,7 +46,7 @@ too_long = record { column = 4097; why = why.LineTooLong }
 
 -- The result of what comes next in an input: a line is judged by the job, and one that is too long, or too much for an
 -- input, is refused. If no line comes next, nothing is done.
-abbrev pub by_next : {P V : Type 0} → Job P V → V → ℕ → Next → Verdict P V
+abbrev pub by_next : {P V : Type 0} → Job P V → V → ℕ → Next → LineVerdict P V
 by_next job state number (Line line) = job.judged state number (text_of line)
 by_next job state number (Long front) = Refused too_long
 by_next job state number Much = Refused (whole_line why.TooMuchInput)
@@ -75,7 +75,7 @@ abbrev pub gone_so_far : {P V : Type 0} → V → ℕ → ℕ → Option LineFau
 gone_so_far state number given refusal = record { deeds = []; last = state; number = number; accepted = given; refusal = refusal }
 
 -- the lines that follow count after an accepted line; a refused one is the last
-abbrev pub gone_by : {P V : Type 0} → V → ℕ → ℕ → Verdict P V → (V → Gone P V) → Gone P V
+abbrev pub gone_by : {P V : Type 0} → V → ℕ → ℕ → LineVerdict P V → (V → Gone P V) → Gone P V
 gone_by state number given (Accepted deed next) rest = onto (deeds_of deed) (rest next)
 gone_by state number given (Refused fault) rest = gone_so_far state number given (Some fault)
 
