@@ -9,14 +9,14 @@ use Rattle.dccp_states.specs.declared.outcome.Outcome.{Outcome}
 use Rattle.dccp_states.specs.declared.seen.Seen.TheVariants as seen
 use Rattle.world_events.specs.declared.event.Side.{Side}
 use Rattle.schedule_text.specs.Results.{result_line}
-use Rattle.tool_jobs.specs.Replay.{Act, Acts, opened_line, replay_config, replay_of_input, text_of_replay}
+use Rattle.tool_jobs.specs.Replay.{ReplayStep, Acts, opened_line, replay_config, replay_of_input, text_of_replay}
 
 -- the line of the call `open`, and the end after the call
-abbrev pub bare_opened : EndStep Both (Result (Unit {0}) OpenFault) → Act (End Both)
+abbrev pub bare_opened : EndStep Both (Result (Unit {0}) OpenFault) → ReplayStep (End Both)
 bare_opened step = record { text = opened_line step.answer; after = step.after; frame = step.frame }
 
 -- the line of what the end did with bytes that arrived, and the end after that
-abbrev pub bare_heard : ℕ → List ℕ → EndStep Both Outcome → Act (End Both)
+abbrev pub bare_heard : ℕ → List ℕ → EndStep Both Outcome → ReplayStep (End Both)
 bare_heard number bytes step = record { text = result_line number (seen.Received step.answer) bytes; after = step.after; frame = step.frame }
 
 -- An end alone has no lines besides frames.

@@ -15,10 +15,10 @@ use Rattle.dccp_states.specs.declared.seen.Seen.TheVariants as seen
 use Rattle.world_events.specs.declared.event.Side.{Side}
 use Rattle.schedule_text.specs.Results.{result_line}
 use Rattle.tool_text.specs.Text.{hex_or_dash}
-use Rattle.tool_jobs.specs.Replay.{Act, Acts, Heeded, opened_line, replay_config, replay_of_input, text_of_replay}
+use Rattle.tool_jobs.specs.Replay.{ReplayStep, Acts, Heeded, opened_line, replay_config, replay_of_input, text_of_replay}
 
 -- the line of the call `open`, and the end after the call; its inbox is as it was
-abbrev pub buffered_opened : BufferedCall Both (Result (Unit {0}) OpenFault) → Act (Buffered Both)
+abbrev pub buffered_opened : BufferedCall Both (Result (Unit {0}) OpenFault) → ReplayStep (Buffered Both)
 buffered_opened step = record { text = opened_line step.answer; after = step.after; frame = step.frame }
 
 -- the line of data that were dropped, by their code
@@ -32,7 +32,7 @@ arrival_line number bytes outcome (Some Kept) = result_line number (seen.Receive
 arrival_line number bytes outcome (Some (Dropped code)) = dropped_text number code
 
 -- that line, and the end and its inbox after the bytes that arrived
-abbrev pub buffered_heard : ℕ → List ℕ → BufferedStep Both → Act (Buffered Both)
+abbrev pub buffered_heard : ℕ → List ℕ → BufferedStep Both → ReplayStep (Buffered Both)
 buffered_heard number bytes step = record { text = arrival_line number bytes step.outcome step.arrival; after = step.after; frame = step.frame }
 
 -- the line of data that the application reads

@@ -23,7 +23,7 @@ pub record ReplayState (E : Type 0) : Type 0 where
   pub end : E
 
 -- What an end does: the line that is written of it, the end after it, and the frame that it sends, if any.
-pub record Act (E : Type 0) : Type 0 where
+pub record ReplayStep (E : Type 0) : Type 0 where
   pub text : List ℕ
   pub after : E
   pub frame : Option Outgoing
@@ -36,8 +36,8 @@ pub record Heeded (E : Type 0) : Type 0 where
 -- An end of some kind, as a replay has it: what it does at the call `open`, and with bytes that arrive by the line of
 -- this number; which lines say what it should do itself, and what it does then; and the end whose line comes last.
 pub record Acts (E : Type 0) : Type 0 where
-  pub opening : E → Act E
-  pub hearing : E → ℕ → List ℕ → Act E
+  pub opening : E → ReplayStep E
+  pub hearing : E → ℕ → List ℕ → ReplayStep E
   pub is_own : List ℕ → Bool
   pub heeding : E → ℕ → List ℕ → Heeded E
   pub standing : E → End Both
@@ -66,11 +66,11 @@ abbrev pub first_replay : {E : Type 0} → Side → E → ReplayState E
 first_replay side end = record { sent = 0; side = side; end = end }
 
 -- The line of what the end did, and that of the frame that it sent.
-abbrev pub act_lines : {E : Type 0} → ReplayState E → Act E → List ℕ
+abbrev pub act_lines : {E : Type 0} → ReplayState E → ReplayStep E → List ℕ
 act_lines replay act = act.text ++ reply_line replay.side replay.sent act.frame
 
 -- the end after it, and how many frames it has sent then
-abbrev pub after_act : {E : Type 0} → ReplayState E → Act E → ReplayState E
+abbrev pub after_act : {E : Type 0} → ReplayState E → ReplayStep E → ReplayState E
 after_act replay act = record { sent = replay.sent + count act.frame; side = replay.side; end = act.after }
 
 -- What comes before the first line: its text, and the state of the replay after it.
@@ -88,7 +88,7 @@ abbrev pub begun_replay : {E : Type 0} → Acts E → Side → E → Begun E
 begun_replay acts side end = begun_from acts (first_replay side end) side
 
 -- a line whose frame arrived is accepted, whatever its end made of the frame
-abbrev pub by_act : {E : Type 0} → ReplayState E → Act E → LineVerdict (List ℕ) (ReplayState E)
+abbrev pub by_act : {E : Type 0} → ReplayState E → ReplayStep E → LineVerdict (List ℕ) (ReplayState E)
 by_act replay act = Accepted (Some (act_lines replay act)) (after_act replay act)
 
 -- a line that says nothing is accepted and does nothing, and one with a frame reaches the end
@@ -120,7 +120,7 @@ abbrev pub text_of_replay : {E : Type 0} → Acts E → Side → E → List ℕ 
 text_of_replay acts side end input = (begun_replay acts side end).text ++ text_of_job (replay_job acts) (replay_of_input acts side end input)
 
 -- An act was done in this way: its line is at the text's end.
-abbrev pub Performs : {E : Type 0} → Act E → E → Option Outgoing → List ℕ → List ℕ → Type 0
+abbrev pub Performs : {E : Type 0} → ReplayStep E → E → Option Outgoing → List ℕ → List ℕ → Type 0
 Performs act after frame old new = (after ≡ act.after) × (frame ≡ act.frame) × (new ≡ old ++ act.text)
 
 -- the same where nothing is sent
