@@ -3,7 +3,7 @@ use Rattle.std.proofs.Common.{◌≡◌, ℕ, zero, suc, ◌-◌, ◌≤◌, Boo
 use Rattle.std.specs.List.{list_all}
 use Rattle.std.proofs.lemmas.Bool.{and_parts, and_from, not-true}
 use Rattle.seq_circle.specs.Circle.{distance, is_before}
-use Rattle.congestion_trait.specs.declared.flight.Entry.{Entry}
+use Rattle.congestion_trait.specs.declared.flight.FlightEntry.{FlightEntry}
 use Rattle.congestion_trait.specs.declared.flight.Standing.TheVariants.{Out}
 use Rattle.congestion_trait.specs.Flight.{States, sent, after_report, entry_reported, lost_if, is_passed, is_past, is_congested, is_newly_marked, is_newly_lost, acked_count}
 use Rattle.dccp_options.specs.Vectors.{is_received}
@@ -14,7 +14,7 @@ use Rattle.ccid_two.specs.Mark.{NonePast, IsInOrder, after_reports}
 use Rattle.ccid_two.proofs.Range.{IsSound, IsGrown, grown, sound_report, sound_run, sound_fresh}
 
 -- a report changes no number
-none_past_report : (states : States) (mark : Option ℕ) (entries : List Entry) → NonePast mark entries → NonePast mark (after_report states entries)
+none_past_report : (states : States) (mark : Option ℕ) (entries : List FlightEntry) → NonePast mark entries → NonePast mark (after_report states entries)
 none_past_report states mark [] none = refl
 none_past_report states mark (entry ∷ later) none =
     let passed = is_passed (map (entry_reported states) later) in
@@ -24,7 +24,7 @@ none_past_report states mark (entry ∷ later) none =
     (list_all (λ e. not (is_past mark e.number)) (after_report states later))
     first (none_past_report states mark later parts.1)
 
-none_past_drop : (mark : Option ℕ) (n : ℕ) (entries : List Entry) → NonePast mark entries → NonePast mark (drop n entries)
+none_past_drop : (mark : Option ℕ) (n : ℕ) (entries : List FlightEntry) → NonePast mark entries → NonePast mark (drop n entries)
 none_past_drop mark zero entries none = none
 none_past_drop mark (suc n) [] none = refl
 none_past_drop mark (suc n) (entry ∷ later) none =
@@ -33,7 +33,7 @@ none_past_drop mark (suc n) (entry ∷ later) none =
 not_before_itself : (n : ℕ) → is_before n n ≡ false
 not_before_itself n = let here : distance n n ≡ 0 = omega arith in rw here refl
 
-none_past_push : (number : ℕ) (entries : List Entry) → NonePast (Some number) entries
+none_past_push : (number : ℕ) (entries : List FlightEntry) → NonePast (Some number) entries
     → NonePast (Some number) (entries ++ record { number = number; standing = Out } ∷ [])
 none_past_push number [] none = ap (λ b. not b && true) (not_before_itself number)
 none_past_push number (entry ∷ later) none =
@@ -42,7 +42,7 @@ none_past_push number (entry ∷ later) none =
     (list_all (λ e. not (is_past (Some number) e.number)) (later ++ record { number = number; standing = Out } ∷ []))
     parts.0 (none_past_push number later parts.1)
 
-none_past_sent : (number : ℕ) (entries : List Entry) → NonePast (Some number) entries → NonePast (Some number) (sent entries number)
+none_past_sent : (number : ℕ) (entries : List FlightEntry) → NonePast (Some number) entries → NonePast (Some number) (sent entries number)
 none_past_sent number entries none =
     none_past_drop (Some number) (length (entries ++ record { number = number; standing = Out } ∷ []) - 2048)
     (entries ++ record { number = number; standing = Out } ∷ []) (none_past_push number entries none)
@@ -70,7 +70,7 @@ none_past_run state (Reports states ratio ∷ rest) order none =
 none_past_run state (TimesOut ∷ rest) order none = none_past_run (after_call ccid_control state TimesOut) rest order refl
 
 -- what the mark covers shows no congestion
-nothing_new : (states : States) (mark : Option ℕ) (entries : List Entry) → NonePast mark entries → is_congested states mark entries ≡ false
+nothing_new : (states : States) (mark : Option ℕ) (entries : List FlightEntry) → NonePast mark entries → is_congested states mark entries ≡ false
 nothing_new states mark [] none = refl
 nothing_new states mark (entry ∷ later) none =
     let parts = and_parts (not (is_past mark entry.number)) (list_all (λ e. not (is_past mark e.number)) later) none in

@@ -1,6 +1,6 @@
 -- Both kinds of congestion control, of which one is in force.
 use Rattle.std.specs.Prelude.{ℕ, ◌==◌, ◌||◌, List, [], if◌then◌else◌}
-use Rattle.congestion_trait.specs.declared.flight.Entry.{Entry}
+use Rattle.congestion_trait.specs.declared.flight.FlightEntry.{FlightEntry}
 use Rattle.congestion_trait.specs.Flight.{States, sent, after_report}
 use Rattle.congestion_trait.specs.Control.{Control}
 use Rattle.ccid_two.specs.declared.kinds.ControlKind.{ControlKind}
@@ -11,10 +11,10 @@ use Rattle.ccid_two.specs.Window as two
 pub record Both : Type 0 where
   pub kind : ControlKind
   pub ccid_two : two.State
-  pub fixed : List Entry
+  pub fixed : List FlightEntry
 
 -- the flight list of the kind in force
-abbrev pub flight_by : ControlKind → Both → List Entry
+abbrev pub flight_by : ControlKind → Both → List FlightEntry
 flight_by CcidTwo both = both.ccid_two.flight
 flight_by Fixed both = both.fixed
 

@@ -1,7 +1,7 @@
 -- Both kinds keep the flight list's rules and a window, whichever is in force.
 use Rattle.std.specs.Prelude.{◌≡◌, ℕ, ◌==◌, ◌≤◌, Bool, true, false, cond, List, [], refl}
 use Rattle.std.proofs.Math.Nat.{le-add_right}
-use Rattle.congestion_trait.specs.declared.flight.Entry.{Entry}
+use Rattle.congestion_trait.specs.declared.flight.FlightEntry.{FlightEntry}
 use Rattle.congestion_trait.specs.Flight.{States, sent, after_report}
 use Rattle.congestion_trait.specs.Control.{IsLawful, KeepsWindow}
 use Rattle.ccid_two.specs.declared.kinds.ControlKind.{ControlKind}
@@ -16,19 +16,19 @@ started_empty : (is_fixed : Bool) (both : Both)
 started_empty true both = refl
 started_empty false both = refl
 
-sending_adds : (kind : ControlKind) (ccid_two : two.State) (fixed : List Entry) (number : ℕ)
+sending_adds : (kind : ControlKind) (ccid_two : two.State) (fixed : List FlightEntry) (number : ℕ)
     → let both : Both = record { kind = kind; ccid_two = ccid_two; fixed = fixed } in
     flight_by (sent_by kind both number).kind (sent_by kind both number) ≡ sent (flight_by kind both) number
 sending_adds CcidTwo ccid_two fixed number = refl
 sending_adds Fixed ccid_two fixed number = refl
 
-report_settles : (kind : ControlKind) (ccid_two : two.State) (fixed : List Entry) (states : States) (ratio : ℕ)
+report_settles : (kind : ControlKind) (ccid_two : two.State) (fixed : List FlightEntry) (states : States) (ratio : ℕ)
     → let both : Both = record { kind = kind; ccid_two = ccid_two; fixed = fixed } in
     flight_by (reported_by kind both states ratio).kind (reported_by kind both states ratio) ≡ after_report states (flight_by kind both)
 report_settles CcidTwo ccid_two fixed states ratio = refl
 report_settles Fixed ccid_two fixed states ratio = refl
 
-timeout_empties : (kind : ControlKind) (ccid_two : two.State) (fixed : List Entry)
+timeout_empties : (kind : ControlKind) (ccid_two : two.State) (fixed : List FlightEntry)
     → let both : Both = record { kind = kind; ccid_two = ccid_two; fixed = fixed } in
     flight_by (timed_out_by kind both).kind (timed_out_by kind both) ≡ []
 timeout_empties CcidTwo ccid_two fixed = refl
@@ -40,19 +40,19 @@ started_open : (is_fixed : Bool) (both : Both)
 started_open true both = le-add_right 1 7
 started_open false both = le-add_right 1 3
 
-sending_keeps : (kind : ControlKind) (ccid_two : two.State) (fixed : List Entry) (number : ℕ)
+sending_keeps : (kind : ControlKind) (ccid_two : two.State) (fixed : List FlightEntry) (number : ℕ)
     → let both : Both = record { kind = kind; ccid_two = ccid_two; fixed = fixed } in
     1 ≤ window_by kind both → 1 ≤ window_by (sent_by kind both number).kind (sent_by kind both number)
 sending_keeps CcidTwo ccid_two fixed number wide = wide
 sending_keeps Fixed ccid_two fixed number wide = wide
 
-report_keeps : (kind : ControlKind) (ccid_two : two.State) (fixed : List Entry) (states : States) (ratio : ℕ)
+report_keeps : (kind : ControlKind) (ccid_two : two.State) (fixed : List FlightEntry) (states : States) (ratio : ℕ)
     → let both : Both = record { kind = kind; ccid_two = ccid_two; fixed = fixed } in
     1 ≤ window_by kind both → 1 ≤ window_by (reported_by kind both states ratio).kind (reported_by kind both states ratio)
 report_keeps CcidTwo ccid_two fixed states ratio wide = ccid_window_stays.report_keeps ccid_two states ratio wide
 report_keeps Fixed ccid_two fixed states ratio wide = wide
 
-timeout_opens : (kind : ControlKind) (ccid_two : two.State) (fixed : List Entry)
+timeout_opens : (kind : ControlKind) (ccid_two : two.State) (fixed : List FlightEntry)
     → let both : Both = record { kind = kind; ccid_two = ccid_two; fixed = fixed } in
     1 ≤ window_by (timed_out_by kind both).kind (timed_out_by kind both)
 timeout_opens CcidTwo ccid_two fixed = le-add_right 1 0

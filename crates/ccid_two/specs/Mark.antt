@@ -1,13 +1,13 @@
 -- What one recovery mark covers.
 use Rattle.std.specs.Prelude.{ℕ, not, List, [], ◌∷◌, Option, Some, IsTrue}
 use Rattle.std.specs.List.{list_all}
-use Rattle.congestion_trait.specs.declared.flight.Entry.{Entry}
+use Rattle.congestion_trait.specs.declared.flight.FlightEntry.{FlightEntry}
 use Rattle.congestion_trait.specs.Flight.{States, is_past}
 use Rattle.congestion_trait.specs.Calls.{Call, Starts, Sends, Reports, TimesOut, after_call}
 use Rattle.ccid_two.specs.Window.{State, with_report, ccid_control}
 
 -- no entry's number is past the mark
-abbrev pub NonePast : Option ℕ → List Entry → Type 0
+abbrev pub NonePast : Option ℕ → List FlightEntry → Type 0
 NonePast mark entries = IsTrue (list_all (λ entry. not (is_past mark entry.number)) entries)
 
 -- each number is sent after those in the list

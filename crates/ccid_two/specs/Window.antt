@@ -1,13 +1,13 @@
 -- The window of CCID 2 (RFC 4341, section 5; the initial numbers, lower ends, roundings and the cap are own).
 use Rattle.std.specs.Prelude.{ℕ, ◌+◌, ◌/◌, ◌%◌, ◌==◌, ◌≤◌, Bool, true, false, nat_lt, nat_le, min, max, List, [], Option, Some, None, if◌then◌else◌}
-use Rattle.congestion_trait.specs.declared.flight.Entry.{Entry}
+use Rattle.congestion_trait.specs.declared.flight.FlightEntry.{FlightEntry}
 use Rattle.congestion_trait.specs.Flight.{States, sent, after_report, acked_count, is_congested}
 use Rattle.congestion_trait.specs.Control.{Control}
 
 -- the flight list, the congestion window and the slow-start threshold in packets, how many acknowledged packets did not
 -- yet open the window, the recovery mark, and the number sent last since the start
 pub record State : Type 0 where
-  pub flight : List Entry
+  pub flight : List FlightEntry
   pub window : ℕ
   pub threshold : ℕ
   pub credit : ℕ

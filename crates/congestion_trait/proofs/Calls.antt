@@ -3,7 +3,7 @@ use Rattle.std.proofs.Common.{◌≡◌, ℕ, ◌+◌, ◌-◌, ◌<◌, Bool, t
 use Rattle.std.specs.List.{list_any}
 use Rattle.std.proofs.lemmas.Bool.{cases_lt}
 use Rattle.std.proofs.lemmas.List.{length_push, get_or_push, get_or_append_left, get_or-drop}
-use Rattle.congestion_trait.specs.declared.flight.Entry.{Entry}
+use Rattle.congestion_trait.specs.declared.flight.FlightEntry.{FlightEntry}
 use Rattle.congestion_trait.specs.declared.flight.Standing.{Standing}
 use Rattle.congestion_trait.specs.declared.flight.Standing.TheVariants.{Out, Reported}
 use Rattle.congestion_trait.specs.Flight.{sent, Has, HasEntry}
@@ -12,12 +12,12 @@ use Rattle.congestion_trait.specs.Calls.{Call, Starts, Sends, Reports, TimesOut,
 use Rattle.congestion_trait.proofs.Standings.{reported_before_or_received, out_before, listed_before}
 
 -- what is in a list that lost its front and was given one more stood there, or is the last
-has_sent : (entries : List Entry) (next number excess : ℕ) (standing : Standing)
+has_sent : (entries : List FlightEntry) (next number excess : ℕ) (standing : Standing)
     → Has (drop excess (entries ++ record { number = next; standing = Out } ∷ [])) number standing
-    → Has entries number standing ⊎ (◌≡◌ {A = Entry} (record { number = next; standing = Out }) (record { number = number; standing = standing }))
+    → Has entries number standing ⊎ (◌≡◌ {A = FlightEntry} (record { number = next; standing = Out }) (record { number = number; standing = standing }))
 has_sent entries next number excess standing h =
-    let new : Entry = record { number = next; standing = Out } in
-    let it : Entry = record { number = number; standing = standing } in
+    let new : FlightEntry = record { number = next; standing = Out } in
+    let it : FlightEntry = record { number = number; standing = standing } in
     let all = entries ++ new ∷ [] in
     let longer = length_push entries new in
     let rest = length-drop excess all in
@@ -27,25 +27,25 @@ has_sent entries next number excess standing h =
     (λ past. inr (sym (get_or_push entries new it (excess + h.0) (omega arith)) ∙ read))
     (cases_lt (excess + h.0) (length entries))
 
-pub reported_sent : (entries : List Entry) (next number : ℕ) → Has (sent entries next) number Reported → Has entries number Reported
+pub reported_sent : (entries : List FlightEntry) (next number : ℕ) → Has (sent entries next) number Reported → Has entries number Reported
 reported_sent entries next number h =
     ⊎_elim (λ before. before)
-    (λ is. let standings : Out ≡ Reported = ap (λ (e : Entry). e.standing) is in cc)
+    (λ is. let standings : Out ≡ Reported = ap (λ (e : FlightEntry). e.standing) is in cc)
     (has_sent entries next number (length (entries ++ record { number = next; standing = Out } ∷ []) - 2048) Reported h)
 
-pub out_sent : (entries : List Entry) (next number : ℕ) → Has (sent entries next) number Out → Has entries number Out ⊎ (number ≡ next)
+pub out_sent : (entries : List FlightEntry) (next number : ℕ) → Has (sent entries next) number Out → Has entries number Out ⊎ (number ≡ next)
 out_sent entries next number h =
     ⊎_elim (λ before. inl before)
-    (λ is. inr (sym (ap (λ (e : Entry). e.number) is)))
+    (λ is. inr (sym (ap (λ (e : FlightEntry). e.number) is)))
     (has_sent entries next number (length (entries ++ record { number = next; standing = Out } ∷ []) - 2048) Out h)
 
-pub listed_sent : (entries : List Entry) (next number : ℕ) → HasEntry (sent entries next) number → HasEntry entries number ⊎ (number ≡ next)
+pub listed_sent : (entries : List FlightEntry) (next number : ℕ) → HasEntry (sent entries next) number → HasEntry entries number ⊎ (number ≡ next)
 listed_sent entries next number h =
     ⊎_elim (λ before. inl (h.0, before))
-    (λ is. inr (sym (ap (λ (e : Entry). e.number) is)))
+    (λ is. inr (sym (ap (λ (e : FlightEntry). e.number) is)))
     (has_sent entries next number (length (entries ++ record { number = next; standing = Out } ∷ []) - 2048) h.0 h.1)
 
-nothing_there : (number : ℕ) (standing : Standing) (entries : List Entry) → entries ≡ [] → Has entries number standing → ⊥
+nothing_there : (number : ℕ) (standing : Standing) (entries : List FlightEntry) → entries ≡ [] → Has entries number standing → ⊥
 nothing_there number standing entries none h = let few = ap length none in omega (arith, few, h.1)
 
 module _ {S : Type 0} (control : Control S) (lawful : IsLawful control) where

@@ -3,7 +3,7 @@ use Rattle.std.proofs.Common.{◌≡◌, ℕ, suc, ◌+◌, ◌<◌, ◌≤◌, 
 use Rattle.std.proofs.lemmas.List.Sums.{sum_by-cons, count_by-le-length}
 use Rattle.std.proofs.lemmas.List.{take_more, drop_more, get_or_append_left, get_or-take, length-take-le, set_at, length-map}
 use Rattle.std.proofs.lemmas.Option.{get_or_from_slice_get}
-use Rattle.congestion_trait.specs.declared.flight.Entry.{Entry}
+use Rattle.congestion_trait.specs.declared.flight.FlightEntry.{FlightEntry}
 use Rattle.congestion_trait.specs.declared.flight.Standing.{Standing}
 use Rattle.congestion_trait.specs.declared.flight.Standing.TheVariants.{Out, Reported, Lost}
 use Rattle.congestion_trait.specs.declared.walk.Walk.{Walk}
@@ -11,12 +11,12 @@ use Rattle.dccp_options.specs.Vectors.{is_received, is_unmarked, is_marked}
 use Rattle.congestion_trait.specs.Flight.{States, pipe_of, reported_count, after_report, acked_count, is_congested, is_out, is_reported, is_past, is_newly_lost, is_newly_marked, is_newly_acked, entry_reported, lost_if, is_passed, with_losses}
 use Rattle.congestion_trait.specs.Walk.{standing_after, one_if, IsAlong}
 
-lost_where : (test : Bool) (x : Entry) → cond test (record x { standing = Lost }) x ≡ record x { standing = cond test Lost x.standing }
+lost_where : (test : Bool) (x : FlightEntry) → cond test (record x { standing = Lost }) x ≡ record x { standing = cond test Lost x.standing }
 lost_where true x = refl
 lost_where false x = refl
 
 -- an entry after a report, in one step
-pub settled-is : (received passed : Bool) (x : Entry)
+pub settled-is : (received passed : Bool) (x : FlightEntry)
     → lost_if passed (cond received (record x { standing = Reported }) x)
     ≡ record x { standing = cond received Reported (cond (is_out x.standing && passed) Lost x.standing) }
 settled-is true passed x = refl
@@ -29,14 +29,14 @@ lost_unreported passed Reported = refl
 lost_unreported passed Lost = refl
 
 -- a loss makes nothing Reported
-still_reported : (received passed : Bool) (x : Entry)
+still_reported : (received passed : Bool) (x : FlightEntry)
     → is_reported (cond received (record x { standing = Reported }) x).standing
     ≡ is_reported (cond received Reported (cond (is_out x.standing && passed) Lost x.standing))
 still_reported true passed x = refl
 still_reported false passed x = lost_unreported passed x.standing
 
 -- what was received is not lost
-lost_unreceived : (received passed : Bool) (x : Entry)
+lost_unreceived : (received passed : Bool) (x : FlightEntry)
     → (is_out (cond received (record x { standing = Reported }) x).standing && passed) ≡ (is_out x.standing && not received && passed)
 lost_unreceived received passed x =
     elim received as (λ r. (is_out (cond r (record x { standing = Reported }) x).standing && passed) ≡ (is_out x.standing && not r && passed)) [
@@ -45,7 +45,7 @@ lost_unreceived received passed x =
     ]
 
 -- what one entry adds to a walk
-pub record IsStep (state mark : Option ℕ) (x : Entry) (walk next : Walk) (standing : Standing) : Type 0 where
+pub record IsStep (state mark : Option ℕ) (x : FlightEntry) (walk next : Walk) (standing : Standing) : Type 0 where
   pub stands : standing ≡ standing_after state (leb 3 walk.reported) x.standing
   pub acked : next.acked ≡ walk.acked + one_if (not (is_reported x.standing) && is_unmarked state)
   pub congested : next.congested ≡ (is_past mark x.number
@@ -57,14 +57,14 @@ pub record IsStep (state mark : Option ℕ) (x : Entry) (walk next : Walk) (stan
   pub seen : next.seen ≡ walk.seen + one_if (is_out x.standing)
 
 -- a walk over these entries
-pub record IsWalk (told : States) (mark : Option ℕ) (later : List Entry) (walk : Walk) : Type 0 where
+pub record IsWalk (told : States) (mark : Option ℕ) (later : List FlightEntry) (walk : Walk) : Type 0 where
   pub acked : walk.acked ≡ acked_count told later
   pub congested : walk.congested ≡ is_congested told mark later
   pub reported : walk.reported ≡ reported_count (map (entry_reported told) later)
   pub out : walk.out ≡ pipe_of (after_report told later)
   pub seen : walk.seen ≡ pipe_of later
 
-module _ (told : States) (mark : Option ℕ) (later : List Entry) (x : Entry) (walk next : Walk) (standing : Standing)
+module _ (told : States) (mark : Option ℕ) (later : List FlightEntry) (x : FlightEntry) (walk next : Walk) (standing : Standing)
     (so_far : IsWalk told mark later walk) (step : IsStep (told x.number) mark x walk next standing) where
   entry_settled : lost_if (is_passed (map (entry_reported told) later)) (entry_reported told x) ≡ record x { standing = standing }
   entry_settled =
@@ -76,17 +76,17 @@ module _ (told : States) (mark : Option ℕ) (later : List Entry) (x : Entry) (w
 
   acked_more : next.acked ≡ acked_count told (x ∷ later)
   acked_more =
-      let first = sum_by-cons (λ (e : Entry). cond (is_newly_acked told e) 1 0) x later in
+      let first = sum_by-cons (λ (e : FlightEntry). cond (is_newly_acked told e) 1 0) x later in
       omega (arith, first, step.acked, so_far.acked)
 
   out_more : next.out ≡ pipe_of (after_report told (x ∷ later))
   out_more =
-      let first = sum_by-cons (λ (e : Entry). cond (is_out e.standing) 1 0) (record x { standing = standing }) (after_report told later) in
+      let first = sum_by-cons (λ (e : FlightEntry). cond (is_out e.standing) 1 0) (record x { standing = standing }) (after_report told later) in
       rw list_settled (omega (arith, first, step.out, so_far.out))
 
   reported_more : next.reported ≡ reported_count (map (entry_reported told) (x ∷ later))
   reported_more =
-      let first = sum_by-cons (λ (e : Entry). cond (is_reported e.standing) 1 0) (entry_reported told x) (map (entry_reported told) later) in
+      let first = sum_by-cons (λ (e : FlightEntry). cond (is_reported e.standing) 1 0) (entry_reported told x) (map (entry_reported told) later) in
       let same = still_reported (is_received (told x.number)) (leb 3 walk.reported) x in
       let now = ap (λ s. one_if (is_reported s)) step.stands in
       let one = ap one_if same in
@@ -104,14 +104,14 @@ module _ (told : States) (mark : Option ℕ) (later : List Entry) (x : Entry) (w
 
   seen_more : next.seen ≡ pipe_of (x ∷ later)
   seen_more =
-      let first = sum_by-cons (λ (e : Entry). cond (is_out e.standing) 1 0) x later in
+      let first = sum_by-cons (λ (e : FlightEntry). cond (is_out e.standing) 1 0) x later in
       omega (arith, first, step.seen, so_far.seen)
 
   pub walk_more : IsWalk told mark (x ∷ later) next
   walk_more = record { acked = acked_more; congested = congested_more; reported = reported_more; out = out_more; seen = seen_more }
 
 -- what is at the place below the walk, which it did not change
-module _ (told : States) (mark : Option ℕ) (old now : List Entry) (n i : ℕ) (x : Entry) (walk : Walk)
+module _ (told : States) (mark : Option ℕ) (old now : List FlightEntry) (n i : ℕ) (x : FlightEntry) (walk : Walk)
     (one : n ≡ i + 1) (within : n ≤ length old) (along : IsAlong told mark old n now walk) (read : slice_get now i ≡ Some x) where
   read_old : get_or old i x ≡ x
   read_old =
@@ -127,7 +127,7 @@ module _ (told : States) (mark : Option ℕ) (old now : List Entry) (n i : ℕ) 
   front_cut = ap (λ k. take k old) one ∙ take_more old i x (omega arith) ∙ ap (λ e. take i old ++ e ∷ []) read_old
 
 -- one entry further
-pub turn : (told : States) (mark state : Option ℕ) (old now : List Entry) (n i : ℕ) (x : Entry) (walk next : Walk) (standing : Standing)
+pub turn : (told : States) (mark state : Option ℕ) (old now : List FlightEntry) (n i : ℕ) (x : FlightEntry) (walk next : Walk) (standing : Standing)
     → n ≡ i + 1 → n ≤ length old → IsAlong told mark old n now walk → slice_get now i ≡ Some x
     → state ≡ told x.number → IsStep state mark x walk next standing
     → IsAlong told mark old i (slice_set now i (record x { standing = standing })) next
@@ -153,25 +153,25 @@ turn told mark state old now n i x walk next standing one within along read same
       seen = rw cut more.seen;
     }
 
-pub length-with_losses : (entries : List Entry) → length (with_losses entries) ≡ length entries
+pub length-with_losses : (entries : List FlightEntry) → length (with_losses entries) ≡ length entries
 length-with_losses [] = refl
 length-with_losses (entry ∷ later) = ap suc (length-with_losses later)
 
-pub length-after_report : (told : States) (entries : List Entry) → length (after_report told entries) ≡ length entries
+pub length-after_report : (told : States) (entries : List FlightEntry) → length (after_report told entries) ≡ length entries
 length-after_report told entries = length-with_losses (map (entry_reported told) entries) ∙ length-map entries (entry_reported told)
 
 -- while an entry is left, each count is below the length
-pub few_yet : (told : States) (mark : Option ℕ) (old now : List Entry) (n : ℕ) (walk : Walk)
+pub few_yet : (told : States) (mark : Option ℕ) (old now : List FlightEntry) (n : ℕ) (walk : Walk)
     → 0 < n → n ≤ length old → length old ≤ 2048 → IsAlong told mark old n now walk
     → (walk.acked < 2048) × (walk.reported < 2048) × (walk.out < 2048) × (walk.seen < 2048)
 few_yet told mark old now n walk some within few along =
     let rest = length-drop n old in
-    let acked = count_by-le-length (λ (e : Entry). is_newly_acked told e) (drop n old) in
-    let those = count_by-le-length (λ (e : Entry). is_reported e.standing) (map (entry_reported told) (drop n old)) in
+    let acked = count_by-le-length (λ (e : FlightEntry). is_newly_acked told e) (drop n old) in
+    let those = count_by-le-length (λ (e : FlightEntry). is_reported e.standing) (map (entry_reported told) (drop n old)) in
     let all = length-map (drop n old) (entry_reported told) in
-    let out = count_by-le-length (λ (e : Entry). is_out e.standing) (after_report told (drop n old)) in
+    let out = count_by-le-length (λ (e : FlightEntry). is_out e.standing) (after_report told (drop n old)) in
     let same = length-after_report told (drop n old) in
-    let seen = count_by-le-length (λ (e : Entry). is_out e.standing) (drop n old) in (
+    let seen = count_by-le-length (λ (e : FlightEntry). is_out e.standing) (drop n old) in (
       omega (arith, rest, acked, along.acked),
       omega (arith, rest, those, all, along.reported),
       omega (arith, rest, out, same, along.out),

@@ -11,7 +11,7 @@ use Rattle.std.proofs.lemmas.List.Sums.{sum_by-cons}
 use Rattle.std.proofs.lemmas.Option.{slice_get_past}
 use Rattle.seq_circle.specs.Circle.{distance}
 use Rattle.dccp_options.specs.Vectors.{is_received, is_unmarked, is_marked, state_at, states, state_of, run_length}
-use Rattle.congestion_trait.specs.declared.flight.Entry.{Entry}
+use Rattle.congestion_trait.specs.declared.flight.FlightEntry.{FlightEntry}
 use Rattle.congestion_trait.specs.declared.flight.Standing.{Standing}
 use Rattle.congestion_trait.specs.declared.flight.Standing.TheVariants.{Out, Reported, Lost}
 use Rattle.congestion_trait.specs.Flight.{States, pipe_of, reported_count, after_report, acked_count, is_congested, is_out, is_reported, is_past, entry_reported, lost_if, is_passed}
@@ -19,7 +19,7 @@ use Rattle.seq_circle.proofs.Near.{all_low, near_drop}
 use Rattle.congestion_trait.specs.Walk.{AllOut, is_unheard, AllUnheard, numbers, IsAlong}
 use Rattle.seq_circle.specs.Near.{AreNear}
 
-abbrev at : ℕ → Standing → Entry
+abbrev at : ℕ → Standing → FlightEntry
 at number standing = record { number = number; standing = standing }
 
 -- an entry that stands so is Out, and is not said to be received
@@ -61,19 +61,19 @@ no_news Out true false false number h = refl
 no_news Reported true unmarked marked number h = cc
 no_news Lost true unmarked marked number h = cc
 
-none_reported : (told : States) (entries : List Entry) → AllUnheard told entries → reported_count (map (entry_reported told) entries) ≡ 0
+none_reported : (told : States) (entries : List FlightEntry) → AllUnheard told entries → reported_count (map (entry_reported told) entries) ≡ 0
 none_reported told [] all = refl
 none_reported told (entry ∷ later) all =
     let parts = and_parts (is_unheard told entry) (list_all (λ e. is_unheard told e) later) all in
-    let first = sum_by-cons (λ (e : Entry). cond (is_reported e.standing) 1 0) (entry_reported told entry) (map (entry_reported told) later) in
+    let first = sum_by-cons (λ (e : FlightEntry). cond (is_reported e.standing) 1 0) (entry_reported told entry) (map (entry_reported told) later) in
     let none : cond (is_reported (entry_reported told entry).standing) 1 0 ≡ 0 =
     ap {B = ℕ} (λ b. cond b 1 0) (unreported entry.standing (is_received (told entry.number)) entry.number parts.0) in
     omega (arith, first, none, none_reported told later parts.1)
 
-not_passed : (told : States) (entries : List Entry) → AllUnheard told entries → is_passed (map (entry_reported told) entries) ≡ false
+not_passed : (told : States) (entries : List FlightEntry) → AllUnheard told entries → is_passed (map (entry_reported told) entries) ≡ false
 not_passed told entries all = rw (none_reported told entries all) refl
 
-pub report_unheard : (told : States) (entries : List Entry) → AllUnheard told entries → after_report told entries ≡ entries
+pub report_unheard : (told : States) (entries : List FlightEntry) → AllUnheard told entries → after_report told entries ≡ entries
 report_unheard told [] all = refl
 report_unheard told (entry ∷ later) all =
     let parts = and_parts (is_unheard told entry) (list_all (λ e. is_unheard told e) later) all in
@@ -82,16 +82,16 @@ report_unheard told (entry ∷ later) all =
     ∙ ap (λ e. e ∷ after_report told later) (stays entry.standing received entry.number parts.0)
     ∙ ap (λ l. entry ∷ l) (report_unheard told later parts.1)
 
-acked_unheard : (told : States) (entries : List Entry) → AllUnheard told entries → acked_count told entries ≡ 0
+acked_unheard : (told : States) (entries : List FlightEntry) → AllUnheard told entries → acked_count told entries ≡ 0
 acked_unheard told [] all = refl
 acked_unheard told (entry ∷ later) all =
     let parts = and_parts (is_unheard told entry) (list_all (λ e. is_unheard told e) later) all in
-    let first = sum_by-cons (λ (e : Entry). cond (not (is_reported e.standing) && is_unmarked (told e.number)) 1 0) entry later in
+    let first = sum_by-cons (λ (e : FlightEntry). cond (not (is_reported e.standing) && is_unmarked (told e.number)) 1 0) entry later in
     let none : cond (not (is_reported entry.standing) && is_unmarked (told entry.number)) 1 0 ≡ 0 =
     ap {B = ℕ} (λ b. cond b 1 0) (not_acked entry.standing (is_unmarked (told entry.number)) (is_marked (told entry.number)) parts.0) in
     omega (arith, first, none, acked_unheard told later parts.1)
 
-congested_unheard : (told : States) (mark : Option ℕ) (entries : List Entry) → AllUnheard told entries → is_congested told mark entries ≡ false
+congested_unheard : (told : States) (mark : Option ℕ) (entries : List FlightEntry) → AllUnheard told entries → is_congested told mark entries ≡ false
 congested_unheard told mark [] all = refl
 congested_unheard told mark (entry ∷ later) all =
     let parts = and_parts (is_unheard told entry) (list_all (λ e. is_unheard told e) later) all in
@@ -102,17 +102,17 @@ congested_unheard told mark (entry ∷ later) all =
     ∙ ap (λ b. b || is_congested told mark later) (no_news entry.standing past (is_unmarked state) (is_marked state) entry.number parts.0)
     ∙ congested_unheard told mark later parts.1
 
-pipe_unheard : (told : States) (entries : List Entry) → AllUnheard told entries → pipe_of entries ≡ length entries
+pipe_unheard : (told : States) (entries : List FlightEntry) → AllUnheard told entries → pipe_of entries ≡ length entries
 pipe_unheard told [] all = refl
 pipe_unheard told (entry ∷ later) all =
     let parts = and_parts (is_unheard told entry) (list_all (λ e. is_unheard told e) later) all in
-    let first = sum_by-cons (λ (e : Entry). cond (is_out e.standing) 1 0) entry later in
+    let first = sum_by-cons (λ (e : FlightEntry). cond (is_out e.standing) 1 0) entry later in
     let one : cond (is_out entry.standing) 1 0 ≡ 1 =
     ap {B = ℕ} (λ b. cond b 1 0) (out_of entry.standing (is_received (told entry.number)) parts.0) in
     omega (arith, first, one, pipe_unheard told later parts.1)
 
 -- before the newest entry that the report may reach
-pub begins_from : (told : States) (mark : Option ℕ) (old : List Entry) (heard unheard : ℕ) → AllUnheard told (drop heard old) → unheard ≡ length old - heard
+pub begins_from : (told : States) (mark : Option ℕ) (old : List FlightEntry) (heard unheard : ℕ) → AllUnheard told (drop heard old) → unheard ≡ length old - heard
     → IsAlong told mark old heard old record { acked = 0; congested = false; reported = 0; out = unheard; seen = unheard; heard = heard }
 begins_from told mark old heard unheard all is =
     let same = report_unheard told (drop heard old) all in
@@ -126,12 +126,12 @@ begins_from told mark old heard unheard all is =
       seen = count;
     }
 
-drop-after_report : (told : States) (n : ℕ) (entries : List Entry) → drop n (after_report told entries) ≡ after_report told (drop n entries)
+drop-after_report : (told : States) (n : ℕ) (entries : List FlightEntry) → drop n (after_report told entries) ≡ after_report told (drop n entries)
 drop-after_report told zero entries = refl
 drop-after_report told (suc n) [] = refl
 drop-after_report told (suc n) (entry ∷ later) = drop-after_report told n later
 
-out_unheard : (told : States) (entries : List Entry) → AllUnheard told entries → AllOut entries
+out_unheard : (told : States) (entries : List FlightEntry) → AllUnheard told entries → AllOut entries
 out_unheard told [] all = refl
 out_unheard told (entry ∷ later) all =
     let parts = and_parts (is_unheard told entry) (list_all (λ e. is_unheard told e) later) all in
@@ -139,24 +139,24 @@ out_unheard told (entry ∷ later) all =
     ∙ out_unheard told later parts.1
 
 -- what a report does not reach is Out after it
-pub out_after : (told : States) (n : ℕ) (entries : List Entry) → AllUnheard told (drop n entries) → AllOut (drop n (after_report told entries))
+pub out_after : (told : States) (n : ℕ) (entries : List FlightEntry) → AllUnheard told (drop n entries) → AllOut (drop n (after_report told entries))
 out_after told n entries all =
     subst AllOut (sym (drop-after_report told n entries ∙ report_unheard told (drop n entries) all)) (out_unheard told (drop n entries) all)
 
-out_drop : (n : ℕ) (entries : List Entry) → AllOut entries → AllOut (drop n entries)
+out_drop : (n : ℕ) (entries : List FlightEntry) → AllOut entries → AllOut (drop n entries)
 out_drop zero entries all = all
 out_drop (suc n) [] all = refl
 out_drop (suc n) (entry ∷ later) all =
     out_drop n later (and_parts (is_out entry.standing) (list_all (λ e. is_out e.standing) later) all).1
 
 -- from a later place on all are Out too
-pub out_from : (n m : ℕ) (entries : List Entry) → n ≤ m → AllOut (drop n entries) → AllOut (drop m entries)
+pub out_from : (n m : ℕ) (entries : List FlightEntry) → n ≤ m → AllOut (drop n entries) → AllOut (drop m entries)
 out_from n m entries later all =
     let rest = out_drop (m - n) (drop n entries) all in
     let same : n + (m - n) ≡ m = omega arith in
     subst (λ k. AllOut (drop k entries)) same (subst AllOut (drop-drop (m - n) n entries) rest)
 
-out_push : (xs : List Entry) (entry : Entry) → AllOut xs → is_out entry.standing ≡ true → AllOut (xs ++ entry ∷ [])
+out_push : (xs : List FlightEntry) (entry : FlightEntry) → AllOut xs → is_out entry.standing ≡ true → AllOut (xs ++ entry ∷ [])
 out_push [] entry all is = ap (λ r. r && true) is
 out_push (x ∷ xs) entry all is =
     let parts = and_parts (is_out x.standing) (list_all (λ e. is_out e.standing) xs) all in
@@ -176,10 +176,10 @@ not_reached ack n bytes few far =
 following : (ack x y span : ℕ) → x < 2 ^ 48 → y < 2 ^ 48 → distance x y ≤ span → span + 64512 ≤ distance x ack → 64512 ≤ distance y ack
 following ack x y span first second close far = omega arith
 
-unheard_at : (told : States) (entry : Entry) → is_out entry.standing ≡ true → told entry.number ≡ None → is_unheard told entry ≡ true
+unheard_at : (told : States) (entry : FlightEntry) → is_out entry.standing ≡ true → told entry.number ≡ None → is_unheard told entry ≡ true
 unheard_at told entry out none = ap (λ b. b && not (is_received (told entry.number))) out ∙ ap (λ s. not (is_received s)) none
 
-all_unheard : (told : States) (P : ℕ → Type 0) → ((n : ℕ) → P n → told n ≡ None) → (entries : List Entry) → AllOut entries
+all_unheard : (told : States) (P : ℕ → Type 0) → ((n : ℕ) → P n → told n ≡ None) → (entries : List FlightEntry) → AllOut entries
     → AllByRecursion P (numbers entries) → AllUnheard told entries
 all_unheard told P none [] out all = refl
 all_unheard told P none (entry ∷ later) out all =
@@ -196,7 +196,7 @@ both P Q [] one other = tt
 both P Q (x ∷ xs) one other = ((one.0, other.0), both P Q xs one.1 other.1)
 
 -- the entries from one on are near it, and it lies after all that the report reaches
-all_after : (ack : ℕ) (bytes : List ℕ) (span : ℕ) (x : Entry) (later : List Entry) → length bytes ≤ 1008 → AllOut (x ∷ later)
+all_after : (ack : ℕ) (bytes : List ℕ) (span : ℕ) (x : FlightEntry) (later : List FlightEntry) → length bytes ≤ 1008 → AllOut (x ∷ later)
     → AreNear span (numbers (x ∷ later)) → span + 64512 ≤ distance x.number ack → AllUnheard (state_at ack bytes) (x ∷ later)
 all_after ack bytes span x later few out near far =
     let low = all_low span (numbers (x ∷ later)) near in
@@ -205,14 +205,14 @@ all_after ack bytes span x later few out near far =
     (λ n at. not_reached ack n bytes few (following ack x.number n span near.0 at.0 at.1 far)) (x ∷ later) out
     (both (λ n. n < 2 ^ 48) (λ n. distance x.number n ≤ span) (numbers (x ∷ later)) low close)
 
-read_first : (i : ℕ) (old : List Entry) (x : Entry) → slice_get old i ≡ Some x → (later : List Entry) × (drop i old ≡ x ∷ later)
+read_first : (i : ℕ) (old : List FlightEntry) (x : FlightEntry) → slice_get old i ≡ Some x → (later : List FlightEntry) × (drop i old ≡ x ∷ later)
 read_first zero [] x read = cc
 read_first zero (y ∷ later) x read = (later, cc)
 read_first (suc i) [] x read = cc
 read_first (suc i) (y ∷ later) x read = read_first i later x read
 
 -- where an entry lies after all that the report reaches, so do those from it on
-pub unheard_after : (ack : ℕ) (bytes : List ℕ) (span i : ℕ) (old : List Entry) (x : Entry) → length bytes ≤ 1008 → slice_get old i ≡ Some x
+pub unheard_after : (ack : ℕ) (bytes : List ℕ) (span i : ℕ) (old : List FlightEntry) (x : FlightEntry) → length bytes ≤ 1008 → slice_get old i ≡ Some x
     → AllOut (drop i old) → (span < 2 ^ 48 → AreNear span (numbers old))
     → (bytes ≡ []) ⊎ (span + 64512 ≤ distance x.number ack) → AllUnheard (state_at ack bytes) (drop i old)
 unheard_after ack bytes span i old x few read out near (inl empty) =
@@ -220,12 +220,12 @@ unheard_after ack bytes span i old x few read out near (inl empty) =
 unheard_after ack bytes span i old x few read out near (inr far) =
     let first = read_first i old x read in
     let small : span < 2 ^ 48 = omega (arith, far) in
-    let dropped : drop i (numbers old) ≡ numbers (drop i old) = drop-map (λ (e : Entry). e.number) i old in
+    let dropped : drop i (numbers old) ≡ numbers (drop i old) = drop-map (λ (e : FlightEntry). e.number) i old in
     let rest : AreNear span (numbers (drop i old)) = subst (AreNear span) dropped (near_drop span i (numbers old) (near small)) in
     subst (λ l. AllUnheard (state_at ack bytes) l) (sym first.1)
     (all_after ack bytes span x first.0 few (subst AllOut first.1 out) (subst (λ l. AreNear span (numbers l)) first.1 rest) far)
 
-one_left : (x : Entry) (xs : List Entry) (entry : Entry) (heard : ℕ) → heard ≤ length (x ∷ xs) → is_out entry.standing ≡ true
+one_left : (x : FlightEntry) (xs : List FlightEntry) (entry : FlightEntry) (heard : ℕ) → heard ≤ length (x ∷ xs) → is_out entry.standing ≡ true
     → AllOut (drop heard (x ∷ xs)) → AllOut (drop (heard - 1) (xs ++ entry ∷ []))
 one_left x xs entry zero within out all =
     out_push xs entry (and_parts (is_out x.standing) (list_all (λ e. is_out e.standing) xs) all).1 out
@@ -234,7 +234,7 @@ one_left x xs entry (suc k) within out all =
     let same = drop-append-le k xs (entry ∷ []) (omega arith) in
     rw (less, same) (out_push (drop k xs) entry all out)
 
-out_sent_by : (items : List Entry) (entry : Entry) (heard : ℕ) (full : Bool) → nat_lt (length items) 2048 ≡ full → length items ≤ 2048
+out_sent_by : (items : List FlightEntry) (entry : FlightEntry) (heard : ℕ) (full : Bool) → nat_lt (length items) 2048 ≡ full → length items ≤ 2048
     → heard ≤ length items → is_out entry.standing ≡ true → AllOut (drop heard items)
     → AllOut (drop (heard - length (option_to_list (if full then None else slice_get (items ++ entry ∷ []) 0))) (keep_last 2048 (items ++ entry ∷ [])))
 out_sent_by items entry heard true test few within out all =
@@ -251,7 +251,7 @@ out_sent_by (x ∷ xs) entry heard false test few within out all =
     rw one (one_left x xs entry heard within out all)
 
 -- what was sent is Out after what was heard of
-pub out_sent : (items : List Entry) (entry : Entry) (heard : ℕ) (driven_out : Option Entry)
+pub out_sent : (items : List FlightEntry) (entry : FlightEntry) (heard : ℕ) (driven_out : Option FlightEntry)
     → driven_out ≡ (if nat_lt (length items) 2048 then None else slice_get (items ++ entry ∷ []) 0) → length items ≤ 2048
     → heard ≤ length items → is_out entry.standing ≡ true → AllOut (drop heard items)
     → AllOut (drop (heard - length (option_to_list driven_out)) (keep_last 2048 (items ++ entry ∷ [])))

@@ -2,12 +2,12 @@
 --
 -- What a kind knows is a function of the CCID alone, and not of its state: a kind cannot forget a CCID.
 use Rattle.std.specs.Prelude.{◌≡◌, ℕ, ◌≤◌, Bool, nat_lt, List, []}
-use Rattle.congestion_trait.specs.declared.flight.Entry.{Entry}
+use Rattle.congestion_trait.specs.declared.flight.FlightEntry.{FlightEntry}
 use Rattle.congestion_trait.specs.Flight.{States, pipe_of, sent, after_report}
 
 -- the flight list and the window that a state shows, the CCIDs that it knows, and what each call makes of a state
 pub record Control (S : Type 0) : Type 0 where
-  pub flight : S → List Entry
+  pub flight : S → List FlightEntry
   pub window : S → ℕ
   pub is_known : ℕ → Bool
   pub started : S → ℕ → S

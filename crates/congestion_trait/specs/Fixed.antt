@@ -1,12 +1,12 @@
 -- The fixed window: nothing but a flight list (own).
 use Rattle.std.specs.Prelude.{◌==◌, List, []}
 use Rattle.std.proofs.Math.Nat.{le-add_right}
-use Rattle.congestion_trait.specs.declared.flight.Entry.{Entry}
+use Rattle.congestion_trait.specs.declared.flight.FlightEntry.{FlightEntry}
 use Rattle.congestion_trait.specs.Flight.{sent, after_report}
 use Rattle.congestion_trait.specs.Control.{Control, KeepsWindow}
 
 -- CCID 248: always 8 packets
-abbrev pub fixed_control : Control (List Entry)
+abbrev pub fixed_control : Control (List FlightEntry)
 fixed_control = record {
   flight = λ entries. entries;
   window = λ _. 8;

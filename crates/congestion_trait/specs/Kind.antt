@@ -3,13 +3,13 @@
 -- So a kind cannot break the list's rules, and owes no proof that it keeps them: it owes only that its window never
 -- closes. `FixedWindow` and CCID 2 write their functions themselves, since the state of each is one plain list or record.
 use Rattle.std.specs.Prelude.{ℕ, Bool, List, [], refl}
-use Rattle.congestion_trait.specs.declared.flight.Entry.{Entry}
+use Rattle.congestion_trait.specs.declared.flight.FlightEntry.{FlightEntry}
 use Rattle.congestion_trait.specs.Flight.{States, sent, after_report}
 use Rattle.congestion_trait.specs.Control.{Control, IsLawful, KeepsWindow}
 
 -- a flight list, and what a kind keeps beside it
 pub record Flying (R : Type 0) : Type 0 where
-  pub flight : List Entry
+  pub flight : List FlightEntry
   pub rest : R
 
 -- the window that the rest shows, the CCIDs that are known, the rest after a start, and what each other call makes of
@@ -19,7 +19,7 @@ pub record KindRules (R : Type 0) : Type 0 where
   pub is_known : ℕ → Bool
   pub fresh : R
   pub with_sent : R → ℕ → R
-  pub with_report : R → List Entry → States → ℕ → R
+  pub with_report : R → List FlightEntry → States → ℕ → R
   pub timed_out : R → R
 
 -- the congestion control of these rules, with a flight list beside what they keep

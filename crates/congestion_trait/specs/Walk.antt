@@ -6,7 +6,7 @@ use Rattle.dccp_options.specs.declared.report.Run.{Run}
 use Rattle.dccp_options.specs.Vectors.{VectorReport, is_received}
 use Rattle.congestion_trait.specs.declared.flight.Standing.{Standing}
 use Rattle.congestion_trait.specs.declared.flight.Standing.TheVariants.{Reported, Lost}
-use Rattle.congestion_trait.specs.declared.flight.Entry.{Entry}
+use Rattle.congestion_trait.specs.declared.flight.FlightEntry.{FlightEntry}
 use Rattle.congestion_trait.specs.declared.walk.Walk.{Walk}
 use Rattle.congestion_trait.specs.declared.walk.Counts.{Counts}
 use Rattle.congestion_trait.specs.Flight.{States, is_out, is_reported, after_report, acked_count, is_congested, reported_count, entry_reported, pipe_of}
@@ -36,12 +36,12 @@ abbrev pub one_if : Bool → ℕ
 one_if test = if test then 1 else 0
 
 -- an entry that left the list was Out
-abbrev pub was_out : Option Entry → Bool
+abbrev pub was_out : Option FlightEntry → Bool
 was_out None = false
 was_out (Some entry) = is_out entry.standing
 
 -- what the entries from a place on came to, and what is in the list by then
-pub record IsAlong (told : States) (mark : Option ℕ) (old : List Entry) (index : ℕ) (now : List Entry) (walk : Walk) : Type 0 where
+pub record IsAlong (told : States) (mark : Option ℕ) (old : List FlightEntry) (index : ℕ) (now : List FlightEntry) (walk : Walk) : Type 0 where
   pub entries : now ≡ take index old ++ after_report told (drop index old)
   pub acked : walk.acked ≡ acked_count told (drop index old)
   pub congested : walk.congested ≡ is_congested told mark (drop index old)
@@ -50,35 +50,35 @@ pub record IsAlong (told : States) (mark : Option ℕ) (old : List Entry) (index
   pub seen : walk.seen ≡ pipe_of (drop index old)
 
 -- every entry is Reported: no report changes any of them
-abbrev pub AllReported : List Entry → Type 0
+abbrev pub AllReported : List FlightEntry → Type 0
 AllReported entries = IsTrue (list_all (λ entry. is_reported entry.standing) entries)
 
 -- the report changes nothing of the entry: it is Reported, or it is Lost and not said to be received
-abbrev pub is_untouched : States → Entry → Bool
+abbrev pub is_untouched : States → FlightEntry → Bool
 is_untouched told entry = is_reported entry.standing || not (is_out entry.standing) && not (is_received (told entry.number))
 
 -- the report changes none of the entries
-abbrev pub AllUntouched : States → List Entry → Type 0
+abbrev pub AllUntouched : States → List FlightEntry → Type 0
 AllUntouched told entries = IsTrue (list_all (λ entry. is_untouched told entry) entries)
 
 -- every entry is Out
-abbrev pub AllOut : List Entry → Type 0
+abbrev pub AllOut : List FlightEntry → Type 0
 AllOut entries = IsTrue (list_all (λ entry. is_out entry.standing) entries)
 
 -- the entry is Out, and the report does not say that it was received
-abbrev pub is_unheard : States → Entry → Bool
+abbrev pub is_unheard : States → FlightEntry → Bool
 is_unheard told entry = is_out entry.standing && not (is_received (told entry.number))
 
 -- the report says of none of the entries, which are all Out, that it was received
-abbrev pub AllUnheard : States → List Entry → Type 0
+abbrev pub AllUnheard : States → List FlightEntry → Type 0
 AllUnheard told entries = IsTrue (list_all (λ entry. is_unheard told entry) entries)
 
 -- the numbers of entries
-abbrev pub numbers : List Entry → List ℕ
+abbrev pub numbers : List FlightEntry → List ℕ
 numbers entries = map (λ entry. entry.number) entries
 
 -- what the counts beside a list say of it
-pub record FlightInvariant (entries : List Entry) (capacity : ℕ) (counts : Counts) : Type 0 where
+pub record FlightInvariant (entries : List FlightEntry) (capacity : ℕ) (counts : Counts) : Type 0 where
   pub holds : capacity ≡ 2048
   pub counted : counts.out ≡ pipe_of entries
   pub within : counts.settled ≤ length entries

@@ -21,9 +21,9 @@ pub struct FixedWindow {
 
 impl Model for FixedWindow {
     ghost use Rattle.std.specs.Prelude.{List};
-    ghost use Rattle.congestion_trait.specs.declared.flight.Entry.{Entry};
+    ghost use Rattle.congestion_trait.specs.declared.flight.FlightEntry.{FlightEntry};
 
-    ghost Value = { List Entry };
+    ghost Value = { List FlightEntry };
 
     ghost view = { λ w. w.flight };
 }

@@ -36,7 +36,7 @@ pub enum Standing {
 
 /// A data packet that was sent. No call gives one out; contracts speak of it.
 #[derive(Clone, Copy, Debug, PartialEq, Eq)]
-pub struct Entry {
+pub struct FlightEntry {
     /// Its sequence number.
     pub number: Seq48,
     /// How it stands.
@@ -56,15 +56,15 @@ pub struct FlightNews {
 /// see the list of its entries.
 #[derive(Drop)]
 pub struct Flight {
-    entries: HeapCircularBuffer<Entry>,
+    entries: HeapCircularBuffer<FlightEntry>,
     counts: Counts,
 }
 
 impl Model for Flight {
     ghost use Rattle.std.specs.Prelude.{List};
-    ghost use Rattle.congestion_trait.specs.declared.flight.Entry.{Entry};
+    ghost use Rattle.congestion_trait.specs.declared.flight.FlightEntry.{FlightEntry};
 
-    ghost Value = { List Entry };
+    ghost Value = { List FlightEntry };
 
     ghost view = { λ f. f.entries.items };
 
@@ -113,7 +113,7 @@ impl Flight {
     pub fn stands(&self, number: Seq48, standing: Standing) -> bool
         ensures { IsTrue result ↔ Has self.now number standing }
     {
-        is_in(&self.entries, &Entry { number, standing })
+        is_in(&self.entries, &FlightEntry { number, standing })
     }
 
     /// Notes a packet that was sent. The 2,049th drives the oldest out.
@@ -123,7 +123,7 @@ impl Flight {
         // Gives the prover that the list fits its block.
         let _len = self.entries.len();
         let step = step_from_newest(&self.entries, number);
-        let entry = Entry {
+        let entry = FlightEntry {
             number,
             standing: Standing::Out,
         };
@@ -157,7 +157,7 @@ impl Flight {
 
 impl Counts {
     // One entry more is Out, so many steps up from the newest, and it may have driven another out.
-    fn with_sent(&self, driven_out: &Option<Entry>, step: u64) -> Counts
+    fn with_sent(&self, driven_out: &Option<FlightEntry>, step: u64) -> Counts
         requires few { self.now.out ≤ 2048 }
         ensures out { result.out ≡ (if was_out driven_out.now then self.now.out else self.now.out + 1) }
         ensures settled { result.settled ≡ self.now.settled - length (option_to_list driven_out.now) }
@@ -178,7 +178,7 @@ impl Counts {
 }
 
 // Tells whether an entry is in the list, from the newest on.
-fn is_in(entries: &HeapCircularBuffer<Entry>, entry: &Entry) -> bool
+fn is_in(entries: &HeapCircularBuffer<FlightEntry>, entry: &FlightEntry) -> bool
     ensures { IsTrue result ↔ Contains entries.now.items entry.now }
 {
     let (older, newer) = entries.as_slices();
@@ -186,7 +186,7 @@ fn is_in(entries: &HeapCircularBuffer<Entry>, entry: &Entry) -> bool
 }
 
 // Tells whether an entry is among these, from the newest on.
-fn is_among(entries: &[Entry], entry: &Entry) -> bool
+fn is_among(entries: &[FlightEntry], entry: &FlightEntry) -> bool
     ensures { IsTrue result ↔ Contains entries.now entry.now }
 {
     let mut left = entries;
@@ -200,7 +200,7 @@ fn is_among(entries: &[Entry], entry: &Entry) -> bool
 }
 
 // How many steps up a number is from the newest entry's.
-fn step_from_newest(entries: &HeapCircularBuffer<Entry>, number: Seq48) -> u64
+fn step_from_newest(entries: &HeapCircularBuffer<FlightEntry>, number: Seq48) -> u64
     ensures near { (span : ℕ) → AreNear span (numbers entries.now.items)
         → AreNear (span + result) (numbers entries.now.items ++ number ∷ []) }
 {
@@ -213,7 +213,7 @@ fn step_from_newest(entries: &HeapCircularBuffer<Entry>, number: Seq48) -> u64
 }
 
 // How many entries left the list.
-fn count_of(driven_out: &Option<Entry>) -> usize
+fn count_of(driven_out: &Option<FlightEntry>) -> usize
     ensures { result ≡ length (option_to_list driven_out.now) }
 {
     match driven_out {
@@ -223,7 +223,7 @@ fn count_of(driven_out: &Option<Entry>) -> usize
 }
 
 // Tells whether an entry left the list while it was Out.
-fn was_out(driven_out: &Option<Entry>) -> bool
+fn was_out(driven_out: &Option<FlightEntry>) -> bool
     ensures { result ≡ was_out driven_out.now }
 {
     match driven_out {

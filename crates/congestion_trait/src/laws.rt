@@ -1,6 +1,6 @@
 //! What follows for every kind of congestion control.
 ghost use Rattle.std.specs.Prelude.{◌≡◌, ℕ, ◌+◌, ◌≤◌, ◌⊎◌, ◌↔◌, IsTrue, map, List};
-ghost use Rattle.congestion_trait.specs.declared.flight.Entry.{Entry};
+ghost use Rattle.congestion_trait.specs.declared.flight.FlightEntry.{FlightEntry};
 ghost use Rattle.congestion_trait.specs.declared.flight.Standing.TheVariants.{Out, Reported};
 ghost use Rattle.congestion_trait.specs.declared.flight.Standing.{Standing};
 ghost use Rattle.std.specs.List.{list_any, Contains};
@@ -80,6 +80,6 @@ pub fn timeouts_let_send<C: Congestion>()
 
 /// The list of the numbers that are Reported holds just those.
 pub fn numbers_reported_are_reported()
-    ensures { (entries : List Entry) (number : ℕ)
+    ensures { (entries : List FlightEntry) (number : ℕ)
         → Contains (numbers_reported entries) number ↔ Has entries number Reported }
 {}

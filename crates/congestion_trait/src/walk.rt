@@ -20,7 +20,7 @@ ghost use Rattle.congestion_trait.specs.Flight.{pipe_of, reported_count, after_r
 ghost use Rattle.congestion_trait.specs.Walk.{standing_after, one_if, IsTop, AllReported, AllUnheard, FlightInvariant};
 
 use crate::cursor::Cursor;
-use crate::flight::{Entry, Standing};
+use crate::flight::{FlightEntry, Standing};
 use circular_buffer::HeapCircularBuffer;
 use dccp_options::AckReport;
 use seq_circle::Seq48;
@@ -82,7 +82,7 @@ fn standing_after(state: Option<u8>, passed: bool, standing: Standing) -> Standi
     }
 }
 
-fn entry_at(entries: &HeapCircularBuffer<Entry>, index: usize) -> Entry
+fn entry_at(entries: &HeapCircularBuffer<FlightEntry>, index: usize) -> FlightEntry
     requires { index < length entries.now.items }
     ensures { slice_get entries.now.items index ≡ Some result }
 {
@@ -92,7 +92,7 @@ fn entry_at(entries: &HeapCircularBuffer<Entry>, index: usize) -> Entry
     }
 }
 
-fn set_standing(entries: &mut HeapCircularBuffer<Entry>, index: usize, standing: Standing)
+fn set_standing(entries: &mut HeapCircularBuffer<FlightEntry>, index: usize, standing: Standing)
     requires { index < length entries.old.items }
     ensures { (entry : _) → slice_get entries.old.items index ≡ Some entry
         → entries.new ≡ buffer (slice_set entries.old.items index (record entry { standing = standing })) entries.old.capacity }
@@ -104,7 +104,7 @@ fn set_standing(entries: &mut HeapCircularBuffer<Entry>, index: usize, standing:
 
 impl Walk {
     // Counts one entry, and tells how it comes after the report.
-    fn step(&mut self, entry: &Entry, state: Option<u8>, mark: &Option<Seq48>) -> Standing
+    fn step(&mut self, entry: &FlightEntry, state: Option<u8>, mark: &Option<Seq48>) -> Standing
         requires { (self.old.acked < 2048) × (self.old.reported < 2048) × (self.old.out < 2048) × (self.old.seen < 2048) }
         ensures standing { result ≡ standing_after state (nat_le 3 self.old.reported) entry.now.standing }
         ensures acked { self.new.acked ≡ self.old.acked + one_if (not (is_reported entry.now.standing) && is_unmarked state) }
@@ -141,7 +141,7 @@ impl Walk {
 
 // The place from which on all entries are Out and the report reaches none.
 fn unheard_from<'a>(
-    entries: &HeapCircularBuffer<Entry>,
+    entries: &HeapCircularBuffer<FlightEntry>,
     counts: &Counts,
     report: &AckReport<'a>,
     cursor: &Cursor<'a>,
@@ -167,7 +167,7 @@ fn unheard_from<'a>(
 // Settles the entries by a report, from the newest that it may reach down to where no older one is Out or is reached by
 // it.
 pub fn settle(
-    entries: &mut HeapCircularBuffer<Entry>,
+    entries: &mut HeapCircularBuffer<FlightEntry>,
     counts: &Counts,
     report: &AckReport<'_>,
     mark: &Option<Seq48>,
@@ -209,7 +209,7 @@ pub fn settle(
 }
 
 // How many entries at the front are Reported, of which the first ones are known to be.
-pub fn settled_from(entries: &HeapCircularBuffer<Entry>, known: usize) -> usize
+pub fn settled_from(entries: &HeapCircularBuffer<FlightEntry>, known: usize) -> usize
     requires within { known ≤ length entries.now.items }
     requires front { AllReported (take known entries.now.items) }
     ensures within { result ≤ length entries.now.items }

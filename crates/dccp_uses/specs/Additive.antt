@@ -1,14 +1,14 @@
 -- The rules of the additive window, an example (own).
 use Rattle.std.specs.Prelude.{ℕ, ◌+◌, ◌/◌, ◌==◌, ◌≤◌, ◌&&◌, Bool, true, false, cond, nat_lt, max, List, None, if◌then◌else◌}
 use Rattle.std.proofs.Math.Nat.{le-add_right, le-max_right, le_trans}
-use Rattle.congestion_trait.specs.declared.flight.Entry.{Entry}
+use Rattle.congestion_trait.specs.declared.flight.FlightEntry.{FlightEntry}
 use Rattle.congestion_trait.specs.Flight.{States, acked_count, is_congested}
 use Rattle.congestion_trait.specs.Control.{KeepsWindow}
 use Rattle.congestion_trait.specs.Kind.{KindRules, control_by_rules}
 
 -- A report of any loss or mark halves the window, down to a packet at least; one of something received lets it grow by
 -- a packet, up to 1,024.
-abbrev pub window_reported : ℕ → List Entry → States → ℕ → ℕ
+abbrev pub window_reported : ℕ → List FlightEntry → States → ℕ → ℕ
 window_reported window entries states ratio =
     if is_congested states None entries then max (window / 2) 1
     else if nat_lt 0 (acked_count states entries) && nat_lt window 1024 then window + 1

@@ -6,7 +6,7 @@ use Rattle.dccp_options.specs.Grammar.{options_of}
 use Rattle.dccp_options.specs.Vectors.{reported}
 use Rattle.run_list.specs.MarkedSet.{has}
 use Rattle.congestion_trait.specs.Flight.{States, acked_count, after_report, entry_reported, is_congested, numbers_reported, pipe_of, sent}
-use Rattle.congestion_trait.specs.declared.flight.Entry.{Entry}
+use Rattle.congestion_trait.specs.declared.flight.FlightEntry.{FlightEntry}
 use Rattle.seq_circle.specs.Circle.{residue}
 use Rattle.tests_codec.proofs.RowsSeen.{bytes}
 
@@ -26,19 +26,19 @@ data Step : Type 0 where
 abbrev told : ℕ → String → States
 told ack options = reported ack (options_of (bytes options) false)
 
-abbrev sent_each : List Entry → ℕ → ℕ → List Entry
+abbrev sent_each : List FlightEntry → ℕ → ℕ → List FlightEntry
 sent_each entries zero number = entries
 sent_each entries (suc count) number = sent_each (sent entries number) count (residue (number + 1))
 
 -- after a step
-abbrev after : List Entry → Step → List Entry
+abbrev after : List FlightEntry → Step → List FlightEntry
 after entries (Send first count) = sent_each entries count first
 after entries (Tell ack options mark acked congested) = after_report (told ack options) entries
 after entries Clear = []
 after entries step = entries
 
 -- what is there at a step
-abbrev seen : List Entry → Step → Step
+abbrev seen : List FlightEntry → Step → Step
 seen entries (Send first count) = Send first count
 seen entries (Tell ack options mark acked congested) =
     Tell ack options mark (acked_count (told ack options) entries) (is_congested (told ack options) mark entries)
@@ -47,7 +47,7 @@ seen entries (IsReported number known) = IsReported number (has (numbers_reporte
 seen entries Clear = Clear
 
 -- steps, each as it is seen
-abbrev played : List Entry → List Step → List Step
+abbrev played : List FlightEntry → List Step → List Step
 played entries [] = []
 played entries (step ∷ rest) = seen entries step ∷ played (after entries step) rest
 
@@ -72,7 +72,7 @@ round_the_circle : Flies (
 round_the_circle = refl
 
 -- Of 2,049 numbers the first has left when 1 and 0 are reported: 2,048 are out, of which one is acknowledged, and 1 alone is Reported.
-abbrev reported_of : States → List Entry → ℕ × ℕ × List ℕ
+abbrev reported_of : States → List FlightEntry → ℕ × ℕ × List ℕ
 reported_of states entries =
     (pipe_of entries, acked_count states entries, numbers_reported (map (entry_reported states) entries))
 

@@ -8,7 +8,7 @@ use Rattle.congestion_trait.proofs.Numbers.{numbers_reported-exact}
 use Rattle.congestion_trait.specs.Calls.{Call, call_sends, tells}
 use Rattle.congestion_trait.specs.Control.{Control, IsLawful}
 use Rattle.congestion_trait.specs.Flight.{Has, HasEntry}
-use Rattle.congestion_trait.specs.declared.flight.Entry.{Entry}
+use Rattle.congestion_trait.specs.declared.flight.FlightEntry.{FlightEntry}
 use Rattle.congestion_trait.specs.declared.flight.Standing.{Standing}
 use Rattle.congestion_trait.specs.declared.flight.Standing.TheVariants.{Reported}
 use Rattle.dccp_endpoint.specs.Causes.{EveryStepHasOneEffect}
@@ -74,8 +74,8 @@ module _ {C : Type 0} (control : Control C) (lawful : IsLawful control) where
   started congestion ccid processed =
       let none = lawful.start_empties congestion ccid in
       record {
-        fits = λ n listed. absurd (none-listed n listed.0 (subst (λ (l : List Entry). Has l n listed.0) none listed.1));
-        heard = λ n has_it. absurd (none-listed n Reported (subst (λ (l : List Entry). Has l n Reported) none has_it));
+        fits = λ n listed. absurd (none-listed n listed.0 (subst (λ (l : List FlightEntry). Has l n listed.0) none listed.1));
+        heard = λ n has_it. absurd (none-listed n Reported (subst (λ (l : List FlightEntry). Has l n Reported) none has_it));
       }
 
   processed-more : (congestion : C) (processed more : List ℕ) → IsHonest congestion processed → IsHonest congestion (processed ++ more)

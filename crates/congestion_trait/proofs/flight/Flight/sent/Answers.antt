@@ -1,7 +1,7 @@
 use Rattle.std.proofs.lemmas.Grind.{common_steps}
 use Rattle.std.proofs.Common.{◌≤◌, ◌++◌, ◌∷◌, [], None, nat_lt, if◌then◌else◌, slice_get, length, rules, arith, ap, refl, ◌∙◌}
 use Rattle.circular_buffer.specs.Buffer.{keep_last}
-use Rattle.congestion_trait.specs.declared.flight.Entry.{Entry}
+use Rattle.congestion_trait.specs.declared.flight.FlightEntry.{FlightEntry}
 use Rattle.congestion_trait.specs.declared.flight.Standing.TheVariants.{Out}
 use Rattle.congestion_trait.proofs.Settled.{front_sent}
 use Rattle.congestion_trait.proofs.Near.{near_sent}
@@ -12,7 +12,7 @@ pub invariant_of-self : goal.invariant_of-self
 invariant_of-self c =
     let old = c.self.inside.entries.items in
     let kept = c.self.invariant in
-    let entry : Entry = record { number = c.args.number; standing = Out } in
+    let entry : FlightEntry = record { number = c.args.number; standing = Out } in
     let pushed = c.push_back-driven_out.ensures in
     let items = ap (λ b. b.items) pushed.items ∙ ap (λ n. keep_last n (old ++ entry ∷ [])) kept.holds in
     let driven = pushed.value ∙ ap (λ n. if nat_lt (length old) n then None else slice_get (old ++ entry ∷ []) 0) kept.holds in
