@@ -5,7 +5,7 @@ use Rattle.dccp_listener.specs.declared.peer.Peer.{Peer}
 use Rattle.schedule_text.specs.declared.line.FrameLine.{FrameLine}
 use Rattle.tool_jobs.specs.Ends.{arriving}
 use Rattle.tool_text.specs.Jobs.{Accepted, Gone, Job, Refused, LineVerdict, gone_through, refusal_told, text_apart}
-use Rattle.tool_text.specs.declared.lines.refusals.Refusal.{Refusal}
+use Rattle.tool_text.specs.declared.lines.refusals.LineRefusal.{LineRefusal}
 use Rattle.tool_text.specs.declared.words.faults.LineFault.{LineFault}
 use Rattle.world_events.specs.Actors.{other}
 use Rattle.world_events.specs.declared.event.Side.TheVariants.{Client, Server}
@@ -61,7 +61,7 @@ abbrev pub frames_capture : List ℕ → List ℕ
 frames_capture input = file_header false ++ text_apart capture_job (transcript_gone input)
 
 -- The line that is refused, if one is.
-abbrev pub transcript_refusal : List ℕ → Option Refusal
+abbrev pub transcript_refusal : List ℕ → Option LineRefusal
 transcript_refusal input = refusal_told (transcript_gone input)
 
 -- The input is refused at some line.

@@ -6,7 +6,7 @@ use Rattle.bridge_records.specs.declared.skips.Skips.{Skips}
 use Rattle.bridge_records.specs.declared.skips.Tally.{Tally}
 use Rattle.tool_text.specs.Ends.{IsAnswered}
 use Rattle.tool_text.specs.Refusals.{refusal_line}
-use Rattle.tool_text.specs.declared.lines.refusals.Refusal.{Refusal}
+use Rattle.tool_text.specs.declared.lines.refusals.LineRefusal.{LineRefusal}
 use Rattle.tool_text.specs.declared.output.status.JobEnd.{JobEnd}
 use Rattle.tool_text.specs.declared.output.status.JobEnd.TheVariants as ended
 use Rattle.bridge_command.specs.Unwrapping.{piece_fault_name}
@@ -15,7 +15,7 @@ use Rattle.bridge_command.specs.declared.complaints.Complaint.TheVariants as com
 use Rattle.bridge_command.specs.declared.complaints.Said.{Said}
 
 -- a line that is refused, if one is
-abbrev pub line_complaint : Option Refusal → Option Complaint
+abbrev pub line_complaint : Option LineRefusal → Option Complaint
 line_complaint None = None
 line_complaint (Some refusal) = Some (complains.Line refusal)
 
@@ -40,7 +40,7 @@ complaint_text None = []
 complaint_text (Some complaint) = complaint_line complaint
 
 -- What is told of lines: nothing was skipped.
-abbrev pub line_said : Option Refusal → Said
+abbrev pub line_said : Option LineRefusal → Said
 line_said refusal = record { skips = no_skips; complaint = line_complaint refusal }
 
 -- What is told of a capture.

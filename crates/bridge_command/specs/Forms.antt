@@ -4,7 +4,7 @@ use Rattle.std.specs.declared.alloc.Global.{Global}
 use Rattle.bridge_records.specs.Recording.{capture_refusal, capture_skips}
 use Rattle.bridge_records.specs.declared.recording.CaptureRefusal.{CaptureRefusal}
 use Rattle.bridge_records.specs.declared.skips.Skips.{Skips}
-use Rattle.tool_text.specs.declared.lines.refusals.Refusal.{Refusal}
+use Rattle.tool_text.specs.declared.lines.refusals.LineRefusal.{LineRefusal}
 use Rattle.bridge_command.specs.Capturing.{frames_capture, transcript_accepted, transcript_refusal, transcript_refused}
 use Rattle.bridge_command.specs.Complaints.{capture_said, line_said}
 use Rattle.bridge_command.specs.declared.complaints.Said.{Said}
@@ -96,7 +96,7 @@ bridge_accepted (form.Picture picture) bytes = picture_accepted picture bytes
 bridge_accepted (form.FlowPicture picture flow) bytes = flow_picture_accepted picture flow bytes
 
 -- why a picture of lines is refused, if it is
-abbrev pub picture_refusal : Picture → List ℕ → Option Refusal
+abbrev pub picture_refusal : Picture → List ℕ → Option LineRefusal
 picture_refusal pictures.Ladder bytes = ladder_refusal bytes
 picture_refusal pictures.Windows bytes = windows_refusal bytes
 

@@ -8,13 +8,13 @@ use bridge_records::{CaptureRefusal, Skips, Tally};
 use dccp_io::{Sink, write_all};
 use seq_circle::NoMemory;
 use std::alloc::Global;
-use tool_text::{JobEnd, Refusal, put, put_counted, put_refusal};
+use tool_text::{JobEnd, LineRefusal, put, put_counted, put_refusal};
 
 /// Why the input of a form is refused.
 #[derive(Clone, Copy)]
 pub(crate) enum Complaint {
     /// A line of it is.
-    Line(Refusal),
+    Line(LineRefusal),
     /// The capture has a fault.
     Capture(CaptureRefusal),
 }
@@ -36,7 +36,7 @@ pub(crate) struct FormEnd {
 }
 
 // A line that is refused, if one is.
-fn line_complaint(refusal: Option<Refusal>) -> Option<Complaint>
+fn line_complaint(refusal: Option<LineRefusal>) -> Option<Complaint>
     ensures { result ≡ spec.line_complaint refusal }
 {
     match refusal {
@@ -56,7 +56,7 @@ fn capture_complaint(refusal: Option<CaptureRefusal>) -> Option<Complaint>
 }
 
 /// What is told of lines.
-pub(crate) fn line_said(refusal: Option<Refusal>) -> Said
+pub(crate) fn line_said(refusal: Option<LineRefusal>) -> Said
     ensures { result ≡ spec.line_said refusal }
 {
     Said {

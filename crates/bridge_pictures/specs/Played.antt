@@ -5,7 +5,7 @@ use Rattle.tool_jobs.specs.Scenes.{Scene}
 use Rattle.tool_jobs.specs.Transcript.{first_play, run_job}
 use Rattle.tool_jobs.specs.declared.run.play.Play.{Play}
 use Rattle.tool_text.specs.Jobs.{Accepted, Gone, Job, Refused, LineVerdict, gone_through, line_text, refusal_told, text_apart}
-use Rattle.tool_text.specs.declared.lines.refusals.Refusal.{Refusal}
+use Rattle.tool_text.specs.declared.lines.refusals.LineRefusal.{LineRefusal}
 use Rattle.two_ends.specs.Controlled.{Controlled, end_of_side}
 use Rattle.two_ends.specs.World.{half_of}
 use Rattle.world_events.specs.declared.event.Side.TheVariants.{Client, Server}
@@ -99,7 +99,7 @@ abbrev pub windows_text : List ℕ → List ℕ
 windows_text input = text_apart windows_job (windows_gone input)
 
 -- The line that is refused, if one is.
-abbrev pub windows_refusal : List ℕ → Option Refusal
+abbrev pub windows_refusal : List ℕ → Option LineRefusal
 windows_refusal input = refusal_told (windows_gone input)
 
 -- The schedule is refused at some line.

@@ -9,7 +9,7 @@ use Rattle.schedule_text.specs.Printing.{side_letter}
 use Rattle.tool_jobs.specs.Peers.{peer_text}
 use Rattle.tool_text.specs.Jobs.{Accepted, Gone, Job, Refused, LineVerdict, gone_through, refusal_told, text_apart}
 use Rattle.tool_text.specs.Names.{malformed_name}
-use Rattle.tool_text.specs.declared.lines.refusals.Refusal.{Refusal}
+use Rattle.tool_text.specs.declared.lines.refusals.LineRefusal.{LineRefusal}
 use Rattle.tool_text.specs.declared.words.faults.LineFault.{LineFault}
 use Rattle.world_events.specs.declared.event.Side.{Side}
 use Rattle.world_events.specs.declared.event.Side.TheVariants.{Client, Server}
@@ -109,7 +109,7 @@ abbrev pub ladder_text : List ℕ → List ℕ
 ladder_text input = text_apart ladder_job (ladder_gone input)
 
 -- The line that is refused, if one is.
-abbrev pub ladder_refusal : List ℕ → Option Refusal
+abbrev pub ladder_refusal : List ℕ → Option LineRefusal
 ladder_refusal input = refusal_told (ladder_gone input)
 
 -- The transcript is refused at some line.

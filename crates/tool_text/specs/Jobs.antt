@@ -8,7 +8,7 @@ use Rattle.tool_text.specs.declared.lines.error.LineError.{LineError}
 use Rattle.tool_text.specs.declared.lines.error.LineError.TheVariants as line_error
 use Rattle.tool_text.specs.declared.words.faults.LineFault.{LineFault}
 use Rattle.tool_text.specs.declared.lines.loops.LinesEnd.{LinesEnd}
-use Rattle.tool_text.specs.declared.lines.refusals.Refusal.{Refusal}
+use Rattle.tool_text.specs.declared.lines.refusals.LineRefusal.{LineRefusal}
 use Rattle.tool_text.specs.declared.words.faults.LineWhy.TheVariants as why
 
 -- The result of a line: it is accepted, with what it does, if it does anything, and the state after it; or it is
@@ -118,12 +118,12 @@ abbrev pub text_apart : {P V : Type 0} → Job P V → Gone P V → List ℕ
 text_apart job gone = text_in true job gone
 
 -- the refusal of the line of this number, if it is refused
-abbrev pub refusal_at : ℕ → Option LineFault → Option Refusal
+abbrev pub refusal_at : ℕ → Option LineFault → Option LineRefusal
 refusal_at number None = None
 refusal_at number (Some fault) = Some (record { number = number; fault = fault })
 
 -- The refusal of an input, if it has one.
-abbrev pub refusal_told : {P V : Type 0} → Gone P V → Option Refusal
+abbrev pub refusal_told : {P V : Type 0} → Gone P V → Option LineRefusal
 refusal_told gone = refusal_at gone.number gone.refusal
 
 -- The lines of an input were gone through, after a text that comes first: what was written and how the job ended, how

@@ -14,7 +14,7 @@ mod text;
 mod words;
 
 pub use crate::lines::{
-    LineError, LineJob, LinesEnd, MOST_EVENTS, Refusal, put_refusal, run_lines, run_lines_apart,
+    LineError, LineJob, LineRefusal, LinesEnd, MOST_EVENTS, put_refusal, run_lines, run_lines_apart,
 };
 pub use crate::names::malformed_name;
 pub use crate::numbers::number_up_to;

@@ -13,4 +13,4 @@ mod turns;
 pub use crate::lines::error::LineError;
 pub use crate::lines::job::{LineJob, MOST_EVENTS};
 pub use crate::lines::loops::{LinesEnd, run_lines, run_lines_apart};
-pub use crate::lines::refusals::{Refusal, put_refusal};
+pub use crate::lines::refusals::{LineRefusal, put_refusal};

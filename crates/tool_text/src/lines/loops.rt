@@ -7,7 +7,7 @@ ghost use Rattle.tool_text.specs.Jobs.{GoesIn, GoesThrough, refusal_in};
 ghost use Rattle.tool_text.specs.Turns.{Leaves};
 
 use crate::lines::job::LineJob;
-use crate::lines::refusals::{Refusal, put_refusal};
+use crate::lines::refusals::{LineRefusal, put_refusal};
 use crate::lines::turns::{Turn, flush_if_due, judge_next};
 use crate::output::{JobEnd, answered, cut_off};
 use crate::words::LineFault;
@@ -65,7 +65,7 @@ fn end<J: LineJob, K: Sink>(
 #[derive(Clone, Copy, Debug, PartialEq, Eq)]
 pub struct LinesEnd {
     pub end: JobEnd,
-    pub refusal: Option<Refusal>,
+    pub refusal: Option<LineRefusal>,
 }
 
 // The loop, which writes a refusal to the output or not. What it works on is lent, so that none of its exits has
@@ -103,7 +103,7 @@ fn go_through<J: LineJob, S: Source + Drop, K: Sink>(
             Turn::Refused(fault) => {
                 return LinesEnd {
                     end: refuse(output, text, apart, number, fault),
-                    refusal: Some(Refusal { number, fault }),
+                    refusal: Some(LineRefusal { number, fault }),
                 };
             }
             Turn::Failed => return LinesEnd {
