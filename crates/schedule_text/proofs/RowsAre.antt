@@ -21,7 +21,7 @@ use Rattle.tool_text.specs.Numbers.{is_digit, number_below}
 use Rattle.tool_text.specs.declared.words.faults.LineWhy.TheVariants as why
 use Rattle.tool_text.specs.Words.{parted_by}
 use Rattle.tool_text.specs.Kinds.{KindOfWords, IsExactKind, named_in, flaw_in, flaw_after, flaw_unless, found_or, is_word_byte, is_whole_word, dash_kind}
-use Rattle.tool_text.specs.Rows.{Row, IsExactRow, ◌▷◌, end_row, judged_row, flag_row}
+use Rattle.tool_text.specs.Rows.{WordRow, IsExactRow, ◌▷◌, end_row, judged_row, flag_row}
 use Rattle.tool_text.proofs.Bytes.{and-true, if-false, if-true, all-weaker, lacks, same-number, word-bytes, bytes-word, decimal-digits, decimal-word, joined-parts}
 use Rattle.tool_text.proofs.Numerals.{number-spelled, number-read}
 use Rattle.tool_text.proofs.Pieces.{has_first}
@@ -437,7 +437,7 @@ frame-is = record {
 
 -- Rows
 
-both : {A B : Type 0} {kind : KindOfWords A} {row : Row B} → IsExactKind kind → IsExactRow row → IsExactRow (kind ▷ row)
+both : {A B : Type 0} {kind : KindOfWords A} {row : WordRow B} → IsExactKind kind → IsExactRow row → IsExactRow (kind ▷ row)
 both {kind = kind} {row = row} is_kind is_row = both-is kind row is_kind is_row
 
 pub list-is : IsExactRow (side_kind ▷ place_kind ▷ feature_kind ▷ values_kind ▷ end_row)

@@ -9,7 +9,7 @@ use Rattle.tool_text.specs.Refusals.{fault_at}
 use Rattle.tool_text.specs.Words.{WordsLeft, first_word, later, words_of}
 use Rattle.tool_text.specs.Digits.{bytes_of_digits}
 use Rattle.tool_text.specs.Kinds.{hex_kind}
-use Rattle.tool_text.specs.Rows.{◌>>◌, Row, ◌▷◌, end_row, row_as, judged_row, after_word, first_or, nothing_more}
+use Rattle.tool_text.specs.Rows.{◌>>◌, WordRow, ◌▷◌, end_row, row_as, judged_row, after_word, first_or, nothing_more}
 use Rattle.tool_text.specs.Lines.{clean, says_nothing, text_read, first_other, no_text}
 use Rattle.schedule_text.specs.Faults.{digits_fault}
 
@@ -33,11 +33,11 @@ abbrev pub size_judged : Bool → List ℕ × Unit {0} → Option LineWhy
 size_judged seal s = size_cause seal (length s.0)
 
 -- its digits, and nothing after them
-abbrev pub frame_row : Bool → Row FrameLine
+abbrev pub frame_row : Bool → WordRow FrameLine
 frame_row seal = row_as (digits_frame seal) (judged_row 0 (size_judged seal) (hex_kind ▷ end_row))
 
 -- the words of a line with a frame: `seal` where the checksum is to be set, then the digits
-abbrev pub replay_row : Row FrameLine
+abbrev pub replay_row : WordRow FrameLine
 replay_row = after_word (codes "seal") (frame_row true) (frame_row false)
 
 -- the frame of a line whose bytes are text; an empty line or a comment has none

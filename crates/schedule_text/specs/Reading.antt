@@ -14,7 +14,7 @@ use Rattle.tool_text.specs.declared.words.faults.LineWhy.TheVariants as why
 use Rattle.tool_text.specs.Words.{words_of}
 use Rattle.tool_text.specs.Kinds.{dash_kind}
 use Rattle.tool_text.specs.Lines.{clean, says_nothing}
-use Rattle.tool_text.specs.Rows.{◌>>◌, Row, ◌▷◌, end_row, row_as, choice, judged_row, flag_row}
+use Rattle.tool_text.specs.Rows.{◌>>◌, WordRow, ◌▷◌, end_row, row_as, choice, judged_row, flag_row}
 use Rattle.schedule_text.specs.declared.line.Line.{Line}
 use Rattle.schedule_text.specs.declared.line.Line.TheVariants as line
 use Rattle.schedule_text.specs.declared.names.Form.{Form}
@@ -41,7 +41,7 @@ abbrev pub offer_cause : Side × (Place × (Feature × Bool)) → Option LineWhy
 offer_cause s = if is_ours s.1.1.0 s.1.0 then None else Some why.NotOurs
 
 -- The rows after the first word, by the form that it names.
-abbrev pub rows : Form → Row Line
+abbrev pub rows : Form → WordRow Line
 rows form.Version = row_as (λ s. line.Version s.0) (version_kind ▷ end_row)
 rows form.Plain = row_as (λ s. line.Plain) end_row
 rows form.Iss = row_as (λ s. line.Iss s.0 s.1.0) (side_kind ▷ sequence_kind ▷ end_row)
@@ -61,7 +61,7 @@ rows form.Close = row_as (λ s. line.Event (event.Close s.0)) (side_kind ▷ end
 rows form.Abort = row_as (λ s. line.Event (event.Abort s.0)) (side_kind ▷ end_row)
 
 -- a line that says something: its form, and what that form has after it
-abbrev pub line_row : Row Line
+abbrev pub line_row : WordRow Line
 line_row = choice form_kind rows
 
 -- what a line says, without its newline, or the first of its faults

@@ -5,7 +5,7 @@ ghost use Rattle.schedule_text.specs.Frames as spec;
 
 use crate::{FrameDigits, FrameLine, LineFault, LineWhy};
 use dccp_packets::MOST_FRAME_BYTES;
-use tool_text::{Hex, Row, Words, is_text, read_line};
+use tool_text::{Hex, WordRow, Words, is_text, read_line};
 
 // The checksum is the last of a packet's first eight bytes.
 const SEALED: usize = 8;
@@ -45,7 +45,7 @@ fn frame<'a>(seal: bool, words: &mut Words<'a>) -> Result<FrameLine<'a>, LineFau
 /// them; after `seal` at least eight.
 pub struct FrameWords;
 
-impl<'a> Row<'a> for FrameWords {
+impl<'a> WordRow<'a> for FrameWords {
     type Said = FrameLine<'a>;
 
     ghost said = { spec.replay_row.said };

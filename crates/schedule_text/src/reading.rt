@@ -14,7 +14,7 @@ use crate::kinds::{
 use crate::names::Form;
 use crate::{Event, Line, LineFault, LineWhy, Payload, Timer, Values};
 use feature_lists::{Feature, Place, PreferFault, usual, wish};
-use tool_text::{Digits, HexOrDash, MaybeFlag, Row, Words, clean, read_word, says_nothing};
+use tool_text::{Digits, HexOrDash, MaybeFlag, WordRow, Words, clean, read_word, says_nothing};
 use world_events::Side;
 
 fn wish_fault(fault: PreferFault) -> LineWhy
@@ -76,7 +76,7 @@ fn plain(words: &mut Words<'_>, said: &mut Line) -> Result<(), LineFault>
         (λ fault. (spec.rows Form.Plain).said (left_of words.old) ≡ Err fault) }
     ensures kept { OnErr result (said.new ≡ said.old) }
 {
-    <() as Row>::read(words)?;
+    <() as WordRow>::read(words)?;
     *said = Line::Plain;
     Ok(())
 }
@@ -140,7 +140,7 @@ fn open(words: &mut Words<'_>, said: &mut Line) -> Result<(), LineFault>
         (λ fault. (spec.rows Form.Open).said (left_of words.old) ≡ Err fault) }
     ensures kept { OnErr result (said.new ≡ said.old) }
 {
-    <() as Row>::read(words)?;
+    <() as WordRow>::read(words)?;
     *said = Line::Event(Event::Open);
     Ok(())
 }

@@ -4,7 +4,7 @@ use Rattle.dccp_ecn.specs.declared.event.EcnEvent.{EcnEvent}
 use Rattle.dccp_ecn.specs.declared.event.EcnEvent.TheVariants as event
 use Rattle.tool_text.specs.declared.words.faults.LineFault.{LineFault}
 use Rattle.tool_text.specs.Kinds.{KindOfWords, name_kind, number_kind}
-use Rattle.tool_text.specs.Rows.{Row, ◌▷◌, choice, end_row, row_as}
+use Rattle.tool_text.specs.Rows.{WordRow, ◌▷◌, choice, end_row, row_as}
 use Rattle.tool_text.specs.Lines.{line_read}
 use Rattle.tool_jobs.specs.declared.ecn.names.Form.{Form}
 use Rattle.tool_jobs.specs.declared.ecn.names.Form.TheVariants as form
@@ -35,7 +35,7 @@ abbrev pub index_kind : KindOfWords ℕ
 index_kind = number_kind (2 ^ 47)
 
 -- The rows after the first word, by the form that it names.
-abbrev pub ecn_rows : Form → Row EcnEvent
+abbrev pub ecn_rows : Form → WordRow EcnEvent
 ecn_rows form.Send = row_as (λ s. event.Send (s.0 == 1)) (nonce_kind ▷ end_row)
 ecn_rows form.Deliver = row_as (λ s. event.Deliver s.0) (index_kind ▷ end_row)
 ecn_rows form.Mark = row_as (λ s. event.Mark s.0) (index_kind ▷ end_row)
@@ -44,7 +44,7 @@ ecn_rows form.Check = row_as (λ s. event.Check s.0) (index_kind ▷ end_row)
 ecn_rows form.Forge = row_as (λ s. event.Forge s.0) (index_kind ▷ end_row)
 
 -- the words of a line
-abbrev pub ecn_row : Row EcnEvent
+abbrev pub ecn_row : WordRow EcnEvent
 ecn_row = choice ecn_form_kind ecn_rows
 
 -- a line without its newline: its event, or none where it is empty or a comment; or the first of its faults

@@ -8,7 +8,7 @@ use Rattle.tool_text.specs.declared.words.faults.LineFault.{LineFault}
 use Rattle.tool_text.specs.declared.words.faults.LineWhy.TheVariants as why
 use Rattle.tool_text.specs.Refusals.{fault_at}
 use Rattle.tool_text.specs.Words.{WordsLeft, placed, words_of, parted_by, texts_of, joined}
-use Rattle.tool_text.specs.Rows.{Row, IsExactRow, ◌>>=◌, first_or, fault_in}
+use Rattle.tool_text.specs.Rows.{WordRow, IsExactRow, ◌>>=◌, first_or, fault_in}
 use Rattle.tool_text.specs.Lines.{is_text, first_other, text_or_other, clean, says_nothing, words_read, text_read, line_read, no_text, first_fault, IsIdle, IsSpokenLine}
 use Rattle.tool_text.proofs.Bytes.{both-true, if-false, if-true, words-parted, joined-text}
 use Rattle.tool_text.proofs.RowLaws.{bind-ok, bind-read, then-fault, then-ok, then-read, last-fault}
@@ -85,7 +85,7 @@ text-fault : {A : Type 0} (nothing : Bool) (r : Result A LineFault) (fault : Opt
 text-fault true r fault is = refl
 text-fault {A = A} false r fault is = last-fault {B = Option A} r Some ∙ is
 
-module _ {A : Type 0} (row : Row A) (is_row : IsExactRow row) where
+module _ {A : Type 0} (row : WordRow A) (is_row : IsExactRow row) where
   line-fault : (line : List ℕ) → fault_in (line_read row.said line) ≡ first_fault row line
   line-fault line =
       let long : Option LineFault = if nat_lt 4096 (length line) then Some (fault_at 4097 why.LineTooLong) else None in
@@ -138,12 +138,12 @@ line-idle {A = A} said line = (
 )
 
 -- no words make an empty line
-joined-says : {A : Type 0} (row : Row A) (line : List ℕ) (x : A) (words : List (List ℕ)) → line ≡ joined words → says_nothing line ≡ false → (first : List ℕ)
+joined-says : {A : Type 0} (row : WordRow A) (line : List ℕ) (x : A) (words : List (List ℕ)) → line ≡ joined words → says_nothing line ≡ false → (first : List ℕ)
     × (rest : List (List ℕ)) × (words ≡ first ∷ rest)
 joined-says row line x [] parted says = cc (sym (ap says_nothing parted) ∙ says)
 joined-says row line x (first ∷ rest) parted says = (first, rest, refl)
 
-module _ {A : Type 0} (row : Row A) (is_row : IsExactRow row) where
+module _ {A : Type 0} (row : WordRow A) (is_row : IsExactRow row) where
   line-spelled : (line : List ℕ) (x : A) → line_read row.said line ≡ Ok (Some x) → IsSpokenLine row line x
   line-spelled line x is =
       let found = then-ok (clean line) (text_read row.said line) (Some x) is in

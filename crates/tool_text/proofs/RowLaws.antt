@@ -10,7 +10,7 @@ use Rattle.tool_text.specs.declared.words.kinds.Flaw.{Flaw}
 use Rattle.tool_text.specs.Refusals.{fault_at}
 use Rattle.tool_text.specs.Words.{WordAt, WordsLeft, words_left, first_word, later, word_at, texts_of}
 use Rattle.tool_text.specs.Kinds.{KindOfWords, IsExactKind, word_read, read_at, judged_word, flaw_fault, flaw_in, flaw_after, is_whole_word}
-use Rattle.tool_text.specs.Rows.{Row, IsExactRow, ◌>>=◌, ◌>>◌, first_or, fault_in, none_left, nothing_more, end_row, then_row, AreBoth, ◌▷◌, made, row_as, chosen_fault, AreChosen, choice, ByTest, AreAfter, after_word, allowed, cause_at, refused_at, judged_row, flag_read, flag_flaw, flag_said, flag_fault, flag_row}
+use Rattle.tool_text.specs.Rows.{WordRow, IsExactRow, ◌>>=◌, ◌>>◌, first_or, fault_in, none_left, nothing_more, end_row, then_row, AreBoth, ◌▷◌, made, row_as, chosen_fault, AreChosen, choice, ByTest, AreAfter, after_word, allowed, cause_at, refused_at, judged_row, flag_read, flag_flaw, flag_said, flag_fault, flag_row}
 use Rattle.tool_text.proofs.Bytes.{and-true, word-some}
 
 -- Steps
@@ -111,7 +111,7 @@ end-is = record {
 }
 
 -- a word, and then a row
-module _ {A B : Type 0} (kind : KindOfWords A) (row : Row B) (is_kind : IsExactKind kind) (is_row : IsExactRow row) where
+module _ {A B : Type 0} (kind : KindOfWords A) (row : WordRow B) (is_kind : IsExactKind kind) (is_row : IsExactRow row) where
   both-first : (left : WordsLeft)
       → fault_in {A = A × B} (then_row kind.reads row.said left) ≡ first_or (judged_word kind.flaw (first_word left)) (row.fault (later left))
   both-first left =
@@ -161,7 +161,7 @@ made-ok : {A B : Type 0} (make : A → B) (r : Result A LineFault) (y : B) → m
 made-ok make (Ok x) y is = (x, cc is, refl)
 made-ok make (Err fault) y is = cc is
 
-module _ {A B : Type 0} (make : A → B) (row : Row A) (is_row : IsExactRow row) where
+module _ {A B : Type 0} (make : A → B) (row : WordRow A) (is_row : IsExactRow row) where
   as-spelled : (left : WordsLeft) (y : B) → made make (row.said left) ≡ Ok y → (x : A) × (make x ≡ y) × row.Spells x (texts_of left.words)
   as-spelled left y is =
       let found = made-ok make (row.said left) y is in
@@ -179,7 +179,7 @@ module _ {A B : Type 0} (make : A → B) (row : Row A) (is_row : IsExactRow row)
   }
 
 -- a choice
-module _ {A B : Type 0} (kind : KindOfWords A) (rows : A → Row B) (is_kind : IsExactKind kind) (are_rows : (which : A) → IsExactRow (rows which)) where
+module _ {A B : Type 0} (kind : KindOfWords A) (rows : A → WordRow B) (is_kind : IsExactKind kind) (are_rows : (which : A) → IsExactRow (rows which)) where
   chosen-by : (r : Result A Flaw) (which : A) (left : WordsLeft) → r ≡ Ok which → fault_in ((rows which).said left) ≡ chosen_fault rows r left
   chosen-by r which left is = (are_rows which).first left ∙ ap (λ (s : Result A Flaw). chosen_fault rows s left) (sym is)
 
@@ -243,7 +243,7 @@ no-name : (name : List ℕ) → is_whole_word name ≡ true → bytes_eq [] name
 no-name [] is = cc is
 no-name (byte ∷ name) is = refl
 
-module _ {A : Type 0} (name : List ℕ) (row other : Row A) (is_name : is_whole_word name ≡ true) (is_row : IsExactRow row) (is_other : IsExactRow other) where
+module _ {A : Type 0} (name : List ℕ) (row other : WordRow A) (is_name : is_whole_word name ≡ true) (is_row : IsExactRow row) (is_other : IsExactRow other) where
   after-spelled : (words : List WordAt) (absent : ℕ) (x : A) → (after_word name row other).said (words_left words absent) ≡ Ok x
       → AreAfter name row.Spells other.Spells x (texts_of words)
   after-spelled [] absent x is =
@@ -290,7 +290,7 @@ allowed-ok : {A : Type 0} (column : ℕ) (x y : A) (cause : Option LineWhy) → 
 allowed-ok column x y None is = (cc is, refl)
 allowed-ok column x y (Some cause) is = cc is
 
-module _ {A : Type 0} (place : ℕ) (judge : A → Option LineWhy) (row : Row A) (is_row : IsExactRow row) where
+module _ {A : Type 0} (place : ℕ) (judge : A → Option LineWhy) (row : WordRow A) (is_row : IsExactRow row) where
   checked-by : (column : ℕ) (r : Result A LineFault) (x : A) → r ≡ Ok x → fault_in (allowed column x (judge x)) ≡ refused_at column judge r
   checked-by column r x is = allowed-fault column x (judge x) ∙ ap (refused_at column judge) (sym is)
 

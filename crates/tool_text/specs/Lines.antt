@@ -5,7 +5,7 @@ use Rattle.tool_text.specs.declared.words.faults.LineFault.{LineFault}
 use Rattle.tool_text.specs.declared.words.faults.LineWhy.TheVariants as why
 use Rattle.tool_text.specs.Refusals.{fault_at}
 use Rattle.tool_text.specs.Words.{WordsLeft, words_of, joined}
-use Rattle.tool_text.specs.Rows.{◌>>=◌, ◌>>◌, Row, first_or}
+use Rattle.tool_text.specs.Rows.{◌>>=◌, ◌>>◌, WordRow, first_or}
 
 -- a byte of text
 abbrev pub is_text : ℕ → Bool
@@ -47,7 +47,7 @@ no_text None = None
 no_text (Some place) = Some (fault_at (place + 1) why.NotText)
 
 -- the first fault of a line: its length, then a byte that is no text, then the fault of its words
-abbrev pub first_fault : {A : Type 0} → Row A → List ℕ → Option LineFault
+abbrev pub first_fault : {A : Type 0} → WordRow A → List ℕ → Option LineFault
 first_fault row line =
     first_or (if nat_lt 4096 (length line) then Some (fault_at 4097 why.LineTooLong) else None)
     (first_or (no_text (first_other line)) (if says_nothing line then None else row.fault (words_of line)))
@@ -59,7 +59,7 @@ pub record IsIdle (line : List ℕ) : Type 0 where
   pub text : list_all is_text line ≡ true
 
 -- a line is words, parted by one space, that spell this value
-pub record IsSpokenLine {A : Type 0} (row : Row A) (line : List ℕ) (x : A) : Type 0 where
+pub record IsSpokenLine {A : Type 0} (row : WordRow A) (line : List ℕ) (x : A) : Type 0 where
   pub words : List (List ℕ)
   pub spells : row.Spells x words
   pub parted : line ≡ joined words

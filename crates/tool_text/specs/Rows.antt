@@ -24,7 +24,7 @@ Ok _ >> next = next
 Err fault >> next = Err fault
 
 -- a row of words: what the words that are left say, their first fault, and which texts of words spell a value
-pub record Row (A : Type 0) : Type 1 where
+pub record WordRow (A : Type 0) : Type 1 where
   pub said : WordsLeft → Result A LineFault
   pub fault : WordsLeft → Option LineFault
   pub Spells : A → List (List ℕ) → Type 0
@@ -43,7 +43,7 @@ fault_in (Err fault) = Some fault
 
 -- the three parts of a row say one thing: words are refused for its fault, and otherwise they spell what it says of
 -- them
-pub record IsExactRow {A : Type 0} (row : Row A) : Type 0 where
+pub record IsExactRow {A : Type 0} (row : WordRow A) : Type 0 where
   pub first : (left : WordsLeft) → fault_in (row.said left) ≡ row.fault left
   pub spelled : (left : WordsLeft) (x : A) → row.said left ≡ Ok x → row.Spells x (texts_of left.words)
   pub read_back : (left : WordsLeft) (x : A) → row.Spells x (texts_of left.words) → row.said left ≡ Ok x
@@ -66,7 +66,7 @@ nothing_more [] = None
 nothing_more (word ∷ words) = Some (fault_at word.column why.Trailing)
 
 -- the row without words
-abbrev pub end_row : Row (Unit {0})
+abbrev pub end_row : WordRow (Unit {0})
 end_row = record {
   said = ended;
   fault = λ left. nothing_more left.words;
@@ -86,7 +86,7 @@ AreBoth Spells Rest both [] = ⊥
 AreBoth Spells Rest both (word ∷ words) = Spells both.0 word × Rest both.1 words
 
 -- a word of a kind, and then a row
-abbrev pub ◌▷◌ : {A B : Type 0} → KindOfWords A → Row B → Row (A × B)
+abbrev pub ◌▷◌ : {A B : Type 0} → KindOfWords A → WordRow B → WordRow (A × B)
 kind ▷ row = record {
   said = then_row kind.reads row.said;
   fault = λ left. first_or (judged_word kind.flaw (first_word left)) (row.fault (later left));
@@ -101,7 +101,7 @@ made make (Ok x) = Ok (make x)
 made make (Err fault) = Err fault
 
 -- a row, with what is made of what it says
-abbrev pub row_as : {A B : Type 0} → (A → B) → Row A → Row B
+abbrev pub row_as : {A B : Type 0} → (A → B) → WordRow A → WordRow B
 row_as {A = A} make row = record {
   said = λ left. made make (row.said left);
   fault = row.fault;
@@ -109,17 +109,17 @@ row_as {A = A} make row = record {
 }
 
 -- the fault of the row that was chosen, if one was
-abbrev pub chosen_fault : {A B : Type 0} → (A → Row B) → Result A Flaw → WordsLeft → Option LineFault
+abbrev pub chosen_fault : {A B : Type 0} → (A → WordRow B) → Result A Flaw → WordsLeft → Option LineFault
 chosen_fault rows (Ok which) left = (rows which).fault left
 chosen_fault rows (Err flaw) left = None
 
 -- a word that chooses, and the words of the row that it chose
-abbrev pub AreChosen : {A B : Type 0} → KindOfWords A → (A → Row B) → B → List (List ℕ) → Type 0
+abbrev pub AreChosen : {A B : Type 0} → KindOfWords A → (A → WordRow B) → B → List (List ℕ) → Type 0
 AreChosen kind rows y [] = ⊥
 AreChosen {A = A} kind rows y (word ∷ words) = (which : A) × kind.Spells which word × (rows which).Spells y words
 
 -- a word of a kind, and the row that it chooses
-abbrev pub choice : {A B : Type 0} → KindOfWords A → (A → Row B) → Row B
+abbrev pub choice : {A B : Type 0} → KindOfWords A → (A → WordRow B) → WordRow B
 choice kind rows = record {
   said = λ left. word_read kind.reads (first_word left) >>= (λ which. (rows which).said (later left));
   fault = λ left.
@@ -138,7 +138,7 @@ AreAfter name Following Other x [] = Other x []
 AreAfter name Following Other x (word ∷ words) = ByTest (bytes_eq word name) (Following x words) (Other x (word ∷ words))
 
 -- a row after this word, or another row where the first word is not this one
-abbrev pub after_word : {A : Type 0} → List ℕ → Row A → Row A → Row A
+abbrev pub after_word : {A : Type 0} → List ℕ → WordRow A → WordRow A → WordRow A
 after_word name row other = record {
   said = λ left. if bytes_eq (first_word left).text name then row.said (later left) else other.said left;
   fault = λ left. if bytes_eq (first_word left).text name then row.fault (later left) else other.fault left;
@@ -161,7 +161,7 @@ refused_at column judge (Ok x) = cause_at column (judge x)
 refused_at column judge (Err fault) = None
 
 -- a row that is judged as a whole once all its words are read, with the fault at the word of this place, from 0
-abbrev pub judged_row : {A : Type 0} → ℕ → (A → Option LineWhy) → Row A → Row A
+abbrev pub judged_row : {A : Type 0} → ℕ → (A → Option LineWhy) → WordRow A → WordRow A
 judged_row place judge row = record {
   said = λ left. row.said left >>= (λ x. allowed (word_at place left).column x (judge x));
   fault = λ left. first_or (row.fault left) (refused_at (word_at place left).column judge (row.said left));
@@ -187,7 +187,7 @@ flag_fault name [] = None
 flag_fault name (word ∷ words) = first_or (judged_word (flag_flaw name) word) (nothing_more words)
 
 -- the last word of a row, which may be left out
-abbrev pub flag_row : List ℕ → Row Bool
+abbrev pub flag_row : List ℕ → WordRow Bool
 flag_row name = record {
   said = λ left. flag_said name left.words;
   fault = λ left. flag_fault name left.words;

@@ -23,7 +23,7 @@ pub use crate::text::{
     is_text, put, put_counted, put_hex, put_hex_or_dash, put_named, put_number, put_v4,
 };
 pub use crate::words::{
-    Below, Digits, Flag, Flaw, Hex, HexOrDash, LineFault, LineWhy, MaybeFlag, Name, NameWord, Row,
-    Word, WordKind, Words, clean, first_piece, found_or, line_why_name, read_line, read_word,
+    Below, Digits, Flag, Flaw, Hex, HexOrDash, LineFault, LineWhy, MaybeFlag, Name, NameWord, Word,
+    WordKind, WordRow, Words, clean, first_piece, found_or, line_why_name, read_line, read_word,
     says_nothing, whole_line, words_stand_at_their_columns,
 };

@@ -1,6 +1,6 @@
 //! The words of lines, and what may be wrong with a line, for every grammar of lines that the tool reads (own).
 //!
-//! A grammar is a [`Row`] of kinds of words, put together from tuples, and [`read_line`] reads a line by it. Reading
+//! A grammar is a [`WordRow`] of kinds of words, put together from tuples, and [`read_line`] reads a line by it. Reading
 //! takes no memory.
 
 mod blocks;
@@ -19,5 +19,5 @@ pub use crate::words::kinds::{
 };
 pub use crate::words::laws::words_stand_at_their_columns;
 pub use crate::words::lines::{clean, read_line, says_nothing};
-pub use crate::words::rows::{Flag, MaybeFlag, Row};
+pub use crate::words::rows::{Flag, MaybeFlag, WordRow};
 pub use crate::words::split::{Word, Words, first_piece};

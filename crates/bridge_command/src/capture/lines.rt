@@ -9,8 +9,8 @@ use dccp_listener::Peer;
 use schedule_text::{FrameLine, FrameWords};
 use tool_jobs::peer_of;
 use tool_text::{
-    Digits, Flaw, Hex, LineFault, LineWhy, Row, WordKind, Words, found_or, is_text, number_up_to,
-    read_line, read_word,
+    Digits, Flaw, Hex, LineFault, LineWhy, WordKind, WordRow, Words, found_or, is_text,
+    number_up_to, read_line, read_word,
 };
 use world_events::Side;
 
@@ -165,7 +165,7 @@ fn came<'a>(words: &mut Words<'a>) -> Result<TranscriptLine<'a>, LineFault>
 // The words of a transcript's line.
 struct TranscriptWords;
 
-impl<'a> Row<'a> for TranscriptWords {
+impl<'a> WordRow<'a> for TranscriptWords {
     type Said = TranscriptLine<'a>;
 
     ghost said = { line_said };

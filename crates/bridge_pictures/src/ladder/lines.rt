@@ -8,7 +8,7 @@ use dccp_listener::Peer;
 use schedule_text::{FrameLine, FrameWords};
 use tool_jobs::peer_of;
 use tool_text::{
-    Digits, Hex, LineFault, LineWhy, Row, Words, is_text, number_up_to, read_line, read_word,
+    Digits, Hex, LineFault, LineWhy, WordRow, Words, is_text, number_up_to, read_line, read_word,
 };
 use world_events::Side;
 
@@ -321,7 +321,7 @@ fn came_by_line<'a>(words: &mut Words<'a>) -> Result<LadderLine<'a>, LineFault>
 // The words of a line.
 struct LadderWords;
 
-impl<'a> Row<'a> for LadderWords {
+impl<'a> WordRow<'a> for LadderWords {
     type Said = LadderLine<'a>;
 
     ghost said = { spec.ladder_row };

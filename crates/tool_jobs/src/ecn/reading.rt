@@ -4,7 +4,7 @@ ghost use Rattle.tool_jobs.specs.Forms as spec;
 
 use crate::ecn::names::Form;
 use dccp_ecn::EcnEvent;
-use tool_text::{Below, LineFault, NameWord, Row, Words, read_line, read_word};
+use tool_text::{Below, LineFault, NameWord, WordRow, Words, read_line, read_word};
 
 // Indices of packets and reports are below this (own).
 const INDEX_END: u64 = 1 << 47;
@@ -18,7 +18,7 @@ type IndexWord = (Below<INDEX_END>, ());
 // The words of a line.
 struct EcnLine;
 
-impl<'a> Row<'a> for EcnLine {
+impl<'a> WordRow<'a> for EcnLine {
     type Said = EcnEvent;
 
     ghost said = { spec.ecn_row.said };
@@ -38,7 +38,7 @@ impl<'a> Row<'a> for EcnLine {
                 Ok(EcnEvent::Mark(index))
             }
             Form::Report => {
-                <() as Row>::read(words)?;
+                <() as WordRow>::read(words)?;
                 Ok(EcnEvent::Report)
             }
             Form::Check => {

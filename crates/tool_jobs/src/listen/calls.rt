@@ -6,7 +6,7 @@ ghost use Rattle.tool_jobs.specs.Calls as spec;
 use crate::listen::peers::PeerWord;
 use dccp_listener::Peer;
 use schedule_text::{FrameLine, FrameWords, LineFault, Timer, TimerWord};
-use tool_text::{Digits, HexOrDash, Row, Words, read_line};
+use tool_text::{Digits, HexOrDash, WordRow, Words, read_line};
 
 /// What happens to a peer. The digits of frames and data are decoded when the bytes are wanted.
 #[derive(Drop)]
@@ -40,14 +40,14 @@ fn timer<'a>(words: &mut Words<'a>) -> Result<PeerCall<'a>, LineFault>
 fn close<'a>(words: &mut Words<'a>) -> Result<PeerCall<'a>, LineFault>
     ensures { result ≡ spec.close_row.said (left_of words.old) }
 {
-    <() as Row>::read(words)?;
+    <() as WordRow>::read(words)?;
     Ok(PeerCall::Close)
 }
 
 fn abort<'a>(words: &mut Words<'a>) -> Result<PeerCall<'a>, LineFault>
     ensures { result ≡ spec.abort_row.said (left_of words.old) }
 {
-    <() as Row>::read(words)?;
+    <() as WordRow>::read(words)?;
     Ok(PeerCall::Abort)
 }
 
@@ -61,7 +61,7 @@ fn arrival<'a>(words: &mut Words<'a>) -> Result<PeerCall<'a>, LineFault>
 // The words after a peer. The line of a frame has no word that says so.
 struct CallWords;
 
-impl<'a> Row<'a> for CallWords {
+impl<'a> WordRow<'a> for CallWords {
     type Said = PeerCall<'a>;
 
     ghost said = { spec.call_row.said };

@@ -4,7 +4,7 @@ ghost use Rattle.tool_text.specs.Lines as spec;
 
 use crate::words::blocks::{ByteSearch, first_far};
 use crate::words::faults::{LineFault, LineWhy};
-use crate::words::rows::Row;
+use crate::words::rows::WordRow;
 use crate::words::split::Words;
 
 /// The most bytes of a line.
@@ -60,7 +60,7 @@ pub fn says_nothing(line: &[u8]) -> bool
 
 /// What a line without its newline says by a row of words, or None if it is empty or a comment; or the first of its
 /// faults (own): LineTooLong, then NotText, then the row's.
-pub fn read_line<'a, R: Row<'a>>(line: &'a [u8]) -> Result<Option<R::Said>, LineFault>
+pub fn read_line<'a, R: WordRow<'a>>(line: &'a [u8]) -> Result<Option<R::Said>, LineFault>
     ensures { result ≡ spec.line_read R.said line.now }
 {
     clean(line)?;

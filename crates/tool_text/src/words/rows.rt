@@ -12,7 +12,7 @@ use crate::words::split::Words;
 
 /// A row of words, read from the left (own): a tuple of kinds that ends in `()`, as `(SideWord, (NumberWord, ()))`, or
 /// a type that a grammar makes of such rows.
-pub trait Row<'a> {
+pub trait WordRow<'a> {
     /// What the words say.
     type Said: Drop;
 
@@ -24,7 +24,7 @@ pub trait Row<'a> {
 }
 
 /// The row without words: Trailing, at the first word that is left.
-impl<'a> Row<'a> for () {
+impl<'a> WordRow<'a> for () {
     type Said = ();
 
     ghost said = { spec.ended };
@@ -41,7 +41,7 @@ impl<'a> Row<'a> for () {
 }
 
 /// A word of this kind, and then the row after it.
-impl<'a, K: WordKind<'a>, R: Row<'a>> Row<'a> for (K, R) {
+impl<'a, K: WordKind<'a>, R: WordRow<'a>> WordRow<'a> for (K, R) {
     type Said = (K::Read, R::Said);
 
     ghost said = { spec.then_row K.reads R.said };
@@ -84,7 +84,7 @@ impl<'a, F: Flag> WordKind<'a> for FlagWord<F> {
     }
 }
 
-impl<'a, F: Flag> Row<'a> for MaybeFlag<F> {
+impl<'a, F: Flag> WordRow<'a> for MaybeFlag<F> {
     type Said = bool;
 
     ghost said = { λ left. spec.flag_said F.name left.words };
@@ -94,7 +94,7 @@ impl<'a, F: Flag> Row<'a> for MaybeFlag<F> {
             return Ok(false);
         }
         read_word::<FlagWord<F>>(words.next_word())?;
-        <() as Row>::read(words)?;
+        <() as WordRow>::read(words)?;
         Ok(true)
     }
 }
