@@ -18,7 +18,7 @@ use crate::{Key, Settings, Wish};
 use dccp_endpoint::{Config, MOST_FRAME_BYTES, Outcome, Pseudo};
 use dccp_server::{Asking, append_cookie, asking_of, opening_of};
 use dccp_uses::is_taken;
-use init_cookies::{CookieKeys, Opening, Route, put_request};
+use init_cookies::{CookieKeys, FirstRequest, Route, put_request};
 use std::alloc::Global;
 
 /// The keys of a server's Init Cookies. Times are in milliseconds, as in each call.
@@ -81,7 +81,7 @@ fn hear_request(
     held: &mut Held,
     keys: &CookieKeys,
     route: &Route,
-    opening: &Opening,
+    opening: &FirstRequest,
     now: u64,
     frame: &mut Frame,
 ) -> u32
@@ -106,7 +106,7 @@ fn greet(
     care: &Care,
     keys: &CookieKeys,
     route: &Route,
-    opening: &Opening,
+    opening: &FirstRequest,
     now: u64,
     frame: &mut Frame,
 ) -> u32
@@ -178,7 +178,7 @@ fn opening_brought(
     route: &Route,
     datagram: &[u8],
     now: u64,
-) -> Option<Opening>
+) -> Option<FirstRequest>
     requires short { length datagram.now ≤ 2044 }
     requires size { settings.now.size ≡ 80 }
     requires route { route.now ≡ route_by settings.now }
@@ -188,7 +188,7 @@ fn opening_brought(
 }
 
 // Leaves the Request of an opening.
-fn hand_request(route: &Route, opening: &Option<Opening>, request: &mut Frame) -> u32
+fn hand_request(route: &Route, opening: &Option<FirstRequest>, request: &mut Frame) -> u32
     ensures request { handed_in request.new ≡ request_handed route.now opening.now }
     ensures code { result ≡ recalled_code opening.now }
 {

@@ -10,7 +10,7 @@ use dccp_listener::{ListenConfig, Peer};
 use dccp_options::options;
 use dccp_packets::{Header, Kind, Number, Packet, decode};
 use dccp_sum::check;
-use init_cookies::{CookieKeys, Opening, Route, first_cookie};
+use init_cookies::{CookieKeys, FirstRequest, Route, first_cookie};
 
 /// What a datagram asks for.
 #[derive(Clone, Debug, Drop)]
@@ -20,7 +20,7 @@ pub enum Asking {
     /// A connection, by options that are too long for a cookie.
     TooLong,
     /// This connection.
-    This(Opening),
+    This(FirstRequest),
 }
 
 /// Between a peer and the listener.
@@ -42,7 +42,7 @@ pub(crate) fn route_of(config: &ListenConfig, peer: Peer) -> Route
 fn asking_this(now: u64, iss: Seq48, area: &[u8], number: Seq48, service: u32) -> Asking
     ensures { result ≡ asking_this now iss area.now number service }
 {
-    match Opening::new(now, iss, number, service, area) {
+    match FirstRequest::new(now, iss, number, service, area) {
         Some(opening) => Asking::This(opening),
         None => Asking::TooLong,
     }
@@ -121,7 +121,12 @@ pub fn asking_of(now: u64, iss: Seq48, route: &Route, bytes: &[u8]) -> Asking
 }
 
 // What the Init Cookie of a packet opens, if it has one.
-fn opening_in(packet: &Packet<'_>, keys: &CookieKeys, route: &Route, now: u64) -> Option<Opening>
+fn opening_in(
+    packet: &Packet<'_>,
+    keys: &CookieKeys,
+    route: &Route,
+    now: u64,
+) -> Option<FirstRequest>
     requires { length packet.now.options.now ≤ 1008 }
     ensures { result ≡ opening_in now keys.now route.now (cookie_read (Ok (parts_of_packet packet.now))) }
 {
@@ -131,7 +136,7 @@ fn opening_in(packet: &Packet<'_>, keys: &CookieKeys, route: &Route, now: u64) -
 }
 
 /// What the Init Cookie of a datagram of at most 2,044 bytes opens that came by this route, if it has one.
-pub fn opening_of(now: u64, keys: &CookieKeys, route: &Route, bytes: &[u8]) -> Option<Opening>
+pub fn opening_of(now: u64, keys: &CookieKeys, route: &Route, bytes: &[u8]) -> Option<FirstRequest>
     requires { length bytes.now ≤ 2044 }
     ensures { result ≡ opening_in now keys.now route.now (cookie_read (decoded bytes.now)) }
 {

@@ -14,7 +14,7 @@ use crate::server::Server;
 use dccp_endpoint::{Outbox, ResetCode, Seen, Seq48, UserCall};
 use dccp_listener::{ListenConfig, NoFlow, Peer};
 use dccp_uses::Pace;
-use init_cookies::Opening;
+use init_cookies::FirstRequest;
 use std::alloc::Global;
 use std::marker::Model;
 
@@ -29,7 +29,7 @@ fn flow_state(server: &Server, peer: Peer) -> Option<FlowState>
 }
 
 // As of when a datagram opens a flow, if it opens one.
-fn time_of_opening(now: u64, opening: &Option<Opening>) -> u64
+fn time_of_opening(now: u64, opening: &Option<FirstRequest>) -> u64
     ensures { result ≡ time_of_opening now opening.now }
 {
     match opening {
@@ -39,7 +39,7 @@ fn time_of_opening(now: u64, opening: &Option<Opening>) -> u64
 }
 
 // By which rules room is made for it.
-fn rules_of_opening(rules: Rules, opening: &Option<Opening>) -> Rules
+fn rules_of_opening(rules: Rules, opening: &Option<FirstRequest>) -> Rules
     ensures { result ≡ rules_of_opening rules opening.now }
 {
     match opening {

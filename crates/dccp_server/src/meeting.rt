@@ -16,7 +16,8 @@ use dccp_endpoint::{NoMemory, Outbox, Outcome, Phase};
 use dccp_listener::{Heard, Peer};
 use dccp_packets::Frame;
 use init_cookies::{
-    CookieBytes, CookieKeys, CookieOption, Opening, Route, append_options, init_cookie, put_request,
+    CookieBytes, CookieKeys, CookieOption, FirstRequest, Route, append_options, init_cookie,
+    put_request,
 };
 
 /// When a Request of a peer without a flow is answered by an Init Cookie, and no flow is made (RFC 4340, section 8.1.4;
@@ -37,11 +38,11 @@ pub enum Entry {
     /// One that is served.
     Plain,
     /// A Request that needs no flow.
-    Asks(Opening),
+    Asks(FirstRequest),
     /// One whose options are too long for a cookie.
     TooLong,
     /// A packet that brings an opening back.
-    Returns(Opening),
+    Returns(FirstRequest),
 }
 
 /// The way in which a datagram was met (RFC 4340, section 8.1.4; own).
@@ -201,7 +202,7 @@ pub(crate) fn is_ever_in_use(cookies: CookieUse) -> bool
 fn greet(
     timed: &TimedListener,
     peer: Peer,
-    opening: &Opening,
+    opening: &FirstRequest,
     out: &mut Outbox,
 ) -> Result<Outcome, NoMemory>
     ensures sent { OnOk result (out.new ≡ (greets timed.now.listening peer opening.now.iss (request_bytes (route_of timed.now.listening.config peer) opening.now)).frame) }
@@ -216,7 +217,7 @@ fn greet(
 }
 
 // The Request of an opening, spelled again.
-fn request_of(timed: &TimedListener, peer: Peer, opening: &Opening) -> Frame
+fn request_of(timed: &TimedListener, peer: Peer, opening: &FirstRequest) -> Frame
     ensures { result ≡ request_bytes (route_of timed.now.listening.config peer) opening.now }
 {
     let route = route_of(timed.config(), peer);
@@ -226,7 +227,7 @@ fn request_of(timed: &TimedListener, peer: Peer, opening: &Opening) -> Frame
 }
 
 // The cookie of an opening, as the option that it is.
-fn put_option(keys: &CookieKeys, route: &Route, opening: &Opening, out: &mut CookieOption)
+fn put_option(keys: &CookieKeys, route: &Route, opening: &FirstRequest, out: &mut CookieOption)
     ensures value { out.new.items ≡ spelled false 36 (cookie_bytes keys.now route.now opening.now) }
     ensures short { length out.new.items ≤ 255 }
 {
@@ -245,7 +246,7 @@ fn append_option(route: &Route, option: &CookieOption, out: &mut Outbox)
 }
 
 /// The frame in the box goes back by a route with the cookie of an opening, where it has room for it.
-pub fn append_cookie(keys: &CookieKeys, route: &Route, opening: &Opening, out: &mut Outbox)
+pub fn append_cookie(keys: &CookieKeys, route: &Route, opening: &FirstRequest, out: &mut Outbox)
     ensures { out.new ≡ appended (back route.now.pseudo) (spelled false 36 (cookie_bytes keys.now route.now opening.now)) out.old }
 {
     let mut option = CookieOption::new();
@@ -258,7 +259,7 @@ fn put_cookie(
     timed: &TimedListener,
     keys: &CookieKeys,
     peer: Peer,
-    opening: &Opening,
+    opening: &FirstRequest,
     out: &mut Outbox,
 )
     ensures { out.new ≡ appended (back (route_of timed.now.listening.config peer).pseudo) (spelled false 36 (cookie_bytes keys.now (route_of timed.now.listening.config peer) opening.now)) out.old }
@@ -273,7 +274,7 @@ pub(crate) fn greet_with_cookie(
     timed: &TimedListener,
     keys: &CookieKeys,
     peer: Peer,
-    opening: &Opening,
+    opening: &FirstRequest,
     out: &mut Outbox,
 ) -> Result<Outcome, NoMemory>
     ensures sent { OnOk result (out.new ≡ appended (back (route_of timed.now.listening.config peer).pseudo) (spelled false 36 (cookie_bytes keys.now (route_of timed.now.listening.config peer) opening.now)) (greets timed.now.listening peer opening.now.iss (request_bytes (route_of timed.now.listening.config peer) opening.now)).frame) }

@@ -21,7 +21,7 @@ use dccp_endpoint::{Endpoint, Outbox, Seen, Seq48, UserCall};
 use dccp_listener::{ListenConfig, NoFlow, Peer};
 use dccp_packets::Frame;
 use dccp_uses::{Due, Pace, Reader, Restraint, due_rule, is_taken, restraint_of};
-use init_cookies::{CookieKeys, Opening, put_request};
+use init_cookies::{CookieKeys, FirstRequest, put_request};
 use std::alloc::Global;
 use std::marker::Model;
 
@@ -164,7 +164,7 @@ impl Server {
     }
 
     /// What a datagram brings back.
-    pub(crate) fn returned(&self, peer: Peer, bytes: &[u8], now: u64) -> Option<Opening>
+    pub(crate) fn returned(&self, peer: Peer, bytes: &[u8], now: u64) -> Option<FirstRequest>
         requires { length bytes.now ≤ 2044 }
         ensures { result ≡ returned now self.now peer bytes.now }
     {
@@ -224,7 +224,13 @@ impl Server {
     }
 
     // The Request of an opening arrives again.
-    fn hear_again(&mut self, peer: Peer, opening: &Opening, now: u64, out: &mut Outbox) -> Arrival
+    fn hear_again(
+        &mut self,
+        peer: Peer,
+        opening: &FirstRequest,
+        now: u64,
+        out: &mut Outbox,
+    ) -> Arrival
         ensures opened { IfOk result.heard (λ _. self.new ≡ heard_again now self.old peer opening.now) }
         ensures evicted { IfOk result.heard (λ _. result.evicted ≡ maker_of now self.old peer opening.now) }
         ensures unopened { OnErr result.heard (self.new ≡ unreopened now self.old peer opening.now result.evicted) }
@@ -257,7 +263,7 @@ impl Server {
     }
 
     // The same, and the number beside a flow that was half open stays.
-    fn reopen(&mut self, peer: Peer, opening: &Opening, now: u64, out: &mut Outbox) -> Arrival
+    fn reopen(&mut self, peer: Peer, opening: &FirstRequest, now: u64, out: &mut Outbox) -> Arrival
         ensures opened { IfOk result.heard (λ _. self.new ≡ reopened now self.old peer opening.now) }
         ensures evicted { IfOk result.heard (λ _. result.evicted ≡ maker_of now self.old peer opening.now) }
         ensures unopened { OnErr result.heard (self.new ≡ unreopened now self.old peer opening.now result.evicted) }
@@ -326,7 +332,7 @@ impl Server {
     fn greet(
         &mut self,
         peer: Peer,
-        opening: &Opening,
+        opening: &FirstRequest,
         iss: Seq48,
         bytes: &[u8],
         now: u64,
@@ -356,7 +362,7 @@ impl Server {
     fn serve_returned(
         &mut self,
         peer: Peer,
-        opening: &Opening,
+        opening: &FirstRequest,
         iss: Seq48,
         bytes: &[u8],
         now: u64,

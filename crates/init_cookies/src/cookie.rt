@@ -7,7 +7,7 @@ ghost use Rattle.init_cookies.specs.Openings.{opening_read};
 use crate::keyed::keyed_hash;
 use crate::opening::OpeningBytes;
 use crate::route::RouteBytes;
-use crate::{Opening, Route};
+use crate::{FirstRequest, Route};
 use arrayvec::ArrayVec;
 use byteorder::{BigEndian, ByteOrder};
 use dccp_options::MOST_OPTION_BYTES;
@@ -92,7 +92,7 @@ fn rest_from(bytes: &[u8], place: usize) -> &[u8]
 }
 
 // The opening that a cookie's bytes after the tag hold.
-fn opening_read(bytes: &[u8]) -> Opening
+fn opening_read(bytes: &[u8]) -> FirstRequest
     requires low { 24 ≤ length bytes.now }
     requires high { length bytes.now ≤ 244 }
     ensures { result ≡ opening_read bytes.now }
@@ -101,7 +101,7 @@ fn opening_read(bytes: &[u8]) -> Opening
     let iss = number_at(bytes, 8);
     let number = number_at(bytes, 14);
     let service = service_at(bytes);
-    match Opening::new(time, iss, number, service, rest_from(bytes, 24)) {
+    match FirstRequest::new(time, iss, number, service, rest_from(bytes, 24)) {
         Some(opening) => opening,
         None => unreachable!(),
     }
@@ -154,7 +154,7 @@ impl CookieKeys {
     }
 
     /// Writes the cookie of an opening into an empty block.
-    pub fn write(&self, route: &Route, opening: &Opening, out: &mut CookieBytes)
+    pub fn write(&self, route: &Route, opening: &FirstRequest, out: &mut CookieBytes)
         requires { out.old.items ≡ [] }
         ensures value { out.new.items ≡ cookie_bytes self.now route.now opening.now }
         ensures short { length out.new.items ≤ 252 }
@@ -169,7 +169,7 @@ impl CookieKeys {
     }
 
     // The opening that these bytes hold, if it is fresh and this is its tag.
-    fn opening_if(&self, now: u64, route: &Route, tag: u64, held: &[u8]) -> Option<Opening>
+    fn opening_if(&self, now: u64, route: &Route, tag: u64, held: &[u8]) -> Option<FirstRequest>
         requires low { 24 ≤ length held.now }
         requires high { length held.now ≤ 244 }
         ensures { result ≡ opening_if self.now now route.now tag held.now }
@@ -185,7 +185,7 @@ impl CookieKeys {
 
     /// The opening that a cookie holds that came by this route. None if it is older than two minutes or from the
     /// future, or its tag is not the keyed hash of its content and the route.
-    pub fn read(&self, route: &Route, bytes: &[u8], now: u64) -> Option<Opening>
+    pub fn read(&self, route: &Route, bytes: &[u8], now: u64) -> Option<FirstRequest>
         ensures { result ≡ cookie_opening self.now now route.now bytes.now }
     {
         if bytes.len() < LEAST_COOKIE {

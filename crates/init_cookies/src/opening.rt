@@ -17,7 +17,7 @@ pub const MOST_REQUEST_OPTIONS: usize = 220;
 
 /// What a Request asked for, when it was answered, and under which first number: all that opens its connection later.
 #[derive(Clone, Debug, Drop)]
-pub struct Opening {
+pub struct FirstRequest {
     time: u64,
     iss: Seq48,
     number: Seq48,
@@ -25,7 +25,7 @@ pub struct Opening {
     options: ArrayVec<u8, MOST_REQUEST_OPTIONS>,
 }
 
-impl Model for Opening {
+impl Model for FirstRequest {
     ghost use Rattle.std.specs.Prelude.{◌≤◌, length};
     ghost use Rattle.init_cookies.specs.Openings.{OpeningState};
 
@@ -39,19 +39,25 @@ impl Model for Opening {
 // The bytes of an opening: 24, and its options.
 pub(crate) type OpeningBytes = ArrayVec<u8, 245>;
 
-impl Opening {
+impl FirstRequest {
     ghost use Rattle.std.specs.Prelude.{◌≡◌, ◌≤◌, ◌↔◌, [], IsSome, IfSome, length};
     ghost use Rattle.init_cookies.specs.Openings.{opening_bytes};
 
     /// A Request of this number, service and option area was answered at this time, in milliseconds, by a Response of this
     /// number. None exactly where the area is longer than `MOST_REQUEST_OPTIONS`, 220 bytes.
-    pub fn new(time: u64, iss: Seq48, number: Seq48, service: u32, area: &[u8]) -> Option<Opening>
+    pub fn new(
+        time: u64,
+        iss: Seq48,
+        number: Seq48,
+        service: u32,
+        area: &[u8],
+    ) -> Option<FirstRequest>
         ensures made { IsSome result ↔ (length area.now ≤ 220) }
         ensures value { IfSome result (λ o. o ≡ record { time = time; iss = iss; number = number; service = service; options = area.now }) }
     {
         let mut options = ArrayVec::new();
         match options.try_extend_from_slice(area) {
-            Ok(()) => Some(Opening {
+            Ok(()) => Some(FirstRequest {
                 time,
                 iss,
                 number,
@@ -112,7 +118,7 @@ impl Opening {
 }
 
 // The header of the Request, its checksum left at zero.
-fn request_header(route: &Route, opening: &Opening) -> Header
+fn request_header(route: &Route, opening: &FirstRequest) -> Header
     ensures { result ≡ request_header route.now opening.now }
 {
     Header {
@@ -142,7 +148,7 @@ fn spell(header: &Header, options: &[u8], out: &mut Frame)
 
 /// Writes the Request again, in place of what was in the frame, without the data that it may have had: no end in LISTEN
 /// delivers data (RFC 4340, section 8.5, step 3).
-pub fn put_request(route: &Route, opening: &Opening, out: &mut Frame)
+pub fn put_request(route: &Route, opening: &FirstRequest, out: &mut Frame)
     ensures { out.new ≡ request_bytes route.now opening.now }
 {
     let header = request_header(route, opening);

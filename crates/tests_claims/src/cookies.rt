@@ -4,7 +4,7 @@ ghost use Rattle.byteorder.specs.Endian.{big_number};
 ghost use Rattle.init_cookies.specs.Cookies.{cookie_bytes, cookie_opening, cookie_tag, key_at};
 ghost use Rattle.init_cookies.specs.Openings.{FitsCookie, OpeningState};
 
-use init_cookies::{CookieKeys, Opening, Route, cookies_come_back};
+use init_cookies::{CookieKeys, FirstRequest, Route, cookies_come_back};
 
 /// For two minutes a cookie that comes back by its route opens what it was written for (`returned`), also where the key
 /// was changed once since (`changed`). So no cookie is written for two openings (`one`).
@@ -24,7 +24,7 @@ pub fn a_cookie_opens_what_it_was_written_for()
 /// What a cookie opens was answered two minutes ago at most, and not later than now (`early`, `late`). The cookie has a
 /// tag that only who has the key can make: that of its bytes and of its route (`tagged`). It has 32 to 252 bytes
 /// (`short`, `long`).
-pub fn opened(keys: &CookieKeys, route: &Route, bytes: &[u8], now: u64) -> Option<Opening>
+pub fn opened(keys: &CookieKeys, route: &Route, bytes: &[u8], now: u64) -> Option<FirstRequest>
     ensures early { (o : OpeningState) → result ≡ Some o → o.time ≤ now }
     ensures late { (o : OpeningState) → result ≡ Some o → now ≤ o.time + 120000 }
     ensures tagged { (o : OpeningState) → result ≡ Some o → big_number 8 bytes.now ≡ cookie_tag (key_at keys.now o.time) route.now (drop 8 bytes.now) }

@@ -3,8 +3,8 @@
 use dccp_endpoint::{Frame, Numbers, Outbox, Pseudo, Seq48};
 use dccp_options::options;
 use init_cookies::{
-    CookieBytes, CookieKeys, CookieOption, Opening, Route, append_options, init_cookie, keyed_hash,
-    one_cookie, put_request,
+    CookieBytes, CookieKeys, CookieOption, FirstRequest, Route, append_options, init_cookie,
+    keyed_hash, one_cookie, put_request,
 };
 
 const HI_THERE: [u8; 32] = [
@@ -83,10 +83,10 @@ fn six() -> Route {
     }
 }
 
-fn opening() -> Option<Opening> {
+fn opening() -> Option<FirstRequest> {
     let iss = Seq48::new(2000)?;
     let number = Seq48::new(1000)?;
-    Opening::new(1000, iss, number, 42, &OPTIONS)
+    FirstRequest::new(1000, iss, number, 42, &OPTIONS)
 }
 
 fn written(keys: &CookieKeys, route: &Route) -> CookieBytes {
