@@ -156,7 +156,7 @@ pub(crate) fn ending(which: u32) -> Event
     }
 }
 
-/// The event of two words, where the client has sent so many frames, and the server so many. `Run::play_drawn` goes by
+/// The event of two words, where the client has sent so many frames, and the server so many. `OngoingRun::play_drawn` goes by
 /// the same definition and not by this, since an event would move there with its room for data.
 #[tactic(auto, unfolding(crate::specs::Draws::drawn))]
 pub(crate) fn drawn(a: u32, b: u32, clients: u64, servers: u64) -> Event

@@ -2,7 +2,7 @@
 //! of them.
 //!
 //! `run_seed` runs one seed: two usual ends whose initial sequence numbers and events are drawn from it, frames lost,
-//! repeated and reordered among them; `Run` does the same event by event. `campaign` runs as many seeds as it is asked
+//! repeated and reordered among them; `OngoingRun` does the same event by event. `campaign` runs as many seeds as it is asked
 //! to, each once, and adds their reports: the answer is the same for every number of workers and whatever they wait
 //! for. Nothing is said of which worker runs which seed, nor of how long it takes.
 //! A run takes memory as its world does.
@@ -20,6 +20,6 @@ pub use crate::laws::{
     reports_count_little, seeded_runs_are_safe,
 };
 pub use crate::report::Report;
-pub use crate::run::{Run, run_seed};
+pub use crate::run::{OngoingRun, run_seed};
 pub use crate::workers::campaign;
 pub use campaign_claims::{Gate, OpenGate};

@@ -21,13 +21,13 @@ use two_ends::{Event, Side, World, WorldFault};
 
 /// The run of a seed on its way, for those that tell its events one by one (own). `run_seed` runs one whole.
 #[derive(Drop)]
-pub struct Run {
+pub struct OngoingRun {
     words: Pcg32,
     world: World<Kinds>,
     report: Report,
 }
 
-impl Model for Run {
+impl Model for OngoingRun {
     ghost use Rattle.fault_campaign.specs.Draws.{after_two};
     ghost use Rattle.fault_campaign.specs.Seeded.{Running};
 
@@ -36,9 +36,9 @@ impl Model for Run {
     ghost view = { λ r. record { words = r.words; world = r.world; report = r.report } };
 }
 
-impl Run {
+impl OngoingRun {
     #[tactic(auto, unfolding(crate::specs::Seeded::begun_run))]
-    fn new(alloc: Global, mut words: Pcg32) -> Result<Run, NoMemory>
+    fn new(alloc: Global, mut words: Pcg32) -> Result<OngoingRun, NoMemory>
         ensures value { IfOk result (λ run. run ≡ begun_run words) }
     {
         let client = usual_from(Role::Client, initial_number(&mut words));
@@ -46,7 +46,7 @@ impl Run {
         let for_client = Kinds::new(alloc)?;
         let for_server = Kinds::new(alloc)?;
         let world = World::new(alloc, client, server, for_client, for_server)?;
-        Ok(Run {
+        Ok(OngoingRun {
             words,
             world,
             report: Report::nothing(),
@@ -55,10 +55,10 @@ impl Run {
 
     /// The run of a seed before its first event, which opens the connection (own). It takes the memory of two ends;
     /// NoMemory says that there was none.
-    pub fn of_seed(alloc: Global, seed: u64) -> Result<Run, NoMemory>
+    pub fn of_seed(alloc: Global, seed: u64) -> Result<OngoingRun, NoMemory>
         ensures { IfOk result (λ run. run ≡ begun_run (generator seed)) }
     {
-        Run::new(alloc, generator(seed))
+        OngoingRun::new(alloc, generator(seed))
     }
 
     /// Draws the next event, which depends on how many frames there are (own). It has not happened yet.
@@ -325,6 +325,6 @@ pub fn run_seed(alloc: Global, seed: u64, events: u32) -> Result<Report, NoMemor
     requires events { 1 ≤ events × events ≤ 4096 }
     ensures value { IfOk result (λ report. report ≡ seeded_report seed events) }
 {
-    let mut run = Run::of_seed(alloc, seed)?;
+    let mut run = OngoingRun::of_seed(alloc, seed)?;
     run.play_all(events)
 }

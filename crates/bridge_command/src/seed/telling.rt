@@ -6,7 +6,7 @@ ghost use Rattle.fault_campaign.specs.Seeded.{next_events, played, seeded_events
 ghost use Rattle.tool_text.specs.Ends.{Answers, EndsForCause, SinkFails};
 
 use dccp_io::{Sink, write_all};
-use fault_campaign::{Run, initial_numbers};
+use fault_campaign::{OngoingRun, initial_numbers};
 use schedule_text::{Event, print_event, side_name};
 use seq_circle::{NoMemory, Seq48};
 use std::alloc::Global;
@@ -37,7 +37,7 @@ fn put_event_line(text: &mut Vec<u8>, event: &Event) -> Result<(), NoMemory>
 }
 
 // Puts the lines of so many further events of a run, which they happen to.
-fn put_next_events(text: &mut Vec<u8>, run: &mut Run, more: u32) -> Result<(), NoMemory>
+fn put_next_events(text: &mut Vec<u8>, run: &mut OngoingRun, more: u32) -> Result<(), NoMemory>
     requires few { size run.old.report + 2 * more < 2 ^ 62 }
     ensures { OnOk result (text.new.items ≡ text.old.items ++ event_lines (next_events more run.old)) }
 {
@@ -50,7 +50,7 @@ fn put_next_events(text: &mut Vec<u8>, run: &mut Run, more: u32) -> Result<(), N
 }
 
 // Puts the lines of so many events of a run that begins, the opening of the connection first.
-fn put_begun_events(text: &mut Vec<u8>, run: &mut Run, events: u32) -> Result<(), NoMemory>
+fn put_begun_events(text: &mut Vec<u8>, run: &mut OngoingRun, events: u32) -> Result<(), NoMemory>
     requires some { 1 ≤ events }
     requires few { size run.old.report + 2 * events < 2 ^ 62 }
     ensures { OnOk result (text.new.items ≡ text.old.items ++ event_lines (Event.Open ∷ next_events (events - 1) (played run.old Event.Open))) }
@@ -65,7 +65,7 @@ fn put_events(alloc: Global, text: &mut Vec<u8>, seed: u64, events: u32) -> Resu
     requires events { 1 ≤ events × events ≤ 4096 }
     ensures { OnOk result (text.new.items ≡ text.old.items ++ event_lines (seeded_events seed events)) }
 {
-    let mut run = Run::of_seed(alloc, seed)?;
+    let mut run = OngoingRun::of_seed(alloc, seed)?;
     put_begun_events(text, &mut run, events)
 }
 

@@ -3,7 +3,7 @@ use Rattle.fault_campaign.specs.Seeded.{Running, played}
 use Rattle.fault_campaign.proofs.Turns.{plays, refuses}
 use denote.Enum.Declared.{tag_of}
 use Rattle.world_events.specs.contracts.event.WorldFault as fault
-use Rattle.fault_campaign.proofs.run.Run.play.Goals as goal
+use Rattle.fault_campaign.proofs.run.OngoingRun.play.Goals as goal
 
 pub returns-in-Ok : goal.returns-in-Ok
 returns-in-Ok c =

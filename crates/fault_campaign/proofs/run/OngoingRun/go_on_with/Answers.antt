@@ -1,6 +1,6 @@
 use Rattle.std.proofs.Common.{rules}
 use Rattle.fault_campaign.proofs.Turns.{at-end, at-start, counts-little, one-turn}
-use Rattle.fault_campaign.proofs.run.Run.go_on_with.Goals as goal
+use Rattle.fault_campaign.proofs.run.OngoingRun.go_on_with.Goals as goal
 
 pub loop-init : goal.loop-init
 loop-init c = at-start c.args.more c.args.self.now (search rules)

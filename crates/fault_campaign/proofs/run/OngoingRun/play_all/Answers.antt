@@ -2,7 +2,7 @@ use Rattle.std.proofs.Common.{rules, ◌∙◌, ap}
 use Rattle.world_events.specs.declared.event.Event.TheVariants.{Open}
 use Rattle.fault_campaign.specs.Seeded.{Running, played}
 use Rattle.fault_campaign.proofs.Turns.{opened-few, reported}
-use Rattle.fault_campaign.proofs.run.Run.play_all.Goals as goal
+use Rattle.fault_campaign.proofs.run.OngoingRun.play_all.Goals as goal
 
 pub go_on_for-requires : goal.go_on_for-requires
 go_on_for-requires c = opened-few c.args.events c.args.self.now c.open.new.self (search rules) (search rules) c.in_ok-open.ensures
