@@ -3,4 +3,6 @@
 #![tactic(auto)]
 
 #[cfg(test)]
+mod first_numbers;
+#[cfg(test)]
 mod greetings;

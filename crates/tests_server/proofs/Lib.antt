@@ -1,0 +1,2 @@
+pub mod RowsFlowInboxes
+pub mod RowsMeetings
