@@ -1,4 +1,5 @@
 pub mod OnePeer
+pub mod Numbers
 pub mod Removing
 pub mod Chains
 pub mod InOrder

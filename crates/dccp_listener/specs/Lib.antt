@@ -6,3 +6,4 @@ pub mod Greeting
 pub mod Listens
 pub mod Moves
 pub mod Standing
+pub mod Numbers
