@@ -1,5 +1,5 @@
 -- The bytes of a run, one after the other, and those that a vector keeps.
-use Rattle.std.proofs.Common.{◌≡◌, ℕ, ◌-◌, ◌/◌, ◌%◌, ◌<◌, ◌≤◌, List, [], ◌∷◌, ◌++◌, zero, suc, refl, arith, ◌∙◌, length, take, min, inl, inr}
+use Rattle.std.proofs.Common.{◌≡◌, ℕ, ◌+◌, ◌-◌, ◌*◌, ◌/◌, ◌%◌, ◌<◌, ◌≤◌, List, [], ◌∷◌, ◌++◌, zero, suc, refl, arith, ◌∙◌, length, take, min, inl, inr}
 use Rattle.std.proofs.lemmas.Bool.{cases_lt}
 use Rattle.std.proofs.lemmas.List.{take-append-le, take_all}
 use Rattle.ack_vectors.specs.Vector.{piece, last_piece, pieces}
@@ -24,6 +24,14 @@ pieces-step s c h =
     short_piece : (c : ℕ) → 0 < c → last_piece s c ≡ piece s c ∷ []
     short_piece zero h = absurd (omega arith)
     short_piece (suc c) h = grind arith
+
+-- a run of no more than 64 numbers is one byte
+pub one_piece : (s c : ℕ) → 0 < c → c ≤ 64 → pieces s c ≡ (s * 64 + (c - 1)) ∷ []
+one_piece s c some few =
+    let same : min c 64 ≡ c = omega arith in
+    let none : c - c ≡ 0 = omega arith in
+    let step = pieces-step s c some in
+    step ∙ rw (same, none) refl
 
 -- a run of one number or more has a byte
 pub pieces-some : (s c : ℕ) → 0 < c → 1 ≤ length (pieces s c)

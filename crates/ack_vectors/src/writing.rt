@@ -20,7 +20,7 @@ const MISSING: u8 = 3;
 const MOST: u64 = 64;
 
 // Appends the bytes of a run up to `room` bytes in all; tells whether there was room for all of them.
-fn put_run(out: &mut VectorBytes, room: usize, state: u8, count: u64) -> bool
+fn put_pieces(out: &mut VectorBytes, room: usize, state: u8, count: u64) -> bool
     requires known { state < 4 }
     requires within { room ≤ room_of Two }
     requires begun { length out.old.items ≤ room }
@@ -38,6 +38,24 @@ fn put_run(out: &mut VectorBytes, room: usize, state: u8, count: u64) -> bool
         out.push(state * 64 + (length - 1) as u8);
         left -= length;
     }
+    true
+}
+
+// The same. Most runs are one byte for which there is room.
+#[tactic(auto, using(crate::proofs::Pieces::one_piece))]
+fn put_run(out: &mut VectorBytes, room: usize, state: u8, count: u64) -> bool
+    requires known { state < 4 }
+    requires within { room ≤ room_of Two }
+    requires begun { length out.old.items ≤ room }
+    ensures whole { OnTrue result (out.new.items ≡ out.old.items ++ pieces state count) }
+    ensures fits { length out.new.items ≤ room }
+    ensures cut { OnFalse result (out.new.items ≡ take room (out.old.items ++ pieces state count)) }
+    ensures long { OnFalse result (room < length (out.old.items ++ pieces state count)) }
+{
+    if count == 0 || MOST < count || out.len() == room {
+        return put_pieces(out, room, state, count);
+    }
+    out.push(state * 64 + (count - 1) as u8);
     true
 }
 

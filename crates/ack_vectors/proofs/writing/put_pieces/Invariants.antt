@@ -1,6 +1,6 @@
 use Rattle.std.proofs.Common.{◌≡◌, ◌≤◌, ◌++◌, length}
 use Rattle.ack_vectors.specs.Vector.{pieces}
-use Rattle.ack_vectors.proofs.writing.put_run.Given as goal
+use Rattle.ack_vectors.proofs.writing.put_pieces.Given as goal
 
 abbrev pub invariant-loop-left : goal.invariant-loop-left
 invariant-loop-left l = record {

@@ -1,7 +1,7 @@
 use Rattle.std.proofs.Common.{◌≡◌, ◌++◌, ◌∙◌, ap, sym, length, take, min, append_assoc, arith}
 use Rattle.ack_vectors.specs.Vector.{pieces}
 use Rattle.ack_vectors.proofs.Pieces.{pieces-step, take_full}
-use Rattle.ack_vectors.proofs.writing.put_run.Goals as goal
+use Rattle.ack_vectors.proofs.writing.put_pieces.Goals as goal
 
 pub returns-then-len-room-clause-cut : goal.returns-then-len-room-clause-cut
 returns-then-len-room-clause-cut c =
