@@ -1,9 +1,9 @@
 -- The runs of a report and its list of states say the same.
-use Rattle.std.proofs.Common.{◌≡◌, ℕ, zero, suc, ◌-◌, ◌<◌, ◌≤◌, List, [], ◌∷◌, ◌++◌, Some, cond, ltb, replicate, slice_get, refl, sym, ◌∙◌, ap, arith}
+use Rattle.std.proofs.Common.{◌≡◌, ℕ, zero, suc, ◌+◌, ◌-◌, ◌<◌, ◌≤◌, List, [], ◌∷◌, ◌++◌, Some, cond, ltb, replicate, slice_get, length, length-append, refl, sym, ◌∙◌, ap, arith}
 use Rattle.std.proofs.lemmas.Bool.Decides.{nat_tests}
 use Rattle.seq_circle.specs.Circle.{down}
 use Rattle.dccp_options.specs.declared.report.Run.{Run}
-use Rattle.dccp_options.specs.Vectors.{states, runs_of, state_of, run_length}
+use Rattle.dccp_options.specs.Vectors.{states, runs_of, state_of, run_length, numbers_covered, HavePassed}
 use Rattle.congestion_trait.specs.Walk.{run_state, IsAt}
 
 -- a front of equal elements is passed, or holds the place
@@ -25,6 +25,34 @@ first_state run left place to = grind (arith, nat_tests)
 
 later_state : (run : Run) (left : List Run) (place : ℕ) → run.count ≤ place → run_state (run ∷ left) place ≡ run_state left (place - run.count)
 later_state run left place from = grind (arith, nat_tests)
+
+-- runs that are passed give no state to a place after them
+state_past : (passed left : List Run) (place : ℕ) → numbers_covered passed ≤ place
+    → run_state (passed ++ left) place ≡ run_state left (place - numbers_covered passed)
+state_past [] left place from = let same : place - 0 ≡ place = omega arith in rw same refl
+state_past (run ∷ passed) left place from =
+    let same : place - run.count - numbers_covered passed ≡ place - (run.count + numbers_covered passed) = omega arith in
+    later_state run (passed ++ left) place (omega arith)
+    ∙ state_past passed left (place - run.count) (omega arith)
+    ∙ ap (run_state left) same
+
+-- between two runs, after some were passed
+pub at_passed : (all : List ℕ) (start end numbers state : ℕ) (runs left : List Run) → HavePassed runs numbers left
+    → IsAt all start end state runs → IsAt all (end + numbers) (end + numbers) state left
+at_passed all start end numbers state runs left (passed, is, counts) at = record {
+  inside = λ place from to. absurd (omega arith);
+  behind = λ place from.
+      let same : place - end - numbers ≡ place - (end + numbers) = omega arith in
+      at.behind place (omega arith)
+      ∙ ap (λ rs. run_state rs (place - end)) is
+      ∙ state_past passed left (place - end) (omega (arith, counts))
+      ∙ ap (λ k. run_state left (place - end - k)) (sym counts)
+      ∙ ap (run_state left) same;
+}
+
+-- what is left is no longer than all
+pub shorter : (runs left : List Run) (numbers : ℕ) → HavePassed runs numbers left → length left ≤ length runs
+shorter runs left numbers (passed, is, counts) = omega (arith, ap length is, length-append passed left)
 
 -- at the first run
 pub at_the_first : (bytes : List ℕ) (hi : ℕ) (run : Run) (left : List Run) → runs_of hi bytes ≡ run ∷ left

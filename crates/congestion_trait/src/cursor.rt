@@ -1,5 +1,5 @@
 //! Reads a report at falling numbers, without beginning anew at each.
-ghost use Rattle.std.specs.Prelude.{◌≡◌, ℕ, ◌+◌, ◌^◌, ◌<◌, ◌≤◌, ◌⊎◌, [], None, IfNone, IsNone, IsTrue, length, slice_get};
+ghost use Rattle.std.specs.Prelude.{◌≡◌, ℕ, ◌+◌, ◌^◌, ◌<◌, ◌≤◌, ◌⊎◌, List, [], None, IfNone, IsNone, IsTrue, length, slice_get};
 ghost use Rattle.seq_circle.specs.Circle.{distance};
 ghost use Rattle.dccp_options.specs.Vectors.{state_at, states};
 ghost use Rattle.congestion_trait.specs.Walk.{IsAt, IsTop};
@@ -64,6 +64,20 @@ impl<'a> Cursor<'a> {
         }
     }
 
+    // Goes on to the first run that reaches past a place, or to the end of the vector at hand: at none until `next`.
+    fn pass(&mut self, place: u64)
+        requires { self.old.end ≤ place }
+        ensures before { self.new.end ≤ place }
+        ensures none { self.new.start ≡ self.new.end }
+        ensures top { self.new.top ≡ self.old.top }
+        ensures shorter { length self.new.left ≤ length self.old.left }
+        ensures stands { (all : List ℕ) → IsAt all self.old.start self.old.end self.old.state self.old.left
+            → IsAt all self.new.start self.new.end self.new.state self.new.left }
+    {
+        self.start = self.end + self.left.pass(place - self.end);
+        self.end = self.start;
+    }
+
     // The state that the report gives a number. Runs are passed once while numbers fall.
     pub fn state(&mut self, report: &AckReport<'a>, number: Seq48) -> Option<u8>
         requires stands { IsAt (states report.now.bytes) self.old.start self.old.end self.old.state self.old.left }
@@ -79,9 +93,9 @@ impl<'a> Cursor<'a> {
         let place = number.distance(top);
         self.stand_at_or_before(report, place);
         while self.end <= place {
+            self.pass(place);
             match self.left.next() {
                 Some(run) => {
-                    self.start = self.end;
                     self.end += u64::from(run.count);
                     self.state = run.state;
                 }

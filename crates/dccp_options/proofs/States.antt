@@ -6,7 +6,7 @@ use Rattle.std.proofs.lemmas.List.{length-replicate}
 use Rattle.std.proofs.lemmas.Grind.{common_steps}
 use Rattle.seq_circle.specs.Circle.{distance, down}
 use Rattle.dccp_options.specs.declared.report.Run.{Run}
-use Rattle.dccp_options.specs.Vectors.{state_of, run_length, states, state_at, runs_of, is_in_run, state_in}
+use Rattle.dccp_options.specs.Vectors.{state_of, run_length, states, state_at, runs_of, numbers_covered, HavePassed, is_in_run, state_in}
 
 -- vectors that continue each other give their states one after the other
 pub states-append : (front following : List ℕ) → states (front ++ following) ≡ states front ++ states following
@@ -102,3 +102,55 @@ each_run-gives ack n bytes run fits_ack fits_n few (k, inside, is_run) here =
     let at = run-gives k ack n bytes run fits_ack fits_n (omega (arith, length-states-le bytes)) inside
     (ap (λ r. is_in_run r n) is_run ∙ here) in
     at.0 ∙ ap (λ r. Some r.state) is_run
+
+-- one byte more gives as many states more as it covers numbers
+pub length-states-more : (passed : List ℕ) (byte : ℕ) → length (states (passed ++ byte ∷ [])) ≡ length (states passed) + run_length byte
+length-states-more passed byte =
+    ap length (states-append passed (byte ∷ []))
+    ∙ length-append (states passed) (states (byte ∷ []))
+    ∙ ap (λ k. length (states passed) + k) (length-states byte [] ∙ omega arith)
+
+-- one step down after another
+down-down : (n one other : ℕ) → down (down n one) other ≡ down n (one + other)
+down-down n one other = omega arith
+
+-- the runs of bytes after others go on below these
+pub runs_of-append : (hi : ℕ) (front rest : List ℕ) → hi < 2 ^ 48
+    → runs_of hi (front ++ rest) ≡ runs_of hi front ++ runs_of (down hi (length (states front))) rest
+runs_of-append hi [] rest fits = let same : hi ≡ down hi 0 = omega arith in ap (λ top. runs_of top rest) same
+runs_of-append hi (byte ∷ front) rest fits =
+    let below = down hi (run_length byte) in
+    ap (λ runs. record { hi = hi; count = run_length byte; state = state_of byte } ∷ runs)
+    (runs_of-append below front rest (omega arith)
+    ∙ ap (λ top. runs_of below front ++ runs_of top rest)
+    (down-down hi (run_length byte) (length (states front)) ∙ ap (λ k. down hi k) (sym (length-states byte front))))
+
+-- runs cover as many numbers as their bytes give states
+pub numbers_covered-runs_of : (hi : ℕ) (bytes : List ℕ) → length (states bytes) ≡ numbers_covered (runs_of hi bytes)
+numbers_covered-runs_of hi [] = refl
+numbers_covered-runs_of hi (byte ∷ rest) =
+    length-states byte rest ∙ ap (λ k. run_length byte + k) (numbers_covered-runs_of (down hi (run_length byte)) rest)
+
+-- one byte more is passed
+pub passed_more : (vector left rest : List ℕ) (byte numbers count : ℕ) → left ≡ byte ∷ rest → count ≡ run_length byte
+    → (passed : List ℕ) × (vector ≡ passed ++ left) × (numbers ≡ length (states passed))
+    → (passed : List ℕ) × (vector ≡ passed ++ rest) × (numbers + count ≡ length (states passed))
+passed_more vector left rest byte numbers count first covers (passed, is, counts) = (
+  passed ++ byte ∷ [],
+  is ∙ ap (λ bytes. passed ++ bytes) first ∙ sym (append_assoc passed (byte ∷ []) rest),
+  omega (arith, covers, counts, length-states-more passed byte),
+)
+
+-- bytes that are passed are runs that are passed
+pub passed_runs : (hi numbers : ℕ) (vector left others : List ℕ) (runs : List Run) → hi < 2 ^ 48 → runs_of hi (vector ++ others) ≡ runs
+    → (passed : List ℕ) × (vector ≡ passed ++ left) × (numbers ≡ length (states passed))
+    → HavePassed runs numbers (runs_of (down hi numbers) (left ++ others))
+passed_runs hi numbers vector left others runs fits all (passed, is, counts) = (
+  runs_of hi passed,
+  sym all
+      ∙ ap (λ bytes. runs_of hi (bytes ++ others)) is
+      ∙ ap (runs_of hi) (append_assoc passed left others)
+      ∙ runs_of-append hi passed (left ++ others) fits
+      ∙ ap (λ k. runs_of hi passed ++ runs_of (down hi k) (left ++ others)) (sym counts),
+  counts ∙ numbers_covered-runs_of hi passed,
+)

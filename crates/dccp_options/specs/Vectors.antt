@@ -1,5 +1,5 @@
 -- What the Ack Vectors of a packet report (RFC 4340, section 11.4).
-use Rattle.std.specs.Prelude.{ℕ, ◌+◌, ◌/◌, ◌%◌, Bool, false, ◌||◌, ◌==◌, nat_lt, List, [], ◌∷◌, ◌++◌, replicate, Option, Some, None, Result, Ok, Err, slice_get, if◌then◌else◌}
+use Rattle.std.specs.Prelude.{◌≡◌, ℕ, ◌+◌, ◌/◌, ◌%◌, Bool, false, ◌||◌, ◌==◌, nat_lt, List, [], ◌∷◌, ◌++◌, replicate, Option, Some, None, Result, Ok, Err, slice_get, if◌then◌else◌}
 use Rattle.std.specs.List.{concat}
 use Rattle.seq_circle.specs.Circle.{distance, down}
 use Rattle.dccp_options.specs.declared.option.OptFault.{OptFault}
@@ -81,6 +81,15 @@ runs_of hi [] = []
 runs_of hi (byte ∷ rest) =
     record { hi = hi; count = run_length byte; state = state_of byte }
     ∷ runs_of (down hi (run_length byte)) rest
+
+-- how many numbers runs cover
+abbrev pub numbers_covered : List Run → ℕ
+numbers_covered [] = 0
+numbers_covered (run ∷ rest) = run.count + numbers_covered rest
+
+-- of these runs some are passed, which cover so many numbers, and those are left
+abbrev pub HavePassed : List Run → ℕ → List Run → Type 0
+HavePassed runs numbers left = (passed : List Run) × (runs ≡ passed ++ left) × (numbers ≡ numbers_covered passed)
 
 -- the number is one of the run's
 abbrev pub is_in_run : Run → ℕ → Bool

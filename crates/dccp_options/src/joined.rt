@@ -9,7 +9,7 @@ use crate::kinds::is_ack_vector;
 /// The bytes that are left: those of a vector, and of the vectors among the options after it.
 #[derive(Clone, Copy, Debug)]
 pub(crate) struct JoinedBytes<'a> {
-    vector: &'a [u8],
+    pub(crate) vector: &'a [u8],
     options: Cursor<'a>,
 }
 

@@ -1,6 +1,6 @@
 //! What the Ack Vectors of a packet report.
-ghost use Rattle.std.specs.Prelude.{◌≡◌, ◌^◌, ◌≤◌, ◌↔◌, ◌<◌, [], length, IsNone};
-ghost use Rattle.dccp_options.specs.Vectors.{ack_vectors, report_of, state_of, run_length, state_at, runs_of};
+ghost use Rattle.std.specs.Prelude.{◌≡◌, ◌^◌, ◌≤◌, ◌↔◌, ◌<◌, ◌++◌, ℕ, List, [], length, IsNone};
+ghost use Rattle.dccp_options.specs.Vectors.{ack_vectors, report_of, state_of, run_length, states, state_at, runs_of, HavePassed};
 
 use crate::joined::JoinedBytes;
 use crate::list::OptList;
@@ -73,6 +73,24 @@ fn run_length(byte: u8) -> u8
     byte % 64 + 1
 }
 
+// Passes the bytes at a vector's front whose runs lie whole among so many numbers, and tells how many they cover.
+fn past_bytes<'a>(vector: &'a [u8], most: u64) -> (&'a [u8], u64)
+    ensures past { (passed : List ℕ) × (vector.now ≡ passed ++ result.0.now) × (result.1 ≡ length (states passed)) }
+    ensures within { result.1 ≤ most }
+{
+    let mut left = vector;
+    let mut numbers = 0;
+    while let Some((byte, rest)) = left.split_first() {
+        let count = u64::from(run_length(*byte));
+        if most - numbers < count {
+            return (left, numbers);
+        }
+        numbers += count;
+        left = rest;
+    }
+    (left, numbers)
+}
+
 impl<'a> AckReport<'a> {
     /// What the Ack Vectors among the options of a packet report, whose acknowledgement number this is. None exactly
     /// where no Ack Vector is there; one without a byte is a report that gives no number a state. If a fault ends the
@@ -113,6 +131,22 @@ impl<'a> AckReport<'a> {
             hi: self.ack,
             bytes: self.bytes,
         }
+    }
+}
+
+impl<'a> ReportRuns<'a> {
+    /// Passes runs that lie whole among the next so many numbers, and tells how many numbers they cover (own). It ends
+    /// with the vector at hand, so that a run costs a look at its byte; `next` goes on to the vector after it.
+    pub fn pass(&mut self, most: u64) -> u64
+        ensures past { HavePassed self.old result self.new }
+        ensures within { result ≤ most }
+    {
+        // `get` gives the prover that the number is below 2^48.
+        let _number = self.hi.get();
+        let (vector, numbers) = past_bytes(self.bytes.vector, most);
+        self.bytes.vector = vector;
+        self.hi = self.hi.sub(numbers);
+        numbers
     }
 }
 
