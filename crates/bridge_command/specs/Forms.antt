@@ -18,13 +18,13 @@ use Rattle.bridge_command.specs.Schedule.{seed_text}
 use Rattle.bridge_command.specs.SeedLines.{seeds_text}
 use Rattle.bridge_command.specs.Unwrapping.{is_unwrapped_faulty, unwrapped_pieces, unwrapped_text}
 use Rattle.bridge_command.specs.Words.{asked_form}
-use Rattle.bridge_command.specs.declared.words.Form.{Form}
-use Rattle.bridge_command.specs.declared.words.Form.TheVariants as form
+use Rattle.bridge_command.specs.declared.words.BridgeForm.{BridgeForm}
+use Rattle.bridge_command.specs.declared.words.BridgeForm.TheVariants as form
 use Rattle.bridge_command.specs.declared.words.Picture.{Picture}
 use Rattle.bridge_command.specs.declared.words.Picture.TheVariants as pictures
 
 -- Only `seed` and `seeds` read no input.
-abbrev pub has_input : Form → Bool
+abbrev pub has_input : BridgeForm → Bool
 has_input (form.Seed run) = false
 has_input (form.Seeds range) = false
 has_input _ = true
@@ -62,7 +62,7 @@ flow_picture_accepted pictures.Windows flow bytes = (flow_windows_pieces flow by
 -- What a form writes of the bytes that it reads, when all is written: a capture of the frames that they tell, one of raw
 -- IP, the schedule of a seed, an object of each seed, a flow's packets as lines of `replay`, an object of each record,
 -- and a picture of lines or of a flow.
-abbrev pub bridge_text : Form → List ℕ → List ℕ
+abbrev pub bridge_text : BridgeForm → List ℕ → List ℕ
 bridge_text form.Capture bytes = frames_capture bytes
 bridge_text form.Unwrap bytes = unwrapped_text bytes
 bridge_text (form.Seed run) bytes = seed_text run.seed run.events
@@ -74,7 +74,7 @@ bridge_text (form.FlowPicture picture flow) bytes = flow_picture_text picture fl
 
 -- Whether a form refuses these bytes: a line of them, or a capture for its fault. (Of `seed` and `seeds`, which read none, the
 -- rows here and below are those of an empty input.)
-abbrev pub is_bridge_refused : Form → List ℕ → Bool
+abbrev pub is_bridge_refused : BridgeForm → List ℕ → Bool
 is_bridge_refused form.Capture bytes = transcript_refused bytes
 is_bridge_refused form.Unwrap bytes = is_unwrapped_faulty bytes
 is_bridge_refused (form.Seed run) bytes = false
@@ -85,7 +85,7 @@ is_bridge_refused (form.Picture picture) bytes = picture_refused picture bytes
 is_bridge_refused (form.FlowPicture picture flow) bytes = is_flow_picture_faulty picture flow bytes
 
 -- How many of these bytes a form accepts: whole lines, or a capture's header and records, up to what it refuses.
-abbrev pub bridge_accepted : Form → List ℕ → ℕ
+abbrev pub bridge_accepted : BridgeForm → List ℕ → ℕ
 bridge_accepted form.Capture bytes = transcript_accepted bytes
 bridge_accepted form.Unwrap bytes = (unwrapped_pieces bytes).accepted
 bridge_accepted (form.Seed run) bytes = 0
@@ -112,7 +112,7 @@ flow_picture_skips pictures.Windows flow bytes = capture_skips (flow_windows_pie
 
 -- What a form tells of these bytes apart from its output: what of a capture is skipped, and why they are refused, if they
 -- are, which is a line or a fault of the capture.
-abbrev pub bridge_said : Form → List ℕ → Said
+abbrev pub bridge_said : BridgeForm → List ℕ → Said
 bridge_said form.Capture bytes = line_said (transcript_refusal bytes)
 bridge_said form.Unwrap bytes = capture_said (capture_refusal (unwrapped_pieces bytes)) (capture_skips (unwrapped_pieces bytes))
 bridge_said (form.Seed run) bytes = line_said None
@@ -124,15 +124,15 @@ bridge_said (form.Picture picture) bytes = line_said (picture_refusal picture by
 bridge_said (form.FlowPicture picture flow) bytes = capture_said (flow_picture_refusal picture flow bytes) (flow_picture_skips picture flow bytes)
 
 -- How many bytes a form may have read after those that it accepts: two blocks of lines, or a block of a capture.
-abbrev pub bridge_reads_past : Form → ℕ
+abbrev pub bridge_reads_past : BridgeForm → ℕ
 bridge_reads_past form.Capture = 16384
 bridge_reads_past (form.Picture picture) = 16384
 bridge_reads_past _ = 524288
 
 -- Where a form reads its input, over a source that tells its bytes, something holds of them.
-abbrev pub OnBridgeRead : Form → Option (List ℕ) → (List ℕ → Type 0) → Type 0
+abbrev pub OnBridgeRead : BridgeForm → Option (List ℕ) → (List ℕ → Type 0) → Type 0
 OnBridgeRead form told Holds = has_input form ≡ true → (bytes : List ℕ) → told ≡ Some bytes → Holds bytes
 
 -- For any form that the words have and that reads its input, something holds of both.
-abbrev pub OnBridgeInput : List (String Global) → Option (List ℕ) → (Form → List ℕ → Type 0) → Type 0
-OnBridgeInput words told Holds = (form : Form) → asked_form words ≡ Some form → OnBridgeRead form told (Holds form)
+abbrev pub OnBridgeInput : List (String Global) → Option (List ℕ) → (BridgeForm → List ℕ → Type 0) → Type 0
+OnBridgeInput words told Holds = (form : BridgeForm) → asked_form words ≡ Some form → OnBridgeRead form told (Holds form)

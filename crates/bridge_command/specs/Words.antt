@@ -2,8 +2,8 @@
 use Rattle.std.specs.Prelude.{◌≡◌, ◌||◌, ◌==◌, ◌^◌, ◌≤◌, not, nat_lt, ℕ, Bool, true, false, List, [], ◌∷◌, drop, length, take, codes, Option, Some, None, option_and_then, if◌then◌else◌, String, string_bytes}
 use Rattle.std.specs.Str.{bytes_eq}
 use Rattle.std.specs.declared.alloc.Global.{Global}
-use Rattle.bridge_command.specs.declared.words.Form.{Form}
-use Rattle.bridge_command.specs.declared.words.Form.TheVariants as form
+use Rattle.bridge_command.specs.declared.words.BridgeForm.{BridgeForm}
+use Rattle.bridge_command.specs.declared.words.BridgeForm.TheVariants as form
 use Rattle.bridge_command.specs.declared.words.Picture.{Picture}
 use Rattle.bridge_command.specs.declared.words.Picture.TheVariants as pictures
 use Rattle.tool_forms.specs.BridgeWords.{IsFlowWithinBounds, IsRangeWithinBounds, IsRunWithinBounds, flow_side_of, seed_range_of, seed_run_of}
@@ -11,44 +11,44 @@ use Rattle.tool_forms.specs.Words.{is_word}
 use Rattle.tool_text.specs.Numbers.{number_below}
 
 -- No word may follow `capture` and `unwrap`.
-abbrev pub stands_alone : Form → List (String Global) → Option Form
+abbrev pub stands_alone : BridgeForm → List (String Global) → Option BridgeForm
 stands_alone form [] = Some form
 stands_alone form (word ∷ words) = None
 
 -- The words after `seed`.
-abbrev pub asked_seed : List (String Global) → Option Form
+abbrev pub asked_seed : List (String Global) → Option BridgeForm
 asked_seed words = option_and_then (λ run. Some (form.Seed run)) (seed_run_of words)
 
 -- The words after `seeds`.
-abbrev pub asked_seeds : List (String Global) → Option Form
+abbrev pub asked_seeds : List (String Global) → Option BridgeForm
 asked_seeds words = option_and_then (λ range. Some (form.Seeds range)) (seed_range_of words)
 
 -- The words after `frames`.
-abbrev pub asked_flow : List (String Global) → Option Form
+abbrev pub asked_flow : List (String Global) → Option BridgeForm
 asked_flow words = option_and_then (λ asked. Some (form.Frames asked)) (flow_side_of words)
 
 -- The words after `json`: none, or `--payload`.
-abbrev pub asked_json : List (String Global) → Option Form
+abbrev pub asked_json : List (String Global) → Option BridgeForm
 asked_json [] = Some (form.Json false)
 asked_json (word ∷ []) = if is_word word (codes "--payload") then Some (form.Json true) else None
 asked_json _ = None
 
 -- the picture of a flow, which is numbered from 1
-abbrev pub numbered_picture : Picture → Option ℕ → Option Form
+abbrev pub numbered_picture : Picture → Option ℕ → Option BridgeForm
 numbered_picture picture None = None
 numbered_picture picture (Some flow) = if flow == 0 then None else Some (form.FlowPicture picture flow)
 
 -- the picture of the flow whose number this text is: decimal, without sign or leading zero, 1 to 2^64 - 1
-abbrev pub flow_picture : Picture → List ℕ → Option Form
+abbrev pub flow_picture : Picture → List ℕ → Option BridgeForm
 flow_picture picture text = numbered_picture picture (number_below (2 ^ 64) text)
 
 -- the same from one word, `--flow=F`
-abbrev pub joined_picture : Picture → List ℕ → Option Form
+abbrev pub joined_picture : Picture → List ℕ → Option BridgeForm
 joined_picture picture word =
     if nat_lt (length word) 7 || not (bytes_eq (take 7 word) (codes "--flow=")) then None else flow_picture picture (drop 7 word)
 
 -- The words after `ladder` or `windows`: none, or `--flow` and a number.
-abbrev pub asked_picture : Picture → List (String Global) → Option Form
+abbrev pub asked_picture : Picture → List (String Global) → Option BridgeForm
 asked_picture picture [] = Some (form.Picture picture)
 asked_picture picture (word ∷ []) = joined_picture picture (string_bytes word)
 asked_picture picture (name ∷ flow ∷ []) = if is_word name (codes "--flow") then flow_picture picture (string_bytes flow) else None
@@ -56,7 +56,7 @@ asked_picture picture _ = None
 
 -- The form of a first word and those after it: `capture`, `unwrap`, `seed`, `seeds`, `frames`, `json`, `ladder`
 -- or `windows`.
-unfoldable pub form_behind : String Global → List (String Global) → Option Form
+unfoldable pub form_behind : String Global → List (String Global) → Option BridgeForm
 form_behind first words =
     if is_word first (codes "capture") then stands_alone form.Capture words
     else if is_word first (codes "unwrap") then stands_alone form.Unwrap words
@@ -69,12 +69,12 @@ form_behind first words =
     else None
 
 -- The form that the words have.
-abbrev pub asked_form : List (String Global) → Option Form
+abbrev pub asked_form : List (String Global) → Option BridgeForm
 asked_form [] = None
 asked_form (first ∷ words) = form_behind first words
 
 -- the numbers of a form are within their bounds
-abbrev pub IsBridgeFormWithinBounds : Form → Type 0
+abbrev pub IsBridgeFormWithinBounds : BridgeForm → Type 0
 IsBridgeFormWithinBounds form.Capture = Unit {0}
 IsBridgeFormWithinBounds form.Unwrap = Unit {0}
 IsBridgeFormWithinBounds (form.Seed run) = IsRunWithinBounds run
@@ -98,5 +98,5 @@ abbrev pub bridge_usage : List ℕ
 bridge_usage = codes "usage: dccp_bridge capture | unwrap | seed --seed S --events E | seeds --first F --seeds N --events E | frames --flow F --side server|client | json [--payload] | ladder [--flow F] | windows [--flow F]\n"
 
 -- For any form that the words have, something holds of it.
-abbrev pub OnAsked : List (String Global) → (Form → Type 0) → Type 0
-OnAsked words Holds = (form : Form) → asked_form words ≡ Some form → Holds form
+abbrev pub OnAsked : List (String Global) → (BridgeForm → Type 0) → Type 0
+OnAsked words Holds = (form : BridgeForm) → asked_form words ≡ Some form → Holds form

@@ -29,6 +29,6 @@ pub use crate::json::{
 pub use crate::seed::a_schedule_is_the_run_of_its_seed;
 pub use crate::top::bridge;
 pub use crate::unwrap::{each_record_is_unwrapped, what_show_shows_stays};
-pub use crate::words::{Form, Picture, USAGE, form_of};
+pub use crate::words::{BridgeForm, Picture, USAGE, form_of};
 pub use tool_forms::{FlowSide, SeedRange, SeedRun};
 pub use tool_text::Status;

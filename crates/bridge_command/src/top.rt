@@ -13,7 +13,7 @@ use crate::json::json_records;
 use crate::seed::tell_seed;
 use crate::seeds::tell_seeds;
 use crate::unwrap::unwrap_capture;
-use crate::words::{Form, Picture, USAGE, form_of};
+use crate::words::{BridgeForm, Picture, USAGE, form_of};
 use bridge_pictures::{ladder_of_flow, ladder_of_transcript, windows_of_flow, windows_of_schedule};
 use bridge_records::RecordsEnd;
 use dccp_io::{Sink, Source, write_all};
@@ -65,8 +65,8 @@ pub fn bridge<S: Source, K: Sink, E: Sink>(
     // What a form owes that reads nothing: the same as of an empty input. And why any form ended.
     ensures told { OnAsked words.now (λ form. has_input form ≡ false
         → OnJobEnd result (λ end. Answers (bridge_text form []) false end (Some []) (K.taken output.old) (K.taken output.new))) }
-    ensures form_unread { (form : Form) → asked_form words.now ≡ Some form → has_input form ≡ false → input.new ≡ input.old }
-    ensures cause { (form : Form) → asked_form words.now ≡ Some form
+    ensures form_unread { (form : BridgeForm) → asked_form words.now ≡ Some form → has_input form ≡ false → input.new ≡ input.old }
+    ensures cause { (form : BridgeForm) → asked_form words.now ≡ Some form
         → OnJobEnd result (λ end. EndsForCause end (Rose (S.faults input.old) (S.faults input.new)) (SinkFails K.faults K.empty_takes output.old output.new)) }
 {
     match form_of(alloc, words) {
@@ -79,7 +79,7 @@ pub fn bridge<S: Source, K: Sink, E: Sink>(
 // Does what a form asks for, and tells what was skipped, and why its input is refused, if it is.
 fn perform_and_tell<S: Source, K: Sink, E: Sink>(
     alloc: Global,
-    form: Form,
+    form: BridgeForm,
     input: &mut S,
     output: &mut K,
     errors: &mut E,
@@ -101,7 +101,12 @@ fn perform_and_tell<S: Source, K: Sink, E: Sink>(
 }
 
 // Does what a form asks for.
-fn perform<S: Source, K: Sink>(alloc: Global, form: Form, input: &mut S, output: &mut K) -> FormEnd
+fn perform<S: Source, K: Sink>(
+    alloc: Global,
+    form: BridgeForm,
+    input: &mut S,
+    output: &mut K,
+) -> FormEnd
     requires { IsBridgeFormWithinBounds form }
     ensures answers { OnBridgeRead form (S.left input.old) (λ bytes.
         Answers (bridge_text form bytes) (is_bridge_refused form bytes) result.end (S.left input.new) (K.taken output.old) (K.taken output.new)) }
@@ -114,50 +119,50 @@ fn perform<S: Source, K: Sink>(alloc: Global, form: Form, input: &mut S, output:
     ensures cause { EndsForCause result.end (Rose (S.faults input.old) (S.faults input.new)) (SinkFails K.faults K.empty_takes output.old output.new) }
 {
     match form {
-        Form::Capture => {
+        BridgeForm::Capture => {
             let ended = capture_frames(alloc, input, output);
             FormEnd {
                 end: ended.end,
                 said: line_said(ended.refusal),
             }
         }
-        Form::Picture(picture) => {
+        BridgeForm::Picture(picture) => {
             let ended = draw_lines(alloc, picture, input, output);
             FormEnd {
                 end: ended.end,
                 said: line_said(ended.refusal),
             }
         }
-        Form::Seed(run) => FormEnd {
+        BridgeForm::Seed(run) => FormEnd {
             end: tell_seed(alloc, run.seed, run.events, output),
             said: line_said(None),
         },
-        Form::Seeds(range) => FormEnd {
+        BridgeForm::Seeds(range) => FormEnd {
             end: tell_seeds(alloc, range, output),
             said: line_said(None),
         },
-        Form::Unwrap => {
+        BridgeForm::Unwrap => {
             let ended = unwrap_capture(alloc, input, output);
             FormEnd {
                 end: ended.end,
                 said: capture_said(ended.refusal, ended.skips),
             }
         }
-        Form::Frames(asked) => {
+        BridgeForm::Frames(asked) => {
             let ended = frame_flow(alloc, asked.flow, asked.side, input, output);
             FormEnd {
                 end: ended.end,
                 said: capture_said(ended.refusal, ended.skips),
             }
         }
-        Form::Json(payload) => {
+        BridgeForm::Json(payload) => {
             let ended = json_records(alloc, payload, input, output);
             FormEnd {
                 end: ended.end,
                 said: capture_said(ended.refusal, ended.skips),
             }
         }
-        Form::FlowPicture(picture, flow) => {
+        BridgeForm::FlowPicture(picture, flow) => {
             let ended = draw_flow(alloc, picture, flow, input, output);
             FormEnd {
                 end: ended.end,

@@ -9,7 +9,7 @@ use tool_text::{is_text, number_up_to};
 
 /// A job of the second tool (own).
 #[derive(Clone, Copy, Debug, PartialEq, Eq)]
-pub enum Form {
+pub enum BridgeForm {
     /// `capture` makes a capture of the frames that `run` or `replay` told.
     Capture,
     /// `unwrap` makes a capture of raw IP of one of another link type.
@@ -45,7 +45,7 @@ pub const USAGE: &[u8] =
     b"usage: dccp_bridge capture | unwrap | seed --seed S --events E | seeds --first F --seeds N --events E | frames --flow F --side server|client | json [--payload] | ladder [--flow F] | windows [--flow F]\n";
 
 // No word may follow.
-fn stands_alone(form: Form, words: &[String]) -> Option<Form>
+fn stands_alone(form: BridgeForm, words: &[String]) -> Option<BridgeForm>
     requires { IsBridgeFormWithinBounds form }
     ensures value { result ≡ stands_alone form words.now }
     ensures within { IfSome result IsBridgeFormWithinBounds }
@@ -54,52 +54,52 @@ fn stands_alone(form: Form, words: &[String]) -> Option<Form>
 }
 
 // The job that the words after `seed` ask for.
-fn asked_seed(alloc: Global, words: &[String]) -> Result<Option<Form>, NoMemory>
+fn asked_seed(alloc: Global, words: &[String]) -> Result<Option<BridgeForm>, NoMemory>
     ensures value { IfOk result (λ form. form ≡ asked_seed words.now) }
     ensures within { IfOk result (λ form. IfSome form IsBridgeFormWithinBounds) }
 {
     match seed_run_of(alloc, words)? {
-        Some(run) => Ok(Some(Form::Seed(run))),
+        Some(run) => Ok(Some(BridgeForm::Seed(run))),
         None => Ok(None),
     }
 }
 
 // The job that the words after `seeds` ask for.
-fn asked_seeds(alloc: Global, words: &[String]) -> Result<Option<Form>, NoMemory>
+fn asked_seeds(alloc: Global, words: &[String]) -> Result<Option<BridgeForm>, NoMemory>
     ensures value { IfOk result (λ form. form ≡ asked_seeds words.now) }
     ensures within { IfOk result (λ form. IfSome form IsBridgeFormWithinBounds) }
 {
     match seed_range_of(alloc, words)? {
-        Some(range) => Ok(Some(Form::Seeds(range))),
+        Some(range) => Ok(Some(BridgeForm::Seeds(range))),
         None => Ok(None),
     }
 }
 
 // The job that the words after `frames` ask for.
-fn asked_flow(alloc: Global, words: &[String]) -> Result<Option<Form>, NoMemory>
+fn asked_flow(alloc: Global, words: &[String]) -> Result<Option<BridgeForm>, NoMemory>
     ensures value { IfOk result (λ form. form ≡ asked_flow words.now) }
     ensures within { IfOk result (λ form. IfSome form IsBridgeFormWithinBounds) }
 {
     match flow_side_of(alloc, words)? {
-        Some(asked) => Ok(Some(Form::Frames(asked))),
+        Some(asked) => Ok(Some(BridgeForm::Frames(asked))),
         None => Ok(None),
     }
 }
 
 // The job that the words after `json` ask for.
-fn asked_json(words: &[String]) -> Option<Form>
+fn asked_json(words: &[String]) -> Option<BridgeForm>
     ensures value { result ≡ asked_json words.now }
     ensures within { IfSome result IsBridgeFormWithinBounds }
 {
     match words {
-        [] => Some(Form::Json(false)),
-        [word] if is_word(word, b"--payload") => Some(Form::Json(true)),
+        [] => Some(BridgeForm::Json(false)),
+        [word] if is_word(word, b"--payload") => Some(BridgeForm::Json(true)),
         _ => None,
     }
 }
 
 // The picture of the flow whose number this text is, from 1.
-fn flow_picture(picture: Picture, text: &[u8]) -> Option<Form>
+fn flow_picture(picture: Picture, text: &[u8]) -> Option<BridgeForm>
     ensures value { result ≡ flow_picture picture text.now }
     ensures within { IfSome result IsBridgeFormWithinBounds }
 {
@@ -107,11 +107,11 @@ fn flow_picture(picture: Picture, text: &[u8]) -> Option<Form>
     if flow == 0 {
         return None;
     }
-    Some(Form::FlowPicture(picture, flow))
+    Some(BridgeForm::FlowPicture(picture, flow))
 }
 
 // The same from one word, `--flow=F`.
-fn joined_picture(picture: Picture, word: &[u8]) -> Option<Form>
+fn joined_picture(picture: Picture, word: &[u8]) -> Option<BridgeForm>
     ensures value { result ≡ joined_picture picture word.now }
     ensures within { IfSome result IsBridgeFormWithinBounds }
 {
@@ -122,12 +122,12 @@ fn joined_picture(picture: Picture, word: &[u8]) -> Option<Form>
 }
 
 // The job that the words after `ladder` or `windows` ask for.
-fn asked_picture(picture: Picture, words: &[String]) -> Option<Form>
+fn asked_picture(picture: Picture, words: &[String]) -> Option<BridgeForm>
     ensures value { result ≡ asked_picture picture words.now }
     ensures within { IfSome result IsBridgeFormWithinBounds }
 {
     match words {
-        [] => Some(Form::Picture(picture)),
+        [] => Some(BridgeForm::Picture(picture)),
         [word] => joined_picture(picture, word.as_bytes()),
         [name, flow] if is_word(name, b"--flow") => flow_picture(picture, flow.as_bytes()),
         _ => None,
@@ -136,16 +136,20 @@ fn asked_picture(picture: Picture, words: &[String]) -> Option<Form>
 
 // The job that a first word and those after it ask for.
 #[tactic(auto, unfolding(crate::specs::Words::form_behind))]
-fn form_behind(alloc: Global, first: &String, words: &[String]) -> Result<Option<Form>, NoMemory>
+fn form_behind(
+    alloc: Global,
+    first: &String,
+    words: &[String],
+) -> Result<Option<BridgeForm>, NoMemory>
     ensures value { IfOk result (λ form. form ≡ form_behind first.now words.now) }
     ensures within { IfOk result (λ form. IfSome form IsBridgeFormWithinBounds) }
     ensures memory { has_settings_behind first.now ≡ false → IsOk result }
 {
     if is_word(first, b"capture") {
-        return Ok(stands_alone(Form::Capture, words));
+        return Ok(stands_alone(BridgeForm::Capture, words));
     }
     if is_word(first, b"unwrap") {
-        return Ok(stands_alone(Form::Unwrap, words));
+        return Ok(stands_alone(BridgeForm::Unwrap, words));
     }
     if is_word(first, b"seed") {
         return asked_seed(alloc, words);
@@ -171,7 +175,7 @@ fn form_behind(alloc: Global, first: &String, words: &[String]) -> Result<Option
 /// The job that these words ask for, those after the program's name, or None where they are none of the forms (own).
 /// NoMemory comes only for words after `seed`, `seeds` and `frames`, whose settings are read by a command of `clap`,
 /// and then says nothing of them.
-pub fn form_of(alloc: Global, words: &[String]) -> Result<Option<Form>, NoMemory>
+pub fn form_of(alloc: Global, words: &[String]) -> Result<Option<BridgeForm>, NoMemory>
     ensures value { IfOk result (λ form. form ≡ asked_form words.now) }
     ensures within { IfOk result (λ form. IfSome form IsBridgeFormWithinBounds) }
     ensures memory { has_bridge_settings words.now ≡ false → IsOk result }
