@@ -9,7 +9,7 @@ use Rattle.tool_text.specs.declared.output.status.JobEnd.{JobEnd}
 use Rattle.tool_text.specs.declared.output.status.JobEnd.TheVariants as ended
 use Rattle.tool_text.proofs.Ending.{none-left, on-err, on-ok, unwritten}
 use Rattle.bridge_records.specs.Pieces.{GoesThroughPieces, PieceWork, Stops, by_next_piece, unended, most_piece_bytes, next_piece, pieces_from, taken_so_far}
-use Rattle.bridge_records.specs.Turns.{KeepsBlock, LeavesText, Standing, TurnsPiece}
+use Rattle.bridge_records.specs.Turns.{KeepsBlock, LeavesText, PieceState, TurnsPiece}
 use Rattle.bridge_records.specs.declared.pieces.fault.PieceFault.{PieceFault}
 use Rattle.bridge_records.specs.declared.pieces.loops.PiecesEnd.{PiecesEnd}
 use Rattle.bridge_records.specs.declared.pieces.turns.Turn.{Turn}
@@ -17,7 +17,7 @@ use Rattle.bridge_records.specs.declared.pieces.turns.Turn.TheVariants as turn
 use Rattle.bridge_records.proofs.Along.{Along, along-first, along-moved, along-piece, refused-here, through-early, through-last}
 
 -- where the input is in a turn
-abbrev pub standing : {S V : Type 0} → S → BytesAhead → V → List ℕ → Standing S V
+abbrev pub standing : {S V : Type 0} → S → BytesAhead → V → List ℕ → PieceState S V
 standing source ahead state text = record { source = source; ahead = ahead; state = state; text = text }
 
 -- the input was not refused
@@ -97,7 +97,7 @@ module _ {S K P V : Type 0} (left : S → Option (List ℕ)) (faults : S → ℕ
         (taken output) input (unrefused_pieces ended.Memory) last along
         (inr (inr refl)) (unwritten text (taken output) (taken output) refl))
 
-    module _ (new : Standing S V) (t : Turn) (keeps : KeepsBlock faults (standing source ahead state text) new)
+    module _ (new : PieceState S V) (t : Turn) (keeps : KeepsBlock faults (standing source ahead state text) new)
         (turns : TurnsPiece left faults job given (standing source ahead state text) new (Ok t)) where
       -- more of the input was read
       pub read-on : t ≡ turn.Read → InPieces left faults taken failed empty job start first opened new.state new.source new.ahead output new.text given

@@ -11,26 +11,26 @@ use Rattle.bridge_records.specs.declared.pieces.turns.Turn.{Turn}
 use Rattle.bridge_records.specs.declared.pieces.turns.Turn.TheVariants as turn
 
 -- The source and the bytes ahead of their use, and where the input stands.
-pub record Standing (S V : Type 0) : Type 0 where
+pub record PieceState (S V : Type 0) : Type 0 where
   pub source : S
   pub ahead : BytesAhead
   pub state : V
   pub text : List ℕ
 
 -- what every turn keeps: the block, and that faults never fall
-pub record KeepsBlock {S V : Type 0} (faults : S → ℕ) (old new : Standing S V) : Type 0 where
+pub record KeepsBlock {S V : Type 0} (faults : S → ℕ) (old new : PieceState S V) : Type 0 where
   pub same_size : new.ahead.size ≡ old.ahead.size
   pub fits : length new.ahead.pending ≤ new.ahead.size
   pub never_falls : faults old.source ≤ faults new.source
 
 -- what is still to come, and state and text, stay the same
-pub record SameStanding {S V : Type 0} (left : S → Option (List ℕ)) (old new : Standing S V) : Type 0 where
+pub record SameStanding {S V : Type 0} (left : S → Option (List ℕ)) (old new : PieceState S V) : Type 0 where
   pub ahead : ahead_of new.ahead (left new.source) ≡ ahead_of old.ahead (left old.source)
   pub state : new.state ≡ old.state
   pub text : new.text ≡ old.text
 
 -- the next piece was judged and let go
-pub record TakesPiece {S P V : Type 0} (job : PieceWork P V) (given count : ℕ) (old new : Standing S V) : Type 0 where
+pub record TakesPiece {S P V : Type 0} (job : PieceWork P V) (given count : ℕ) (old new : PieceState S V) : Type 0 where
   pub used : count ≡ job.wanted old.state
   pub some : 1 ≤ count
   pub there : count ≤ length old.ahead.pending
@@ -41,7 +41,7 @@ pub record TakesPiece {S P V : Type 0} (job : PieceWork P V) (given count : ℕ)
 
 -- One turn: more of the input was read, or the next piece was judged and accepted, or the input is at its end or
 -- refused, or the source failed, and else nothing changed.
-abbrev pub TurnsPiece : {S P V : Type 0} → (S → Option (List ℕ)) → (S → ℕ) → PieceWork P V → ℕ → Standing S V → Standing S V → Result Turn no_memory.NoMemory → Type 0
+abbrev pub TurnsPiece : {S P V : Type 0} → (S → Option (List ℕ)) → (S → ℕ) → PieceWork P V → ℕ → PieceState S V → PieceState S V → Result Turn no_memory.NoMemory → Type 0
 TurnsPiece left faults job given old new (Ok turn.Read) = SameStanding left old new × (length old.ahead.pending < length new.ahead.pending)
 TurnsPiece left faults job given old new (Ok (turn.Taken used)) = TakesPiece job given used old new
 TurnsPiece left faults job given old new (Ok (turn.Over None)) =
