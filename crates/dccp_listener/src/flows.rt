@@ -20,11 +20,11 @@ use std::marker::Model;
 
 // The end of a peer. It stands apart, so that it stays where it is as peers come and go.
 #[derive(Drop)]
-pub(crate) struct Held {
+pub(crate) struct BoxedEnd {
     end: Box<Endpoint<Kinds>>,
 }
 
-impl Model for Held {
+impl Model for BoxedEnd {
     ghost use Rattle.dccp_listener.specs.Peers.{FlowEnd};
 
     ghost Value = { FlowEnd };
@@ -32,7 +32,7 @@ impl Model for Held {
     ghost view = { λ h. h.end.value };
 }
 
-impl Held {
+impl BoxedEnd {
     ghost use Rattle.std.specs.Prelude.{◌≡◌};
 
     /// The end.
@@ -45,7 +45,7 @@ impl Held {
 
 // The peer's end takes a call where it stands: what was seen, and whether the end is over.
 fn call_flow(
-    flows: &mut BTreeMap<Peer, Held>,
+    flows: &mut BTreeMap<Peer, BoxedEnd>,
     peer: Peer,
     call: UserCall<'_>,
     out: &mut Outbox,
@@ -68,7 +68,7 @@ fn call_flow(
 
 // The peer's end hears a datagram where it stands: its answer, and whether the end is over.
 fn receive_at(
-    flows: &mut BTreeMap<Peer, Held>,
+    flows: &mut BTreeMap<Peer, BoxedEnd>,
     peer: Peer,
     bytes: &[u8],
     out: &mut Outbox,
@@ -91,7 +91,7 @@ fn receive_at(
 }
 
 // The peer's end goes where it is over.
-fn settle(flows: &mut BTreeMap<Peer, Held>, peer: Peer, over: bool)
+fn settle(flows: &mut BTreeMap<Peer, BoxedEnd>, peer: Peer, over: bool)
     ensures own { end_of_peer flows.new.entries peer ≡ (if over then None else end_of_peer flows.old.entries peer) }
     ensures others { (other : Peer) → is_peer peer other ≡ false
         → end_of_peer flows.new.entries other ≡ end_of_peer flows.old.entries other }
@@ -106,7 +106,7 @@ fn settle(flows: &mut BTreeMap<Peer, Held>, peer: Peer, over: bool)
 /// The peer's end takes a call, and goes where it is over. None where the peer has no end.
 #[tactic(auto, using(crate::proofs::Removing::removed))]
 pub(crate) fn act_at(
-    flows: &mut BTreeMap<Peer, Held>,
+    flows: &mut BTreeMap<Peer, BoxedEnd>,
     peer: Peer,
     call: UserCall<'_>,
     out: &mut Outbox,
@@ -127,7 +127,7 @@ pub(crate) fn act_at(
 /// The peer's end hears a datagram, and goes where it is over. None where the peer has no end.
 #[tactic(auto, using(crate::proofs::Removing::removed))]
 pub(crate) fn hear_at(
-    flows: &mut BTreeMap<Peer, Held>,
+    flows: &mut BTreeMap<Peer, BoxedEnd>,
     peer: Peer,
     bytes: &[u8],
     out: &mut Outbox,
@@ -149,7 +149,7 @@ pub(crate) fn hear_at(
 /// The peer, which has none, gets this end. NoMemory where none is to be had for it, and then nothing changes.
 pub(crate) fn put_flow(
     alloc: Global,
-    flows: &mut BTreeMap<Peer, Held>,
+    flows: &mut BTreeMap<Peer, BoxedEnd>,
     peer: Peer,
     end: Endpoint<Kinds>,
 ) -> Result<(), NoMemory>
@@ -163,7 +163,7 @@ pub(crate) fn put_flow(
     let Ok(end) = Box::new(alloc, end) else {
         return Err(NoMemory);
     };
-    match flows.insert(peer, Held { end }) {
+    match flows.insert(peer, BoxedEnd { end }) {
         Ok(_) => Ok(()),
         Err(_) => Err(NoMemory),
     }

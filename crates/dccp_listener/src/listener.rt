@@ -1,7 +1,7 @@
 //! The listener.
 ghost use Rattle.std.specs.Prelude.{◌≡◌};
 
-use crate::flows::Held;
+use crate::flows::BoxedEnd;
 use crate::meeting::{arrive, greet_alone, perform};
 use crate::{Act, Heard, ListenConfig, NoFlow, Peer};
 use ccid_two::Kinds;
@@ -35,7 +35,7 @@ use std::marker::Model;
 pub struct Listener {
     alloc: Global,
     config: ListenConfig,
-    flows: BTreeMap<Peer, Held>,
+    flows: BTreeMap<Peer, BoxedEnd>,
 }
 
 impl Model for Listener {

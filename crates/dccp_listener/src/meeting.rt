@@ -15,7 +15,7 @@ ghost use Rattle.dccp_listener.specs.Runs.{Stepped, told_of};
 
 use crate::answers::without_memory;
 use crate::config::config_for;
-use crate::flows::{Held, act_at, hear_at, put_flow};
+use crate::flows::{BoxedEnd, act_at, hear_at, put_flow};
 use crate::greeting::{greet, refuse};
 use crate::{Heard, ListenConfig, NoFlow, Peer};
 use ccid_two::Kinds;
@@ -30,7 +30,7 @@ use std::collections::BTreeMap;
 fn admit(
     alloc: Global,
     config: &Config,
-    flows: &mut BTreeMap<Peer, Held>,
+    flows: &mut BTreeMap<Peer, BoxedEnd>,
     peer: Peer,
     packet: &Packet<'_>,
     bytes: &[u8],
@@ -54,7 +54,7 @@ fn admit(
 }
 
 // As many flows stand as may.
-fn is_full(config: &ListenConfig, flows: &BTreeMap<Peer, Held>) -> bool
+fn is_full(config: &ListenConfig, flows: &BTreeMap<Peer, BoxedEnd>) -> bool
     ensures { IsTrue result ↔ (config.now.most ≤ length flows.now.entries) }
 {
     config.most as usize <= flows.len()
@@ -64,7 +64,7 @@ fn is_full(config: &ListenConfig, flows: &BTreeMap<Peer, Held>) -> bool
 fn meet(
     alloc: Global,
     config: &ListenConfig,
-    flows: &mut BTreeMap<Peer, Held>,
+    flows: &mut BTreeMap<Peer, BoxedEnd>,
     peer: Peer,
     iss: Seq48,
     packet: &Packet<'_>,
@@ -97,7 +97,7 @@ fn meet(
 pub(crate) fn arrive(
     alloc: Global,
     config: &ListenConfig,
-    flows: &mut BTreeMap<Peer, Held>,
+    flows: &mut BTreeMap<Peer, BoxedEnd>,
     peer: Peer,
     iss: Seq48,
     bytes: &[u8],
@@ -191,7 +191,7 @@ pub(crate) fn greet_alone(
 /// A call of a peer's end. The configuration is looked at by the clauses alone.
 pub(crate) fn perform(
     config: &ListenConfig,
-    flows: &mut BTreeMap<Peer, Held>,
+    flows: &mut BTreeMap<Peer, BoxedEnd>,
     peer: Peer,
     call: UserCall<'_>,
     out: &mut Outbox,
