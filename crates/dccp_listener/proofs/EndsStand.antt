@@ -19,7 +19,7 @@ use Rattle.dccp_endpoint.specs.Strangers.{stays_in}
 use Rattle.dccp_listener.specs.Calls.{Arrived, IsStep}
 use Rattle.dccp_listener.specs.Chain.{Arrives, Calls, ChainStep, Deed, chain_step, config_for, flow_step, fresh_end, input_of_deed, is_given_up}
 use Rattle.dccp_listener.specs.Peers.{FlowEnd, Listening, end_of_peer, is_peer}
-use Rattle.dccp_listener.specs.Standing.{ChainsStand, IsSoundListener, Stands}
+use Rattle.dccp_listener.specs.Standing.{ChainsStand, IsSoundListener, IsFlowOf}
 use Rattle.dccp_listener.specs.declared.calls.Heard.{Heard}
 use Rattle.dccp_listener.specs.declared.calls.Heard.TheVariants as heard
 use Rattle.dccp_listener.specs.declared.config.ListenConfig.{ListenConfig}
@@ -70,7 +70,7 @@ live-after e given server live proper over =
 -- the end that a step of a proper end leaves stands where its phase is a flow's
 stands-after : (config : ListenConfig) (peer : Peer) (iss : ℕ) (bytes : List ℕ) (e : EndState) (given : Input) (next : FlowEnd)
     → e.config ≡ config_for config peer iss bytes → IsProper e → next.state ≡ (end_stepped e given).after → stays_in next.state.phase ≡ true
-    → Stands config peer next
+    → IsFlowOf config peer next
 stands-after config peer iss bytes e given next made proper is live =
     let step = every_step_has_an_effect e given proper in
     let same : next.state ≡ end_after e step.effect = is ∙ step.after_is in
@@ -82,13 +82,13 @@ stands-after config peer iss bytes e given next made proper is live =
       phase_is = live;
     }
 
-if-not-over : (config : ListenConfig) (peer : Peer) (next : FlowEnd) (over : Bool) → (over ≡ false → Stands config peer next)
-    → IfSome (if over then None else Some next) (Stands config peer)
+if-not-over : (config : ListenConfig) (peer : Peer) (next : FlowEnd) (over : Bool) → (over ≡ false → IsFlowOf config peer next)
+    → IfSome (if over then None else Some next) (IsFlowOf config peer)
 if-not-over config peer next true so = tt
 if-not-over config peer next false so = so refl
 
-if-flow : (config : ListenConfig) (peer : Peer) (next : FlowEnd) (stays : Bool) → (stays ≡ true → Stands config peer next)
-    → IfSome (if stays then Some next else None) (Stands config peer)
+if-flow : (config : ListenConfig) (peer : Peer) (next : FlowEnd) (stays : Bool) → (stays ≡ true → IsFlowOf config peer next)
+    → IfSome (if stays then Some next else None) (IsFlowOf config peer)
 if-flow config peer next true so = so refl
 if-flow config peer next false so = tt
 
@@ -111,15 +111,15 @@ ends_stand config peer None (Calls call) lists none = tt
 -- each peer's end comes after a step of one peer
 stand-after : (before after : Listening) (peer : Peer) (deed : Deed) (frame : Option Outgoing) (seen : Option Seen)
     → IsSoundListener before.config before.flows → IsStep before after peer deed frame seen
-    → (q : Peer) (same : Bool) → is_peer peer q ≡ same → IfSome (end_of_peer after.flows q) (Stands before.config q)
+    → (q : Peer) (same : Bool) → is_peer peer q ≡ same → IfSome (end_of_peer after.flows q) (IsFlowOf before.config q)
 stand-after before after peer deed frame seen sound step q true is =
     let own : end_of_peer after.flows peer ≡ (chain_step before.config peer (end_of_peer before.flows peer) deed).after =
     ap (λ (s : ChainStep). s.after) step.own in
-    subst (λ (p : Peer). IfSome (end_of_peer after.flows p) (Stands before.config p)) (one_peer peer q is)
-    (subst (λ (x : Option FlowEnd). IfSome x (Stands before.config peer)) (sym own)
+    subst (λ (p : Peer). IfSome (end_of_peer after.flows p) (IsFlowOf before.config p)) (one_peer peer q is)
+    (subst (λ (x : Option FlowEnd). IfSome x (IsFlowOf before.config peer)) (sym own)
     (ends_stand before.config peer (end_of_peer before.flows peer) deed sound.lists (sound.stand peer)))
 stand-after before after peer deed frame seen sound step q false is =
-    subst (λ (x : Option FlowEnd). IfSome x (Stands before.config q)) (sym (step.others q is)) (sound.stand q)
+    subst (λ (x : Option FlowEnd). IfSome x (IsFlowOf before.config q)) (sym (step.others q is)) (sound.stand q)
 
 pub sound_step : (before after : Listening) (peer : Peer) (deed : Deed) (frame : Option Outgoing) (seen : Option Seen)
     → IsSoundListener before.config before.flows → IsStep before after peer deed frame seen → length after.flows ≤ before.config.most

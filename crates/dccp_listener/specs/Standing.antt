@@ -21,7 +21,7 @@ abbrev pub unoffering : ListenConfig → ListenConfig
 unoffering config = record config { lists = without_offers config.lists }
 
 -- An end of a peer was made for the peer, by the listener's configuration, and is neither CLOSED nor in LISTEN.
-pub record Stands (config : ListenConfig) (peer : Peer) (e : FlowEnd) : Type 0 where
+pub record IsFlowOf (config : ListenConfig) (peer : Peer) (e : FlowEnd) : Type 0 where
   pub iss : ℕ
   pub bytes : List ℕ
   pub made_for : e.state.config ≡ config_for config peer iss bytes
@@ -32,10 +32,10 @@ pub record Stands (config : ListenConfig) (peer : Peer) (e : FlowEnd) : Type 0 w
 pub record IsSoundListener (config : ListenConfig) (flows : Flows) : Type 0 where
   pub room : length flows ≤ config.most
   pub lists : IsLists config.lists
-  pub stand : (peer : Peer) → IfSome (end_of_peer flows peer) (Stands config peer)
+  pub stand : (peer : Peer) → IfSome (end_of_peer flows peer) (IsFlowOf config peer)
 
 -- Every step of a chain leaves none, or an end that stands.
 abbrev pub ChainsStand : Type 0
 ChainsStand =
     (config : ListenConfig) (peer : Peer) (before : Option FlowEnd) (deed : Deed) → IsLists config.lists
-    → IfSome before (Stands config peer) → IfSome (chain_step config peer before deed).after (Stands config peer)
+    → IfSome before (IsFlowOf config peer) → IfSome (chain_step config peer before deed).after (IsFlowOf config peer)

@@ -58,7 +58,7 @@ impl Listener {
     ghost use Rattle.dccp_listener.specs.Listens.{AreInOrder, listens};
     ghost use Rattle.dccp_listener.specs.Peers.{end_of_peer};
     ghost use Rattle.dccp_listener.specs.Runs.{IsTurn, Stepped, arrival, call_turn, told_of};
-    ghost use Rattle.dccp_listener.specs.Standing.{IsListening, Stands, unoffering};
+    ghost use Rattle.dccp_listener.specs.Standing.{IsListening, IsFlowOf, unoffering};
 
     /// A listener without flows, whose ends make no offers, whatever the lists say. It takes no memory.
     pub fn new(alloc: Global, config: ListenConfig) -> Listener
@@ -165,7 +165,7 @@ impl Listener {
     /// A peer's end, or None exactly where it has none. It was made for this peer, and is neither CLOSED nor in LISTEN.
     pub fn flow(&self, peer: Peer) -> Option<&Endpoint<Kinds>>
         ensures value { MatchOption result (end_of_peer self.now.flows peer ≡ None) (λ end. end_of_peer self.now.flows peer ≡ Some end.now) }
-        ensures stands { IfSome result (λ end. Stands self.now.config peer end.now) }
+        ensures stands { IfSome result (λ end. IsFlowOf self.now.config peer end.now) }
     {
         match self.flows.get(&peer) {
             Some(held) => Some(held.end()),

@@ -15,7 +15,7 @@ use Rattle.dccp_listener.specs.Chain.{Aborts, Calls, Fires, FlowCall, chain_step
 use Rattle.dccp_listener.specs.Listens.{AreInOrder, listening_after, listens_by, turns_of}
 use Rattle.dccp_listener.specs.Peers.{FlowEnd, Flows, Listening, end_of_peer, is_peer, peer_cmp}
 use Rattle.dccp_listener.specs.Runs.{IsChain, PeerTurn, peer_turns}
-use Rattle.dccp_listener.specs.Standing.{Stands}
+use Rattle.dccp_listener.specs.Standing.{IsFlowOf}
 use Rattle.dccp_listener.specs.declared.config.ListenConfig.{ListenConfig}
 use Rattle.dccp_listener.specs.declared.peer.Peer.{Peer}
 use Rattle.dccp_states.specs.declared.calls.Timer.TheVariants as timers
@@ -101,20 +101,20 @@ module _ (peer : Peer) where
   gone-so l e ordered is (inl closed) = none-stays (called l Aborts) (Fires timers.TimeWait) (over-goes l e Aborts ordered is closed)
   gone-so l e ordered is (inr waits) = waits-goes l e ordered is waits
 
-  gone-by : (l : Listening) (config : ListenConfig) (found : Option FlowEnd) → AreInOrder l.flows → end_at l ≡ found → IfSome found (Stands config peer)
+  gone-by : (l : Listening) (config : ListenConfig) (found : Option FlowEnd) → AreInOrder l.flows → end_at l ≡ found → IfSome found (IsFlowOf config peer)
       → end_at (called (called l Aborts) (Fires timers.TimeWait)) ≡ None
   gone-by l config None ordered is stands = none-stays (called l Aborts) (Fires timers.TimeWait) (none-stays l Aborts is)
   gone-by l config (Some e) ordered is stands = gone-so l e ordered is (aborted-by e.state e.state.phase refl stands.phase_is)
 
   -- the end that a chain leaves stands
   chain-stands : (config : ListenConfig) (before after : Option FlowEnd) (turns : List PeerTurn) → IsLists config.lists
-      → IfSome before (Stands config peer) → IsChain config peer before after turns → IfSome after (Stands config peer)
-  chain-stands config before after [] lists stands is = subst (λ (x : Option FlowEnd). IfSome x (Stands config peer)) (sym is) stands
+      → IfSome before (IsFlowOf config peer) → IsChain config peer before after turns → IfSome after (IsFlowOf config peer)
+  chain-stands config before after [] lists stands is = subst (λ (x : Option FlowEnd). IfSome x (IsFlowOf config peer)) (sym is) stands
   chain-stands config before after (turn ∷ later) lists stands is =
       chain-stands config (chain_step config peer before turn.deed).after after later lists (ends_stand config peer before turn.deed lists stands) is.2
 
   stands-then : (config : ListenConfig) (pace : Pace) (all : List TimedDoing) → IsLists config.lists
-      → IfSome (end_at (served_through (serving_begins config pace) all).listening) (Stands config peer)
+      → IfSome (end_at (served_through (serving_begins config pace) all).listening) (IsFlowOf config peer)
   stands-then config pace all lists =
       let begun : Served = serving_begins config pace in
       let turns = turns_of begun.listening (deeds_through begun all) in
