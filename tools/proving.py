@@ -67,6 +67,12 @@ def beside(needed, crate):
     return [it for it in needed if it != crate and not is_above(it, crate) and not is_above(crate, it)]
 
 
+def urgency(needed, crate, seconds):
+    """Returns how many processor seconds the heaviest chain takes that begins with a crate, up to the program."""
+    above = [it for it, below in needed.items() if crate in below]
+    return seconds.get(crate, 60) + max((urgency(needed, it, seconds) for it in above), default=0)
+
+
 # How much memory a proof beside another takes at most, in bytes.
 MEMORY = 4 * 2**30
 
