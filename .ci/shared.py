@@ -1,4 +1,4 @@
-"""What the checks share: where things are, what the program answers, how a difference is shown, and what specs/ define."""
+"""What the checks share: the places of things, answers of the program, how a difference is shown, and the definitions of specs/."""
 import contextlib
 import difflib
 import functools
@@ -85,7 +85,7 @@ def definitions(crate):
 
 # How C is compiled so that it stops where its behaviour is not defined, or memory is not its own.
 CLEAN = ["-g", "-fsanitize=address,undefined", "-fno-sanitize-recover"]
-# How a program is run so that it fails where it reads or leaves memory that it should not.
+# How a program is run so that it fails if it reads or leaves memory that it should not.
 WATCHED = ["valgrind", "--quiet", "--leak-check=full", "--show-leak-kinds=all", "--errors-for-leak-kinds=all", "--error-exitcode=99"]
 
 

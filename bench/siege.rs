@@ -1,5 +1,5 @@
 //! A siege in counted time: real clients of a server of 1,024 places, and beside them 20,000 hostile datagrams a second of strangers who do
-//! not see what goes between others. It prints figures, and ends with 1 where one is past its bound.
+//! not see what goes between others. It prints figures, and ends with 1 if one is past its bound.
 //!
 //!     siege [CLIENTS [always]]
 //!

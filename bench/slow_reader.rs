@@ -1,6 +1,6 @@
 //! 10 MB to an application that reads half as fast as they are sent: a receive buffer of 64 packets, and 20 milliseconds each way. A sender
 //! that heeds what its peer reports of that is run beside one that does not, in counted time and over loopback, where datagrams are held back
-//! for as long. It prints what was dropped, in flight and read, and ends with 1 where the sender that heeds loses more packets than were in
+//! for as long. It prints what was dropped, in flight and read, and ends with 1 if the sender that heeds loses more packets than were in
 //! flight when the buffer filled, each time that it fills, or where the application reads less than nine tenths of what it could.
 
 use dccp::{Accepted, Config, Connection, Event, PathRule, Phase};

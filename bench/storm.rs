@@ -1,5 +1,5 @@
 //! A storm over loopback: real clients of an echo server that runs as its own process, and beside them hostile datagrams of many
-//! sockets. It prints figures, and ends with 1 where one is past its bound: storm PORT.
+//! sockets. It prints figures, and ends with 1 if one is past its bound: storm PORT.
 
 use dccp::{Config, Connection, Event, Phase};
 use std::env;

@@ -1,4 +1,4 @@
-"""Writes the program by which tools/unproved compiles the library for C: each export is reached by a call."""
+"""Writes the program by which tools/unproved compiles the library for C: it calls each export."""
 import re
 import sys
 

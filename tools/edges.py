@@ -16,7 +16,7 @@ def rows():
 
 
 def main():
-    """Prints each row that one of the words is in, and ends with status 1 where there is none."""
+    """Prints each row that one of the words is in, and ends with status 1 if there is none."""
     words = sys.argv[1:]
     if not words:
         sys.exit(__doc__)

@@ -1,5 +1,5 @@
-"""Writes the worked cases of docs/CASES.md that have words and an input from examples/ to crates/tests_tool/src/worked.rt, since the toolchain
-puts no file into a test. `.ci/worked` compares the two."""
+"""Writes the worked cases of docs/CASES.md that have words and an input from examples/ to crates/tests_tool/src/worked.rt, since the
+toolchain cannot include a file in a test. `.ci/worked` compares the two."""
 import re
 from pathlib import Path
 

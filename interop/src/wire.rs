@@ -179,7 +179,7 @@ impl Wire {
         self.to_kernel.write_all(&datagram)
     }
 
-    /// Waits at most so long for a DCCP packet of the kernel that is not lost. None where none came.
+    /// Waits at most so long for a DCCP packet of the kernel that is not lost. None if none came.
     pub fn receive(&mut self, most: Duration) -> io::Result<Option<Vec<u8>>> {
         let datagram = match self.from_kernel.recv_timeout(most) {
             Ok(datagram) => datagram,

@@ -78,7 +78,7 @@ pub enum Outcome {
     SentReset(u8, [u8; 3]),
 }
 
-/// One end, and the frame that its last call has left: no bytes where there is none.
+/// One end, and the frame that its last call has left: no bytes if there is none.
 #[derive(Clone, Debug)]
 pub struct Endpoint {
     pub phase: Phase,

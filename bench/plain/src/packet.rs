@@ -186,7 +186,7 @@ impl Addresses {
     }
 }
 
-/// How many bytes the checksum covers; None where that passes the packet's end.
+/// How many bytes the checksum covers; None if that passes the packet's end.
 fn covered(bytes: &[u8]) -> Option<usize> {
     let coverage = usize::from(bytes[5] & 15);
     let length = match coverage {

@@ -281,7 +281,7 @@ impl Show<'_> {
     }
 }
 
-/// The verdict on the checksum; None where bytes of the packet were not captured.
+/// The verdict on the checksum; None if bytes of the packet were not captured.
 fn check_captured(carried: &Carried<'_>, is_whole: bool) -> Option<Result<(), Cause>> {
     is_whole.then(|| check(Addresses::new(carried.from, carried.to), carried.bytes))
 }

@@ -135,7 +135,7 @@ impl World {
         }
     }
 
-    /// Lets an event happen. Gives the side that acted, and what that gave; None where the frame is not there.
+    /// Lets an event happen. Gives the side that acted, and what that gave; None if the frame is not there.
     pub fn step(&mut self, event: Event<'_>) -> Option<(Side, Given)> {
         let (side, given) = match event {
             Event::Open => (Side::Client, Given::Called(self.client.open())),

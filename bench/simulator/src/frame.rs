@@ -53,7 +53,7 @@ fn near(short: u64, reference: u64) -> u64 {
     (reference + ahead).wrapping_sub(turn_back) % NUMBERS
 }
 
-/// The numbers of a frame; None where it has too few bytes. Short ones are those nearest the greatest number received, and the greatest sent.
+/// The numbers of a frame; None if it has too few bytes. Short ones are those nearest the greatest number received, and the greatest sent.
 pub fn numbers(frame: &[u8], received: u64, sent: u64) -> Option<Numbers> {
     let kind = kind(frame)?;
     let has_acknowledged = !matches!(kind, REQUEST | DATA);

@@ -90,7 +90,7 @@ impl Link {
         }
     }
 
-    /// A frame of so many bytes is handed to the link. Gives the time when it arrives; None where it is lost.
+    /// A frame of so many bytes is handed to the link. Gives the time when it arrives; None if it is lost.
     pub fn carry(&mut self, length: usize, now: Micros) -> Option<Micros> {
         let nanos = now * 1_000;
         while self.leaves.front().is_some_and(|leaves| *leaves <= nanos) {

@@ -1,8 +1,8 @@
 //! Paths between two ends of the library, in counted time: what each carries in the classic manner, by itself with no wishes, and by the
 //! reference, an owner of a classic end that keeps the same rules and was written apart.
 //!
-//! - `rows [NAME..]` prints the table, and ends with 1 where a row misses its figure;
-//! - `loopback` measures two paths over real sockets, and ends with 1 where one is far from the same path in counted time;
+//! - `rows [NAME..]` prints the table, and ends with 1 if a row misses its figure;
+//! - `loopback` measures two paths over real sockets, and ends with 1 if one is far from the same path in counted time;
 //! - `pictures FOLDER [NAME..]` writes of each row the course of a run, as SVG.
 
 mod end;
@@ -46,7 +46,7 @@ fn refused() -> ExitCode {
     ExitCode::from(2)
 }
 
-/// The rows of these names, or all where none is named; None where a name is of no row.
+/// The rows of these names, or all where none is named; None if a name is of no row.
 fn named(names: &[&str]) -> Option<Vec<Row>> {
     let all = rows();
     let is_known = |name: &&str| all.iter().any(|row| row.name == **name);
