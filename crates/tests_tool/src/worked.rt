@@ -41,7 +41,7 @@ end server RESPOND window 4 flight 0 1=2/2 2=0/0 3=100/100 4=0/0 5=2/2 6=0/0 7=0
 9c40138907001dee070000000000040000000000000007dc01250307\n# Ack 1025 of 2012, Mandatory NDP Count of 6 bytes\n9c4013890900f8d0070000000000040100000000000007dc0125080708090a0b0c000000\n\
 # Ack 1026 of 2012, Mandatory Elapsed Time of 2 bytes\n9c401389080013e2070000000000040200000000000007dc012b040708000000\n# Ack 1027 of 2012, Mandatory Elapsed Time of 4 bytes\n\
 9c401389080007d8070000000000040300000000000007dc012b060708090a00\n# Ack 1028 of 2012, Mandatory Data Checksum of 4 bytes\n9c401389080007d6070000000000040400000000000007dc012c060708090a00\n\n\
-# Mandatory before Padding is Padding: the option behind it is not marked, and the empty Confirm goes out.\n\n# Ack 1029 of 2012, Mandatory before Padding, Change L 10 of 1\n\
+# Mandatory before Padding is Padding: the option after it is not marked, and the empty Confirm goes out.\n\n# Ack 1029 of 2012, Mandatory before Padding, Change L 10 of 1\n\
 9c4013890800f60b070000000000040500000000000007dc010020040a010000\n\n# What is answered before its options are read, or is out of place, has no options that count.\n\n# Request 1030, Change L 1 of 2\n\
 9c40138906000fc401000000000004060000002a20040102\n# Reset 1031 of 2014, code 2, Change L 1 of 2\n9c4013890800f6060f0000000000040700000000000007de0200000020040102\n\n=> Done\n7: took\n\
 sent s0 13899c400700261403000000000007d000000000000003e80000002a\n9: took\nsent s1 13899c400700261203000000000007d100000000000003e90000002a\n11: took\n\
@@ -84,7 +84,7 @@ sent s0 13899c400900ff0b03000000000007d000000000000003e80000002a2106010202f80000
 sent c1 9c4013890800fa3807000000000003e900000000000007d02306010202f80000\nend client PARTOPEN window 4 flight 0 1=2/2 2=0/0 3=100/100 4=0/0 5=2/2 6=0/0 7=0/0 8=0/0 9=0/0\n\
 ~ replay,--side,server,--plain\n# replay --side server --plain\n\
 # Options that are faults. The first one is answered by its Reset: 5 for a Mandatory that marks nothing, and 6 for what Mandatory marks and\n\
-# is not understood, with the option's type and the first two bytes of its data. The server is CLOSED then.\n\n# Request 1000, Mandatory at the end: nothing stands behind it\n\
+# is not understood, with the option's type and the first two bytes of its data. The server is CLOSED then.\n\n# Request 1000, Mandatory at the end: nothing follows it\n\
 9c401389060030e701000000000003e80000002a00000001\n\n=> Done\n6: sent reset 5 1 0 0\nsent s0 13899c400700153d0f000000000007d000000000000003e805010000\n\
 end server CLOSED window 4 flight 0 1=2/2 2=0/0 3=100/100 4=0/0 5=2/2 6=0/0 7=0/0 8=0/0 9=0/0\n~ replay,--side,server,--plain\n\n\n\n\n\n\n\n# replay --side server --plain\n\
 # Request 1000, Mandatory twice, Slow Receiver: it marks itself\n9c40138906002de701000000000003e80000002a01010200\n\n=> Done\n10: sent reset 5 1 0 0\n\
@@ -278,7 +278,7 @@ sent c2 9c4013890800f73007000000000003ea00000000000007d12005080102000000\n10 del
 11 prefer client here 8 2,1: ok\n12 timer client negotiate: fired\nsent c3 9c4013890800f82e07000000000003eb00000000000007d12005080201000000\n13 prefer client here 8 2: ok\n\
 14 timer client negotiate: fired\nsent c4 9c4013890700fa3207000000000003ec00000000000007d120040802\n15 deliver s2: took\n\
 end client OPEN window 4 flight 0 1=2/2 2=0/0 3=100/100 4=0/0 5=2/2 6=0/0 7=0/0 8=0*/0 9=0/0\nend server OPEN window 4 flight 0 1=2/2 2=0/0 3=100/100 4=0/0 5=2/2 6=0/0 7=0/0 8=0/1 9=0/0\n~ run\n\
-# The lists come to share no value. The client's Confirm names what it holds, 0, but the server holds 1: Option Error.\nplain\nset server there 8 1,2\nopen\ndeliver c0\ndeliver s0\ndeliver c1\n\
+# In the end the lists share no value. The client's Confirm names what it holds, 0, but the server holds 1: Option Error.\nplain\nset server there 8 1,2\nopen\ndeliver c0\ndeliver s0\ndeliver c1\n\
 deliver s1\nprefer client here 8 1,2\ndeliver c2\nprefer server there 8 3\ndeliver s3\ndeliver c3\ndeliver s4\n=> Done\n4 open: ok\nsent c0 9c401389050031ec01000000000003e80000002a\n\
 5 deliver c0: took\nsent s0 13899c400700261403000000000007d000000000000003e80000002a\n6 deliver s0: took\nsent c1 9c4013890600234107000000000003e900000000000007d0\n7 deliver c1: took\n\
 sent s1 13899c400600234007000000000007d100000000000003e9\n8 deliver s1: took\n9 prefer client here 8 1,2: ok\nsent c2 9c4013890800f73007000000000003ea00000000000007d12005080102000000\n\
@@ -356,7 +356,7 @@ seal 9c40138908000000010000000000000a0000002a220406012005050001000000\nseal 9c40
 seal 9c40138904000000050000000000000d0d\n# The Data 13 once more is not delivered again.\nseal 9c40138904000000050000000000000d0d\n\
 # The Ack 11 once more: it acknowledges the Response 2000, which has no record.\nseal 9c40138906000000070000000000000b00000000000007d0\n\
 # And now it acknowledges 2002, of which there is a record up to 13: the floor is 14.\nseal 9c40138906000000070000000000000b00000000000007d2\n\
-# The Data 12 stands below the floor: it is taken, and its data is not delivered.\nseal 9c40138904000000050000000000000c0c\n# The Data 15: its Ack has the vector 00 c0.\n\
+# The Data 12 is below the floor: it is taken, and its data is not delivered.\nseal 9c40138904000000050000000000000c0c\n# The Data 15: its Ack has the vector 00 c0.\n\
 seal 9c40138904000000050000000000000f0f\n=> Done\n4: took\nsent s0 13899c400a00d5d903000000000007d0000000000000000a0000002a210606010100230505000100\n5: took\n\
 sent s1 13899c400700ff1607000000000007d1000000000000000b26030100\n7: took data 0d\nsent s2 13899c400800fd4d07000000000007d2000000000000000d260500c001000000\n9: took\n11: took\n13: took\n15: took\n\
 17: took data 0f\nsent s3 13899c400700ff4f07000000000007d3000000000000000f260400c0\nend server OPEN window 4 flight 0 1=2/2 2=0/0 3=100/100 4=0/0 5=2/1 6=1/0 7=0/0 8=0/0 9=0/0\n~ run\n\
@@ -422,7 +422,7 @@ seal 9c4013890400000005000000000004c3\nseal 9c4013890400000005000000000004c5\nse
 seal 9c4013890400000005000000000004cd\nseal 9c4013890400000005000000000004cf\nseal 9c4013890400000005000000000004d1\nseal 9c4013890400000005000000000004d3\nseal 9c4013890400000005000000000004d5\n\
 seal 9c4013890400000005000000000004d7\nseal 9c4013890400000005000000000004d9\nseal 9c4013890400000005000000000004db\nseal 9c4013890400000005000000000004dd\nseal 9c4013890400000005000000000004df\n\
 seal 9c4013890400000005000000000004e1\nseal 9c4013890400000005000000000004e3\n# The Ack 1253 asks again: the Ack 2002 has a vector of 253 bytes, whole: it ends in 01, for 1001 and 1000.\n\
-seal 9c4013890800000007000000000004e500000000000007d02005050000000000\n# The Ack 1255 asks again: the vector of 2003 would have 255 bytes, and is cut behind 253.\n\
+seal 9c4013890800000007000000000004e500000000000007d02005050000000000\n# The Ack 1255 asks again: the vector of 2003 would have 255 bytes, and is cut after 253.\n\
 seal 9c4013890800000007000000000004e700000000000007d02005050000000000\n# The Ack 1257 acknowledges 2003: the floor stays, and the vector of 2004 begins at 1257 and is cut too.\n\
 seal 9c4013890800000007000000000004e900000000000007d32005050000000000\n# The Ack 1259 acknowledges 2002, which was whole up to 1253: the floor is 1254, and the vector of 2005 is 00 c0 00 c0 00 c0.\n\
 seal 9c4013890800000007000000000004eb00000000000007d22005050000000000\n# The Ack 1261 acknowledges 2004, whose vector was cut: the vector of 2006 still ends at 1254.\n\
@@ -484,7 +484,7 @@ client_frames 275\nserver_frames 253\ntook 1492\ndelivered 95\ndropped 0\nsynced
 => Done\n3 10.0.0.1:40000: sent reset 8 0 0 0\nsent 10.0.0.1:40000 13899c4007001a0e0f0000000000000000000000000003e808000000\n4 10.0.0.1:40000: took\n\
 sent 10.0.0.1:40000 13899c400700261403000000000007d000000000000003e80000002a\n5 10.0.0.3:40000: took\nsent 10.0.0.3:40000 13899c400700261103000000000007d000000000000003e80000002b\n\
 6 10.0.0.1:40000: took\nsent 10.0.0.1:40000 13899c400600234007000000000007d100000000000003e9\nflows 2\nflow 10.0.0.1:40000 OPEN\nflow 10.0.0.3:40000 RESPOND\n~ listen,--most,1\n# listen --most 1\n\
-# One flow may stand. The second peer is told that the listener is busy, and has no end that could close.\n10.0.0.1:40000 seal 9c4013890500000001000000000003e80000002a\n\
+# There may be one flow. The second peer is told that the listener is busy, and has no end that could close.\n10.0.0.1:40000 seal 9c4013890500000001000000000003e80000002a\n\
 10.0.0.3:40000 seal 9c4013890500000001000000000003e80000002b\n10.0.0.3:40000 close\n=> Done\n3 10.0.0.1:40000: took\nsent 10.0.0.1:40000 13899c400700261403000000000007d000000000000003e80000002a\n\
 4 10.0.0.3:40000: busy\nsent 10.0.0.3:40000 13899c400700190c0f0000000000000000000000000003e809000000\n5 10.0.0.3:40000: refused NoFlow\nflows 1\nflow 10.0.0.1:40000 RESPOND\n~ ecn\n# ecn\n\
 # One packet of three is marked on its way: its nonce is lost, and those of the others are 0 together.\nsend 1\nsend 0\nsend 1\ndeliver 0\nmark 1\ndeliver 2\nreport\ncheck 0\nforge 0\n=> Done\n\
