@@ -1,9 +1,9 @@
-//! A siege in counted time: real clients of a server of 1,024 places, and beside them 20,000 hostile datagrams a second of strangers who do
-//! not see what goes between others. It prints figures, and ends with 1 if one is past its bound.
+//! A siege in counted time: real clients of a server of 1,024 places, and 20,000 hostile datagrams a second of strangers, who do not see the
+//! packets of others. It prints figures, and ends with status 1 if one exceeds its bound.
 //!
 //!     siege [CLIENTS [always]]
 //!
-//! Of itself it has 200 clients, and cookies in a crowd.
+//! Without words it has 200 clients, and cookies in a crowd.
 
 use dccp::{Cause, Change, Config, Connection, Cookies, FlowRules, Listener, Phase};
 use std::collections::BTreeMap;
@@ -47,7 +47,7 @@ impl Numbers {
     }
 }
 
-/// A client that speaks ten times a second. Where it is told that the server is busy, it asks again a second later.
+/// A client that speaks ten times a second. If it hears that the server is busy, it asks again a second later.
 struct Client {
     own: SocketAddrV4,
     end: Connection,
@@ -90,7 +90,7 @@ fn packet(from: SocketAddrV4, kind: u8, number: u64, rest: &[u8]) -> Vec<u8> {
     it
 }
 
-/// What follows the number where a packet acknowledges one (section 5.1).
+/// What follows the number if a packet acknowledges one (section 5.1).
 fn acknowledging(number: u64) -> Vec<u8> {
     let mut it = vec![0, 0];
     it.extend(&number.to_be_bytes()[2..]);
@@ -169,7 +169,7 @@ fn kind_of(bytes: &[u8]) -> u8 {
     bytes.get(8).map_or(15, |it| it >> 1 & 15)
 }
 
-/// A siege of a server of so many clients that goes by these rules, and has a key for Init Cookies.
+/// A siege of a server with so many clients, these rules and a key for Init Cookies.
 fn besiege(count: usize, rules: FlowRules) -> Result<Figures, Box<dyn Error>> {
     let begun = Instant::now();
     let mut now = begun;
@@ -193,7 +193,7 @@ fn besiege(count: usize, rules: FlowRules) -> Result<Figures, Box<dyn Error>> {
             let _ = server.handle_datagram(whose.into(), first, &bytes, now);
         }
         for (place, client) in clients.iter_mut().enumerate() {
-            // Who was told that the server is busy is closed, and asks again.
+            // A client that found the server busy is closed, and asks again.
             if client.opened.is_none() && client.end.phase() == Phase::Closed && client.asks <= now {
                 if client.is_begun {
                     client.end = end_of(client.own, &mut numbers)?;
@@ -219,7 +219,7 @@ fn besiege(count: usize, rules: FlowRules) -> Result<Figures, Box<dyn Error>> {
             let is_strange = server.phase(whose).is_none();
             figures.greetings += usize::from(is_greeting && is_strange);
             figures.to_strangers += usize::from(frame.is_answer && !is_greeting && is_strange);
-            // What answers a forged Request reaches nobody before the client has asked.
+            // The answer to a forged Request reaches nobody before the client has asked.
             if let Some(client) = places.get(&whose).map(|place| &mut clients[*place]).filter(|it| it.is_begun) {
                 client.end.handle_datagram(&frame.bytes, now);
             }
@@ -250,7 +250,7 @@ fn besiege(count: usize, rules: FlowRules) -> Result<Figures, Box<dyn Error>> {
     Ok(figures)
 }
 
-/// Prints what came of a siege, and whether it is within its bounds.
+/// Prints the result of a siege, and whether it is within its bounds.
 fn judge(count: usize, it: &Figures) -> bool {
     println!(
         "of {count} clients {} not connected, {} lost, the slowest after {:?}",

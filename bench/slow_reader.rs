@@ -1,7 +1,7 @@
-//! 10 MB to an application that reads half as fast as they are sent: a receive buffer of 64 packets, and 20 milliseconds each way. A sender
-//! that heeds what its peer reports of that is run beside one that does not, in counted time and over loopback, where datagrams are held back
-//! for as long. It prints what was dropped, in flight and read, and ends with 1 if the sender that heeds loses more packets than were in
-//! flight when the buffer filled, each time that it fills, or where the application reads less than nine tenths of what it could.
+//! 10 MB to an application that reads half as fast as they are sent: a receive buffer of 64 packets, and 20 milliseconds each way. A sender that
+//! slows down when its peer reports dropped packets is run beside one that does not, in counted time and over loopback, where datagrams are held
+//! back for as long. It prints what was dropped, in flight and read, and ends with status 1 if the first sender loses more packets than were in
+//! flight when the buffer filled, each time that it fills, or if the application reads less than nine tenths of what it could.
 
 use dccp::{Accepted, Config, Connection, Event, PathRule, Phase};
 use std::collections::VecDeque;
@@ -171,7 +171,7 @@ fn dropped(fills: &[Fill]) -> u64 {
     fills.iter().map(|it| it.dropped).sum()
 }
 
-/// Whose clock is counted steps on by itself; else a step lasts as long as it says.
+/// In counted time the clock steps on by itself; otherwise a step lasts as long as it says.
 fn run(heeds: bool, is_counted: bool) -> Result<Figures> {
     let (own, peer): (SocketAddr, SocketAddr) = ("192.0.2.1:40000".parse()?, "192.0.2.2:5001".parse()?);
     let mut client = Config::client(own, peer, SERVICE, 1_000);

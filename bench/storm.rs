@@ -1,5 +1,5 @@
-//! A storm over loopback: real clients of an echo server that runs as its own process, and beside them hostile datagrams of many
-//! sockets. It prints figures, and ends with 1 if one is past its bound: storm PORT.
+//! A storm over loopback: real clients of an echo server, which runs as its own process, and hostile datagrams of many sockets. It prints
+//! figures, and ends with status 1 if one exceeds its bound: storm PORT.
 
 use dccp::{Config, Connection, Event, Phase};
 use std::env;
@@ -30,7 +30,7 @@ impl Numbers {
     }
 }
 
-/// A client that speaks ten times a second. Where it is told that the server is busy, it asks again a second later.
+/// A client that speaks ten times a second. If it hears that the server is busy, it asks again a second later.
 struct Client {
     socket: UdpSocket,
     own: SocketAddrV4,

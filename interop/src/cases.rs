@@ -1,4 +1,4 @@
-//! The cases: what either end does, and what has to come of it.
+//! The cases: what either end does, and how it has to end.
 
 use crate::kernel::Told;
 use crate::own::{Counts, End, Plan, Role};
@@ -31,7 +31,7 @@ pub struct Case {
     pub verdict: fn(&Case, &Outcome) -> Vec<String>,
 }
 
-/// The Service Code of both ends, but where a case has it otherwise.
+/// The Service Code of both ends, unless a case has another.
 const SERVICE: u32 = 42;
 
 /// What our end offers. A client of Linux that lists several CCIDs, as it does unless a program says otherwise, asks nobody for the Ack Vectors
@@ -378,7 +378,7 @@ fn met_by_its_old_end(_: &Case, outcome: &Outcome) -> Vec<String> {
     .collect()
 }
 
-/// Our end forgot its connection, and answers the kernel's next packet by a Reset of code 3, which ends the kernel's.
+/// Our end forgot its connection, and answers the kernel's next packet by a Reset of code 3, which ends the kernel's connection.
 fn forgotten_by_us(_: &Case, outcome: &Outcome) -> Vec<String> {
     [
         unless(outcome.own.was_open, || {
@@ -423,7 +423,7 @@ fn met_by_our_old_end(_: &Case, outcome: &Outcome) -> Vec<String> {
     faults
 }
 
-/// Our end vanished; what of its successor's connection came is asked by the next case.
+/// Our end vanished; the next case looks at its successor's connection.
 fn left(_: &Case, outcome: &Outcome) -> Vec<String> {
     unless(outcome.own.was_open, || {
         "our end was never OPEN".to_string()

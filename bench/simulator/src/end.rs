@@ -17,17 +17,17 @@ pub trait End: fmt::Debug + Send {
     fn close(&mut self, now: Instant);
     /// When [`End::tick`] has something to do.
     fn due(&mut self) -> Option<Instant>;
-    /// The time has come that [`End::due`] told.
+    /// The time of [`End::due`] has come.
     fn tick(&mut self, now: Instant);
     /// The next frame for the peer.
     fn frame(&mut self) -> Option<Vec<u8>>;
-    /// The next that its owner is told.
+    /// The next event for its owner.
     fn event(&mut self) -> Option<Event>;
-    /// Its phase; CLOSED where it is no more.
+    /// Its phase; CLOSED once it is gone.
     fn phase(&mut self) -> Phase;
     /// Its window, in packets.
     fn window(&mut self) -> u32;
-    /// How many timeouts its congestion control was told of.
+    /// How many timeouts were reported to its congestion control.
     fn timeouts(&self) -> u64;
 }
 

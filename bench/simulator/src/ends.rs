@@ -18,7 +18,7 @@ pub enum Manner {
     Reference,
 }
 
-/// What a datagram of a peer that is not known makes.
+/// What a datagram of an unknown peer makes.
 pub enum Made {
     /// A server's end.
     End(Box<dyn End>),
@@ -36,7 +36,7 @@ pub fn addresses() -> (SocketAddrV4, SocketAddrV4) {
     (client, SocketAddrV4::new([10, 0, 0, 2].into(), 5_001))
 }
 
-/// What an end wishes for beside what its manner is.
+/// What an end wishes for besides its manner.
 #[derive(Clone, Copy, Debug, Default)]
 pub struct Wishes {
     /// The congestion control of a sender, if another than is usual (RFC 4340, section 10).
@@ -45,7 +45,7 @@ pub struct Wishes {
     pub is_short: bool,
 }
 
-/// What an end of this manner is made from.
+/// The configuration of an end that is driven in this manner.
 fn configured(config: Config, manner: Manner, wishes: Wishes) -> Config {
     let config = if wishes.is_short {
         config.offer(Feature::ShortSeqnos, Place::Here, &[1]).offer(
@@ -86,7 +86,7 @@ pub fn client(manner: Manner, wishes: Wishes, first: u64, now: Instant) -> Box<d
     }
 }
 
-/// What a server makes of a datagram of a peer that it does not know.
+/// What a server makes of an unknown peer's datagram.
 pub fn server(manner: Manner, wishes: Wishes, first: u64, datagram: &[u8], now: Instant) -> Made {
     let (here, there) = addresses();
     let config = Config::server(there.into(), here.into(), SERVICE, first);
@@ -97,7 +97,7 @@ pub fn server(manner: Manner, wishes: Wishes, first: u64, datagram: &[u8], now: 
             Manner::Reference => Box::new(Owner::accepted(*connection, now)),
         }),
         Accepted::Answer(answer) => Made::Answer(answer.bytes),
-        // It is no Request, or something that the crate may have later.
+        // It is no Request, or the crate has a further variant.
         _ => Made::Nothing,
     }
 }

@@ -2,7 +2,7 @@
 
 use std::net::SocketAddrV4;
 
-/// The types of packets (RFC 4340, section 5.1) that something here goes by.
+/// The types of packets (RFC 4340, section 5.1) that are looked for here.
 pub const ACK: u8 = 3;
 /// See [`ACK`].
 pub const DATA_ACK: u8 = 4;
@@ -21,7 +21,7 @@ const NUMBERS: u64 = 1 << 48;
 
 const PROTOCOL: u8 = 33;
 
-/// A packet's type; None of too few bytes.
+/// A packet's type; None if it has too few bytes.
 pub fn kind(frame: &[u8]) -> Option<u8> {
     frame.get(8).map(|byte| (byte >> 1) & 15)
 }

@@ -1,4 +1,4 @@
-//! One way of a path: a queue before a link of some capacity, and what befalls a frame on the link.
+//! One way of a path: a queue before a link of some capacity, and what happens to a frame on the link.
 
 use crate::random::Random;
 use std::collections::VecDeque;

@@ -46,7 +46,7 @@ fn refused() -> ExitCode {
     ExitCode::from(2)
 }
 
-/// The rows of these names, or all where none is named; None if a name is of no row.
+/// The rows of these names, or all if none is named; None if no row has one of the names.
 fn named(names: &[&str]) -> Option<Vec<Row>> {
     let all = rows();
     let is_known = |name: &&str| all.iter().any(|row| row.name == **name);
@@ -137,7 +137,7 @@ fn figures(row: &Row, it: &Result) -> (String, String) {
     }
 }
 
-/// Prints the table; the status is 1 where a row misses a figure, by itself or by the reference.
+/// Prints the table; the status is 1 if a row misses a figure, by itself or by the reference.
 fn table(rows: &[Row]) -> ExitCode {
     let mut misses = Vec::new();
     println!(
@@ -182,7 +182,7 @@ fn table(rows: &[Row]) -> ExitCode {
     ExitCode::from(u8::from(!misses.is_empty()))
 }
 
-/// Measures two paths over sockets; the status is 1 where one is far from the same path in counted time.
+/// Measures two paths over sockets; the status is 1 if one is far from the same path in counted time.
 fn loopback() -> ExitCode {
     match loopback::measure(10) {
         Ok(are_near) => ExitCode::from(u8::from(!are_near)),

@@ -196,7 +196,7 @@ impl Owner {
 
     /// Asks for a value of one of its features, and waits for the answer.
     fn prefer(&mut self, feature: Feature, value: u64, now: Instant, time: u64) {
-        // It may not be refused: the connection is open, and the value is permitted.
+        // This is never refused: the connection is open, and the value is permitted.
         let _ = self.connection.prefer(feature, Place::Here, &[value], now);
         let wait = self.negotiate_wait();
         self.alarms.negotiate = Some(Alarm { since: time, wait });
@@ -208,7 +208,7 @@ impl Owner {
         (held.value, held.is_stable)
     }
 
-    /// Changes the Ack Ratio, where the rule says so.
+    /// Changes the Ack Ratio, if the rule says so.
     fn judge_ratio(&mut self, now: Instant, time: u64) {
         if !self.is_open() || self.probe.is_some() || self.own(Feature::Ccid).0 != 2 {
             return;
@@ -244,7 +244,7 @@ impl Owner {
         self.gather();
     }
 
-    /// What is in flight has waited too long: a question goes out first, where the window is large.
+    /// What is in flight has waited too long: a question goes out first, if the window is large.
     fn overdue(&mut self, now: Instant, time: u64) {
         if self.probe.is_some() || self.connection.window() < PROBED_WINDOW {
             self.tell_timeout(now, time);
@@ -285,7 +285,7 @@ impl Owner {
                 let question = (self.taken + SILENCE).max(self.questioned + QUESTION_WAIT);
                 Some(question.min(self.taken + SILENCE_LIMIT))
             }
-            // CLOSED, LISTEN and TIMEWAIT, and what the crate may have later.
+            // CLOSED, LISTEN and TIMEWAIT, and what later versions of the crate add.
             _ => None,
         }
     }
@@ -342,7 +342,7 @@ impl Owner {
                 .is_none_or(|number| distance(oldest, number) < own)
     }
 
-    /// What follows of a datagram that the connection has heard.
+    /// What follows a datagram that the connection has heard.
     fn heard(&mut self, before: &Before, now: Instant, time: u64) {
         let (delivers, acknowledges) = self.gather();
         let numbers = self.connection.numbers();

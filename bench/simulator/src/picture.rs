@@ -89,7 +89,7 @@ impl Picture<'_> {
             return Vec::new();
         };
         let full = rate as f64 * part as f64 / SECOND as f64;
-        // Between two moments, as many as the time between them has gone by.
+        // Between two moments the number grows evenly.
         let delivered_by = |time: Micros| {
             let past = course.partition_point(|point| point.time <= time);
             let before = past.checked_sub(1).map(|last| course[last]);

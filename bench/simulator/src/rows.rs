@@ -1,4 +1,4 @@
-//! The paths that are measured, and what each has to reach.
+//! The paths that are measured, and the figure that each has to reach.
 
 use crate::link::{Capacity, Loss, MILLISECOND, Micros, SECOND, Way};
 use crate::run::{Load, Outcome, Scenario, Sender};
@@ -33,7 +33,7 @@ pub struct Row {
     pub seeds: u64,
 }
 
-/// What came of a row: the outcomes of its seeds.
+/// The result of a row: the outcomes of its seeds.
 #[derive(Clone, Debug)]
 pub struct Result {
     /// One for each seed.
@@ -133,7 +133,7 @@ impl Scenario {
         self
     }
 
-    /// Whether the seed decides of anything but the first numbers.
+    /// Whether the seed decides anything except the first numbers.
     fn is_drawn(&self) -> bool {
         let is_drawn = |way: &Way| way.jitter > 0 || !matches!(way.loss, Loss::Never);
         self.forged > 0 || is_drawn(&self.there) || is_drawn(&self.back)
@@ -217,7 +217,7 @@ fn flows() -> Vec<Row> {
         .collect()
 }
 
-/// Paths that lose nothing but by their queues.
+/// Paths that lose only what their queues cannot take.
 fn bulk() -> Vec<Row> {
     let long = path(6_000, 100, 600, 60);
     vec![
@@ -485,7 +485,7 @@ impl Result {
         waits[place] as f64 / MILLISECOND as f64
     }
 
-    /// Which goals are not reached, each in words; none where nothing was run.
+    /// Which goals are not reached, each in words; none if nothing was run.
     pub fn misses(&self, row: &Row) -> Vec<String> {
         if self.outcomes.is_empty() {
             return Vec::new();

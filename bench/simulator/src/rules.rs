@@ -71,12 +71,12 @@ impl RoundTrip {
         self.doublings = 0;
     }
 
-    /// Something came out of flight.
+    /// Something in flight was acknowledged or lost.
     pub fn progress(&mut self) {
         self.doublings = 0;
     }
 
-    /// A timeout was told (RFC 6298, section 5.5).
+    /// A timeout was reported (RFC 6298, section 5.5).
     pub fn timeout(&mut self) {
         self.doublings = (self.doublings + 1).min(6);
     }
@@ -127,18 +127,18 @@ impl Greatest {
         self.this = self.this.max(in_flight);
     }
 
-    /// What a sender makes use of: the window, or twice what was in flight where that is less.
+    /// What a sender uses: the window, or twice what was in flight if that is less.
     pub fn used(&self, window: u32) -> u32 {
         window.min(2 * self.this.max(self.last))
     }
 }
 
-/// What the rule of the Ack Ratio goes by.
+/// What the rule of the Ack Ratio looks at.
 #[derive(Clone, Copy, Debug)]
 pub struct Use {
     /// The window.
     pub window: u32,
-    /// How much of it the sender makes use of.
+    /// How much of it the sender uses.
     pub used: u32,
     /// The peer's Sequence Window: its Acks are numbered, too, and valid no further back.
     pub peer_width: u64,

@@ -1,4 +1,4 @@
-//! One run of a path: two ends, what one of them sends, and what comes of it.
+//! One run of a path: two ends, what one of them sends, and the result.
 
 use crate::end::End;
 use crate::ends::{self, Made, Manner, Wishes, addresses};
@@ -76,18 +76,18 @@ impl Scenario {
     }
 }
 
-/// What came of a run.
+/// The result of a run.
 #[derive(Clone, Debug, Default)]
 pub struct Outcome {
     /// How many packets were delivered in the measured part.
     pub delivered: u64,
-    /// How many the sender had to send there, where that has a bound.
+    /// How many the sender had to send there, if that has a bound.
     pub offered: u64,
     /// The longest time there without a delivery.
     pub silence: Micros,
     /// How many Syncs the ends sent.
     pub syncs: u64,
-    /// How many timeouts the sender was told of.
+    /// How many timeouts were reported to the sender.
     pub timeouts: u64,
     /// How many frames went back to the sender.
     pub frames_back: u64,

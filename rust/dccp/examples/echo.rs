@@ -2,9 +2,9 @@
 //!
 //!     cargo run --example echo -- PORT [translated]
 //!
-//! The client of `talk`, in Rust or in C, may speak to it. The listener gives up one that is silent for two minutes, and limits what strangers
-//! call forth. Where a router translates addresses and ports on the way, as `relay` does, both say `translated`: then no address and no port
-//! is in their packets, and a client is known by where its datagrams come from. It runs until it is stopped.
+//! The client of `talk`, in Rust or in C, may speak to it. The listener gives up a client that is silent for two minutes, and limits its answers
+//! to strangers. Where a router translates addresses and ports, as `relay` does, both say `translated`: then their packets contain no address
+//! and no port, and a client is known by where its datagrams come from. It runs until it is stopped.
 
 use dccp::{ArriveError, Change, Config, Listener, MOST_FRAME_BYTES};
 use std::collections::{BTreeMap, VecDeque};
@@ -41,8 +41,8 @@ fn receive(
 /// The data of each peer that wait for room in its window.
 type Waiting = BTreeMap<SocketAddr, VecDeque<Vec<u8>>>;
 
-/// Takes the events of the server: who has come, who has gone, and what data came. A peer that has only asked may be forged: it counts once it
-/// has opened its connection.
+/// Takes the events of the server: who has come, who has gone, and what data came. A peer that has only asked may be forged, so it counts once
+/// it has opened its connection.
 fn take_news(server: &mut Listener, waiting: &mut Waiting) {
     while server.poll_accept().is_some() {}
     while let Some((address, change)) = server.poll_change() {

@@ -1,4 +1,4 @@
-//! A client and a server over UDP on this machine: what `examples_c/talk.c` is, in Rust, and either talks to that one too.
+//! A client and a server over UDP on this machine: `examples_c/talk.c` in Rust, and either talks to that one too.
 //!
 //!     cargo run --example talk -- server PORT [closes]
 //!     cargo run --example talk -- client PORT [closes] [translated]

@@ -120,7 +120,7 @@ fn clients_that_give_up_leave_room() -> Outcome {
 fn half_open_flows_leave_room() -> Outcome {
     let mut field = Field::new()?;
     half_open(&mut field)?;
-    // Who is told that the server is busy asks again a second later.
+    // A client that finds the server busy asks again a second later.
     let is_served = (0..30).any(|tried| {
         client(at(100), 5_000 + tried)
             .ok()
@@ -202,7 +202,7 @@ fn a_forged_request_keeps_nobody_out() -> Outcome {
     forged.open(field.now)?;
     let request = forged.poll_transmit().ok_or("a Request")?;
     field.send(at(1), &request.bytes);
-    // What answers it goes to a client that has not asked yet.
+    // The answer goes to a client that has not asked yet.
     while field.server.poll_transmit().is_some() {}
     field.packets = 0;
     let mut client = client(at(1), 900_000_000)?;

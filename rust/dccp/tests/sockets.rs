@@ -417,7 +417,7 @@ fn a_listener_that_is_gone_refuses() -> Outcome {
 }
 
 /// A client is killed, and comes back from its port, while the server still sends to it. By RFC 4340, section 8.5, it answers the Sync of its
-/// old connection's end with a Reset, whereupon that end is over, and its next Request, after a second, opens another.
+/// old connection's end with a Reset, which ends that end, and its next Request, after a second, opens another.
 #[test]
 fn a_client_comes_back_from_its_port() -> Outcome {
     let listener = Listener::bind("127.0.0.1:0", &[SERVICE])?;

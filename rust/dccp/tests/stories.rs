@@ -125,7 +125,7 @@ fn what_became_of_packets_is_told() -> Result<(), Box<dyn Error>> {
     assert_eq!(one.fate(fifth), Fate::InFlight);
     assert!(one.handle_timer(Timer::Rto, now));
     assert_eq!((one.fate(fifth), one.statistics().lost), (Fate::Unknown, 2));
-    // Of a sixth nothing more is heard once the connection has ended.
+    // Nothing more is heard of a sixth once the connection has ended.
     while one.poll_transmit().is_some() {}
     let sixth = one.send(b"x", now)?;
     assert_eq!(one.fate(sixth), Fate::InFlight);
@@ -210,8 +210,8 @@ fn frames_are_written_into_a_buffer() -> Result<(), Box<dyn Error>> {
     Ok(())
 }
 
-/// Data that should fit frames of 180 bytes do, whatever was lost of what came: every third frame goes one way, and two in three the
-/// other, so that Ack Vectors grow.
+/// Data that should fit frames of 180 bytes do, also after losses: every third frame goes one way, and two in three the other, so that Ack
+/// Vectors grow.
 #[test]
 fn data_of_the_longest_length_fit_their_frames() -> Result<(), Box<dyn Error>> {
     const MOST: usize = 180;
@@ -448,7 +448,7 @@ fn a_server_has_a_connection_for_each_peer_and_no_more_than_it_may() -> Result<(
     Ok(())
 }
 
-/// A client that was killed asks anew from its port. By RFC 4340, section 8.5, its old connection's end answers with a Sync, which the client,
+/// A client that was killed asks again from its port. By RFC 4340, section 8.5, its old connection's end answers with a Sync, which the client,
 /// in REQUEST, answers with a Reset. That end is over then, and the next Request, after a second, opens another.
 #[test]
 fn a_client_begins_anew_from_its_port() -> Result<(), Box<dyn Error>> {
