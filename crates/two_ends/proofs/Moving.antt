@@ -4,7 +4,7 @@ use Rattle.two_ends.proofs.Beginning.{dropped_begun, offer_begun, preference_beg
 use Rattle.two_ends.proofs.ByFeature.{same_moves}
 use Rattle.two_ends.proofs.OpeningLines.{offer_drops, offer_moves, plain_moves, prefer_moves, preference_waits, send_moves}
 use Rattle.two_ends.proofs.FeatureReaching.{joined}
-use Rattle.two_ends.proofs.Taking.{heard_begun, heard_same, heard_sound, replied, silent}
+use Rattle.two_ends.proofs.Taking.{heard_begun, heard_same, replied, silent}
 use Rattle.seq_circle.specs.Counts.{number_of}
 use Rattle.two_ends.specs.FeaturePackets.{IsHeardOf, carried_reply}
 use Rattle.two_ends.specs.FeatureRows.{IsBegun, RowMoves, confirm_in, entries_of, opens_at, row_pair, rule_at, side_of}
@@ -97,11 +97,6 @@ module _ (iss greatest : ℕ) (row : Row) (there frames : List Carried) (fits : 
           same = heard_same iss later row there events is;
           begun = heard_begun iss later row there events is begun;
         }
-
-  pub hears-sound : (later : ℕ) (events : List RowEvent) (reply : Option (List ℕ)) → Hears iss greatest row there later events reply
-      → IsSoundRow (row_turned row events)
-  hears-sound later _ _ (HearsNothing unmoved) = sound
-  hears-sound later events _ (HearsNewest _ newer is) = heard_sound iss later row there events is sound
 
   -- with the Confirm that is due
   pub confirms : (later : ℕ) (events : List RowEvent) (body : List ℕ) → Hears iss greatest row there later events (Some body)

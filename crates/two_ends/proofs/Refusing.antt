@@ -1,5 +1,5 @@
 -- Why a delivery is refused: from what the code tells of a frame and of the side at which it arrives to what `happens_to` says.
-use Rattle.std.proofs.Common.{◌≡◌, ◌↔◌, refl, ap, sym, ◌∙◌, subst, ℕ, ◌-◌, ◌^◌, ◌<◌, ◌≤◌, Bool, true, false, if◌then◌else◌, List, Option, Some, None, Result, Ok, Err, slice_get, length, arith, ◌⊎◌, inl, inr, IfOk, IfSome}
+use Rattle.std.proofs.Common.{◌≡◌, ◌↔◌, refl, ap, sym, ◌∙◌, subst, ℕ, ◌-◌, ◌^◌, ◌<◌, ◌≤◌, Bool, true, false, if◌then◌else◌, List, Option, Some, None, Result, Err, slice_get, length, arith, ◌⊎◌, inl, inr, IfOk, IfSome}
 use Rattle.std.specs.Prelude.{get_or, is_some}
 use Rattle.std.proofs.lemmas.Bool.{le-leb, leb-true}
 use Rattle.std.proofs.lemmas.Option.{slice_get_cases}
@@ -9,11 +9,10 @@ use Rattle.world_events.specs.Actors.{other}
 use Rattle.world_events.specs.declared.event.Event.TheVariants as event
 use Rattle.dccp_states.specs.declared.seen.Seen.{Seen}
 use Rattle.world_events.specs.declared.event.Side.{Side}
-use Rattle.world_events.specs.declared.event.Side.TheVariants.{Client, Server}
 use Rattle.world_events.specs.declared.event.WorldFault.{WorldFault}
 use Rattle.world_events.specs.declared.event.WorldFault.TheVariants as fault
 use Rattle.two_ends.specs.declared.frames.SentFrame.{SentFrame}
-use Rattle.two_ends.specs.Controlled.{Controlled, ControlledHalf, ControlledHalfStep, ControlledStep, controlled_half_steps, controls, happens_to}
+use Rattle.two_ends.specs.Controlled.{Controlled, ControlledHalf, ControlledStep, controlled_half_steps, controls, happens_to}
 use Rattle.two_ends.specs.World.{ActorIsFull, DeliversFar, Half, LacksFrame, delivers_frame, half_of, is_far_at, is_far_frame, is_full, in_world, unless_far}
 
 -- where a list has nothing
@@ -183,44 +182,3 @@ module _ {C : Type 0} (control : Control C) (old : ControlledHalf C) where
   -- none
   pub none-handed : (found : Option SentFrame) → found ≡ None → IsHanded old found (Err fault.NoSuchFrame)
   none-handed found is = subst (λ (o : Option SentFrame). IsHanded old o (Err fault.NoSuchFrame)) (sym is) lacking-so
-
--- the world with what a step makes of one side
-abbrev server-made : {C : Type 0} → Controlled C → ControlledHalfStep C → Result (ControlledStep C) WorldFault
-server-made w s = Ok (record { after = record w { world = record w.world { server = s.after.half }; for_server = s.after.congestion }; seen = s.seen })
-
-abbrev client-made : {C : Type 0} → Controlled C → ControlledHalfStep C → Result (ControlledStep C) WorldFault
-client-made w s = Ok (record { after = record w { world = record w.world { client = s.after.half }; for_client = s.after.congestion }; seen = s.seen })
-
--- what the code tells of a frame that arrives at one side, as a step of the world
-module _ {C : Type 0} (control : Control C) (w : Controlled C) where
-  abbrev Arrived : Half → C → Option SentFrame → ControlledHalf C → Seen → Type 0
-  Arrived half congestion frame new seen =
-      IfSome frame
-      (λ f.
-      (is_full half ≡ false) × (is_far_frame half.end f ≡ false)
-      × (record { after = new; seen = seen }
-      ≡ controlled_half_steps control (record { half = half; congestion = congestion }) (Some f.number) (Arrives f.bytes)))
-
-  pub arrived-server : (frame : Option SentFrame) (new : ControlledHalf C) (result : Result Seen WorldFault)
-      → ((result ≡ Err fault.NoSuchFrame) ↔ (frame ≡ None))
-      → IfOk result (λ seen. Arrived w.world.server w.for_server frame new seen)
-      → IfOk result (λ seen. controls control w Server (delivers_frame w.world Client frame)
-      ≡ Ok (record { after = record w { world = record w.world { server = new.half }; for_server = new.congestion }; seen = seen }))
-  arrived-server frame new (Err why) none ok = tt
-  arrived-server None new (Ok seen) none ok = (let lacks = none.1 refl in cc lacks)
-  arrived-server (Some f) new (Ok seen) none ok =
-      ap (λ (full : Bool). arrival control w Client f full (is_far_frame w.world.server.end f)) ok.0
-      ∙ ap (λ (far : Bool). arrival control w Client f false far) ok.1
-      ∙ sym (ap (server-made w) ok.2)
-
-  pub arrived-client : (frame : Option SentFrame) (new : ControlledHalf C) (result : Result Seen WorldFault)
-      → ((result ≡ Err fault.NoSuchFrame) ↔ (frame ≡ None))
-      → IfOk result (λ seen. Arrived w.world.client w.for_client frame new seen)
-      → IfOk result (λ seen. controls control w Client (delivers_frame w.world Server frame)
-      ≡ Ok (record { after = record w { world = record w.world { client = new.half }; for_client = new.congestion }; seen = seen }))
-  arrived-client frame new (Err why) none ok = tt
-  arrived-client None new (Ok seen) none ok = (let lacks = none.1 refl in cc lacks)
-  arrived-client (Some f) new (Ok seen) none ok =
-      ap (λ (full : Bool). arrival control w Server f full (is_far_frame w.world.client.end f)) ok.0
-      ∙ ap (λ (far : Bool). arrival control w Server f false far) ok.1
-      ∙ sym (ap (client-made w) ok.2)
