@@ -12,7 +12,7 @@ ghost use Rattle.data_dropped.specs.Frames.{acknowledged_by, buffered, buffered_
 use crate::drops::DropBytes;
 use crate::inbox::BoundedInbox;
 use arrayvec::ArrayVec;
-use dccp_endpoint::seal_frame;
+use dccp_endpoint::{MOST_DATA_BYTES, seal_frame};
 use dccp_options::kinds::{DATA_DROPPED, SLOW_RECEIVER};
 use dccp_packets::{Frame, Kind, Numbers, Outbox, Packet, decode, encode};
 use dccp_sum::Pseudo;
@@ -20,9 +20,6 @@ use seq_circle::Seq48;
 
 // A full Data Dropped option and Slow Receiver.
 type Said = ArrayVec<u8, 256>;
-
-// A frame has room for as many bytes of data (own).
-const MOST_DATA: usize = 1024;
 
 // An option area with what is said after it.
 type Area = ArrayVec<u8, 1264>;
@@ -81,7 +78,7 @@ pub fn lengthen(packet: &Packet<'_>, more: &[u8], pseudo: &Pseudo, longer: &mut 
     ensures says { result ≡ says_more (parts_of_packet packet.now) more.now }
     ensures written { OnTrue result (longer.new ≡ lengthened pseudo.now (parts_of_packet packet.now) more.now) }
 {
-    if more.is_empty() || MOST_DATA < packet.payload.len() {
+    if more.is_empty() || MOST_DATA_BYTES < packet.payload.len() {
         return false;
     }
     let mut area = Area::new();

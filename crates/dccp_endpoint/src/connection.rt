@@ -22,7 +22,7 @@ mod receiving;
 mod replying;
 mod sending;
 
-pub use calling::applies_in;
+pub use calling::{MOST_DATA_BYTES, applies_in};
 pub(crate) use classes::is_open;
 
 // Whose end the rows of the negotiation are of.

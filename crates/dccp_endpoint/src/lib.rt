@@ -27,7 +27,7 @@ mod speaking;
 mod strangers;
 
 pub use crate::config::{Config, Ports};
-pub use crate::connection::applies_in;
+pub use crate::connection::{MOST_DATA_BYTES, applies_in};
 pub use crate::endpoint::Endpoint;
 pub(crate) use crate::exit::Exit;
 pub use crate::feeding::feed;

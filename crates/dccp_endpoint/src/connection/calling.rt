@@ -26,8 +26,8 @@ pub fn applies_in(timer: Timer, phase: Phase) -> bool
     }
 }
 
-// A packet may have so many bytes of data.
-const MOST_DATA: usize = 1024;
+/// The most bytes of data of a packet (own).
+pub const MOST_DATA_BYTES: usize = 1024;
 
 impl Connection {
     ghost use Rattle.std.specs.Prelude.{◌≡◌, ◌≢◌, ◌↔◌, ◌⊎◌, ◌≤◌, ◌<◌, Bool, [], None, Ok, Err, OnErr, true, false, length};
@@ -257,7 +257,7 @@ impl Connection {
     {
         if !fits_phase {
             Some(SendFault::NotOpen)
-        } else if MOST_DATA < payload.len() {
+        } else if MOST_DATA_BYTES < payload.len() {
             Some(SendFault::TooLong)
         } else if self.lacks_vectors() {
             Some(SendFault::NotNegotiated)
