@@ -5,7 +5,7 @@ use Rattle.std.proofs.lemmas.List.{take_more}
 use Rattle.std.specs.Prelude.{get_or}
 use Rattle.data_dropped.specs.Drops.{before_codes, code_at_place, up_to_last_code}
 
--- after all codes stands none
+-- no code follows all codes
 last-none : (codes : List (Option ℕ)) → up_to_last_code (codes ++ None ∷ []) ≡ up_to_last_code codes
 last-none [] = refl
 last-none (code ∷ codes) = ap (λ (rest : List (Option ℕ)). before_codes code rest) (last-none codes)

@@ -1,4 +1,4 @@
--- The frames of an end tell the drops of its inbox.
+-- The frames of an end report the drops of its inbox.
 use Rattle.std.proofs.Common.{◌≡◌, ℕ, ◌-◌, ◌%◌, ◌^◌, ◌==◌, ◌&&◌, Bool, true, false, IsTrue, List, [], ◌∷◌, ◌++◌, length, map, Option, Some, None, Result, refl, ap, sym, ◌∙◌, subst, append-nil, All}
 use Rattle.ack_vectors.specs.declared.room.Vectors.{Vectors}
 use Rattle.std.proofs.Math.Nat.{mod-mod}

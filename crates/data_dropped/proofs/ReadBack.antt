@@ -120,7 +120,7 @@ all_codes_read drops ack n have fits_ack fits whole near =
 pub report_fits : (drops : List DropEntry) (ack : ℕ) → length (drop_bytes drops ack) ≤ 253
 report_fits drops ack = omega (arith, length-take 253 (all_drop_bytes drops ack))
 
--- without a drop there is nothing to tell
+-- without a drop there is nothing to report
 pub nothing_told : (drops : List DropEntry) (ack : ℕ) → drops ≡ [] → all_drop_bytes drops ack ≡ []
 nothing_told drops ack none =
     ap (λ (codes : List (Option ℕ)). coded_bytes drop_coding (up_to_last_code codes)) (ap (λ (ds : List DropEntry). code_table ds ack) none ∙ table-none ack)

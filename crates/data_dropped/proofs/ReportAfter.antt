@@ -22,7 +22,7 @@ drop_options-append (item ∷ front) following =
     ap (λ (rest : List (List ℕ)). dropped_in item ++ rest) (drop_options-append front following)
     ∙ sym (append_assoc (dropped_in item) (drop_options front) (drop_options following))
 
--- options of other types tell nothing
+-- options of other types report nothing
 abbrev pub IsOther : Item → Type 0
 IsOther item = (item.kind == data_dropped) ≡ false
 
@@ -49,7 +49,7 @@ drops-told place zeros bytes slow =
     ap drop_options (entries-spelled place data_dropped false bytes (slow_said slow ++ replicate zeros 0) (omega arith))
     ∙ ap (λ (rest : List (List ℕ)). bytes ∷ rest) (slow-tells_nothing (place + length (spelled false data_dropped bytes)) zeros slow)
 
--- what is said tells the report
+-- what is said is the report
 said-tells : (place zeros : ℕ) (bytes : List ℕ) (slow : Bool)
     → drop_options (listed_from place ((drops_said bytes ++ slow_said slow) ++ replicate zeros 0)) ≡ one_option bytes
 said-tells place zeros bytes slow =

@@ -18,7 +18,7 @@ drop_code drops n = drop_code_from n None drops
 unfoldable pub code_table : List DropEntry → ℕ → List (Option ℕ)
 code_table drops ack = states_down (drop_code drops) 2048 ack
 
--- a number before the codes of those below it; without a code of its own it counts where one below it has one
+-- a number before the codes of those below it; without a code it counts if one below it has one
 abbrev pub before_codes : Option ℕ → List (Option ℕ) → List (Option ℕ)
 before_codes None [] = []
 before_codes None (code ∷ codes) = None ∷ code ∷ codes

@@ -1,4 +1,4 @@
--- What the frames of an end with an inbox tell of drops (own; RFC 4340, section 11.7).
+-- What the frames of an end with an inbox report about drops (own; RFC 4340, section 11.7).
 use Rattle.std.specs.Prelude.{◌≡◌, ◌⊎◌, ℕ, ◌==◌, ◌<◌, ◌^◌, Bool, true, false, IsTrue, List, [], ◌∷◌, ◌++◌, length, Option, Some, None, Result, Ok, Err, if◌then◌else◌}
 use Rattle.std.specs.List.{All}
 use Rattle.seq_circle.specs.Circle.{distance}

@@ -100,8 +100,8 @@ impl Intake {
         }
     }
 
-    /// The application stops listening: data that arrive from now on are dropped, and their sender is told so (RFC
-    /// 4340, section 11.7). False if there is no inbox; then nothing changes.
+    /// The application stops listening: data that arrive from now on are dropped, and this is reported to their sender
+    /// (RFC 4340, section 11.7). False if there is no inbox; then nothing changes.
     pub fn stop(&mut self) -> bool
         ensures stops { self.new ≡ without_listener self.old }
         ensures no_inbox { (result ≡ false) ↔ (self.old ≡ None) }
