@@ -16,12 +16,12 @@ fn main(rt: HostRuntime) -> ExitCode {
         Ok(words) => dccp(&rt, rt.alloc(), &OpenGate, &words, &mut input, &mut output),
         Err(AllocError) => Status::Memory,
     };
-    // Where it cannot be told, the status tells it.
+    // If this cannot be written, the status shows it.
     let _ = write_all(&mut StdSink::new(rt.stderr()), told(status));
     code(status)
 }
 
-// What standard error tells of a status with which the output is a front at most (own).
+// What standard error says about a status with which the output is a front at most (own).
 fn told(status: Status) -> &'static [u8] {
     match status {
         Status::Read => b"dccp: the input could not be read\n",
