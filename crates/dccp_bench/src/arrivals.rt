@@ -127,7 +127,7 @@ fn listening(alloc: Global) -> Listener {
     )
 }
 
-// A packet arrives at the listener. Tells whether it was answered.
+// A packet arrives at the listener. Returns whether it was answered.
 fn hear(
     listener: &mut Listener,
     frame: &mut Frame,
@@ -193,7 +193,7 @@ fn end(alloc: Global, first: Seq48) -> Option<Endpoint<Kinds>> {
     Endpoint::new(alloc, config, congestion).ok()
 }
 
-// A packet of the first peer arrives at its end. Tells whether it was answered.
+// A packet of the first peer arrives at its end. Returns whether it was answered.
 fn hear_alone(end: &mut Endpoint<Kinds>, frame: &mut Frame, number: u32, out: &mut Outbox) -> bool {
     write(frame, Arrival { place: 0, number });
     let _ = end.receive(frame.bytes(), out);

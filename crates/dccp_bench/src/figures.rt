@@ -1,4 +1,4 @@
-//! The clock, and the lines that tell what took how long.
+//! The clock, and the lines that say what took how long.
 
 use std::io;
 use std::time::Instant;
