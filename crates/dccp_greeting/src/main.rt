@@ -15,7 +15,7 @@ use crate::many::ServerOfMany;
 use crate::one::ServerOfOne;
 use std::process::ExitCode;
 
-// Prints what a server got. Tells whether it was printed.
+// Prints what a server got. Returns whether it was printed.
 fn print(rt: &HostRuntime, got: &[u8]) -> bool {
     println!(rt; "{} bytes: {:?}", got.len(), got).is_ok()
 }
