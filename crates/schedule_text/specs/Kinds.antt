@@ -25,7 +25,7 @@ all_forms =
     form.Version ∷ form.Plain ∷ form.Iss ∷ form.Set ∷ form.Offer ∷ form.Open ∷ form.Deliver ∷ form.Send ∷ form.Prefer ∷ form.Timer
     ∷ form.Close ∷ form.Abort ∷ []
 
--- a first word, which tells what the line is
+-- a first word, which decides what the line is
 abbrev pub form_kind : KindOfWords Form
 form_kind = name_kind form_name all_forms
 

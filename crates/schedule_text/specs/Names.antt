@@ -10,7 +10,7 @@ use Rattle.dccp_states.specs.declared.calls.Timer.TheVariants as timer
 use Rattle.schedule_text.specs.declared.names.Form.{Form}
 use Rattle.schedule_text.specs.declared.names.Form.TheVariants as form
 
--- the first word of a line, which tells what the line is
+-- the first word of a line, which decides what the line is
 abbrev pub form_name : Form → List ℕ
 form_name form.Version = codes "version"
 form_name form.Plain = codes "plain"

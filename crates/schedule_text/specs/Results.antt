@@ -81,7 +81,7 @@ seen_text bytes (Called (Err fault)) = codes "refused " ++ refusal_name fault
 seen_text bytes (Fired fired) = timer_text fired
 seen_text bytes (Received outcome) = outcome_text bytes outcome
 
--- an event, under the number of its own line in the input
+-- an event, under the number of its line in the input
 abbrev pub told_text : ℕ → Event → List ℕ
 told_text number event = decimal number ++ codes " " ++ event_text event
 

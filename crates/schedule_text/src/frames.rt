@@ -64,7 +64,7 @@ impl<'a> WordRow<'a> for FrameWords {
 /// The frame that a line of a replay says, or None exactly where the line is empty or a comment; or the first of the
 /// line's faults in the order of `LineWhy`, with its column (own). The line comes without its newline.
 ///
-/// A frame stands as digits of its bytes, one to 2,044 of them; after the word `seal` at least eight.
+/// A frame is written as digits of its bytes, one to 2,044 of them; after the word `seal` at least eight.
 pub fn read_frame(line: &[u8]) -> Result<Option<FrameLine<'_>>, LineFault>
     ensures value { result ≡ spec.read_frame line.now }
     ensures seals { IfOk result (λ said. IfSome said (λ frame. frame.seal ≡ true → 8 ≤ length frame.bytes)) }

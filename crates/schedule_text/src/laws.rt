@@ -18,7 +18,7 @@ pub fn printed_events_are_read()
     ensures { (event : Event) → IsPrintable event → read_line (event_text event) ≡ Ok (line.Event event) }
 {}
 
-/// A line is accepted exactly where it is the words of what it says: an empty line or a comment of text that is not too
+/// A line is accepted exactly if it is the words of what it says: an empty line or a comment of text that is not too
 /// long; or a form's words, parted by one space, with numbers in decimal in their ranges, a list or an offer that an
 /// end may have, and the digits of data in either case (own).
 pub fn lines_are_their_forms()
@@ -31,7 +31,7 @@ pub fn the_first_fault_is_answered()
     ensures { (text : List ℕ) (fault : LineFault) → (read_line text ≡ Err fault) ↔ (line_fault text ≡ Some fault) }
 {}
 
-/// A line of a replay is accepted exactly where it is the words of its frame: the digits of 1 to 2,044 bytes in either
+/// A line of a replay is accepted exactly if it is the words of its frame: the digits of 1 to 2,044 bytes in either
 /// case, and `seal` in front of them where the checksum is to be set, then of 8 bytes at least; and it has no frame
 /// exactly where it is an empty line or a comment of text that is not too long (own).
 pub fn frames_are_their_forms()

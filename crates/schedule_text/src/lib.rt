@@ -1,7 +1,7 @@
 //! The lines of schedules and replays as text: what each says, where it is wrong, and how an event and what was seen of
 //! it are printed (own).
 //!
-//! Each line stands by itself: nothing here knows the lines before it, the limits of a whole input, or what the ends
+//! Each line is read by itself: nothing here knows the lines before it, the limits of a whole input, or what the ends
 //! do. Reading takes no memory.
 #![tactic(auto)]
 

@@ -330,8 +330,8 @@ pub fn print_event(event: &Event, to: &mut Vec<u8>) -> Result<(), NoMemory>
 }
 
 /// Appends the line `K EVENT: RESULT` of an event that took place, under the number K of its line in the input, and a
-/// newline (own). `input` is the bytes of the frame that arrived, in which data that was delivered stands, and is empty
-/// for any other event. After NoMemory the text is as before.
+/// newline (own). `input` is the bytes of the frame that arrived, which contain delivered data, and is empty for any
+/// other event. After NoMemory the text is as before.
 pub fn print_seen(
     line: u64,
     event: &Event,

@@ -166,7 +166,7 @@ fn deliver(words: &mut Words<'_>, said: &mut Line) -> Result<(), LineFault>
     Ok(())
 }
 
-// Decodes the bytes where the payload stands.
+// Decodes the bytes in the payload's place.
 fn put_payload(payload: &mut Payload, digits: &Digits<'_>)
     ensures { payload.new ≡ digits.now }
 {
@@ -184,7 +184,7 @@ pub fn payload_of(digits: &Digits<'_>) -> Payload
     payload
 }
 
-// Making an event clears its room for data, so one that sends is changed where it stands.
+// Making an event clears its room for data, so one that sends is changed in place.
 fn be_sending(event: &mut Event, whose: Side, digits: &Digits<'_>)
     ensures { event.new ≡ Event.Send whose digits.now }
 {
@@ -221,7 +221,7 @@ fn send(words: &mut Words<'_>, said: &mut Line) -> Result<(), LineFault>
     Ok(())
 }
 
-// Makes a line that says no event a wish. It clears the event's room, so it stands apart from `say_wish`.
+// Makes a line that says no event a wish. It clears the event's room, so it is not part of `say_wish`.
 fn begin_with_wish(said: &mut Line, side: Side, feature: Feature, place: Place, values: Values)
     ensures { said.new ≡ Line.Event (Event.Prefer side feature place values) }
 {
