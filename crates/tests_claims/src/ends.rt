@@ -15,10 +15,10 @@ use dccp_endpoint::Endpoint;
 use dccp_packets::Outbox;
 use dccp_states::{Outcome, SendFault};
 
-/// Bytes that arrive come to an outcome exactly where it has its cause (`exact`). What is dropped changes nothing and
-/// sends nothing (`dropped`). A Sync goes out, and moves neither the phase nor a row (`synced`); a valid Reset moves the
-/// phase to TIMEWAIT, sends nothing, and leaves the rows and the numbers received (`ended`); and where a Reset goes out,
-/// something goes out (`reset`). What is taken is answered, or an acknowledgement is owed for it (`taken`).
+/// Bytes that arrive have an outcome exactly if its cause holds (`exact`). What is dropped changes nothing and sends nothing (`dropped`). A Sync
+/// goes out, and moves neither the phase nor a row (`synced`); a valid Reset moves the phase to TIMEWAIT, sends nothing, and leaves the rows and
+/// the numbers received (`ended`); and where a Reset goes out, something goes out (`reset`). What is taken is answered, or an acknowledgement is
+/// owed for it (`taken`).
 pub fn received<C: Congestion>(end: &mut Endpoint<C>, bytes: &[u8], out: &mut Outbox) -> Outcome
     requires { length bytes.now ≤ 2044 }
     ensures exact { (outcome : Outcome) → (result ≡ outcome) ↔ HasCause end.old.state bytes.now outcome }

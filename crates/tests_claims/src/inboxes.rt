@@ -27,8 +27,8 @@ use two_inboxes::{
     ends_with_inboxes_run_as_alone, frames_tell_of_what_was_taken, longer_frames_are_taken_alike,
 };
 
-/// Whatever is asked of an inbox, what was taken are the first data that were kept, and what it holds are the others
-/// (`taken`, `held`). It never holds more than it may (`within`).
+/// After any calls of an inbox, what was taken are the first data that were kept, and what it holds are the others (`taken`, `held`). It never
+/// holds more than it may (`within`).
 pub fn an_inbox_hands_over_what_it_kept()
     ensures taken { (capacity : ℕ) (calls : List InboxCall) → take (length (history_after_all (no_history capacity) calls).taken)
         (history_after_all (no_history capacity) calls).kept ≡ (history_after_all (no_history capacity) calls).taken }

@@ -36,7 +36,7 @@ pub fn a_line_says_one_thing_or_has_a_fault()
     the_first_fault_is_answered();
 }
 
-/// Whatever is sent, reported and timed out, in whatever order, from 1 to 1,024 packets of CCID 2 may be in flight.
+/// After any sends, reports and timeouts, in any order, from 1 to 1,024 packets of CCID 2 may be in flight.
 pub fn ccid_two_has_one_to_1024_packets_in_flight()
     ensures { (calls : List Call) → (1 ≤ (run ccid_control first_state calls).window) × ((run ccid_control first_state calls).window ≤ 1024) }
 {

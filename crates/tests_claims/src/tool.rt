@@ -23,11 +23,10 @@ use std::alloc::Global;
 use std::thread::Threads;
 use tool_jobs::each_peer_is_answered_by_its_chain;
 
-/// What `dccp` leaves. With status 0 or 1, and with no other of its own, each accepted event of `run` took place in a
-/// safe world (`done`, `refused`), and the sink took exactly the text of the input: for `run` the transcript
-/// (`transcript`), for each other form that reads its own (`whole`), for a campaign its sums (`sums`). Status 1 comes for
-/// an input that is refused, and 0 for none (`accepted`, `faulty`). With 3, 4 or 5 the sink took a front of the text
-/// (`front`).
+/// What `dccp` leaves. With status 0 or 1, and with no other of its statuses, each accepted event of `run` took place in a safe world (`done`,
+/// `refused`), and the sink took exactly the text of the input: for `run` the transcript (`transcript`), for each other form that reads its own
+/// (`whole`), for a campaign its sums (`sums`). Status 1 comes for an input that is refused, and 0 for none (`accepted`, `faulty`). With 3, 4 or
+/// 5 the sink took a front of the text (`front`).
 pub fn played<R: Threads + Sync, G: Gate + Sync, S: Source, K: Sink>(
     rt: &R,
     alloc: Global,
@@ -57,11 +56,10 @@ pub fn played<R: Threads + Sync, G: Gate + Sync, S: Source, K: Sink>(
     dccp(rt, alloc, gate, words, input, output)
 }
 
-/// Of every input of `listen`: each peer is answered and sent what a server of its own would have given it on its lines
-/// alone, those left out that a full table answered (`alone`). Where no line is refused, the text is that of all lines
-/// that say something, in their order and with their numbers, and then of the flows, in the order of their peers (`text`,
-/// `lines`, `ordered`). A peer finds the listener busy exactly where it has no flow and would get one, and as many stand
-/// as may (`busy`).
+/// Of every input of `listen`: each peer is answered and sent what a server for it alone would have given it on its lines alone, those left out
+/// that a full table answered (`alone`). Where no line is refused, the text is that of all lines that say something, in their order and with
+/// their numbers, and then of the flows, in the order of their peers (`text`, `lines`, `ordered`). A peer finds the listener busy exactly where
+/// it has no flow and would get one, and as many stand as may (`busy`).
 pub fn a_listener_answers_each_peer_by_its_own_lines()
     ensures alone { (most : ℕ) (input : List ℕ) (peer : Peer) → IsChain (first_listening most).config peer None
         (end_of_peer (listened most input).last.listener.flows peer) (peer_turns peer (turns_of_input most input)) }

@@ -84,9 +84,8 @@ pub fn each_value_was_given<C: Congestion>()
     values_come_from_both_sides::<C>();
 }
 
-/// *truthful*: of every Ack Vector ever sent, what it tells received was processed when it was sent (`received`), what it
-/// tells otherwise was not (`missing`), a whole one leaves out nothing that was processed (`all`), and nothing after its
-/// acknowledgement was (`none_after`).
+/// *truthful*: of every Ack Vector ever sent, what it reports as received was processed when it was sent (`received`), what it reports otherwise
+/// was not (`missing`), a whole one leaves out nothing that was processed (`all`), and nothing after its acknowledgement was (`none_after`).
 pub fn each_vector_is_true<C: Congestion>()
     ensures received { (w : Controlled C) → ReachedByEvents C.control w → (side : Side) (frame : SentFrame) (ack n : ℕ) (bytes : List ℕ)
         → HasSentVector (half_of w.world side) frame ack bytes → ack < 2 ^ 48 → n < 2 ^ 48
