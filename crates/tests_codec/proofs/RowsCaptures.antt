@@ -1,5 +1,5 @@
--- Worked captures: the records that bytes have, and what ends them. The values are by hand, after the savefile format of libpcap; the limits
--- are own. What is read is the same in whatever pieces a source gives its bytes.
+-- Worked captures: the records that bytes have, and what ends them. The values are by hand, after the savefile format of libpcap; the limits are
+-- own. What is read is the same, in any pieces that a source gives its bytes.
 use Rattle.std.proofs.Common.{◌≡◌, refl, ℕ, zero, suc, ◌+◌, Bool, true, false, List, [], ◌∷◌, ◌++◌, length, take, codes, Option, None, Some, Ok, Err}
 use Rattle.std.proofs.Math.ListN.{replicate}
 use Rattle.capture_reader.specs.declared.fault.CaptureFault.{CaptureFault}
@@ -128,7 +128,8 @@ with_pending pending = record {
   fault = None;
 }
 
--- A record is held once all its bytes were read, or its header tells that it is too long or too much, and no read follows where a fault ended the capture.
+-- A record is held once all its bytes were read, or its header says that it is too long or too much, and no read follows where a fault ended the
+-- capture.
 a_reader_tells_when_it_holds_a_record :
     (holds_record (with_pending []) ≡ false)
     × (holds_record (with_pending (take 15 of_one)) ≡ false)

@@ -11,7 +11,7 @@ steps number count = (residue (number + count), down number count, residue (numb
 abbrev pub order : ℕ → ℕ → ℕ × Bool × ℕ
 order a b = (distance a b, is_before a b, later_of a b)
 
--- whether a number is from another on where there is no upper end, and what stands for that end
+-- whether a number is from another on if there is no upper end, and what is in that end's place
 abbrev pub from : ℕ → ℕ → Bool × ℕ
 from number low = (is_from low number, open_end low)
 
@@ -20,7 +20,7 @@ abbrev pub far : ℕ → ℕ → Bool × Bool
 far number reference = (is_far number reference, extended (number % 2 ^ 24) reference == number)
 
 numbers_on_their_circles :
-    -- A short number near a reference, and the number that it stands for there
+    -- A short number near a reference, and the number that it means there
     (extended 5 33554416 ≡ 33554437)
     × (extended 16777200 33554437 ≡ 33554416)
     × (extended 7 0 ≡ 7)
@@ -61,7 +61,7 @@ numbers_on_their_circles :
     × (is_within 9 5 9 ≡ true)
     × (is_within 4 5 9 ≡ false)
     × (is_within 10 5 9 ≡ false)
-    -- Whether a number is from another on where there is no upper end, and what stands for that end
+    -- Whether a number is from another on if there is no upper end, and what is in that end's place
     × (from 0 0 ≡ (true, 140737488355327))
     -- Over the circle's end
     × (from 0 281474976710655 ≡ (true, 140737488355326))

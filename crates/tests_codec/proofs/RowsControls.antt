@@ -86,7 +86,7 @@ played control threshold state [] = []
 played control threshold state (step ∷ rest) =
     seen control threshold state step ∷ played control threshold (after control state step) rest
 
--- all is seen as these steps tell it, from a new control on
+-- all is seen as these steps say, from a new control on
 abbrev CcidTwo : List Step → Type 0
 CcidTwo steps = played ccid_control (λ state. state.threshold) first_state steps ≡ steps
 

@@ -51,7 +51,7 @@ abbrev played : List FlightEntry → List Step → List Step
 played entries [] = []
 played entries (step ∷ rest) = seen entries step ∷ played (after entries step) rest
 
--- all is seen as these steps tell it, from an empty list on
+-- all is seen as these steps say, from an empty list on
 abbrev Flies : List Step → Type 0
 Flies steps = played [] steps ≡ steps
 
@@ -79,7 +79,7 @@ reported_of states entries =
 oldest_entries_leave : reported_of (told 1 "260300260300") (sent_each [] 2049 0) ≡ (2048, 1, 1 ∷ [])
 oldest_entries_leave = refl
 
--- A byte tells of up to 64 numbers: of 68, the one at the report's number was not received, the 33 and 34 below it were.
+-- A byte reports up to 64 numbers: of 68, the one at the report's number was not received, the 33 and 34 below it were.
 long_runs : Flies (
     Send 1 68 ∷ Tell 68 "2605c02021" None 67 false ∷ Out 1 ∷ Clear ∷ Send 1 65 ∷ Tell 65 "26033f" None 64 true ∷ Out 0 ∷ [])
 long_runs = refl

@@ -1,5 +1,5 @@
--- Worked inputs of lines, told one after the other. The values are by hand, after the texts of the tool's forms: a line ends in a newline,
--- which the last may lack, and has at most 4,096 bytes (own). What is told is the same in whatever pieces a source gives its bytes.
+-- Worked inputs of lines, told one after the other. The values are by hand, after the texts of the tool's forms: a line ends in a newline, which
+-- the last may lack, and has at most 4,096 bytes (own). The answers are the same, in any pieces that a source gives its bytes.
 use Rattle.std.proofs.Common.{◌≡◌, refl, ℕ, zero, suc, ◌+◌, true, false, List, [], ◌∷◌, ◌++◌, length, drop, map, codes, None, Some}
 use Rattle.std.proofs.Math.ListN.{replicate}
 use Rattle.dccp_io.specs.declared.lines.Stop.TheVariants as stop
@@ -13,7 +13,7 @@ onward next.End following = next.End ∷ []
 onward (next.Long front) following = next.Long front ∷ []
 onward next.Much following = next.Much ∷ []
 
--- what so many calls tell of an input, after so many bytes; an end stays, and so does a line that is too long or too much
+-- what so many calls return of an input, after so many bytes; an end stays, and so does a line that is too long or too much
 abbrev pub told : ℕ → ℕ → List ℕ → List Next
 told zero given bytes = []
 told (suc calls) given bytes = onward (next_in_bytes given bytes) (λ count. told calls (given + count) (drop count bytes))

@@ -1,6 +1,6 @@
--- Worked nonces, computed from the definitions: what a receiver tells of the packets that came, what a ledger of the nonces that were sent
--- answers, and both in one world. The values are worked out by hand from RFC 4340, sections 11.4 and 12.2, with the own counts of 2,048
--- numbers and 4,096 nonces.
+-- Worked nonces, computed from the definitions: what a receiver reports of the packets that came, what a ledger of the nonces that were sent
+-- answers, and both in one world. The values are worked out by hand from RFC 4340, sections 11.4 and 12.2, with the own counts of 2,048 numbers
+-- and 4,096 nonces.
 use Rattle.std.proofs.Common.{◌≡◌, refl, ℕ, ◌+◌, ◌-◌, ◌*◌, zero, suc, Bool, true, false, List, [], ◌∷◌, ◌++◌, replicate, slice_get, take, Some, None, Result, Ok, Err}
 use Rattle.std.specs.List.{concat}
 use Prim.Native.String.{String}
@@ -66,7 +66,7 @@ abbrev played : Arrivals → List Step → List Step
 played e [] = []
 played e (step ∷ rest) = there e step ∷ played (after e step) rest
 
--- all is seen as these steps tell it, from a new receiver on
+-- all is seen as these steps say, from a new receiver on
 abbrev Receives : List Step → Type 0
 Receives steps = played (none_arrived 0) steps ≡ steps
 
@@ -145,7 +145,7 @@ abbrev answers : Ledger → List Entry → List Entry
 answers l [] = []
 answers l (entry ∷ rest) = answered l entry ∷ answers (kept_after l entry) rest
 
--- all is answered as these entries tell it, by a ledger that stands so
+-- all is answered as these entries say, by a ledger in this state
 abbrev Keeps : Ledger → List Entry → Type 0
 Keeps l entries = answers l entries ≡ entries
 
@@ -184,7 +184,7 @@ abbrev following : EcnState → List (EcnEvent × Result EcnSeen EcnFault) → E
 following w [] = w
 following w (happening ∷ rest) = following (state_after w (happens_by w happening.0)) rest
 
--- all is seen as these events tell it, and the first report is this one
+-- all is seen as these events say, and the first report is this one
 abbrev Happens : List (EcnEvent × Result EcnSeen EcnFault) → (ack kind : ℕ) → String → Type 0
 Happens happenings ack kind vector =
     (happened ecn_begins happenings ≡ happenings)

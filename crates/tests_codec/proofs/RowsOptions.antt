@@ -103,7 +103,7 @@ unlisted kind = replicate 13 []
 abbrev pub alone : ℕ → Bool → ℕ → ℕ → Listed
 alone place mandatory kind size = option place mandatory kind (replicate size 0) ∷ []
 
--- by a length from 2 on; below stands what is listed at 0 and 1
+-- by a length from 2 on; below is what is listed at 0 and 1
 abbrev pub by_length : Listed → ℕ → Bool → ℕ → List Listed
 by_length short place mandatory kind = short ∷ short ∷ map (alone place mandatory kind) (from_to 0 10)
 

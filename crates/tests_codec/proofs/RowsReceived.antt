@@ -34,7 +34,7 @@ told old ack = vector (has old.set.numbers) old.set.floor ack One
 abbrev is_recorded : ReceivedState → ℕ → Bool
 is_recorded old number = is_some (newest_whole number old.records)
 
--- 88 to 98 and 100 were taken: 0 for 100, 3 for 99, and 0 for eleven numbers. At the floor one number is told, and below it none.
+-- 88 to 98 and 100 were taken: 0 for 100, 3 for 99, and 0 for eleven numbers. At the floor one number is reported, and below it none.
 vector_of_received :
     (news (fresh 88) (from 11 88 ++ 100 ∷ []) ≡ 12)
     × (told (took (fresh 88) (from 11 88 ++ 100 ∷ [])) 100 ≡ (0 ∷ 192 ∷ 10 ∷ [], true))

@@ -39,7 +39,7 @@ fn numbers_around_the_end(rt: HostRuntime) {
     assert!(rt; around_the_end() == Some(true));
 }
 
-// Short numbers, references, and the numbers that they stand for there.
+// Short numbers, references, and the numbers that they mean there.
 const EXTENDED: [(u32, u64, u64); 4] = [
     (0x00_0005, 0x0000_01ff_fff0, 0x0000_0200_0005),
     (0xff_fff0, 0x0000_0200_0005, 0x0000_01ff_fff0),
@@ -161,7 +161,7 @@ fn a_request_with_reserved_bits(rt: HostRuntime) {
     assert!(rt; check(&TO_SERVER, &packet) == Err(SumFault::Wrong));
 }
 
-// Whether more options are refused than fit, and what was written before then stands.
+// Whether more options are refused than fit, and what was written before then stays.
 fn keeps_its_frame(header: &Header, bytes: &[u8]) -> bool {
     let Some(mut out) = Frame::of(bytes) else {
         return false;
@@ -251,7 +251,7 @@ fn two_numbers() -> Option<Numbers> {
     })
 }
 
-// Whether an Outbox tells these numbers of its frame.
+// Whether an Outbox has these numbers of its frame.
 fn has_numbers(out: &Outbox, numbers: Numbers) -> bool {
     match out.sent() {
         Some(sent) => sent.number == numbers.number && sent.ack == numbers.ack,
@@ -331,7 +331,7 @@ fn has_states(report: &AckReport<'_>) -> Option<bool> {
     Some(true)
 }
 
-// Whether the vector, after another option, tells these states, and begins with a run of one.
+// Whether the vector, after another option, has these states, and begins with a run of one.
 fn states_told() -> Option<bool> {
     let ack = Seq48::new(100)?;
     let list = options(&[2, ACK_VECTOR_0, 7, 0x00, 0xc0, 0x03, 0x40, 0x05], false);

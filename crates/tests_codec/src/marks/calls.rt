@@ -4,11 +4,11 @@ use std::test::Fail;
 
 // What such a list calls.
 pub(crate) trait Called<C> {
-    // Whether a call comes to what it has to. None where it may not be made or has too large a number: no list has one.
+    // Whether a call has the result that it should have. None if it may not be made or has too large a number: no list has one.
     fn holds(&mut self, call: &C) -> Option<bool>;
 }
 
-// Makes the calls of a list, one after another. Fails where one comes to something else, with the place of the first.
+// Makes the calls of a list, one after another. Fails if one has another result, with the place of the first.
 pub(crate) fn all_come<C, S: Called<C>>(
     called: &mut S,
     name: &str,

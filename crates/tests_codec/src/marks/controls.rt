@@ -58,7 +58,7 @@ fn time_out<C: Congestion>(control: &mut C) -> Option<bool> {
     Some(true)
 }
 
-// Whether a call comes to what it has to. None where that is not known of every control, or the call may not be made.
+// Whether a call has the result that it should have. None if that is not known of every control, or the call may not be made.
 fn holds<C: Congestion>(control: &mut C, call: &Call) -> Option<bool> {
     match *call {
         Call::Start(ccid) => start(control, ccid),

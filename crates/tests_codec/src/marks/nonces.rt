@@ -27,8 +27,8 @@ fn nonces_run(rt: HostRuntime) -> Result<(), Fail> {
     Err(Fail::new(format_args!("the vector does not fit")))
 }
 
-// What may happen, and what is seen of it: packets of nonces 1, 0 and 1, of which the second comes marked and the third
-// not at all. A report before anything came tells nothing.
+// What may happen, and what is seen of it: packets of nonces 1, 0 and 1, of which the second comes marked and the third not at all. A report
+// before anything came says nothing.
 const STORY: [(EcnEvent, Result<EcnSeen, EcnFault>); 14] = [
     (EcnEvent::Report, Ok(EcnSeen::Reported(None))),
     (EcnEvent::Deliver(0), Err(EcnFault::NoSuchFrame)),

@@ -25,7 +25,7 @@ enum Call {
     SendWritten(u64, u64, Vectors),
     // Records a packet by its number and what it acknowledges, and whether its vector is whole.
     Send(u64, u64, bool),
-    // Tells whether a whole vector is recorded under this number.
+    // Whether a whole vector is recorded under this number.
     Ack(u64, bool),
     // The floor is this one.
     Floor(u64),
