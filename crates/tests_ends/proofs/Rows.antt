@@ -1,4 +1,4 @@
--- Worked packets, computed from the definitions: what the standard's numbers and the RFC 1071 sum come to by hand, as bytes.
+-- Worked packets, computed from the definitions: the standard's numbers and the RFC 1071 sum by hand, as bytes.
 use Rattle.std.proofs.Common.{◌≡◌, refl, true, false, [], ◌∷◌, None, Ok, Err}
 use Rattle.dccp_packets.specs.Outgoing.{bytes_sent}
 use Rattle.dccp_packets.specs.declared.reading.Malformed.TheVariants as malformed

@@ -1,4 +1,5 @@
--- Stories of an end with its congestion control, call by call, and what each call answers, computed from the definitions. Rows of other files tell them.
+-- Stories of an end with its congestion control, call by call, and what each call answers, computed from the definitions. Rows of other files
+-- cite them.
 use Rattle.std.proofs.Common.{ℕ, ◌==◌, Bool, List, [], ◌∷◌, ◌++◌, Option, Result, codes}
 use Rattle.std.specs.List.{list_any}
 use Prim.Native.String.{String}

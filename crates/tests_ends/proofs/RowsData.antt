@@ -15,8 +15,8 @@ use Rattle.tests_ends.proofs.RowsOffers.{offering_2, usual_ack, usual_open, usua
 use Rattle.tests_ends.proofs.RowsSeen.{Reported, Sent, TimedOut, arrives, calls_at, open_client, seen, sends, sent, server_ack}
 use Rattle.tests_ends.proofs.RowsVectors.{heard_1002, heard_1003, heard_1004, heard_1005}
 
--- The usual connection with data, at the client. It owes an acknowledgement of the server's Ack, so its first data go out on a DataAck, and
--- the next on Data. The server's Ack tells that 1004 and 1002 came, and not 1003; it is owed one, too.
+-- The usual connection with data, at the client. It owes an acknowledgement of the server's Ack, so its first data go out on a DataAck, and the
+-- next on Data. The server's Ack reports that 1004 and 1002 came, and not 1003; it is owed one, too.
 abbrev pub usual_client : EndState
 usual_client = (arrives usual_part_open usual_vector).after
 

@@ -29,7 +29,7 @@ one_option_or_two :
     × Reads (40 ∷ 3 ∷ 0 ∷ 0 ∷ 2 ∷ 40 ∷ 4 ∷ 175 ∷ 160 ∷ []) "-22222222222222222--"
 one_option_or_two = (refl, refl)
 
--- each code in a byte of its own, with numbers without a drop between
+-- each code in a separate byte, with numbers without a drop between
 every_code : Reads (40 ∷ 11 ∷ 128 ∷ 145 ∷ 160 ∷ 176 ∷ 194 ∷ 1 ∷ 208 ∷ 224 ∷ 240 ∷ []) "01123444--567---"
 every_code = refl
 

@@ -38,8 +38,8 @@ early-data-of-client :
 unfolding receives opens sends_early framed
 early-data-of-client = (refl, refl, refl, refl, refl, refl)
 
--- In RESPOND such a packet opens the server, is delivered, and is answered by the Ack that tells of it and not of 1001. The client's Ack,
--- which comes late, changes nothing more. In OPEN it is data as any other.
+-- In RESPOND such a packet opens the server, is delivered, and is answered by the Ack that reports it and not 1001. The client's Ack, which
+-- comes late, changes nothing more. In OPEN it is data as any other.
 abbrev heard_first : Step Outcome
 heard_first = arrives usual_responding first_data
 

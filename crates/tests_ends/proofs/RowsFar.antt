@@ -61,7 +61,7 @@ far-frames-are-refused :
 unfolding receives framed
 far-frames-are-refused = (refl, refl, refl, refl, refl, refl, refl)
 
--- one less, and a Data whatever GSS is
+-- one less, and a Data with any GSS
 near-frames-arrive :
     (is_ok (delivered (taking 25166825 16779217) ack) ≡ true)
     × (is_ok (delivered (taking 8389611 16779217) ack) ≡ true)

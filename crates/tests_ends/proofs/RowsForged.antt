@@ -99,7 +99,7 @@ all_are_heard :
 unfolding receives
 all_are_heard = (refl, refl, refl, refl, refl, refl, refl, refl, refl)
 
--- A short number counts as the one that it stands for, where the end takes such; else its packet is dropped, and no Sync answers it.
+-- A short number counts as the one that it means, if the end takes such; else its packet is dropped, and no Sync answers it.
 short_numbers_count :
     (heard_by (holding ShortSeqnos There 1 open_server) (replicate 21 (1000, short_after)) ≡ replicate 20 true ++ false ∷ [])
     × (heard_by (holding ShortSeqnos There 1 open_server) (replicate 21 (1000, short_inside)) ≡ replicate 21 true)
@@ -119,7 +119,7 @@ abbrev flooded : ℕ → TimedState Both → TimedState Both
 flooded zero s = s
 flooded (suc count) s = flooded count (takes 1000 s after_it)
 
--- Of 25 of them at one time 20 are answered, each under a number of its own; all, where that rule is not followed.
+-- Of 25 of them at one time 20 are answered, each under its own number; all, if that rule is not followed.
 few_numbers_are_used :
     ((flooded 25 (opened usual_pace)).end.state.marks.gss ≡ 2021) × ((flooded 25 (opened classic_pace)).end.state.marks.gss ≡ 2026)
 unfolding receives opens closes prefers fires sends_payload sends_early framed until_first

@@ -76,7 +76,7 @@ abbrev answers : InboxState → List Call → List Answer
 answers held [] = []
 answers held (call ∷ rest) = answer held call ∷ answers (after held call) rest
 
--- calls of a new inbox of so many places come to these answers
+-- calls of a new inbox of so many places have these answers
 abbrev Comes : ℕ → List (Call × Answer) → Type 0
 Comes capacity rows = answers (empty_inbox capacity) (map (λ row. row.0) rows) ≡ map (λ row. row.1) rows
 
@@ -208,7 +208,7 @@ the_last_2048_drops :
 unfolding code_table
 the_last_2048_drops = (refl, refl, refl, refl, refl, refl, refl, refl, refl)
 
--- a byte of 16 numbers with a drop, and the 17th has one of its own; and each number its own code
+-- a byte of 16 numbers with a drop, and the 17th has another; and each number its own code
 each_byte :
     (drop_byte (Some 2) 16 ≡ 175)
     × (drop_byte (Some 7) 1 ≡ 240)

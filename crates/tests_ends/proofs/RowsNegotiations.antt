@@ -134,11 +134,11 @@ changing role = (stepped (stepped (stable role) f.MinCsCov Here (Prefers (wanted
 abbrev unstable : Role2 → List Row
 unstable role = (stepped (changing role) f.MinCsCov Here (Prefers (wanted.List (3 ∷ [])))).rows
 
--- what comes to such rows
+-- what reaches such rows
 abbrev meets : List Row → List Word → List Told
 meets rows words = told usual_lists rows words
 
--- Two ends' stories are in two rows, the client's first: what one sends comes to the other.
+-- Two ends' stories are in two rows, the client's first: what one sends reaches the other.
 stories :
     -- The server's order wins, and an offer opens once
     (story (Plain ∷ Offer f.Ccid Here false ∷ Begins Client ∷ Open f.Ccid Here false ∷ Send f.Ccid Here 1000 ∷
@@ -350,7 +350,7 @@ stories = (
   refl,
 )
 
--- What comes to a row in each stand, at the server and at the client.
+-- What reaches a row in each stand, at the server and at the client.
 the_table_of_negotiation :
     -- A Change that is not valid
     (meets (stable Server) (Change Here 8 "" false ∷ Holds f.MinCsCov Here ∷ []) ≡ confirm_l 8 "" ∷ Held 0 Stable ∷ [])

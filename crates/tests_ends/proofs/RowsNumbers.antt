@@ -22,9 +22,9 @@ abbrev told : Option Outgoing → Option (ℕ × Option ℕ)
 told None = None
 told (Some sent) = Some (sent.number, sent.ack)
 
--- Whole numbers, whether the frame is short or long: of the server's second packet, 2^24 and what is after it, and an acknowledged 2^24. A
--- Data and a Request acknowledge nothing. A Reset of no connection has the number after the acknowledged one, and a Sync acknowledges the
--- packet that is not valid. Nothing is told where nothing goes out.
+-- Whole numbers, whether the frame is short or long: of the server's second packet, 2^24 and what is after it, and an acknowledged 2^24. A Data
+-- and a Request acknowledge nothing. A Reset of no connection has the number after the acknowledged one, and a Sync acknowledges the packet that
+-- is not valid. No number is returned if nothing goes out.
 told_numbers :
     (told (acknowledges sending).frame ≡ Some (2002, Some 1001))
     × (told (acknowledges open_server).frame ≡ Some (2002, Some 1001))

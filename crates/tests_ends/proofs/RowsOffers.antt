@@ -27,7 +27,7 @@ usual_response = "13899c400d00a1c303000000000007d000000000000003e80000002a230604
 abbrev pub usual_ack : String
 usual_ack = "9c4013890a00eadd07000000000003e900000000000007d026030023060401010021060601010000"
 
--- the server's Ack after it tells of both packets of the client
+-- the server's Ack after it reports both packets of the client
 abbrev pub usual_vector : String
 usual_vector = "13899c400700fb3807000000000007d100000000000003e926030100"
 
@@ -292,8 +292,8 @@ confirms-in-order :
 unfolding receives opens framed
 confirms-in-order = (refl, refl)
 
--- A Confirm goes out on the packet that the table sends: on the Ack that opens, on the SyncAck, and on an Ack of its own where
--- the table sends none.
+-- A Confirm goes out on the packet that the table sends: on the Ack that opens, on the SyncAck, and on a separate Ack where the table sends
+-- none.
 replies-that-confirm :
     (seen (arrives (responds_as (plain Server)) "9c4013890700004107000000000003e900000000000007d0200401f8")
     ≡ (Took None, sent "13899c400800f94107000000000007d100000000000003e9230601f802f80000", phase.Open))

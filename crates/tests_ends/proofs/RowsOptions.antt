@@ -73,7 +73,7 @@ other-values :
 unfolding receives opens framed
 other-values = (refl, refl, refl, refl, refl, refl, refl, refl, refl)
 
--- Mandatory before a Change that is not valid: the Reset tells the option's type and the first two bytes of its data.
+-- Mandatory before a Change that is not valid: the Reset has the option's type and the first two bytes of its data.
 mandatory-before-invalid :
     (seen (arrives listening "9c4013890800249e01000000000003e80000002a0120090300000000001f0000")
     ≡ (SentReset 6 (32 ∷ 3 ∷ 0 ∷ []), sent "13899c400700111e0f000000000007d000000000000003e806200300", phase.Closed))
@@ -116,7 +116,7 @@ options-without-a-number :
 unfolding receives opens framed
 options-without-a-number = (refl, refl, refl, refl, refl, refl, refl, refl)
 
--- Mandatory before an option of one byte: the Reset tells its type and zeros. Slow Receiver is understood.
+-- Mandatory before an option of one byte: the Reset has its type and zeros. Slow Receiver is understood.
 mandatory-before-one-byte :
     (seen (arrives listening "9c40138906002fe501000000000003e80000002a01030000")
     ≡ (SentReset 6 (3 ∷ 0 ∷ 0 ∷ []), sent "13899c400700143b0f000000000007d000000000000003e806030000", phase.Closed))
@@ -225,7 +225,7 @@ confirm-on-request :
 unfolding receives framed
 confirm-on-request = (refl, refl)
 
--- The Confirm of a non-negotiable feature tells the value that was sent, in as many bytes; any other is a fault.
+-- The Confirm of a non-negotiable feature has the value that was sent, in as many bytes; any other is a fault.
 abbrev narrow_client : EndState
 narrow_client = requests_as (offering (wishing (plain Client) f.SequenceWindow Here (wanted.Number 32)) f.SequenceWindow Here false)
 

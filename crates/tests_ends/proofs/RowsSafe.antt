@@ -1,5 +1,5 @@
--- Worked values of what the claims on two ends are said by: a world of the usual ends, whose Ack Vectors tell what they processed, and the rule of
--- each feature. The frames are those of the usual connection with data.
+-- Worked values of the definitions in the claims on two ends: a world of the usual ends, whose Ack Vectors report what they processed, and the
+-- rule of each feature. The frames are those of the usual connection with data.
 use Rattle.std.proofs.Common.{◌≡◌, refl, ℕ, true, false, List, [], ◌∷◌, map, codes, Some}
 use Prim.Native.String.{String}
 use Rattle.dccp_endpoint.specs.Calling.{opens, sends_payload}
@@ -37,7 +37,7 @@ kept frame = (frame.bytes, frame.processed, frame.floor)
 abbrev frame : String → ℕ → ℕ → List ℕ × ℕ × ℕ
 frame digits processed floor = (bytes (codes digits), processed, floor)
 
--- The last vector tells 1004 received, 1003 not and 1002 received, and ends at the floor, which rose after the acknowledged 1001.
+-- The last vector reports 1004 received, 1003 not and 1002 received, and ends at the floor, which rose after the acknowledged 1001.
 vectors_of_a_world :
     (map kept (half_of told Server).frames
     ≡ frame "13899c400d00a1c303000000000007d000000000000003e80000002a230604010100210606010100012004040101220406010000" 1 1000

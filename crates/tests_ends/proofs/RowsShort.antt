@@ -1,5 +1,5 @@
--- Worked packets with short numbers: where they are taken, which numbers they stand for, and what they do. These ends are given the value 1
--- of Allow Short Sequence Numbers.
+-- Worked packets with short numbers: where they are taken, which numbers they mean, and what they do. These ends are given the value 1 of Allow
+-- Short Sequence Numbers.
 use Rattle.std.proofs.Common.{◌≡◌, refl, ℕ, ◌^◌, [], ◌∷◌, Some, None}
 use Rattle.std.specs.Prelude.{slice_set}
 use Prim.Native.String.{String}

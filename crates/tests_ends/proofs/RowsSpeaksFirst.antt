@@ -15,7 +15,7 @@ use Rattle.tests_ends.proofs.RowsCalls.{Early, Fire, AtFloor, Open, Packet, AtPh
 use Rattle.tests_ends.proofs.RowsSeen.{plain, sent}
 
 a_client_speaks_first :
-    -- Two packets with data before the server spoke: each acknowledges the Response. Its answer opens, and tells of the first
+    -- Two packets with data before the server spoke: each acknowledges the Response. Its answer opens, and reports the first
     (story (usual Client) (Open ∷
     Packet "13899c400d00a1c303000000000007d000000000000003e80000002a230604010100210606010100012004040101220406010000" ∷ Early "aa" ∷
     Early "bb" ∷ AtPhase ∷ AtWindow ∷ Packet "13899c400800fa7107000000000007d100000000000003ea260500c000000000" ∷ AtPhase ∷ AtWindow ∷
@@ -69,7 +69,7 @@ a_client_speaks_first :
     Hears (Took None) (sent "9c4013890a00eadd07000000000003e900000000000007d026030023060401010021060601010000") ∷
     Sends (Ok tt) (sent "9c4013890700503709000000000003ea00000000000007d026030000aa") ∷ Hears (WasReset 2) None ∷ PhaseIs phase.TimeWait ∷
     Sends (Err sending.NotOpen) None ∷ [])
-    -- Four packets fill the window, until the server tells of them
+    -- Four packets fill the window, until the server reports them
     × (story (usual Client) (Open ∷
     Packet "13899c400d00a1c303000000000007d000000000000003e80000002a230604010100210606010100012004040101220406010000" ∷ Early "aa" ∷
     Early "bb" ∷ Early "cc" ∷ Early "dd" ∷ Early "ee" ∷ AtWindow ∷ Packet "13899c400700f73407000000000007d100000000000003ed26030500" ∷

@@ -1,4 +1,4 @@
--- Worked marks and Ack Vectors, computed from the definitions: what is received, what a vector tells of it, and what an end's Acks carry.
+-- Worked marks and Ack Vectors, computed from the definitions: what is received, what a vector reports of it, and what an end's Acks carry.
 use Rattle.std.proofs.Common.{◌≡◌, refl, ℕ, ◌+◌, zero, suc, Bool, true, false, List, [], ◌∷◌, ◌++◌, Some, None}
 use Rattle.ack_vectors.specs.Kept.{ReceivedState, acked, marked_by, newest_whole, recorded}
 use Rattle.ack_vectors.specs.Kept as kept
@@ -61,8 +61,8 @@ floor-rises-by-record :
     × (told (took (acked vector_went_out 50) (15 ∷ [])) 15 ≡ (0 ∷ 192 ∷ [], true))
 floor-rises-by-record = (refl, refl, refl, refl, refl, refl, refl, refl, refl)
 
--- The client's Ack of the handshake has the number 1001 and tells of 2000. The server's Ack acknowledges it: then the client's floor is
--- 2001. A SyncAck that acknowledges it raises no floor.
+-- The client's Ack of the handshake has the number 1001 and reports 2000. The server's Ack acknowledges it: then the client's floor is 2001. A
+-- SyncAck that acknowledges it raises no floor.
 abbrev told_client : EndState
 told_client = (arrives usual_part_open usual_vector).after
 
@@ -81,9 +81,9 @@ floor-of-client :
 unfolding receives opens framed
 floor-of-client = (refl, refl, refl, refl, refl, refl, refl, refl)
 
--- The usual connection with data. The server's Ack recorded 1001, and the client's DataAck 1002 acknowledges it, so the floor is 1002.
--- Data 1003 is late: Data 1004 is the second data packet that is delivered, and by the Ack Ratio of 2 the Ack goes out that tells of 1004,
--- not of 1003, and of 1002. DataAck 1005 acknowledges it, and the floor is 1005. Data 1003 lies below it, is taken, and is not delivered.
+-- The usual connection with data. The server's Ack recorded 1001, and the client's DataAck 1002 acknowledges it, so the floor is 1002. Data 1003
+-- is late: Data 1004 is the second data packet that is delivered, and by the Ack Ratio of 2 the Ack goes out that reports 1004, not of 1003, and
+-- of 1002. DataAck 1005 acknowledges it, and the floor is 1005. Data 1003 lies below it, is taken, and is not delivered.
 abbrev pub heard_1002 : Step Outcome
 heard_1002 = arrives usual_open "9c4013890700503609000000000003ea00000000000007d126030000aa"
 

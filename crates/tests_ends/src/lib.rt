@@ -1,11 +1,9 @@
-//! The tests of what has an end, on their public calls: feature_lists, feature_machine, dccp_endpoint and two_ends, with
-//! worked examples that no schedule or replay of examples/ can say; and what the owner of an end has, data_dropped and
-//! dccp_uses. What a definition tells is a worked row of proofs/, computed from the definitions; run is each public call
-//! that no program makes, once, and what only many calls show. They are in a crate of their own since a crate with
-//! tests is proved twice, with them and without; and in one, except for those of a server (tests_server), since each
-//! crate over an end loads its statements anew.
-//! Their values come from the standard, were worked out by hand or by a second implementation, and never by this
-//! program.
+//! The tests of what has an end, on their public calls: feature_lists, feature_machine, dccp_endpoint and two_ends, with worked examples that no
+//! schedule or replay of examples/ can say; and what the owner of an end has, data_dropped and dccp_uses. What a definition gives is a worked
+//! row of proofs/, computed from the definitions; run is each public call that no program makes, once, and what only many calls show. They are
+//! in a crate of their own since a crate with tests is proved twice, with them and without; and in one, except for those of a server
+//! (tests_server), since each crate over an end loads its statements anew. Their values come from the standard, were worked out by hand or by a
+//! second implementation, and never by this program.
 #![tactic(auto)]
 
 #[cfg(test)]

@@ -37,7 +37,7 @@ fn listener(alloc: Global) -> Option<Listener> {
     ))
 }
 
-// Whether the Request is taken and answered by a Response, and the flow stands.
+// Whether the Request is taken and answered by a Response, and there is a flow.
 fn takes(listener: &mut Listener, first: Seq48, out: &mut Outbox) -> bool {
     let heard = listener.arrive(peer(1), first, &REQUEST, out);
     let stands = match listener.flow(peer(1)) {

@@ -29,7 +29,7 @@ const CHANGES: [u8; 41] = [
     4, 4, 1, 32, 9, 3, 0, 0, 0, 0, 0, 100,
 ];
 
-// The server, which tells up to 506 bytes of its history, and wishes for eight values of Minimum Checksum Coverage.
+// The server, which reports up to 506 bytes of its history, and wishes for eight values of Minimum Checksum Coverage.
 fn config() -> Option<Config> {
     let mut config = Config::usual(Role::Server);
     config.plain();

@@ -1,5 +1,5 @@
-//! Short numbers at an end with an inbox. Their low 24 bits begin anew among the data, and so the data that are dropped
-//! are told under whole numbers, of the frame that brought them and of the frame that tells of them.
+//! Short numbers at an end with an inbox. Their low 24 bits begin anew among the data, and so the data that are dropped are reported under whole
+//! numbers, of the frame that brought them and of the frame that reports them.
 use ccid_two::Kinds;
 use data_dropped::{Arrival, BufferedEnd};
 use dccp_endpoint::{Config, Feature, Outbox, Place, Role};
@@ -41,7 +41,7 @@ const STORY: [(&[u8], Option<Arrival>, &[u8]); 6] = [
         Some(Arrival::Kept),
         &[],
     ),
-    // Data 2^24 + 1: the Ack of that number tells code 2 of it, and that the receiver is slow.
+    // Data 2^24 + 1: the Ack of that number reports code 2 of it, and that the receiver is slow.
     (
         &[0x9c, 0x40, 0x13, 0x89, 3, 0, 0x7a, 3, 4, 0, 0, 1, 0xbb],
         Some(Arrival::Dropped(2)),

@@ -1,5 +1,5 @@
-//! Ack Vectors in one option and in two, of an end that has received every second number from 0 to 504: each is told by a
-//! byte of its own, and so is each that lies between two.
+//! Ack Vectors in one option and in two, of an end that has received every second number from 0 to 504: each is reported by a separate byte, and
+//! so is each that lies between two.
 use ccid_two::Kinds;
 use dccp_endpoint::{Config, Endpoint, Frame, NoMemory, Outbox, Role, Timer, Vectors, seal_frame};
 use dccp_options::kinds::ACK_VECTOR_0;

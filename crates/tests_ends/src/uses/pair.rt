@@ -241,7 +241,7 @@ impl Pair {
             .is_ok()
     }
 
-    /// What the client holds for a feature of its own.
+    /// What the client holds for its own feature.
     pub(crate) fn held(&self, feature: Feature) -> Held {
         self.client.end().held(feature, Place::Here)
     }

@@ -90,7 +90,7 @@ impl Wire {
 }
 
 impl Network for Wire {
-    // What it loses it does not tell.
+    // It does not say what it loses.
     ghost sends = { λ _ _ _. Unit {0} };
 
     fn send(&mut self, frame: &[u8]) {
