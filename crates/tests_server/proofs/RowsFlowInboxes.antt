@@ -90,7 +90,7 @@ what_an_inbox_holds :
     × (flow_most_said two_of_two (at 3) ≡ 0)
 what_an_inbox_holds = (refl, refl, refl, refl, refl)
 
--- Only what is told of data changes by what became of them.
+-- What became of data changes only the events about data.
 what_is_told_of_data :
     (kind_kept (Some Kept) (kinds.Data 16 18) ≡ kinds.Waits)
     × (kind_kept (Some (Dropped 2)) (kinds.Data 16 18) ≡ kinds.Dropped 2)

@@ -198,7 +198,7 @@ fn takes_a_place(alloc: Global) -> Option<bool> {
     makes_way(&mut server(alloc, CookieUse::InACrowd)?, ack.bytes())
 }
 
-// How a datagram of the first peer is met, and what is told first.
+// How a datagram of the first peer is met, and the first event.
 fn told(
     server: &mut EventServer,
     bytes: &[u8],
@@ -214,7 +214,7 @@ fn told(
     }
 }
 
-// A server opens a flow for the Ack, and tells its owner; not where it takes no new flows.
+// A server opens a flow for the Ack, with an event for its owner; but not if it takes no new flows.
 fn tells_of(server: &mut EventServer, ack: &[u8]) -> Option<bool> {
     let mut out = Outbox::new();
     server.set_shut(true);
