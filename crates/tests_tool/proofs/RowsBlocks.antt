@@ -9,7 +9,7 @@ use Rattle.bridge_records.specs.Recording.{capture_refusal, capture_skips}
 use Rattle.bridge_records.specs.Skips.{no_tally}
 use Rattle.tests_tool.proofs.RowsSeen.{bytes, refused_after}
 
--- what `unwrap` writes of an input and what it tells apart, and whether it refuses it
+-- what `unwrap` writes of an input and what it reports besides, and whether it refuses it
 abbrev pub unwrapped : List ℕ → List ℕ × Bool
 unwrapped input = (unwrapped_text input ++ complaint_text (capture_complaint (capture_refusal (unwrapped_pieces input))), is_unwrapped_faulty input)
 

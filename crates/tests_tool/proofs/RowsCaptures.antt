@@ -6,7 +6,7 @@ use Rattle.bridge_command.specs.Complaints.{complaint_text, line_complaint}
 use Rattle.bridge_command.specs.FrameRecords.{ip_packet}
 use Rattle.tests_tool.proofs.RowsSeen.{bytes, refused_after}
 
--- what `capture` writes of an input and what it tells apart, and whether it refuses it
+-- what `capture` writes of an input and what it reports besides, and whether it refuses it
 abbrev pub captured : List ℕ → List ℕ × Bool
 captured input = (frames_capture input ++ complaint_text (line_complaint (transcript_refusal input)), transcript_refused input)
 

@@ -10,6 +10,6 @@ bytes [] = []
 bytes (digit_alone ∷ []) = []
 bytes (high ∷ low ∷ rest) = (16 * digit high + digit low) ∷ bytes rest
 
--- what a refused input comes to: so many bytes of what the whole one does, then this line
+-- what a refused input gives: so many bytes of what the whole one does, then this line
 abbrev pub refused_after : List ℕ → ℕ → String → List ℕ × Bool
 refused_after text written line = (take written text ++ codes line, true)

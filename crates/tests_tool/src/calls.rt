@@ -113,7 +113,7 @@ fn is_told_line(told: &[u8], line: &str) -> bool {
     }
 }
 
-// How what was written stands to a text, and what was told apart to a line.
+// How what was written compares to a text, and what was reported besides to a line.
 fn compared(
     status: Status,
     input: &MemorySource,

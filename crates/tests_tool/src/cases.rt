@@ -1,6 +1,6 @@
-//! Cases in texts, since a row of a text costs no proof. A case is `~ ` with its words, parted by commas; from the next
-//! line on its input; after `=> ` the status, and after a blank the line that it tells apart, if there is one; and from the
-//! next line on all that it writes. Captures are in hexadecimal.
+//! Cases in texts, since a row of a text costs no proof. A case is `~ ` with its words, parted by commas; from the next line on its input; after
+//! `=> ` the status, and after a blank the line that it reports besides, if there is one; and from the next line on all that it writes. Captures
+//! are in hexadecimal.
 use crate::calls::{Ended, Streams, Tool, end_of};
 use crate::failures::fails_in_turn;
 use dccp_command::Status;
@@ -49,7 +49,7 @@ fn status_of(name: &str) -> Option<Status> {
     }
 }
 
-// How a case ends: its status, and the line that it tells apart, or an empty one.
+// How a case ends: its status, and the line that it reports besides, or an empty one.
 fn end_in(answer: &str) -> Option<(Status, &str)> {
     match answer.split_once(" ") {
         Some((status, line)) => Some((status_of(status)?, line)),

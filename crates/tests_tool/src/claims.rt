@@ -64,7 +64,7 @@ fn claims_in_turn(rt: HostRuntime) -> Result<(), Fail> {
     Ok(())
 }
 
-// Whether each of two threads has a number of its own, and the word once they are joined.
+// Whether each of two threads has its own number, and the word once they are joined.
 fn claimed_by_two<R: Threads + Sync>(rt: &R, alloc: Global) -> Result<(bool, u64), Fail> {
     let (claims, mut claimer) = make_claims(alloc, 2)?;
     let other = claimer.split(&claims)?;

@@ -1,7 +1,7 @@
 //! Streams that fail at each of their calls in turn, in all forms of both tools.
 //!
-//! The streams tell whether one of their calls failed. Exactly where one did, a tool ends with the status of a failed
-//! read or write and has written a front of its text; else it ends as ever.
+//! The streams say whether one of their calls failed. Exactly if one did, a tool ends with the status of a failed read or write and has written
+//! a front of its text; else it ends as ever.
 use crate::bridge::CALLS;
 use crate::calls::{Ended, Streams, Tool};
 use crate::cases::{Case, Way, cases_come, end_over};

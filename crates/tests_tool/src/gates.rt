@@ -1,4 +1,4 @@
-//! A gate that tells whether workers run beside each other.
+//! A gate that shows whether workers run beside each other.
 use campaign_claims::Claimer;
 use fault_campaign::Gate;
 use std::hint::spin_loop;

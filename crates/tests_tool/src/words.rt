@@ -1,4 +1,4 @@
-//! The words of each form: what they come to, and what comes close to them.
+//! The words of each form: their results, and words that come close to them.
 use crate::calls::{Streams, lines_come};
 use dccp_command::Status;
 use std::test::Fail;
@@ -136,7 +136,7 @@ const PLAIN_CLIENT: &str = "open: ok\n\
 sent c0 9c401389050031ec01000000000003e80000002a\n\
 end client REQUEST window 4 flight 0 1=2/2 2=0/0 3=100/100 4=0/0 5=2/2 6=0/0 7=0/0 8=0/0 9=0/0\n";
 
-// Lists of words of replays, by what they come to: without a buffer all.
+// Lists of words of replays, by their results: without a buffer all.
 const OF_A_SERVER: &str = "\
     replay,--side,server\n\
     replay,--side=server\n\
@@ -193,7 +193,7 @@ const NO_REPLAY: &str = "\
     replay,--side,server,--buffer,1,--buffer,1\n\
     replay,--buffer=1,--plain,--side,server,--buffer=2\n";
 
-// Streams, lines of words, the input, and what each line comes to over it.
+// Streams, lines of words, the input, and the result of each line over it.
 type Row = (
     &'static str,
     Streams,
