@@ -31,7 +31,7 @@ pub has-settings : (t : Table) (bare made : App) (settings : List Setting) → b
 unfolding command_of
 has-settings t bare made settings is same settled = settled ∙ ap (λ (a : App). with_settings a settings) is ∙ ap (with_settings bare_command) same
 
--- what a call of a command tells of words
+-- what a call of a command says of words
 
 abbrev Told : App → List (String Global) → Result ArgMatches Error → Type 0
 Told app words r = is_simple_and_free app ≡ true → FailsBy (fault_of app (map string_bytes words)) r

@@ -1,4 +1,4 @@
--- What the commands of `seed`, `seeds` and `frames` come to after the last word.
+-- The results of the commands of `seed`, `seeds` and `frames` after the last word.
 use Rattle.std.proofs.Common.{◌≡◌, ◌∙◌, ◌&&◌, refl, sym, ap, ap₂, ℕ, Bool, true, false, List, [], Option, Some, None, option_and_then, codes}
 use Rattle.std.specs.Prelude.{if◌then◌else◌}
 use Rattle.clap.specs.Walk.{Row, Text, finished, has_row}

@@ -1,4 +1,4 @@
--- What a form's command comes to after the last word.
+-- The result of a form's command after the last word.
 use Rattle.std.proofs.Common.{◌≡◌, ◌∙◌, ◌&&◌, refl, sym, ap, ap₂, subst, ℕ, Bool, true, false, List, [], ◌∷◌, ◌++◌, map, Option, Some, None, is_some, option_and_then, codes}
 use Rattle.std.specs.Prelude.{if◌then◌else◌}
 use Rattle.clap.specs.Kinds.{Kinds, or_else}
@@ -440,7 +440,7 @@ module _ {X : Type 0} (judge : List Row → Option X) where
       by true given = rw given refl
       by false given = rw given refl
 
--- what the texts of a replay's settings come to
+-- the result of the texts of a replay's settings
 abbrev replay_at : Pairs → Option Form
 replay_at pairs = replay_from (text_at Side pairs) (has Plain pairs) (text_at Buffer pairs)
 
@@ -501,7 +501,7 @@ all-good setting text all (pair ∷ pairs) is stands bad =
     go (Some v) some (Some rest) more false other further =
         let following : text_at setting pairs ≡ Some text = rw other at stands in further rest more following
 
--- what three texts come to, of which that of the buffer is a value, if it is there
+-- the result of three texts, of which that of the buffer is a value, if it is there
 replay-joined : (side plain buffer : Option Text) → ((text : Text) → buffer ≡ Some text → number_for Buffer text ≡ None → ⊥)
     → replay_from side (is_some plain) buffer
     ≡ replays (Some (option_and_then (value_of Plain) plain)) (side_given (Some (option_and_then (value_of Side) side)))

@@ -224,7 +224,7 @@ module _ {X : Type 0} (judge : List Row → Option X) (s : Shape) (again : s.arg
   abbrev pub found_with : Pairs → List Text → Option X
   found_with pairs words = verdict judge s (rests (rows pairs) None) words
 
-  -- what one more setting comes to
+  -- the result of one more setting
   pub given-once : (setting : Setting) (text : Text) (pairs : Pairs) (words : List Text) → FitsRow setting text
       → passed (use_fault s.args_override_self (argument setting) (values_for setting text) (rows pairs))
       (verdict judge s (rests (used (argument setting) (values_for setting text) (rows pairs)) None) words)

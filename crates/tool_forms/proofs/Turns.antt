@@ -34,7 +34,7 @@ passed [] found = found
 passed (k ∷ ks) found = None
 
 module _ {X : Type 0} (judge : List Row → Option X) where
-  -- what the words come to, from here on
+  -- the result of the words, from here on
   abbrev pub verdict : Shape → Walk → List Text → Option X
   verdict s w words = passed (run_fault s w words) (judge (finished s.rules (fold (walked s.rules []) w words).held))
 

@@ -1,4 +1,4 @@
--- What one or two words come to, where nothing is held before them.
+-- The result of one or two words, if nothing is held before them.
 --
 -- `clap` counts an option only at the next one or at the end; here that count is moved in front of the next word.
 use Rattle.std.proofs.Common.{◌≡◌, ◌⊎◌, ◌∙◌, refl, sym, ap, ap₂, ℕ, Bool, true, false, List, [], ◌∷◌, Option, Some, None, inl, inr}
