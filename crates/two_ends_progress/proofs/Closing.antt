@@ -1,4 +1,4 @@
--- The tree of closing: by timers and deliveries both ends come to CLOSED or TIMEWAIT.
+-- The tree of closing: by timers and deliveries both ends get to CLOSED or TIMEWAIT.
 use Rattle.std.proofs.Common.{◌≡◌, ◌⊎◌, inl, inr, refl, ap, sym, ◌∙◌, subst, ℕ, ◌+◌, ◌^◌, ◌<◌, true, false, List, [], ◌∷◌, Option, Some, arith}
 use Rattle.congestion_trait.specs.Control.{Control}
 use Rattle.dccp_packets.specs.Grammar.{packet_type}

@@ -1,4 +1,4 @@
--- The frame of a draft comes in either form of its numbers, where the end takes short ones and can tell them.
+-- The frame of a draft comes in either form of its numbers, if the end takes short ones and can read them in full.
 use Rattle.std.proofs.Common.{map, Ok, ◌≡◌, refl, ap, sym, ◌∙◌, ◌==◌, ◌&&◌, ◌||◌, not, ℕ, ◌-◌, ◌%◌, ◌^◌, ◌<◌, Bool, true, false, List, length, Option, arith}
 use Rattle.std.specs.Result.{result_ok}
 use Rattle.dccp_packets.specs.Forms.{may_be_short, number_in_form}

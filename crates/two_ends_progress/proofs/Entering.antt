@@ -1,4 +1,4 @@
--- What a packet with any options comes to in an opening, and the packets of an opening.
+-- The result of a packet with any options in an opening, and the packets of an opening.
 use Rattle.std.proofs.Common.{◌≡◌, ◌⊎◌, inl, inr, refl, ap, sym, ◌∙◌, subst, ◌&&◌, not, ℕ, ◌+◌, List, [], Bool, true, false, Some, Result, Ok, Err}
 use Rattle.std.proofs.Math.Bool.{and-false}
 use Rattle.congestion_trait.specs.Calls.{Call}

@@ -1,4 +1,4 @@
--- What an end that asks sends, and what the options of an Ack come to in OPEN.
+-- What an end that asks sends, and the result of the options of an Ack in OPEN.
 use Rattle.std.proofs.Common.{◌≡◌, ◌⊎◌, inl, inr, refl, ap, sym, ◌∙◌, subst, ◌&&◌, ◌||◌, not, ℕ, List, [], ◌∷◌, ◌++◌, append-nil, Bool, true, false, if◌then◌else◌, Some, Ok, Err, length, ◌≤◌}
 use Rattle.std.proofs.Math.Bool.{and-false}
 use Rattle.congestion_trait.specs.Calls.{Call}

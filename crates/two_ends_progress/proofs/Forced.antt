@@ -1,4 +1,4 @@
--- What the steps come to, where it is known what came: the equations below the causes of an outcome.
+-- The results of the steps, if it is known what came: the equations below the causes of an outcome.
 use Rattle.std.proofs.Common.{◌≡◌, ◌≢◌, refl, ℕ, List, [], ◌∷◌, true, false}
 use Rattle.dccp_packets.specs.declared.header.PacketType.{PacketType}
 use Rattle.dccp_packets.specs.declared.header.PacketType.TheVariants as types

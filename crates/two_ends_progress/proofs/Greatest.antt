@@ -378,7 +378,7 @@ module _ {C : Type 0} (control : Control C) (start : Controlled C) (effects : Ev
         answered = was.answered;
       }
 
-  -- What an event comes to: nothing, or a step of a side, after which its greatest number is known if it was before.
+  -- The result of an event: nothing, or a step of a side, after which its greatest number is known if it was before.
   data Leaves (e : Event) (r : Result WorldStep WorldFault) : Type 0 where
     Unmoved : world_after w r ≡ w → Leaves e r
     Moves : (side : Side) (half : Half) → world_after w r ≡ with_half w side half

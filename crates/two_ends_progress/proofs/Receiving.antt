@@ -1,4 +1,4 @@
--- What a packet without options comes to, by its row of the tables; and what the calls and timers of closing come to.
+-- The result of a packet without options, by its row of the tables; and the results of the calls and timers of closing.
 use Rattle.std.proofs.Common.{◌≡◌, ◌≢◌, ◌⊎◌, inl, inr, refl, ap, sym, ◌∙◌, subst, ◌&&◌, not, ℕ, ◌+◌, List, [], Bool, true, false, if◌then◌else◌, Option, Some, Result, Ok}
 use Rattle.congestion_trait.specs.Calls.{Call}
 use Rattle.dccp_packets.specs.Forms.{may_be_short}
@@ -215,7 +215,7 @@ module _ (e : EndState) (bytes : List ℕ) (a : Incoming) (came : Came e (Arrive
         → ((receives e bytes).after.marks.gss ≡ e.marks.gss) ⊎ ((receives e bytes).after.marks.gss ≡ next_number e)
     nothing-sent is = (quiet is).gss_is
 
--- What the call `close` comes to in OPEN.
+-- The result of the call `close` in OPEN.
 pub close-called : (e : EndState) (who : Role) → e.config.role ≡ who → e.phase ≡ phases.Open
     → may_be_short (packet_type (closing_packet who e.marks.gsr)) ≡ false
     → Says e (closes e) (closing_phase who) e.marks.gsr e.marks.gar (closing_packet who e.marks.gsr)

@@ -1,4 +1,4 @@
--- What a world in which negotiations have come to an end is, in plain words.
+-- What a world is in which all negotiations have ended, in plain words.
 use Rattle.std.proofs.Common.{◌≡◌, ◌⊎◌, inl, inr}
 use Rattle.dccp_states.specs.declared.phase.Phase.{Phase}
 use Rattle.dccp_states.specs.declared.phase.Phase.TheVariants as phases
@@ -9,7 +9,7 @@ use Rattle.two_ends_progress.specs.Leading.{AreOpen}
 use Rattle.two_ends_progress.specs.Opening.{HasEnded}
 use Rattle.two_ends_progress.specs.Settled.{HaveAgreed}
 
--- What has come to the goal: an end is over, or both are OPEN.
+-- What has reached the goal: an end is over, or both are OPEN.
 pub ends-or-opens : (w : WorldState) → HasEnded w ⊎ HaveAgreed w
     → ((side : Side) × (((half_of w side).end.phase ≡ phases.Closed) ⊎ ((half_of w side).end.phase ≡ phases.TimeWait)))
     ⊎ ((side : Side) → (half_of w side).end.phase ≡ phases.Open)

@@ -25,7 +25,7 @@ use Rattle.feature_lists.specs.declared.features.Place.TheVariants.{Here}
 use Rattle.run_list.specs.MarkedSet.{MarkedSet, has}
 use Rattle.ack_vectors.specs.declared.room.Vectors.{Vectors}
 
--- An Ack Vector of whatever length is understood, and says nothing to the rows.
+-- An Ack Vector of any length is understood, and says nothing to the rows.
 vector-understood : (size : ℕ) → is_understood options.ack_vector_0 size ≡ true
 vector-understood size = grind arith
 
