@@ -240,7 +240,7 @@ module _ (a : Incoming) (options : Listed) (place : ℕ × ℕ) where
         same_outcome = ap (λ (s : Step Outcome). without_place s.answer) is;
       }
 
-  -- what the table sends, whatever the outcome tells of data
+  -- what the table sends, whatever the outcome says about data
   acks-same : (e : EndState) (confirms : List DueConfirm) (one two : Outcome) → without_place one ≡ without_place two → (needs : Bool)
       → IsSameStep (if needs then acknowledges e confirms one else idle e one) (if needs then acknowledges e confirms two else idle e two)
   acks-same e confirms one two same true = record { same_end = refl; same_frame = refl; same_calls = refl; same_outcome = same }

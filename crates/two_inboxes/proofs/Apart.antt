@@ -1,4 +1,4 @@
--- What the frames of ends with inboxes tell of the data that came.
+-- What the frames of ends with inboxes report of the data that came.
 use Rattle.std.proofs.Common.{◌≡◌, ◌⊎◌, refl, sym, ap, ◌∙◌, subst, ℕ, zero, suc, ◌-◌, ◌==◌, ◌^◌, ◌<◌, nat_lt, Bool, true, false, if◌then◌else◌, List, [], ◌∷◌, ◌++◌, length, map, drop, take, slice_range, Option, Some, None, Result, Ok, Err, inl, inr, arith, append-nil}
 use Rattle.std.specs.List.{Contains}
 use Rattle.std.proofs.lemmas.Bool.{cases_eq, ne_eqb}
@@ -112,7 +112,7 @@ module _ (capacity : ℕ) (stopped : Bool) (h : History) (accounted : IsAccounte
             (Contains-append_right (drop_numbers (take k h.dropped)) (drop_numbers (drop k h.dropped)) n last))
       ]
 
--- The frame went out with these bytes, and the codes that it tells are of data that were dropped before.
+-- The frame went out with these bytes, and the codes that it reports are of data that were dropped before.
 pub record IsTold (pseudo : Pseudo) (dropped : List DropEntry) (frame : SentFrame) (bytes : List ℕ) : Type 0 where
   pub held : InboxState
   pub tells : TellsItsDrops pseudo held (outgoing_of frame) (record (outgoing_of frame) { bytes = bytes })
