@@ -41,9 +41,9 @@ pub at_passed : (all : List ℕ) (start end numbers state : ℕ) (runs left : Li
     → IsAt all start end state runs → IsAt all (end + numbers) (end + numbers) state left
 at_passed all start end numbers state runs left (passed, is, counts) at = record {
   inside = λ place from to. absurd (omega arith);
-  behind = λ place from.
+  following = λ place from.
       let same : place - end - numbers ≡ place - (end + numbers) = omega arith in
-      at.behind place (omega arith)
+      at.following place (omega arith)
       ∙ ap (λ rs. run_state rs (place - end)) is
       ∙ state_past passed left (place - end) (omega (arith, counts))
       ∙ ap (λ k. run_state left (place - end - k)) (sym counts)
