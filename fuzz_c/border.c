@@ -21,6 +21,7 @@ static struct state {
     dccp_end ends[2];
     dccp_listener listener;
     dccp_frame frame, last[3]; /* the last frame of each */
+    dccp_last_sync last_sync;  /* of the server's end */
     uint64_t now;
 } s;
 
@@ -164,6 +165,8 @@ static void call_end(int call, int who, struct input *in) {
             status = dccp_receive(end, bytes, length, s.now, &s.frame, &told);
             judge(1, who, status, &before);
             judge_told(who, status, &told, length);
+            if (who == SERVER && status == DCCP_OK && dccp_begins_anew(&s.last_sync, bytes, length, &told, &s.frame))
+                require(told.kind == DCCP_TOLD_SYNCED || told.cause == DCCP_CAUSE_LIMIT, "a client that begins anew with a packet that is valid");
             return;
         case 2: judge(2, who, dccp_send(end, bytes, draw(in, 2) % 1026, s.now, &s.frame), &before); return;
         case 3: judge(3, who, dccp_close(end, s.now, &s.frame), &before); return;

@@ -48,7 +48,7 @@ extern "C" {
 #endif
 
 #define DCCP_VERSION 100 /* 10,000 times the major number, 100 times the minor one, and the patch: 0.1.0; see dccp_version */
-#define DCCP_ABI 4       /* rises with every change of a function, a struct or a number here; see dccp_abi */
+#define DCCP_ABI 5       /* rises with every change of a function, a struct or a number here; see dccp_abi */
 
 #define DCCP_MOST_FRAME_BYTES 2044 /* the longest frame, and the longest datagram that is taken */
 #define DCCP_MOST_DATA_BYTES 1024  /* the most data of one packet of this library */
@@ -219,6 +219,12 @@ typedef struct dccp_cookie_keys {
     dccp_key before;
     uint64_t since; /* in the milliseconds of each call */
 } dccp_cookie_keys;
+
+/* The last Sync of a server's end, as its owner keeps it for dccp_begins_anew: all zeros at first. */
+typedef struct dccp_last_sync {
+    uint64_t number;
+    bool is_there;
+} dccp_last_sync;
 
 /* How many answers go to peers without a flow, if there is no limit. */
 #define DCCP_UNLIMITED UINT16_MAX
@@ -543,6 +549,12 @@ size_t dccp_longest_data(dccp_end *end, size_t most);
  *     DCCP_NO_FEATURE  `state` is unchanged
  *     DCCP_NOT_MADE    `state` is unchanged */
 dccp_status dccp_feature(dccp_end *end, uint32_t feature, bool at_peer, dccp_feature_state *state);
+
+/* For a server with an end for each peer: whether the peer has begun anew from its port, with another first number. The old end answers its Request
+ * with a Sync, and the peer refuses this by a Reset (RFC 4340, section 8.5, step 4), which causes a further Sync, and so on without end. Ask after each
+ * dccp_receive of a server's end that returned DCCP_OK, with the datagram and with what that call has left. If it is true, free the end and send
+ * nothing: the peer's next Request opens another. A stranger cannot cause this, since only who sees the packets knows the number of the Sync (own). */
+bool dccp_begins_anew(dccp_last_sync *last, const uint8_t *datagram, size_t length, const dccp_told *told, const dccp_frame *frame);
 
 /* For a server with an end for each peer: answers a Request by a Response with an Init Cookie (RFC 4340, section 8.1.4), and keeps no end; it makes
  * one during the call. The settings and wishes are those of dccp_accept.

@@ -252,17 +252,19 @@ class end {
     end(const dccp_settings &settings, const std::vector<dccp_wish> &wishes = {}) {
         check(dccp_make(&it_, &settings, some(wishes), wishes.size()));
     }
-    end(end &&other) noexcept : it_(std::exchange(other.it_, DCCP_NONE)) {}
+    end(end &&other) noexcept : it_(std::exchange(other.it_, DCCP_NONE)), last_(other.last_) {}
     end &operator=(end &&other) noexcept {
         if (this != &other) {
             dccp_free(&it_);
             it_ = std::exchange(other.it_, DCCP_NONE);
+            last_ = other.last_;
         }
         return *this;
     }
     ~end() { dccp_free(&it_); }
 
     dccp_status accept(const dccp_settings &settings, const std::vector<dccp_wish> &wishes, bytes datagram, uint64_t now, dccp_told &told) {
+        last_ = {};
         return dccp_accept(&it_, &settings, some(wishes), wishes.size(), datagram.data(), datagram.size(), now, &frame_, &told);
     }
     dccp_status open(uint64_t now) { return dccp_open(&it_, now, &frame_); }
@@ -272,6 +274,11 @@ class end {
     dccp_status tick(uint64_t now) { return dccp_tick(&it_, now, &frame_); }
     dccp_status receive(bytes datagram, uint64_t now, dccp_told &told) {
         return dccp_receive(&it_, datagram.data(), datagram.size(), now, &frame_, &told);
+    }
+    // After a receive of a server's end that returned DCCP_OK: whether the peer has begun anew. Then this end is over, and the peer's next
+    // Request opens another.
+    bool begins_anew(bytes datagram, const dccp_told &told) {
+        return dccp_begins_anew(&last_, datagram.data(), datagram.size(), &told, &frame_);
     }
     dccp_status prefer(dccp_feature_kind feature, const std::vector<uint64_t> &values, bool at_peer, uint64_t now) {
         static constexpr uint64_t none = 0;
@@ -324,6 +331,7 @@ class end {
     }
 
     dccp_end it_ = DCCP_NONE;
+    dccp_last_sync last_{};
     dccp_frame frame_{};
 };
 

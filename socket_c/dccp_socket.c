@@ -28,7 +28,7 @@ enum { ANSWERS = 20, STRANGERS = 100, LINGER = 2000, STAY = 1000, TICK = 5, PLAC
 enum { MOST_WISHES = 16, MOST_SERVICES = 16, MOST_IN_FLIGHT = 1024 };
 
 /* Reset Codes (RFC 4340, section 5.6). */
-enum { NO_CONNECTION = 3, PACKET_ERROR = 4, TOO_BUSY = 9 };
+enum { NO_CONNECTION = 3, TOO_BUSY = 9 };
 
 /* How many datagrams one system call takes. */
 #if defined(__linux__)
@@ -67,8 +67,7 @@ struct dccp_connection {
     uint64_t unsettled[MOST_IN_FLIGHT]; /* a ring of the numbers of packets of data that are in flight, the oldest at `oldest` */
     uint32_t oldest, unsettled_count;
     uint64_t last_sent; /* the number of the last of them */
-    uint64_t last_sync; /* the number of a server's last Sync, except to a Reset that refused one */
-    bool has_synced;
+    dccp_last_sync last_sync; /* of a server's end */
     bool was_closing; /* before the present datagram */
     bool has_ended, is_opened, wants_room;
     bool is_half_open; /* it has answered a Request and heard nothing since */
@@ -419,29 +418,6 @@ static void note(dccp_connection *it, const dccp_told *told, size_t length) {
     it->statistics.unread_dropped += told->kind == DCCP_TOLD_NOT_KEPT;
 }
 
-/* Whether the present datagram is a Reset with code 4, by which a client in REQUEST answers what is no Response (RFC 4340, section 8.5, step 4),
- * and the number that it acknowledges (section 5.6). */
-static bool is_refusal(const dccp_socket *udp, size_t length, uint64_t *number) {
-    *number = 0;
-    if (length < 28 || ((udp->room[8] >> 1) & 15) != 7 || udp->room[24] != PACKET_ERROR) return false;
-    for (size_t at = 18; at < 24; at++) *number = *number << 8 | udp->room[at];
-    return true;
-}
-
-/* Whether the client begins anew: its Request was answered with a Sync, and it refuses this last Sync, whose number only its receiver knows. The
- * Reset's numbers are not valid here, so it was answered with another Sync, or left out since too many were. Else notes a Sync's number, except one
- * that answers such a Reset: so two exchanges at a time do not hide each other's numbers (own). */
-static bool begins_anew(dccp_connection *it, const dccp_told *told, const dccp_frame *frame, size_t length) {
-    uint64_t number;
-    bool is_left_out = told->kind == DCCP_TOLD_DROPPED && told->cause == DCCP_CAUSE_LIMIT;
-    if (!it->udp->is_server || (told->kind != DCCP_TOLD_SYNCED && !is_left_out)) return false;
-    if (is_refusal(it->udp, length, &number)) return it->has_synced && number == it->last_sync;
-    if (is_left_out) return false;
-    it->has_synced = true;
-    it->last_sync = frame->number;
-    return false;
-}
-
 /* The event of data that a datagram brought, if it did. */
 static bool is_data_event(const dccp_told *told, dccp_event_kind *kind) {
     switch (told->kind) {
@@ -459,7 +435,7 @@ static int hear(dccp_connection *it, size_t length, dccp_socket_event *event) {
     dccp_told told;
     if (dccp_receive(&it->end, udp->room, length, now(), &frame, &told) != DCCP_OK) return 0;
     note(it, &told, length);
-    if (begins_anew(it, &told, &frame, length)) {
+    if (udp->is_server && dccp_begins_anew(&it->last_sync, udp->room, length, &told, &frame)) {
         (void)dccp_abort(&it->end, now(), &frame); /* Its Reset would tell the client nothing. */
         leave_half_open(it);
         finish(it, DCCP_END_ANEW, 0);

@@ -755,6 +755,58 @@ static void cookies_of_ends(void) {
     same("blocks after free", 0, held);
 }
 
+/* The end hears a frame at some time and leaves its answer there. Whether its client begins anew. */
+static bool begins(dccp_end *end, dccp_last_sync *last, dccp_frame *frame, dccp_told *told, uint64_t now) {
+    dccp_frame answer;
+    same("a frame that arrives", DCCP_OK, dccp_receive(end, frame->bytes, frame->length, now, &answer, told));
+    bool is_anew = dccp_begins_anew(last, frame->bytes, frame->length, told, &answer);
+    *frame = answer;
+    return is_anew;
+}
+
+/* A Request of another client with the names of the first, at a server's end, which answers with a Sync. A client that lives drops this, since it
+ * never sent that number. One that was killed and asks with that Request answers by a Reset with the code 4 (RFC 4340, sections 7.5.4 and 8.5, step
+ * 4). The server's owner ends the old end then, and the next Request opens another: four packets and two seconds. */
+static void a_client_that_begins_anew(void) {
+    dccp_settings own = server(), again = client;
+    dccp_end one = DCCP_NONE, other = DCCP_NONE, third = DCCP_NONE;
+    dccp_last_sync last = {0}, none = {0};
+    dccp_frame frame, changed;
+    dccp_told told;
+    again.first_number = 500000;
+    same("a client", DCCP_OK, dccp_make(&one, &client, NULL, 0));
+    same("its open", DCCP_OK, dccp_open(&one, 0, &frame));
+    same("its Request", DCCP_OK, dccp_accept(&other, &own, NULL, 0, frame.bytes, frame.length, 0, &changed, &told));
+    exchange(&one, &other, &changed);
+    same("another client", DCCP_OK, dccp_make(&third, &again, NULL, 0));
+    same("its open", DCCP_OK, dccp_open(&third, 0, &frame));
+    same("a forged Request", false, begins(&other, &last, &frame, &told, 0));
+    same("its answer", DCCP_TOLD_SYNCED, told.kind);
+    same("the Sync", DCCP_OK, dccp_receive(&one, frame.bytes, frame.length, 0, &changed, &told));
+    same("a Sync of a number that was never sent", DCCP_CAUSE_BAD_SYNC, told.cause);
+    same("its answer", 0, changed.length);
+    dccp_free(&one);
+    same("the next Request", DCCP_OK, dccp_tick(&third, 1000, &frame));
+    same("it is answered with a Sync", false, begins(&other, &last, &frame, &told, 1000));
+    same("the Sync of the old end", DCCP_OK, dccp_receive(&third, frame.bytes, frame.length, 1000, &frame, &told));
+    changed = frame;
+    changed.bytes[23] ^= 1;
+    same("a Reset of another Sync", false, begins(&other, &last, &changed, &told, 1000));
+    same("its checksum", DCCP_CAUSE_CHECKSUM, told.cause);
+    changed = frame;
+    same("a Reset", true, begins(&other, &last, &frame, &told, 1000));
+    same("it is not valid", DCCP_TOLD_SYNCED, told.kind);
+    same("where no Sync was sent", false, dccp_begins_anew(&none, changed.bytes, changed.length, &told, &frame));
+    same("nor is there one then", false, none.is_there);
+    dccp_free(&other);
+    same("the Request after it", DCCP_OK, dccp_tick(&third, 3000, &frame));
+    same("it opens another", DCCP_OK, dccp_accept(&other, &own, NULL, 0, frame.bytes, frame.length, 3000, &changed, &told));
+    exchange(&third, &other, &changed);
+    same("a server that is open", DCCP_PHASE_OPEN, look(&other).phase);
+    dccp_free(&other);
+    dccp_free(&third);
+}
+
 static void names_of_peers(void) {
     dccp_settings listener = server(), path = server();
     dccp_peer name = {.port = 0};
@@ -1129,6 +1181,7 @@ int main(void) {
     before_a_flow();
     cookies();
     cookies_of_ends();
+    a_client_that_begins_anew();
     names_of_peers();
     a_keyed_number();
     a_flow();

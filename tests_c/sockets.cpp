@@ -507,6 +507,8 @@ static void ends() {
     same("what was moved", false, static_cast<bool>(client));
     same("a Response", DCCP_OK, moved.receive(server.frame(), 0, told));
     same("its phase", DCCP_PHASE_PARTOPEN, moved.look().phase);
+    same("an Ack", DCCP_OK, server.receive(moved.frame(), 0, told));
+    same("a client that lives", false, server.begins_anew(moved.frame(), told));
     same("a timer", true, moved.until_first(0).has_value());
     same("its abort", DCCP_OK, moved.abort(0));
 }

@@ -5,7 +5,7 @@ use std::fs;
 use std::path::Path;
 
 /// The ABI number for which this crate is written: that of `include/dccp.h`.
-const ABI: &str = "4";
+const ABI: &str = "5";
 
 /// The ABI number of the library in a folder, by its header.
 fn abi_of(prefix: &Path) -> Option<String> {

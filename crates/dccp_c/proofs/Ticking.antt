@@ -12,7 +12,7 @@ use Rattle.dccp_states.specs.declared.calls.Timer.{Timer}
 use Rattle.dccp_states.specs.declared.calls.Timer.TheVariants as timers
 use Rattle.dccp_c.specs.Doing.{c_tells, c_ticks}
 use Rattle.dccp_c.specs.Stepping.{CEnd}
-use Rattle.dccp_c.specs.Ticking.{TicksAreATick, as_session, seven_ticks, ticked}
+use Rattle.dccp_c.specs.Ticking.{TicksAreATick, seven_ticks, ticked}
 
 -- these timers, and then the rules
 abbrev dues : List Timer → List Due
@@ -57,15 +57,15 @@ module _ (now : ℕ) where
   end-ticked (suc n) s = end-ticked n (ticks-once s)
 
   -- beside an inbox they do the same
-  told-beside : (s : CEnd) (it : Option Due) → (c_tells now s it).after ≡ record { timed = tells-end s.timed it; inbox = s.inbox; cookie = s.cookie }
+  told-beside : (s : CEnd) (it : Option Due) → (c_tells now s it).after ≡ record s { timed = tells-end s.timed it }
   told-beside s None = refl
   told-beside s (Some it) = refl
 
-  ticked-beside : (n : ℕ) (s : CEnd) → ticked now n s ≡ record { timed = end-ticked n s.timed; inbox = s.inbox; cookie = s.cookie }
+  ticked-beside : (n : ℕ) (s : CEnd) → ticked now n s ≡ record s { timed = end-ticked n s.timed }
   ticked-beside zero s = refl
   ticked-beside (suc n) s =
       ap (ticked now n) (told-beside s (first_due_of s.timed now every_due))
-      ∙ ticked-beside n (record { timed = ticks-once s.timed; inbox = s.inbox; cookie = s.cookie })
+      ∙ ticked-beside n (record s { timed = ticks-once s.timed })
 
   -- one that is not due is passed over, and one that is is the first
   passes : (s : TimedState Both) (it : Due) (rest : List Due) → Quiet it s → first_due_of s now (it ∷ rest) ≡ first_due_of s now rest
@@ -147,10 +147,10 @@ module _ (now : ℕ) where
   none-first (it ∷ rest) s none = passes s it rest (none it) ∙ none-first rest s none
 
   -- and then nothing is due
-  none-left : (s x : CEnd) → as_session x ≡ (rings_each_due kinds_control now (as_session s) every_due).holding → (c_ticks now x).answer ≡ false
+  none-left : (s x : CEnd) → x ≡ (rings_each_due kinds_control now s every_due).holding → (c_ticks now x).answer ≡ false
   none-left s x same =
       let none : NoneIsDue now x.timed =
-      subst (λ (h : HoldingState Both). NoneIsDue now h.timed) (sym same) (nothing_due kinds_control now (as_session s)) in
+      subst (λ (h : HoldingState Both). NoneIsDue now h.timed) (sym same) (nothing_due kinds_control now s) in
       ap (λ (it : Option Due). (c_tells now x it).answer) (none-first every_due x.timed none)
 
 abbrev six : List Timer
@@ -158,9 +158,9 @@ six = timers.Request ∷ timers.Ack ∷ timers.Negotiate ∷ timers.Rto ∷ time
 
 pub told_one_by_one : TicksAreATick
 told_one_by_one now s =
-    let all = ticked-beside now (ticks-for six zero) s in
-    let same : as_session (seven_ticks now s) ≡ (rings_each_due kinds_control now (as_session s) every_due).holding =
-    ap as_session all ∙ ap (λ (x : TimedState Both). record { timed = x; inbox = s.inbox }) (all-told now zero [] six s.timed refl tt)
-    ∙ sym (rung_beside kinds_control now (as_session s) every_due)
+    let same : seven_ticks now s ≡ (rings_each_due kinds_control now s every_due).holding =
+    ticked-beside now (ticks-for six zero) s
+    ∙ ap (λ (x : TimedState Both). record s { timed = x }) (all-told now zero [] six s.timed refl tt)
+    ∙ sym (rung_beside kinds_control now s every_due)
     in
-    (same, ap (λ (x : CEnd). x.cookie) all, none-left now s (seven_ticks now s) same)
+    (same, none-left now s (seven_ticks now s) same)

@@ -15,6 +15,7 @@ pub mod Founding
 pub mod Framing
 pub mod Keeping
 pub mod KeepingListener
+pub mod LastSyncs
 pub mod Listening
 pub mod Making
 pub mod Outcomes

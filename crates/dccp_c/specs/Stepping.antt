@@ -5,8 +5,7 @@ use Rattle.dccp_packets.specs.Outgoing.{Outgoing}
 use Rattle.data_dropped.specs.Inbox.{InboxState}
 use Rattle.data_dropped.specs.declared.drops.DropEntry.{DropEntry}
 use Rattle.dccp_uses.specs.DropRecord.{drop_recorded, record_after}
-use Rattle.dccp_server.specs.ClientCookies.{cookie_kept, returning}
-use Rattle.dccp_uses.specs.Holding.{HoldingStep, holds_heard, steps_beside}
+use Rattle.dccp_uses.specs.Holding.{HoldingState, HoldingStep, holds_heard, steps_beside}
 use Rattle.dccp_uses.specs.Timed.{TimedState, due_told, timed_aborts, timed_closes, timed_fires, timed_takes, timed_opens, timed_prefers, timed_sends}
 use Rattle.dccp_uses.specs.declared.holding.Reading.{Reading}
 use Rattle.dccp_uses.specs.declared.reader.SendRefusal.{SendRefusal}
@@ -19,12 +18,9 @@ use Rattle.feature_lists.specs.declared.features.Feature.{Feature}
 use Rattle.feature_lists.specs.declared.features.Place.{Place}
 use Rattle.feature_lists.specs.declared.wishes.PreferFault.{PreferFault}
 
--- an end of C's, with CCID 2 or the fixed window, the alarms of its timers, what is kept of its path, its inbox, if it
--- has one, and the Init Cookie that it returns, as an option, if it has one
-pub record CEnd : Type 0 where
-  pub timed : TimedState Both
-  pub inbox : Option InboxState
-  pub cookie : List ℕ
+-- an end of C's is a session's, with CCID 2 or the fixed window
+abbrev pub CEnd : Type 0
+CEnd = HoldingState Both
 
 -- it after a call, the frame that goes out, if any, and the answer
 pub record CStep (Answer : Type 0) : Type 0 where
@@ -44,51 +40,41 @@ CCall Fault = CDoing (Result (Unit {0}) Fault)
 abbrev pub done : {Answer : Type 0} → TimedState Both → Option InboxState → List ℕ → Option Outgoing → Answer → CStep Answer
 done s inbox cookie frame answer = record { after = record { timed = s; inbox = inbox; cookie = cookie }; frame = frame; answer = answer }
 
--- a frame of this end as it goes out: in PARTOPEN it returns the cookie (section 8.1.4)
-abbrev pub frame_returned : List ℕ → TimedState Both → Option Outgoing → Option Outgoing
-frame_returned cookie s frame = returning s.end.state.phase s.end.state.config.pseudo_out cookie frame
-
--- a step of the end and its inbox, beside this cookie
-abbrev pub beside_cookie : {Answer : Type 0} → List ℕ → HoldingStep Both Answer → CStep Answer
-beside_cookie cookie step =
-    done step.holding.timed step.holding.inbox cookie (frame_returned cookie step.holding.timed step.frame) step.answer
-
--- the end has heard a datagram or left it out: the cookie of a Response is kept
-abbrev pub hears_beside : CEnd → List ℕ → HoldingStep Both Reading → CStep Reading
-hears_beside s bytes step =
-    beside_cookie (cookie_kept s.timed.end.state.phase step.holding.timed.end.state.phase bytes s.cookie) step
+-- what a session's step is for C
+abbrev pub c_step : {Answer : Type 0} → HoldingStep Both Answer → CStep Answer
+c_step step = record { after = step.holding; frame = step.frame; answer = step.answer }
 
 -- a client asks for its service (RFC 4340, section 8.1.1)
 abbrev pub c_opens : ℕ → CCall OpenFault
-c_opens now s = beside_cookie s.cookie (steps_beside s.inbox (timed_opens kinds_control now s.timed))
+c_opens now s = c_step (steps_beside s (timed_opens kinds_control now s.timed))
 
 -- data go out in PARTOPEN and OPEN, where the window has room (section 8.1.5) and the application that reads them leaves some
 abbrev pub c_sends : List ℕ → ℕ → CCall SendRefusal
-c_sends payload now s = beside_cookie s.cookie (steps_beside s.inbox (timed_sends kinds_control now s.timed payload))
+c_sends payload now s = c_step (steps_beside s (timed_sends kinds_control now s.timed payload))
 
 -- the end wants these values for a feature (section 6.6.1)
 abbrev pub c_prefers : Feature → Place → List ℕ → ℕ → CCall PreferFault
-c_prefers feature place values now s = beside_cookie s.cookie (steps_beside s.inbox (timed_prefers kinds_control now s.timed feature place values))
+c_prefers feature place values now s = c_step (steps_beside s (timed_prefers kinds_control now s.timed feature place values))
 
 -- a timer has run out: the end's own, or one that its owner keeps
 abbrev pub c_fires : Timer → ℕ → CDoing Bool
-c_fires timer now s = beside_cookie s.cookie (steps_beside s.inbox (timed_fires kinds_control now s.timed timer))
+c_fires timer now s = c_step (steps_beside s (timed_fires kinds_control now s.timed timer))
 
 -- the end is told what is due
 abbrev pub c_told : Due → ℕ → CDoing Bool
-c_told it now s = beside_cookie s.cookie (steps_beside s.inbox (due_told kinds_control now s.timed it))
+c_told it now s = c_step (steps_beside s (due_told kinds_control now s.timed it))
 
 -- the connection is closed in order (section 8.3)
 abbrev pub c_closes : ℕ → CCall CloseFault
-c_closes now s = beside_cookie s.cookie (steps_beside s.inbox (timed_closes kinds_control now s.timed))
+c_closes now s = c_step (steps_beside s (timed_closes kinds_control now s.timed))
 
 -- the connection is given up (section 8.3)
 abbrev pub c_aborts : ℕ → CCall AbortFault
-c_aborts now s = beside_cookie s.cookie (steps_beside s.inbox (timed_aborts kinds_control now s.timed))
+c_aborts now s = c_step (steps_beside s (timed_aborts kinds_control now s.timed))
 
 -- a datagram arrives (section 8.5), and is heard or left out; data that it brings come into the inbox
 abbrev pub c_receives : List ℕ → ℕ → CDoing Reading
-c_receives bytes now s = hears_beside s bytes (holds_heard s.inbox bytes (timed_takes kinds_control now s.timed bytes))
+c_receives bytes now s = c_step (holds_heard s bytes (timed_takes kinds_control now s.timed bytes))
 
 -- what is recorded of drops once an end that was the one is the other, with a datagram
 abbrev pub record_heard : List ℕ → TimedState Both → TimedState Both → List DropEntry → List DropEntry

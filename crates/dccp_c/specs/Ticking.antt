@@ -1,7 +1,6 @@
 -- Timers and rules that are told one by one (own).
 use Rattle.std.specs.Prelude.{◌≡◌, ℕ, zero, suc, false}
-use Rattle.ccid_two.specs.Kinds.{Both, kinds_control}
-use Rattle.dccp_uses.specs.Holding.{HoldingState}
+use Rattle.ccid_two.specs.Kinds.{kinds_control}
 use Rattle.dccp_uses.specs.Sessions.{rings_each_due}
 use Rattle.dccp_uses.specs.Timed.{every_due}
 use Rattle.dccp_c.specs.Doing.{c_ticks}
@@ -16,12 +15,8 @@ ticked now (suc n) s = ticked now n (c_ticks now s).after
 abbrev pub seven_ticks : ℕ → CEnd → CEnd
 seven_ticks now s = ticked now (suc (suc (suc (suc (suc (suc (suc zero))))))) s
 
--- an end as a session has it
-abbrev pub as_session : CEnd → HoldingState Both
-as_session s = record { timed = s.timed; inbox = s.inbox }
-
--- They leave what a session's own tick leaves, which tells what is due once, and the cookie; and an eighth tells nothing.
+-- They leave what a session's own tick leaves, which tells what is due once; and an eighth tells nothing.
 abbrev pub TicksAreATick : Type 0
 TicksAreATick =
-    (now : ℕ) (s : CEnd) → (as_session (seven_ticks now s) ≡ (rings_each_due kinds_control now (as_session s) every_due).holding)
-    × ((seven_ticks now s).cookie ≡ s.cookie) × ((c_ticks now (seven_ticks now s)).answer ≡ false)
+    (now : ℕ) (s : CEnd) → (seven_ticks now s ≡ (rings_each_due kinds_control now s every_due).holding)
+    × ((c_ticks now (seven_ticks now s)).answer ≡ false)

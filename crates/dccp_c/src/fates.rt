@@ -12,8 +12,7 @@ use crate::end::End;
 use crate::held::Held;
 use ccid_two::Kinds;
 use dccp_endpoint::{Endpoint, Feature, Phase, Place, Seq48, Standing};
-use dccp_server::ClientCookie;
-use dccp_uses::DropRecord;
+use dccp_uses::{ClientCookie, DropRecord};
 use std::alloc::Global;
 
 /// Nothing is known of data under this number: none were sent, or no more is known of them.

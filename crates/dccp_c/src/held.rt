@@ -3,8 +3,7 @@
 use ccid_two::Kinds;
 use data_dropped::Intake;
 use dccp_endpoint::Outbox;
-use dccp_server::ClientCookie;
-use dccp_uses::{DropRecord, TimedEnd};
+use dccp_uses::{ClientCookie, DropRecord, TimedEnd};
 
 /// An end with its timers, where its data go, the place where each of its calls leaves its frame, and a record of what
 /// was dropped of its own.

@@ -3,10 +3,10 @@ ghost use Rattle.std.specs.Prelude.{◌≡◌, ◌≤◌, [], IfOk, length};
 ghost use Rattle.ccid_two.specs.Kinds.{at_first, kinds_control};
 ghost use Rattle.dccp_uses.specs.Session.{is_listening};
 ghost use Rattle.dccp_uses.specs.Timed.{timed_begins};
-ghost use Rattle.dccp_uses.specs.Holding.{spoken_by};
+ghost use Rattle.dccp_uses.specs.Holding.{holding_frame};
 ghost use Rattle.dccp_c.specs.Doing.{c_end};
 ghost use Rattle.dccp_c.specs.Making.{c_begins};
-ghost use Rattle.dccp_c.specs.Stepping.{c_aborts, c_closes, c_fires, c_opens, c_prefers, c_receives, c_sends, c_told, done, record_heard, frame_returned};
+ghost use Rattle.dccp_c.specs.Stepping.{c_aborts, c_closes, c_fires, c_opens, c_prefers, c_receives, c_sends, c_told, done, record_heard};
 
 use crate::held::Held;
 use crate::making::Care;
@@ -16,8 +16,9 @@ use dccp_endpoint::{
     AbortFault, CloseFault, Config, Feature, NoMemory, OpenFault, Outbox, Phase, Place,
     PreferFault, Timer,
 };
-use dccp_server::ClientCookie;
-use dccp_uses::{DropRecord, Due, Pace, Reading, SendRefusal, TimedEnd, settle_heard};
+use dccp_uses::{
+    ClientCookie, DropRecord, Due, Pace, Reading, SendRefusal, TimedEnd, settle_heard,
+};
 use std::alloc::Global;
 
 /// A new end, for which no timer runs. NoMemory where no memory is to be had.
@@ -64,22 +65,14 @@ fn boxed(alloc: Global, timed: TimedEnd<Kinds>, intake: Intake) -> Result<Box<He
 
 // The frame that the end has left says what its inbox has to say, and returns the cookie.
 fn speak(held: &mut Held)
-    ensures frame { held.new.out ≡ frame_returned held.old.cookie held.old.timed (spoken_by held.old.intake held.old.timed held.old.out) }
+    ensures frame { held.new.out ≡ holding_frame (c_end held.old) held.old.out }
     ensures timed { held.new.timed ≡ held.old.timed }
     ensures intake { held.new.intake ≡ held.old.intake }
     ensures cookie { held.new.cookie ≡ held.old.cookie }
     ensures drops { held.new.drops ≡ held.old.drops }
 {
     dccp_uses::speak(&held.intake, &held.timed, &mut held.out);
-    give_back(&held.timed, &held.cookie, &mut held.out);
-}
-
-// The frame that the end has left returns the cookie.
-fn give_back(timed: &TimedEnd<Kinds>, cookie: &ClientCookie, out: &mut Outbox)
-    ensures { out.new ≡ frame_returned cookie.now timed.now out.old }
-{
-    let end = timed.end();
-    cookie.put(end.phase(), &end.pseudo_out(), out);
+    dccp_uses::give_back(&held.cookie, &held.timed, &mut held.out);
 }
 
 /// `Session::open` at `now`, in milliseconds as in each call, whose frame stays here. A refused call changes nothing

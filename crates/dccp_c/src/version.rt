@@ -4,9 +4,9 @@ ghost use Rattle.std.specs.Prelude.{◌≡◌};
 /// The number of the border, which rises with every change of a function, a struct or a number that crosses it.
 #[unsafe(no_mangle)]
 pub extern "C" fn dccp_abi() -> u32
-    ensures { result ≡ 4 }
+    ensures { result ≡ 5 }
 {
-    4
+    5
 }
 
 /// The version, as 10,000 times the major number, 100 times the minor one and the patch: 100 is 0.1.0.

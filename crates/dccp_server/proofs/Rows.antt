@@ -14,7 +14,8 @@ use Rattle.feature_lists.specs.declared.features.Place.TheVariants.{Here}
 use Rattle.dccp_uses.specs.declared.rule.Rule.TheVariants as rule
 use Rattle.dccp_server.specs.FlowDrops.{flow_drop_code, flow_recorded}
 use Rattle.dccp_server.specs.Lives.{Lives, signs_of, stands_in}
-use Rattle.dccp_server.specs.Rules.{first_given_up, is_crowd, is_same_number, least_left, life_left, makes_way, no_rules, refused_number, usual_rules}
+use Rattle.dccp_uses.specs.Anew.{is_same_number, refused_number}
+use Rattle.dccp_server.specs.Rules.{first_given_up, is_crowd, least_left, life_left, makes_way, no_rules, usual_rules}
 use Rattle.dccp_server.specs.Strangers.{is_no_connection, spared, spared_if, strangers_begin}
 use Rattle.dccp_server.specs.Upkeeps.{arrived_so, call_if_held, called_so, rule_call}
 use Rattle.dccp_server.specs.declared.flow_drops.FlowDrop.{FlowDrop}

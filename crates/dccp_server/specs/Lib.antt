@@ -1,4 +1,3 @@
-pub mod ClientCookies
 pub mod Due
 pub mod Ending
 pub mod Events

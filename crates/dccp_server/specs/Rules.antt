@@ -1,14 +1,9 @@
 -- By which rules a server's owner gives flows up and makes room (own, but where a section of RFC 4340 is named). Times
 -- are in milliseconds.
-use Rattle.std.specs.Prelude.{◌==◌, ◌&&◌, ◌-◌, nat_lt, ℕ, Bool, true, false, not, List, length, Option, Some, None, is_some, Result, Ok, Err, min, unwrap_or, if◌then◌else◌}
+use Rattle.std.specs.Prelude.{◌==◌, ◌&&◌, ◌-◌, nat_lt, ℕ, Bool, true, false, not, List, length, Option, Some, None, is_some, min, unwrap_or, if◌then◌else◌}
 use Rattle.std.specs.Option.{option_map}
 use Rattle.dccp_listener.specs.declared.peer.Peer.{Peer}
-use Rattle.dccp_packets.specs.Grammar.{Parts, decoded}
-use Rattle.dccp_packets.specs.ResetCodes.{number_of_code}
-use Rattle.dccp_packets.specs.declared.header.Kind.{Kind}
-use Rattle.dccp_packets.specs.declared.header.Kind.TheVariants as kind
-use Rattle.dccp_packets.specs.declared.reading.Malformed.{Malformed}
-use Rattle.dccp_packets.specs.declared.reset_code.ResetCode.TheVariants as codes
+use Rattle.dccp_packets.specs.Grammar.{decoded}
 use Rattle.path_rules.specs.Limits.{resets_to_strangers}
 use Rattle.path_rules.specs.declared.limits.Limit.{Limit}
 use Rattle.dccp_server.specs.Lives.{Lives}
@@ -21,6 +16,7 @@ use Rattle.dccp_server.specs.declared.stage.Stage.{Stage}
 use Rattle.dccp_server.specs.declared.stage.Stage.TheVariants as stage
 use Rattle.dccp_states.specs.declared.phase.Phase.{Phase}
 use Rattle.dccp_states.specs.declared.phase.Phase.TheVariants as phases
+use Rattle.dccp_uses.specs.Anew.{refuses_sync, sync_refused}
 
 -- a hundred answers a second to all strangers together (own)
 abbrev pub answers_to_strangers : Limit
@@ -144,25 +140,10 @@ abbrev pub makes_way : Rules → Bool → ℕ → Lives → Option Peer
 makes_way rules crowded now lives =
     if rules.makes_room then holder (or_else (longest stage.Lingering lives) (over_in rules crowded now stage.HalfOpen lives)) else None
 
--- A Reset that a client in REQUEST sends for a Sync (RFC 4340, section 8.5, step 4): the number that it acknowledges.
-abbrev pub refused_number : Kind → Option ℕ
-refused_number (kind.Reset ack code detail) = if code == number_of_code codes.PacketError then Some ack else None
-refused_number _ = None
-
--- the same of bytes
-abbrev pub sync_refused : Result Parts Malformed → Option ℕ
-sync_refused (Ok parts) = refused_number parts.header.kind
-sync_refused (Err _) = None
-
--- two numbers are there and are one
-abbrev pub is_same_number : Option ℕ → Option ℕ → Bool
-is_same_number (Some a) (Some b) = a == b
-is_same_number _ _ = false
-
 -- The datagram is the Reset with which a client in REQUEST refuses the very Sync that its old flow sent last. Nobody who
 -- does not see the flow's packets knows that number.
 abbrev pub refuses_last_sync : Rules → Life → List ℕ → Bool
-refuses_last_sync rules life bytes = rules.ends_old_flows && is_same_number life.sync (sync_refused (decoded bytes))
+refuses_last_sync rules life bytes = rules.ends_old_flows && refuses_sync life.sync bytes
 
 -- The peer has begun anew: it was heard, and answered with a Sync.
 abbrev pub begins_anew : Rules → Life → List ℕ → Signs → Bool

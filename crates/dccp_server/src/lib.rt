@@ -7,7 +7,6 @@
 #![tactic(auto)]
 
 mod asking;
-mod client_cookie;
 mod duty;
 mod event_server;
 mod first_number;
@@ -33,7 +32,6 @@ mod timed_listener;
 mod upkeep;
 
 pub use crate::asking::{Asking, asking_of, opening_of};
-pub use crate::client_cookie::ClientCookie;
 pub use crate::duty::Duty;
 pub use crate::event_server::{EventServer, Shut};
 pub use crate::first_number::keyed_number;

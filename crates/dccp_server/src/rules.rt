@@ -1,15 +1,13 @@
 //! The rules by which a server gives flows up and makes room.
 ghost use Rattle.std.specs.Prelude.{◌≡◌};
-ghost use Rattle.dccp_packets.specs.Grammar.{decoded};
-ghost use Rattle.dccp_server.specs.Rules.{answers_to_strangers, begins_anew, first_given_up, holder, is_crowd, is_none_left, is_same_number, least_in, least_left, limit_in, longest, makes_way, over_in, refused_number, refuses_last_sync, signs_noted, stage_left, sync_refused};
+ghost use Rattle.dccp_server.specs.Rules.{answers_to_strangers, begins_anew, first_given_up, holder, is_crowd, is_none_left, least_in, least_left, limit_in, longest, makes_way, over_in, refuses_last_sync, signs_noted, stage_left};
 
 use crate::life::{Life, Signs};
 use crate::queue::Ticket;
 use crate::register::Register;
 use crate::stage::{Stage, class_of};
-use dccp_endpoint::Seq48;
 use dccp_listener::Peer;
-use dccp_packets::{Kind, decode};
+use dccp_uses::{refuses_sync, sync_refused};
 use path_rules::{Limit, resets_to_strangers};
 
 /// A hundred answers a second to all strangers together (own).
@@ -236,51 +234,11 @@ pub(crate) fn makes_way(
     holder(over_in(rules, crowded, Stage::HalfOpen, lives, now))
 }
 
-// The number that a Reset for a Sync acknowledges.
-fn refused_number(kind: Kind) -> Option<Seq48>
-    ensures { result ≡ refused_number kind }
-{
-    match kind {
-        Kind::Reset {
-            ack,
-            code,
-            detail: _,
-        } => { if code == 4 { Some(ack) } else { None } }
-        Kind::Request { service: _ }
-        | Kind::Response { ack: _, service: _ }
-        | Kind::Data
-        | Kind::Ack { ack: _ }
-        | Kind::DataAck { ack: _ }
-        | Kind::CloseReq { ack: _ }
-        | Kind::Close { ack: _ }
-        | Kind::Sync { ack: _ }
-        | Kind::SyncAck { ack: _ } => None,
-    }
-}
-
-fn sync_refused(bytes: &[u8]) -> Option<Seq48>
-    ensures { result ≡ sync_refused (decoded bytes.now) }
-{
-    match decode(bytes) {
-        Ok(packet) => refused_number(packet.header.kind),
-        Err(_) => None,
-    }
-}
-
-fn is_same_number(a: Option<Seq48>, b: Option<Seq48>) -> bool
-    ensures { result ≡ is_same_number a b }
-{
-    match (a, b) {
-        (Some(a), Some(b)) => a.get() == b.get(),
-        (None, _) | (_, None) => false,
-    }
-}
-
 /// Whether the datagram is the Reset with which a client in REQUEST refuses the last Sync of its old flow.
 pub(crate) fn refuses_last_sync(rules: &Rules, life: &Life, bytes: &[u8]) -> bool
     ensures { result ≡ refuses_last_sync rules.now life.now bytes.now }
 {
-    rules.ends_old_flows && life.sync.is_some() && is_same_number(life.sync, sync_refused(bytes))
+    rules.ends_old_flows && refuses_sync(life.sync, bytes)
 }
 
 /// Whether the peer has begun anew, by its life before the datagram and what the datagram told.

@@ -142,9 +142,9 @@ module _ {C : Type 0} (control : Control C) (now : ℕ) where
   rung_in_order s [] = s
   rung_in_order s (it ∷ rest) = rung_in_order (rings_due control now s it).timed rest
 
-  -- beside an inbox the same
+  -- beside an inbox and a cookie the same
   pub rung_beside : (h : HoldingState C) (list : List Due)
-      → (rings_each_due control now h list).holding ≡ record { timed = rung_in_order h.timed list; inbox = h.inbox }
+      → (rings_each_due control now h list).holding ≡ record h { timed = rung_in_order h.timed list }
   rung_beside h [] = refl
   rung_beside h (it ∷ rest) = rung_beside (holding_rings control now h it).holding rest
 

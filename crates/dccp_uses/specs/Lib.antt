@@ -1,5 +1,7 @@
 pub mod Additive
 pub mod Alarms
+pub mod Anew
+pub mod ClientCookies
 pub mod DropRecord
 pub mod Handing
 pub mod Holding

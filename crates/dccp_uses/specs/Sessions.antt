@@ -54,11 +54,11 @@ tells_reading h step =
       answer = news_kept step.answer.arrival (news_if step.answer.heard h.timed.end.state.phase step.holding.timed.end.state.phase);
     }
 
--- A datagram arrives, and its data come into the inbox, where there is one. One that is longer than an end takes changes
--- nothing.
+-- A datagram arrives: its data come into the inbox, where there is one, and the cookie of a Response is kept. One that is
+-- longer than an end takes changes nothing.
 abbrev pub holding_hears : {C : Type 0} → Control C → ℕ → HoldingState C → List ℕ → HoldingStep C News
 holding_hears control now h bytes =
-    if nat_le (length bytes) 2044 then tells_reading h (holds_heard h.inbox bytes (timed_takes control now h.timed bytes))
+    if nat_le (length bytes) 2044 then tells_reading h (holds_heard h bytes (timed_takes control now h.timed bytes))
     else record { holding = h; frame = None; answer = news.TooLong }
 
 -- nothing happens
@@ -69,9 +69,9 @@ stands_still s = record { timed = s; frame = None; answer = false }
 abbrev pub rings_due : {C : Type 0} → Control C → ℕ → TimedState C → Due → TimedStep C Bool
 rings_due control now s due = if has_run_out (due_alarm s due) now then due_told control now s due else stands_still s
 
--- the same beside an inbox
+-- the same beside an inbox and a cookie
 abbrev pub holding_rings : {C : Type 0} → Control C → ℕ → HoldingState C → Due → HoldingStep C Bool
-holding_rings control now h due = steps_beside h.inbox (rings_due control now h.timed due)
+holding_rings control now h due = steps_beside h (rings_due control now h.timed due)
 
 -- a session after several steps, and their frames
 pub record HoldingSteps (C : Type 0) : Type 0 where

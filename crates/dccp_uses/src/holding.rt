@@ -1,10 +1,10 @@
-//! An inbox beside an end with its timers.
+//! An inbox and a cookie beside an end with its timers.
 ghost use Rattle.std.specs.Prelude.{◌≡◌, None};
 ghost use Rattle.data_dropped.specs.Intakes.{HasDataIfHeard, came_in};
 ghost use Rattle.dccp_endpoint.specs.End.{last_taken};
-ghost use Rattle.dccp_uses.specs.Holding.{spoken_by};
+ghost use Rattle.dccp_uses.specs.Holding.{frame_returned, spoken_by};
 
-use crate::TimedEnd;
+use crate::{ClientCookie, TimedEnd};
 use data_dropped::{Arrival, Intake};
 use dccp_endpoint::{Congestion, Outbox, Outcome};
 
@@ -38,4 +38,12 @@ pub fn speak<C: Congestion>(intake: &Intake, end: &TimedEnd<C>, out: &mut Outbox
     ensures silent { out.old ≡ None → out.new ≡ None }
 {
     intake.speak(&end.end().pseudo_out(), out);
+}
+
+/// The frame that the end has left in the box returns the cookie, if it has one, in PARTOPEN (RFC 4340, section 8.1.4).
+pub fn give_back<C: Congestion>(cookie: &ClientCookie, end: &TimedEnd<C>, out: &mut Outbox)
+    ensures returns { out.new ≡ frame_returned cookie.now end.now out.old }
+    ensures silent { out.old ≡ None → out.new ≡ None }
+{
+    cookie.put(end.end().phase(), &end.end().pseudo_out(), out);
 }

@@ -17,6 +17,8 @@
 
 mod additive_window;
 mod alarms;
+mod anew;
+mod client_cookie;
 mod drop_record;
 mod holding;
 mod judgement;
@@ -39,8 +41,10 @@ mod waits;
 
 pub use crate::additive_window::AdditiveWindow;
 pub use crate::alarms::{Alarm, Alarms, Condition, has_run_out, sooner, starting_wait};
+pub use crate::anew::{refuses_sync, sync_refused};
+pub use crate::client_cookie::ClientCookie;
 pub use crate::drop_record::DropRecord;
-pub use crate::holding::{Reading, settle_heard, speak};
+pub use crate::holding::{Reading, give_back, settle_heard, speak};
 pub use crate::laws::{classic_is_the_session, rules_are_inputs};
 pub use crate::listening::accept;
 pub use crate::network::Network;

@@ -1,10 +1,10 @@
 //! An end with its timers over a network.
 ghost use Rattle.std.specs.Prelude.{◌≡◌};
 
-use crate::holding::{settle_heard, speak};
+use crate::holding::{give_back, settle_heard, speak};
 use crate::network::hand_over;
 use crate::news::{news_if, news_kept};
-use crate::{Alarms, Due, Network, News, Pace, Path, SendRefusal, TimedEnd};
+use crate::{Alarms, ClientCookie, Due, Network, News, Pace, Path, SendRefusal, TimedEnd};
 use data_dropped::Intake;
 use dccp_endpoint::{
     AbortFault, CloseFault, Config, Congestion, Endpoint, Feature, MOST_FRAME_BYTES, NoMemory,
@@ -24,11 +24,12 @@ use std::marker::Model;
 /// answers late packets.
 ///
 /// Data that arrive are in their datagram. If `holding` gives the session an inbox, they wait there until `read` takes
-/// them, and drops are reported to the peer.
+/// them, and drops are reported to the peer. A client returns the Init Cookie of its server (RFC 4340, section 8.1.4).
 #[derive(Drop)]
 pub struct Session<C> {
     timed: TimedEnd<C>,
     intake: Intake,
+    cookie: ClientCookie,
 }
 
 impl<C> Model for Session<C> {
@@ -36,7 +37,7 @@ impl<C> Model for Session<C> {
 
     ghost Value = { HoldingState C };
 
-    ghost view = { λ s. record { timed = s.timed; inbox = s.intake } };
+    ghost view = { λ s. record { timed = s.timed; inbox = s.intake; cookie = s.cookie } };
 }
 
 impl<C: Congestion + Drop> Session<C> {
@@ -59,6 +60,7 @@ impl<C: Congestion + Drop> Session<C> {
         Ok(Session {
             timed,
             intake: Intake::none(),
+            cookie: ClientCookie::none(),
         })
     }
 
@@ -70,6 +72,7 @@ impl<C: Congestion + Drop> Session<C> {
         Session {
             timed: self.timed,
             intake,
+            cookie: self.cookie,
         }
     }
 }
@@ -80,7 +83,7 @@ impl<C: Congestion> Session<C> {
     ghost use Rattle.data_dropped.specs.Intakes.{count_held, first_read, read_over, without_first, without_listener};
     ghost use Rattle.path_rules.specs.Allowance.{window_within};
     ghost use Rattle.dccp_uses.specs.Handing.{Hands, HandsAll};
-    ghost use Rattle.dccp_uses.specs.Holding.{spoken_by, steps_beside};
+    ghost use Rattle.dccp_uses.specs.Holding.{holding_frame, steps_beside};
     ghost use Rattle.dccp_uses.specs.Timed.{every_due, first_wait_left, timed_aborts, timed_closes, timed_opens, timed_prefers, timed_sends};
     ghost use Rattle.dccp_uses.specs.Sessions.{Does, NoneIsDue, holding_hears, holding_rings, rings_each_due};
 
@@ -122,12 +125,13 @@ impl<C: Congestion> Session<C> {
         window.saturating_sub(end.in_flight())
     }
 
-    // Hands over the frame that the end has left, which says what the inbox has to say.
+    // Hands over the frame that the end has left, which says what the inbox has to say, and returns the cookie.
     fn hand<N: Network>(&self, out: &mut Outbox, network: &mut N)
-        ensures handed { Hands N.sends network.old (spoken_by self.now.inbox self.now.timed out.old) network.new }
+        ensures handed { Hands N.sends network.old (holding_frame self.now out.old) network.new }
         ensures quiet { out.old ≡ None → network.new ≡ network.old }
     {
         speak(&self.intake, &self.timed, out);
+        give_back(&self.cookie, &self.timed, out);
         hand_over(out, network);
     }
 
@@ -160,7 +164,7 @@ impl<C: Congestion> Session<C> {
     /// A client asks for its service, once: its Request goes out. Refused as `Endpoint::open` is; then nothing has
     /// changed and nothing is sent.
     pub fn open<N: Network>(&mut self, now: u64, network: &mut N) -> Result<(), OpenFault>
-        ensures does { Does N.sends (steps_beside self.old.inbox (timed_opens C.control now self.old.timed)) self.new network.old network.new result }
+        ensures does { Does N.sends (steps_beside self.old (timed_opens C.control now self.old.timed)) self.new network.old network.new result }
         ensures refused { OnErr result (self.new ≡ self.old) }
         ensures sends_nothing { OnErr result (network.new ≡ network.old) }
     {
@@ -180,7 +184,7 @@ impl<C: Congestion> Session<C> {
         now: u64,
         network: &mut N,
     ) -> Result<(), SendRefusal>
-        ensures does { Does N.sends (steps_beside self.old.inbox (timed_sends C.control now self.old.timed payload.now)) self.new network.old network.new result }
+        ensures does { Does N.sends (steps_beside self.old (timed_sends C.control now self.old.timed payload.now)) self.new network.old network.new result }
         ensures refused { OnErr result (self.new ≡ self.old) }
         ensures sends_nothing { OnErr result (network.new ≡ network.old) }
     {
@@ -200,7 +204,7 @@ impl<C: Congestion> Session<C> {
         now: u64,
         network: &mut N,
     ) -> Result<(), PreferFault>
-        ensures does { Does N.sends (steps_beside self.old.inbox (timed_prefers C.control now self.old.timed feature place values.now)) self.new network.old network.new result }
+        ensures does { Does N.sends (steps_beside self.old (timed_prefers C.control now self.old.timed feature place values.now)) self.new network.old network.new result }
         ensures refused { OnErr result (self.new ≡ self.old) }
         ensures sends_nothing { OnErr result (network.new ≡ network.old) }
     {
@@ -212,7 +216,7 @@ impl<C: Congestion> Session<C> {
 
     /// Ends the connection in order. Refused as `Endpoint::close` is; then nothing has changed and nothing is sent.
     pub fn close<N: Network>(&mut self, now: u64, network: &mut N) -> Result<(), CloseFault>
-        ensures does { Does N.sends (steps_beside self.old.inbox (timed_closes C.control now self.old.timed)) self.new network.old network.new result }
+        ensures does { Does N.sends (steps_beside self.old (timed_closes C.control now self.old.timed)) self.new network.old network.new result }
         ensures refused { OnErr result (self.new ≡ self.old) }
         ensures sends_nothing { OnErr result (network.new ≡ network.old) }
     {
@@ -224,7 +228,7 @@ impl<C: Congestion> Session<C> {
 
     /// Gives the connection up. Refused as `Endpoint::abort` is; then nothing has changed and nothing is sent.
     pub fn abort<N: Network>(&mut self, now: u64, network: &mut N) -> Result<(), AbortFault>
-        ensures does { Does N.sends (steps_beside self.old.inbox (timed_aborts C.control now self.old.timed)) self.new network.old network.new result }
+        ensures does { Does N.sends (steps_beside self.old (timed_aborts C.control now self.old.timed)) self.new network.old network.new result }
         ensures refused { OnErr result (self.new ≡ self.old) }
         ensures sends_nothing { OnErr result (network.new ≡ network.old) }
     {
@@ -250,9 +254,11 @@ impl<C: Congestion> Session<C> {
         let was = self.timed.end().phase();
         let mut out = Outbox::new();
         let outcome = self.timed.receive(datagram, now, &mut out);
+        let is = self.timed.end().phase();
+        self.cookie.keep(was, is, datagram);
         let arrival = settle_heard(&mut self.intake, &self.timed, datagram, &outcome);
         self.hand(&mut out, network);
-        news_kept(arrival, news_if(outcome, was, self.timed.end().phase()))
+        news_kept(arrival, news_if(outcome, was, is))
     }
 
     /// It is this time now: fires each timer that has run out, once, and then follows one rule of the path. After that

@@ -1,5 +1,6 @@
 //! Two sessions whose frames get lost.
 mod bursts;
+mod cookie;
 mod heeding;
 mod holding;
 mod pair;

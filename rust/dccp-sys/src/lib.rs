@@ -37,6 +37,14 @@ pub struct KeyPair {
     pub since: u64,
 }
 
+/// The last Sync of a server's end.
+#[repr(C)]
+#[derive(Clone, Copy, Debug, Default)]
+pub struct LastSync {
+    pub number: u64,
+    pub is_there: bool,
+}
+
 impl std::fmt::Debug for Key {
     fn fmt(&self, f: &mut std::fmt::Formatter<'_>) -> std::fmt::Result {
         // It is secret.
@@ -338,6 +346,13 @@ unsafe extern "C" {
         at_peer: bool,
         state: *mut FeatureState,
     ) -> u32;
+    pub fn dccp_begins_anew(
+        last: *mut LastSync,
+        datagram: *const u8,
+        datagram_count: usize,
+        told: *const Told,
+        frame: *const Frame,
+    ) -> bool;
     pub fn dccp_greet(
         settings: *const Settings,
         wishes: *const Wish,

@@ -785,18 +785,15 @@ impl Connection {
                 ..sys::Told::default()
             };
         }
-        let (status, frame, told) = self.end.receive(datagram, time);
-        let last_sync = self.last_sync.as_mut();
-        if last_sync.is_some_and(|it| it.is_refused(&told, datagram)) {
+        let (status, _, told) = self.end.receive(datagram, time);
+        let (end, last_sync) = (&self.end, self.last_sync.as_mut());
+        if last_sync.is_some_and(|it| it.is_refused(end, &told, datagram)) {
             let _ = self.end.abort(time);
             self.outgoing.frames.clear();
             self.over(Event::Anew);
             return told;
         }
-        queue(&mut self.outgoing, (status, frame), is_answer(&told));
-        if let Some(last_sync) = &mut self.last_sync {
-            last_sync.note(&told, datagram, self.end.number());
-        }
+        queue(&mut self.outgoing, (status, self.end.frame()), is_answer(&told));
         told
     }
 

@@ -126,6 +126,23 @@ impl End {
         })
     }
 
+    /// Whether the peer of a server's end begins anew, by what the end has made of its datagram.
+    pub fn begins_anew(
+        &self,
+        last: &mut sys::LastSync,
+        told: &sys::Told,
+        datagram: &[u8],
+    ) -> bool {
+        let (bytes, length) = (datagram.as_ptr(), datagram.len());
+        // SAFETY: as the head of this module says.
+        unsafe { sys::dccp_begins_anew(last, bytes, length, told, &*self.frame) }
+    }
+
+    /// The frame that the last call has left, which may have no bytes.
+    pub fn frame(&self) -> &[u8] {
+        &self.frame.bytes[..self.frame.length]
+    }
+
     /// The number of the frame that the last call has left; 0 if it left none.
     pub fn number(&self) -> u64 {
         self.frame.number
@@ -144,7 +161,7 @@ impl End {
     /// Makes a call, and returns its status and the frame that it leaves, which may have no bytes.
     fn call(&mut self, doing: impl FnOnce(&mut sys::End, &mut sys::Frame) -> u32) -> (u32, &[u8]) {
         let status = doing(&mut self.handle, &mut self.frame);
-        (status, &self.frame.bytes[..self.frame.length])
+        (status, self.frame())
     }
 
     pub fn open(&mut self, now: u64) -> (u32, &[u8]) {

@@ -8,13 +8,13 @@ settle_heard-arrival-requires g c =
 
 pub returns-clause-too_long : goal.returns-clause-too_long
 returns-clause-too_long g c = (
-  λ is. absurd (never_said_long c.receive-outcome.result c.phase-was.result c.phase.result
+  λ is. absurd (never_said_long c.receive-outcome.result c.phase-was.result c.phase-is.result
       (sym c.news_if.ensures ∙ told_as_long c.settle_heard-arrival.result c.news_if.result (sym c.news_kept.ensures ∙ is))),
   λ long. absurd (omega (arith, long, c.if-datagram-gt-MOST_FRAME_BYTES.false)),
 )
 
 pub returns-clause-inside : goal.returns-clause-inside
 returns-clause-inside g c = λ first past is.
-    news_inside c.self.inside.timed.end.state c.args.datagram.now c.receive-outcome.result c.phase-was.result c.phase.result first past
+    news_inside c.self.inside.timed.end.state c.args.datagram.now c.receive-outcome.result c.phase-was.result c.phase-is.result first past
     c.receive-outcome.ensures.cause
     (sym c.news_if.ensures ∙ told_as_data c.settle_heard-arrival.result c.news_if.result first past (sym c.news_kept.ensures ∙ is))

@@ -1,9 +1,9 @@
 //! The Init Cookie that a client returns.
-ghost use Rattle.std.specs.Prelude.{◌≡◌, ◌≤◌, length};
+ghost use Rattle.std.specs.Prelude.{◌≡◌, ◌≤◌, None, length};
 ghost use Rattle.dccp_endpoint.specs.Calling.{is_requesting};
 ghost use Rattle.dccp_endpoint.specs.Early.{is_part_open};
 ghost use Rattle.dccp_packets.specs.Grammar.{decoded};
-ghost use Rattle.dccp_server.specs.ClientCookies.{cookie_had, with_cookie};
+ghost use Rattle.dccp_uses.specs.ClientCookies.{cookie_had, with_cookie};
 
 use dccp_endpoint::{Outbox, Phase, Pseudo};
 use dccp_options::options;
@@ -37,7 +37,8 @@ fn put_cookie(datagram: &[u8], cookie: &mut CookieOption)
 
 fn add_cookie(pseudo: &Pseudo, cookie: &CookieOption, out: &mut Outbox)
     requires { length cookie.now.items ≤ 255 }
-    ensures { out.new ≡ with_cookie pseudo.now cookie.now.items out.old }
+    ensures adds { out.new ≡ with_cookie pseudo.now cookie.now.items out.old }
+    ensures silent { out.old ≡ None → out.new ≡ None }
 {
     if cookie.is_empty() {
         return;
@@ -63,8 +64,8 @@ impl Model for ClientCookie {
 }
 
 impl ClientCookie {
-    ghost use Rattle.std.specs.Prelude.{◌≡◌, ◌≤◌, [], length};
-    ghost use Rattle.dccp_server.specs.ClientCookies.{cookie_kept, returning};
+    ghost use Rattle.std.specs.Prelude.{◌≡◌, ◌≤◌, [], None, length};
+    ghost use Rattle.dccp_uses.specs.ClientCookies.{cookie_kept, returning};
 
     /// None yet.
     pub fn none() -> ClientCookie
@@ -89,7 +90,8 @@ impl ClientCookie {
     /// The frame that an end in this phase has left in the box returns the cookie in PARTOPEN, where it has room for it. The
     /// addresses are those by which the end sends.
     pub fn put(&self, phase: Phase, pseudo: &Pseudo, out: &mut Outbox)
-        ensures { out.new ≡ returning phase pseudo.now self.now out.old }
+        ensures returns { out.new ≡ returning phase pseudo.now self.now out.old }
+        ensures silent { out.old ≡ None → out.new ≡ None }
     {
         if is_part_open(phase) {
             add_cookie(pseudo, &self.option, out);
