@@ -5,7 +5,7 @@ use Rattle.dccp_packets.specs.declared.header.Kind.TheVariants as kind
 use Rattle.dccp_packets.specs.declared.header.Number.TheVariants.{Long, Short}
 use Rattle.dccp_states.specs.declared.phase.Phase.TheVariants as phases
 use Rattle.init_cookies.specs.Openings.{OpeningState}
-use Rattle.dccp_server.specs.ClientCookies.{cookie_kept}
+use Rattle.dccp_uses.specs.ClientCookies.{cookie_kept}
 use Rattle.dccp_server.specs.Due.{never}
 use Rattle.dccp_server.specs.FirstNumbers.{named_ends}
 use Rattle.dccp_server.specs.Meeting.{asking_by, asking_this, entry_by, entry_or, hurried, is_ever_in_use, is_half_open, is_in_use, may_meet, rekeyed}
