@@ -17,18 +17,18 @@ use Rattle.bridge_records.specs.Pieces.{Goes, Judgement, Piece, PieceNext, Piece
 use Rattle.bridge_records.specs.declared.pieces.fault.PieceFault.TheVariants as why
 use Rattle.bridge_records.specs.Reading.{FileState, bytes_held, file_judged, next_length}
 use Rattle.bridge_records.specs.Recording.{RecordStep, RecordsState, by_judged, first_reading, numbered_entry, records_work}
-use Rattle.bridge_records.specs.declared.found.Found.{Found}
-use Rattle.bridge_records.specs.declared.found.Found.TheVariants as found
+use Rattle.bridge_records.specs.declared.content.Content.{Content}
+use Rattle.bridge_records.specs.declared.content.Content.TheVariants as found
 use Rattle.bridge_links.specs.Links.{bytes_at_start, captured_ip, ip_bytes, ip_start}
 use Rattle.bridge_links.specs.Extensions.{holds_dccp, is_extended, plain_by, plain_ip, upper_of, without_extensions}
 use Rattle.bridge_links.specs.declared.extensions.Upper.{Upper}
 use Rattle.dccp_io.specs.Counts.{one_more}
 use Rattle.world_events.specs.declared.event.Side.{Side}
-use Rattle.bridge_command.specs.Framing.{FlowPacket, IsReadBack, by_carried, by_decoded, by_direction, by_number, by_sender, first_framing, flow_packet, frame_said, framed_record, frames_pieces, frames_work, goes_to, met_by, passed_over}
+use Rattle.bridge_command.specs.Framing.{FlowPacket, IsReadBack, by_carried, by_decoded, by_direction, by_number, by_sender, first_framing, flow_packet, frame_said, framed_record, frames_pieces, frames_work, goes_to, known_by, passed_over}
 use Rattle.bridge_command.specs.FrameLines.{comment_line, packet_frame_words}
 use Rattle.bridge_command.specs.Mapping.{frame_for, moved_frame, moved_header}
-use Rattle.bridge_command.specs.declared.frames.framing.Framing.{Framing}
-use Rattle.bridge_command.specs.declared.frames.framing.Met.{Met}
+use Rattle.bridge_command.specs.declared.frames.framing.FlowSearch.{FlowSearch}
+use Rattle.bridge_command.specs.declared.frames.framing.KnownFlow.{KnownFlow}
 use Rattle.bridge_command.specs.declared.frames.mapping.NoFrame.{NoFrame}
 use Rattle.bridge_command.specs.declared.frames.mapping.NoFrame.TheVariants as none
 use Rattle.bridge_command.specs.declared.frames.mapping.UsualEnd.{UsualEnd}
@@ -64,15 +64,15 @@ frame-read end None packet are =
     (none-read none.NumberUnknown) (moved-read end end.iss packet are)
 
 -- a packet of bytes has lines that are read back
-packet-reads : (s : Framing) (met : Met) (entry : RecordParts) (there : DatagramParts) (packet : Parts) → HasByteAddresses there.pseudo → IsOfBytes packet
-    → IsReadBack (flow_packet s met entry there packet)
-packet-reads s met entry there packet addresses are =
+packet-reads : (s : FlowSearch) (known : KnownFlow) (entry : RecordParts) (there : DatagramParts) (packet : Parts) → HasByteAddresses there.pseudo → IsOfBytes packet
+    → IsReadBack (flow_packet s known entry there packet)
+packet-reads s known entry there packet addresses are =
     let line = packet-line entry there packet s.flow addresses are.options in
     record {
       comment = take 4096 (codes "# " ++ line.front);
       is_line = ap comment_line line.same ∙ comment-ends line.front;
       nothing = comment-read line.front line.text;
-      frame = frame-read s.end met.initial packet are;
+      frame = frame-read s.end known.initial packet are;
     }
 
 -- Records
@@ -82,24 +82,24 @@ abbrev IsDoneBack : Option FlowPacket → Type 0
 IsDoneBack None = Unit {0}
 IsDoneBack (Some packet) = IsReadBack packet
 
-abbrev IsPassedBack : RecordStep FlowPacket Framing → Type 0
+abbrev IsPassedBack : RecordStep FlowPacket FlowSearch → Type 0
 IsPassedBack passed = IsDoneBack passed.deed
 
-direction-reads : (s : Framing) (met : Met) (entry : RecordParts) (there : DatagramParts) (packet : Parts) (goes : Bool) → HasByteAddresses there.pseudo
+direction-reads : (s : FlowSearch) (known : KnownFlow) (entry : RecordParts) (there : DatagramParts) (packet : Parts) (goes : Bool) → HasByteAddresses there.pseudo
     → IsOfBytes packet
-    → IsPassedBack (by_direction s met entry there packet goes)
-direction-reads s met entry there packet true addresses are = packet-reads s met entry there packet addresses are
-direction-reads s met entry there packet false addresses are = tt
+    → IsPassedBack (by_direction s known entry there packet goes)
+direction-reads s known entry there packet true addresses are = packet-reads s known entry there packet addresses are
+direction-reads s known entry there packet false addresses are = tt
 
-number-reads : (s : Framing) (number : ℕ) (entry : RecordParts) (there : DatagramParts) (packet : Parts) → HasByteAddresses there.pseudo → IsOfBytes packet
+number-reads : (s : FlowSearch) (number : ℕ) (entry : RecordParts) (there : DatagramParts) (packet : Parts) → HasByteAddresses there.pseudo → IsOfBytes packet
     → IsPassedBack (by_number s number entry there packet)
 number-reads s number entry there packet addresses are =
     let from : AddressAndPort = from_end there.pseudo packet.header.from in
-    let met : Met = met_by s.met from (packet_type packet.header.kind) in
+    let known : KnownFlow = known_by s.known from (packet_type packet.header.kind) in
     either IsPassedBack (number == s.flow) (by_sender s entry there packet from) (passed_over s)
-    (direction-reads s met entry there packet (goes_to s.side (side_from met.ends from)) addresses are) tt
+    (direction-reads s known entry there packet (goes_to s.side (side_from known.ends from)) addresses are) tt
 
-decoded-reads : (s : Framing) (entry : RecordParts) (there : DatagramParts) (packet : Result Parts Malformed) → HasByteAddresses there.pseudo
+decoded-reads : (s : FlowSearch) (entry : RecordParts) (there : DatagramParts) (packet : Result Parts Malformed) → HasByteAddresses there.pseudo
     → DecodesToBytes packet
     → IsPassedBack (by_decoded s entry there packet)
 decoded-reads s entry there (Ok packet) addresses are =
@@ -131,7 +131,7 @@ v6-carried bytes are =
 ip-carried : (bytes : List ℕ) → AreBytes bytes → IsByteCarried (in_ip bytes)
 ip-carried bytes are = either IsByteCarried (is_v4 bytes) (in_v4 bytes) (in_v6 bytes) (v4-carried bytes are) (v6-carried bytes are)
 
-carried-reads : (s : Framing) (entry : RecordParts) (there : Option DatagramParts) → IsByteCarried there → IsPassedBack (by_carried s entry there)
+carried-reads : (s : FlowSearch) (entry : RecordParts) (there : Option DatagramParts) → IsByteCarried there → IsPassedBack (by_carried s entry there)
 carried-reads s entry None are = tt
 carried-reads s entry (Some there) are = decoded-reads s entry there (decoded there.bytes) are.addresses (decoded-are there.bytes are.bytes)
 
@@ -164,7 +164,7 @@ plain-are : (ip : List ℕ) → AreBytes ip → AreBytes (plain_ip ip)
 plain-are ip are = either AreBytes (is_extended ip) (plain_by (upper_of ip) ip) ip (plain-by-are (upper_of ip) ip are) are
 
 -- a record of bytes, after its link's header
-record-reads : (s : Framing) (entry : RecordParts) → AreBytes entry.bytes → IsPassedBack (framed_record s (record_behind entry))
+record-reads : (s : FlowSearch) (entry : RecordParts) → AreBytes entry.bytes → IsPassedBack (framed_record s (record_behind entry))
 unfolding framed_record
 record-reads s entry are =
     carried-reads s (record_behind entry) (in_ip (ip_bytes entry.link entry.bytes))
@@ -174,7 +174,7 @@ record-reads s entry are =
 -- Pieces
 
 abbrev Reading : Type 0
-Reading = RecordsState Framing
+Reading = RecordsState FlowSearch
 
 abbrev job : PieceWork FlowPacket Reading
 job = records_work frames_work
@@ -183,7 +183,7 @@ abbrev IsJudgedBack : Judgement FlowPacket Reading → Type 0
 IsJudgedBack (Goes deed next) = IsDoneBack deed
 IsJudgedBack (Stops reason) = Unit {0}
 
-judged-reads : (s : Reading) (piece : List ℕ) (judged : Judgement Found FileState) → AreBytes piece → IsJudgedBack (by_judged frames_work s piece judged)
+judged-reads : (s : Reading) (piece : List ℕ) (judged : Judgement Content FileState) → AreBytes piece → IsJudgedBack (by_judged frames_work s piece judged)
 judged-reads s piece (Stops reason) are = tt
 judged-reads s piece (Goes None next) are = tt
 judged-reads s piece (Goes (Some (found.Begins nanos)) next) are = tt

@@ -5,10 +5,10 @@ use Rattle.bridge_records.specs.Writing.{RawRecord}
 use Rattle.bridge_records.specs.Pieces.{Goes, Judgement, Piece, PieceEnd, PieceNext, PieceWrong, Stops, Taken, by_next_piece, next_piece, pieces_from, taken_by}
 use Rattle.bridge_records.specs.Reading.{FileState, bytes_held, file_judged, first_file, next_length}
 use Rattle.bridge_records.specs.Recording.{RecordsState, by_judged, numbered_entry, reading_at, records_work}
-use Rattle.bridge_records.specs.declared.found.Found.{Found}
-use Rattle.bridge_records.specs.declared.found.Found.TheVariants as found
+use Rattle.bridge_records.specs.declared.content.Content.{Content}
+use Rattle.bridge_records.specs.declared.content.Content.TheVariants as found
 use Rattle.bridge_command.specs.Unwrapping.{CapturePart, records_among, unwrap_work, unwrapped_entry, unwrapped_pieces}
-use Rattle.bridge_command.specs.Telling.{RecordTold, TellingParts, first_telling, json_pieces, json_work, telling_after}
+use Rattle.bridge_command.specs.Telling.{RecordTold, JsonParts, first_telling, json_pieces, json_work, telling_after}
 use Rattle.dccp_io.specs.Counts.{one_more}
 
 -- where reading stands, of either
@@ -16,12 +16,12 @@ abbrev State : Type 0
 State = RecordsState (Unit {0})
 
 abbrev Knowing : Type 0
-Knowing = RecordsState TellingParts
+Knowing = RecordsState JsonParts
 
 abbrev at : FileState → Bool → ℕ → State
 at file nanos n = reading_at file nanos n tt
 
-abbrev with : FileState → Bool → ℕ → TellingParts → Knowing
+abbrev with : FileState → Bool → ℕ → JsonParts → Knowing
 with file nanos n s = reading_at file nanos n s
 
 -- the records that were made are those that were told, and both end alike
@@ -29,13 +29,13 @@ record AreSame (made : Taken CapturePart State) (told : Taken RecordTold Knowing
   records : records_among made.deeds ≡ map (λ t. unwrapped_entry t.entry) told.deeds
   refusal : made.refusal ≡ told.refusal
 
-module _ (file : FileState) (nanos : Bool) (n given : ℕ) (s : TellingParts) (made : State → Taken CapturePart State) (told : Knowing → Taken RecordTold Knowing)
-    (later : (next : FileState) (nanos : Bool) (n : ℕ) (s : TellingParts) → AreSame (made (at next nanos n)) (told (with next nanos n s))) where
+module _ (file : FileState) (nanos : Bool) (n given : ℕ) (s : JsonParts) (made : State → Taken CapturePart State) (told : Knowing → Taken RecordTold Knowing)
+    (later : (next : FileState) (nanos : Bool) (n : ℕ) (s : JsonParts) → AreSame (made (at next nanos n)) (told (with next nanos n s))) where
   -- what a piece holds
   abbrev both : Judgement CapturePart State → Judgement RecordTold Knowing → Type 0
   both one other = AreSame (taken_by (at file nanos n) given one made) (taken_by (with file nanos n s) given other told)
 
-  judged-same : (piece : List ℕ) (judged : Judgement Found FileState)
+  judged-same : (piece : List ℕ) (judged : Judgement Content FileState)
       → both (by_judged unwrap_work (at file nanos n) piece judged) (by_judged json_work (with file nanos n s) piece judged)
   judged-same piece (Stops fault) = record { records = refl; refusal = refl }
   judged-same piece (Goes None next) = later next nanos n s
@@ -53,7 +53,7 @@ module _ (file : FileState) (nanos : Bool) (n given : ℕ) (s : TellingParts) (m
   next-same (Piece piece) = judged-same piece (file_judged file piece)
   next-same (PieceWrong why) = record { records = refl; refusal = refl }
 
-all-same : (skip given : ℕ) (file : FileState) (nanos : Bool) (n : ℕ) (s : TellingParts) (bytes : List ℕ)
+all-same : (skip given : ℕ) (file : FileState) (nanos : Bool) (n : ℕ) (s : JsonParts) (bytes : List ℕ)
     → AreSame (pieces_from (records_work unwrap_work) skip (at file nanos n) given bytes)
     (pieces_from (records_work json_work) skip (with file nanos n s) given bytes)
 all-same skip given file nanos n s [] = record { records = refl; refusal = refl }

@@ -12,7 +12,7 @@ use Rattle.tool_text.specs.declared.output.status.JobEnd.TheVariants as ended
 use Rattle.bridge_command.specs.Unwrapping.{piece_fault_name}
 use Rattle.bridge_command.specs.declared.complaints.Complaint.{Complaint}
 use Rattle.bridge_command.specs.declared.complaints.Complaint.TheVariants as complains
-use Rattle.bridge_command.specs.declared.complaints.Said.{Said}
+use Rattle.bridge_command.specs.declared.complaints.Remarks.{Remarks}
 
 -- a line that is refused, if one is
 abbrev pub line_complaint : Option LineRefusal → Option Complaint
@@ -40,11 +40,11 @@ complaint_text None = []
 complaint_text (Some complaint) = complaint_line complaint
 
 -- What is told of lines: nothing was skipped.
-abbrev pub line_said : Option LineRefusal → Said
+abbrev pub line_said : Option LineRefusal → Remarks
 line_said refusal = record { skips = no_skips; complaint = line_complaint refusal }
 
 -- What is told of a capture.
-abbrev pub capture_said : Option CaptureRefusal → Skips → Said
+abbrev pub capture_said : Option CaptureRefusal → Skips → Remarks
 capture_said refusal skips = record { skips = skips; complaint = capture_complaint refusal }
 
 -- The line of what of one kind was skipped: how many, and what is told of the first; nothing where there is none.
@@ -60,7 +60,7 @@ skips_text skips =
     ++ tally_line (codes "blocks of other types") skips.blocks
 
 -- All that a form tells: what was skipped, and why its input is refused.
-abbrev pub said_text : Said → List ℕ
+abbrev pub said_text : Remarks → List ℕ
 said_text said = skips_text said.skips ++ complaint_text said.complaint
 
 -- A call ends as its form did, or for want of memory.

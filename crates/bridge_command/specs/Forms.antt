@@ -7,7 +7,7 @@ use Rattle.bridge_records.specs.declared.skips.Skips.{Skips}
 use Rattle.tool_text.specs.declared.lines.refusals.LineRefusal.{LineRefusal}
 use Rattle.bridge_command.specs.Capturing.{frames_capture, transcript_accepted, transcript_refusal, transcript_refused}
 use Rattle.bridge_command.specs.Complaints.{capture_said, line_said}
-use Rattle.bridge_command.specs.declared.complaints.Said.{Said}
+use Rattle.bridge_command.specs.declared.complaints.Remarks.{Remarks}
 use Rattle.bridge_command.specs.Framing.{frames_pieces, frames_text, is_frames_faulty}
 use Rattle.bridge_pictures.specs.Flow.{flow_ladder_pieces, flow_ladder_text, is_flow_ladder_faulty}
 use Rattle.bridge_pictures.specs.FlowWindows.{flow_windows_pieces, flow_windows_text, is_flow_windows_faulty}
@@ -112,7 +112,7 @@ flow_picture_skips pictures.Windows flow bytes = capture_skips (flow_windows_pie
 
 -- What a form tells of these bytes apart from its output: what of a capture is skipped, and why they are refused, if they
 -- are, which is a line or a fault of the capture.
-abbrev pub bridge_said : BridgeForm → List ℕ → Said
+abbrev pub bridge_said : BridgeForm → List ℕ → Remarks
 bridge_said form.Capture bytes = line_said (transcript_refusal bytes)
 bridge_said form.Unwrap bytes = capture_said (capture_refusal (unwrapped_pieces bytes)) (capture_skips (unwrapped_pieces bytes))
 bridge_said (form.Seed run) bytes = line_said None

@@ -19,8 +19,8 @@ use Rattle.world_events.specs.declared.event.Side.{Side}
 use Rattle.world_events.specs.declared.event.Side.TheVariants.{Client, Server}
 use Rattle.bridge_command.specs.Mapping.{frame_for, usual_end}
 use Rattle.bridge_command.specs.FrameLines.{comment_line, packet_frame_line, packet_frame_words}
-use Rattle.bridge_command.specs.declared.frames.framing.Framing.{Framing}
-use Rattle.bridge_command.specs.declared.frames.framing.Met.{Met}
+use Rattle.bridge_command.specs.declared.frames.framing.FlowSearch.{FlowSearch}
+use Rattle.bridge_command.specs.declared.frames.framing.KnownFlow.{KnownFlow}
 use Rattle.bridge_command.specs.declared.frames.mapping.NoFrame.{NoFrame}
 
 -- A packet of the flow that goes to the side: its line of `show`, and its frame, or why it has none.
@@ -45,15 +45,15 @@ pub record IsReadBack (p : FlowPacket) : Type 0 where
   pub frame : read_frame (packet_frame_words p.frame) ≡ Ok (frame_said p.frame)
 
 -- before the first record, where this flow is asked for
-abbrev pub first_framing : ℕ → Side → Framing
+abbrev pub first_framing : ℕ → Side → FlowSearch
 first_framing flow side =
-    record { flow = flow; side = side; end = usual_end side; flows = []; met = None }
+    record { flow = flow; side = side; end = usual_end side; flows = []; known = None }
 
 -- what is known of the flow at a packet of this type that this end sent: whose packet comes first is the client, unless
 -- it answers as a server does
-abbrev pub met_by : Option Met → AddressAndPort → PacketType → Met
-met_by (Some met) from kind = met
-met_by None from kind = record { ends = ends_by None from kind; initial = None }
+abbrev pub known_by : Option KnownFlow → AddressAndPort → PacketType → KnownFlow
+known_by (Some known) from kind = known
+known_by None from kind = record { ends = ends_by None from kind; initial = None }
 
 -- the captured end's initial number: the first of 48 bits that it sent
 abbrev pub initial_by : Option ℕ → Number → Option ℕ
@@ -62,8 +62,8 @@ initial_by None (Long number) = Some number
 initial_by None (Short number) = None
 
 -- the same of the flow, once the captured end sent this number
-abbrev pub met_number : Met → Number → Met
-met_number met number = record { ends = met.ends; initial = initial_by met.initial number }
+abbrev pub known_number : KnownFlow → Number → KnownFlow
+known_number known number = record { ends = known.ends; initial = initial_by known.initial number }
 
 -- a packet goes to this side where the other sent it
 abbrev pub goes_to : Side → Side → Bool
@@ -73,56 +73,56 @@ goes_to Server Client = true
 goes_to Server Server = false
 
 -- the state with this known of the flow
-abbrev pub with_met : Framing → Met → Framing
-with_met s met = record s { met = Some met }
+abbrev pub with_known : FlowSearch → KnownFlow → FlowSearch
+with_known s known = record s { known = Some known }
 
 -- the two lines of a packet that goes to the side
-abbrev pub flow_packet : Framing → Met → RecordParts → DatagramParts → Parts → FlowPacket
-flow_packet s met entry there packet =
-    record { line = packet_line entry there packet s.flow; frame = frame_for s.end met.initial packet }
+abbrev pub flow_packet : FlowSearch → KnownFlow → RecordParts → DatagramParts → Parts → FlowPacket
+flow_packet s known entry there packet =
+    record { line = packet_line entry there packet s.flow; frame = frame_for s.end known.initial packet }
 
 -- nothing is written of a record
-abbrev pub passed_over : Framing → RecordStep FlowPacket Framing
+abbrev pub passed_over : FlowSearch → RecordStep FlowPacket FlowSearch
 passed_over s = record { deed = None; next = s }
 
 -- a packet that goes to the side has its lines, and of one that the captured end sent the number is noted
-abbrev pub by_direction : Framing → Met → RecordParts → DatagramParts → Parts → Bool → RecordStep FlowPacket Framing
-by_direction s met entry there packet goes =
-    if goes then record { deed = Some (flow_packet s met entry there packet); next = with_met s met }
-    else passed_over (with_met s (met_number met packet.header.number))
+abbrev pub by_direction : FlowSearch → KnownFlow → RecordParts → DatagramParts → Parts → Bool → RecordStep FlowPacket FlowSearch
+by_direction s known entry there packet goes =
+    if goes then record { deed = Some (flow_packet s known entry there packet); next = with_known s known }
+    else passed_over (with_known s (known_number known packet.header.number))
 
 -- the same by who sent it
-abbrev pub by_sender : Framing → RecordParts → DatagramParts → Parts → AddressAndPort → RecordStep FlowPacket Framing
+abbrev pub by_sender : FlowSearch → RecordParts → DatagramParts → Parts → AddressAndPort → RecordStep FlowPacket FlowSearch
 by_sender s entry there packet from =
-    let met = met_by s.met from (packet_type packet.header.kind) in
-    by_direction s met entry there packet (goes_to s.side (side_from met.ends from))
+    let known = known_by s.known from (packet_type packet.header.kind) in
+    by_direction s known entry there packet (goes_to s.side (side_from known.ends from))
 
 -- a packet of the flow that is asked for is looked at, and one of another flow isn't
-abbrev pub by_number : Framing → ℕ → RecordParts → DatagramParts → Parts → RecordStep FlowPacket Framing
+abbrev pub by_number : FlowSearch → ℕ → RecordParts → DatagramParts → Parts → RecordStep FlowPacket FlowSearch
 by_number s number entry there packet =
     if number == s.flow then by_sender s entry there packet (from_end there.pseudo packet.header.from) else passed_over s
 
 -- a packet's flow is numbered as `show` numbers it
-abbrev pub by_flow : Framing → RecordParts → DatagramParts → Parts → Flow → RecordStep FlowPacket Framing
+abbrev pub by_flow : FlowSearch → RecordParts → DatagramParts → Parts → Flow → RecordStep FlowPacket FlowSearch
 by_flow s entry there packet flow =
     by_number (record s { flows = with_flow flow s.flows }) (flow_number flow s.flows) entry there packet
 
 -- DCCP bytes that are no packet are passed over
-abbrev pub by_decoded : Framing → RecordParts → DatagramParts → Result Parts Malformed → RecordStep FlowPacket Framing
+abbrev pub by_decoded : FlowSearch → RecordParts → DatagramParts → Result Parts Malformed → RecordStep FlowPacket FlowSearch
 by_decoded s entry there (Ok packet) = by_flow s entry there packet (flow_of there.pseudo packet.header.from packet.header.to)
 by_decoded s entry there (Err why) = passed_over s
 
 -- so is a record that carries no DCCP
-abbrev pub by_carried : Framing → RecordParts → Option DatagramParts → RecordStep FlowPacket Framing
+abbrev pub by_carried : FlowSearch → RecordParts → Option DatagramParts → RecordStep FlowPacket FlowSearch
 by_carried s entry None = passed_over s
 by_carried s entry (Some there) = by_decoded s entry there (decoded there.bytes)
 
 -- what a record comes to
-unfoldable pub framed_record : Framing → RecordParts → RecordStep FlowPacket Framing
+unfoldable pub framed_record : FlowSearch → RecordParts → RecordStep FlowPacket FlowSearch
 framed_record s entry = by_carried s entry (carried entry.link entry.bytes)
 
 -- What `frames` makes of the records of a capture. After the last stands nothing.
-abbrev pub frames_work : RecordWork FlowPacket Framing
+abbrev pub frames_work : RecordWork FlowPacket FlowSearch
 frames_work = record {
   begun = λ s nanos. passed_over s;
   passed = λ s e. framed_record s (record_behind e);
@@ -131,7 +131,7 @@ frames_work = record {
 }
 
 -- what the pieces of an input come to, for this flow and side
-abbrev pub frames_pieces : ℕ → Side → List ℕ → Taken FlowPacket (RecordsState Framing)
+abbrev pub frames_pieces : ℕ → Side → List ℕ → Taken FlowPacket (RecordsState FlowSearch)
 frames_pieces flow side input = records_of frames_work (first_framing flow side) input
 
 -- What `frames` writes of an input.

@@ -36,33 +36,33 @@ abbrev pub told_line : RecordTold → List ℕ
 told_line t = object_line (told_members t)
 
 -- What is known while records are told: whether the bytes of data are asked for, and the flows that were seen.
-pub record TellingParts : Type 0 where
+pub record JsonParts : Type 0 where
   pub payload : Bool
   pub seen : List Flow
 
 -- before the first record
-abbrev pub first_telling : Bool → TellingParts
+abbrev pub first_telling : Bool → JsonParts
 first_telling payload = record { payload = payload; seen = [] }
 
 -- a record as it is told then
-abbrev pub record_told : TellingParts → RecordParts → RecordTold
+abbrev pub record_told : JsonParts → RecordParts → RecordTold
 record_told s e = record { payload = s.payload; flow = flow_number_of s.seen (judged_ip (ip_bytes e.link e.bytes)); entry = e }
 
 -- what is known after what a record holds
-abbrev pub telling_with : TellingParts → Judged → TellingParts
+abbrev pub telling_with : JsonParts → Judged → JsonParts
 telling_with s judged = record { payload = s.payload; seen = flows_after s.seen judged }
 
 -- what is known after a record
-abbrev pub telling_after : TellingParts → RecordParts → TellingParts
+abbrev pub telling_after : JsonParts → RecordParts → JsonParts
 telling_after s e = telling_with s (judged_ip (ip_bytes e.link e.bytes))
 
 -- records as they are told, one after the other
-abbrev pub all_told : TellingParts → List RecordParts → List RecordTold
+abbrev pub all_told : JsonParts → List RecordParts → List RecordTold
 all_told s [] = []
 all_told s (e ∷ entries) = record_told s e ∷ all_told (telling_after s e) entries
 
 -- What `json` makes of the records of a capture: it tells each, and keeps the flows.
-abbrev pub json_work : RecordWork RecordTold TellingParts
+abbrev pub json_work : RecordWork RecordTold JsonParts
 json_work = record {
   begun = λ s nanos. record { deed = None; next = s };
   passed = λ s e. record { deed = Some (record_told s e); next = telling_after s e };
@@ -71,7 +71,7 @@ json_work = record {
 }
 
 -- what the pieces of an input come to
-abbrev pub json_pieces : Bool → List ℕ → Taken RecordTold (RecordsState TellingParts)
+abbrev pub json_pieces : Bool → List ℕ → Taken RecordTold (RecordsState JsonParts)
 json_pieces payload input = records_of json_work (first_telling payload) input
 
 -- What `json` writes of an input.

@@ -21,7 +21,7 @@ pub(crate) enum Complaint {
 
 /// What a form tells apart from its output.
 #[derive(Clone, Copy)]
-pub(crate) struct Said {
+pub(crate) struct Remarks {
     /// What of a capture was skipped.
     pub(crate) skips: Skips,
     /// Why its input is refused, if it is.
@@ -32,7 +32,7 @@ pub(crate) struct Said {
 #[derive(Clone, Copy)]
 pub(crate) struct FormEnd {
     pub(crate) end: JobEnd,
-    pub(crate) said: Said,
+    pub(crate) said: Remarks,
 }
 
 // A line that is refused, if one is.
@@ -56,20 +56,20 @@ fn capture_complaint(refusal: Option<CaptureRefusal>) -> Option<Complaint>
 }
 
 /// What is told of lines.
-pub(crate) fn line_said(refusal: Option<LineRefusal>) -> Said
+pub(crate) fn line_said(refusal: Option<LineRefusal>) -> Remarks
     ensures { result ≡ spec.line_said refusal }
 {
-    Said {
+    Remarks {
         skips: Skips::none(),
         complaint: line_complaint(refusal),
     }
 }
 
 /// What is told of a capture.
-pub(crate) fn capture_said(refusal: Option<CaptureRefusal>, skips: Skips) -> Said
+pub(crate) fn capture_said(refusal: Option<CaptureRefusal>, skips: Skips) -> Remarks
     ensures { result ≡ spec.capture_said refusal skips }
 {
-    Said {
+    Remarks {
         skips,
         complaint: capture_complaint(refusal),
     }
@@ -133,7 +133,7 @@ fn put_refused(text: &mut Vec<u8>, complaint: &Option<Complaint>) -> Result<(), 
 }
 
 // Puts all that a form tells.
-fn put_said(text: &mut Vec<u8>, said: &Said) -> Result<(), NoMemory>
+fn put_said(text: &mut Vec<u8>, said: &Remarks) -> Result<(), NoMemory>
     ensures { OnOk result (text.new.items ≡ text.old.items ++ spec.said_text said.now) }
 {
     put_skips(text, &said.skips)?;

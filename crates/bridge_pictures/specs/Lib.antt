@@ -14,7 +14,7 @@ pub mod Bars
 pub mod Look
 pub mod Chart
 pub mod Graph
-pub mod Watched
+pub mod Trace
 pub mod Played
 pub mod Senders
 pub mod FlowWindows

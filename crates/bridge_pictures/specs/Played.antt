@@ -10,13 +10,13 @@ use Rattle.two_ends.specs.Controlled.{Controlled, end_of_side}
 use Rattle.two_ends.specs.World.{half_of}
 use Rattle.world_events.specs.declared.event.Side.TheVariants.{Client, Server}
 use Rattle.bridge_pictures.specs.Graph.{GraphParts, counts_drawn, first_graph, graph_picture}
-use Rattle.bridge_pictures.specs.Watched.{WatchedParts, counts_of, end_told, end_watched, first_watched, loss_marks}
+use Rattle.bridge_pictures.specs.Trace.{TraceParts, counts_of, end_told, end_watched, first_trace, loss_marks}
 
 -- The windows of a world while they are drawn: the graph, and what is kept of both ends.
 pub record WorldDrawing : Type 0 where
   pub graph : GraphParts
-  pub client : WatchedParts
-  pub server : WatchedParts
+  pub client : TraceParts
+  pub server : TraceParts
 
 -- A schedule while its windows are drawn: where it stands, and what is drawn.
 pub record Played : Type 0 where
@@ -25,7 +25,7 @@ pub record Played : Type 0 where
 
 -- before the first event
 abbrev pub first_world_drawing : WorldDrawing
-first_world_drawing = record { graph = first_graph; client = first_watched; server = first_watched }
+first_world_drawing = record { graph = first_graph; client = first_trace; server = first_trace }
 
 -- before the first line
 abbrev pub first_played : Played

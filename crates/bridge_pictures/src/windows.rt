@@ -8,7 +8,7 @@ mod graph;
 mod look;
 mod schedule;
 mod senders;
-mod watched;
+mod trace;
 
 pub use crate::windows::flow::windows_of_flow;
 pub use crate::windows::schedule::windows_of_schedule;

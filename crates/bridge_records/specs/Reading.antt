@@ -21,8 +21,8 @@ use Rattle.bridge_records.specs.Blocks.{block_head, block_order, ends_block, enh
 use Rattle.bridge_records.specs.Interfaces.{front_of, interface_of, needs_nanos}
 use Rattle.bridge_records.specs.Packets.{enhanced_head, simple_head}
 use Rattle.bridge_records.specs.declared.blocks.BlockHead.{BlockHead}
-use Rattle.bridge_records.specs.declared.found.Found.{Found}
-use Rattle.bridge_records.specs.declared.found.Found.TheVariants.{Begins, Holds}
+use Rattle.bridge_records.specs.declared.content.Content.{Content}
+use Rattle.bridge_records.specs.declared.content.Content.TheVariants.{Begins, Holds}
 use Rattle.bridge_records.specs.declared.interfaces.Interface.{Interface}
 use Rattle.bridge_records.specs.declared.reading.Place.{Place}
 use Rattle.bridge_records.specs.declared.reading.Place.TheVariants as place
@@ -112,69 +112,69 @@ format_fault fault.BadVersion = why.BadVersion
 format_fault fault.BadLink = why.BadLink
 
 -- the file header of a classic capture
-abbrev pub by_format : FileState → Result Format FormatFault → Judgement Found FileState
+abbrev pub by_format : FileState → Result Format FormatFault → Judgement Content FileState
 by_format file (Err fault) = Stops (format_fault fault)
 by_format file (Ok format) = Goes (Some (Begins format.nanos)) (at file (place.Header format))
 
 -- the first section, by its length: the rest of its first block comes next
-abbrev pub by_section_length : FileState → Order → List ℕ → ℕ → Option PieceFault → Judgement Found FileState
+abbrev pub by_section_length : FileState → Order → List ℕ → ℕ → Option PieceFault → Judgement Content FileState
 by_section_length file order piece total (Some fault) = Stops fault
 by_section_length file order piece total None =
     if not (is_section_version order 12 piece) then Stops why.BadVersion
     else Goes None (at file (place.Section order total))
 
 -- the same by its byte order
-abbrev pub by_section : FileState → List ℕ → Option Order → Judgement Found FileState
+abbrev pub by_section : FileState → List ℕ → Option Order → Judgement Content FileState
 by_section file piece None = Stops why.BadMagic
 by_section file piece (Some order) =
     by_section_length file order piece (ordered_number_at order 4 4 piece) (length_fault 28 (ordered_number_at order 4 4 piece))
 
 -- the first bytes of a file: those of a section, or the file header of a classic capture
-abbrev pub by_start : FileState → List ℕ → Judgement Found FileState
+abbrev pub by_start : FileState → List ℕ → Judgement Content FileState
 by_start file piece =
     if ordered_number_at Big 0 4 piece == section_block then by_section file piece (section_order piece)
     else by_format file (classic_format piece)
 
 -- a record's header in a classic capture: too many captured bytes are refused, none are a record, and else they are the
 -- next piece
-abbrev pub by_header : FileState → Format → RecordHeader → Judgement Found FileState
+abbrev pub by_header : FileState → Format → RecordHeader → Judgement Content FileState
 by_header file format head =
     if nat_lt 262144 head.captured then Stops why.TooLong
     else if head.captured == 0 then Goes (Some (Holds format.link head 0)) (at file (place.Header format))
     else Goes None (at file (place.Body format head))
 
 -- the end of the first section's first block
-abbrev pub by_section_end : FileState → Order → ℕ → List ℕ → Judgement Found FileState
+abbrev pub by_section_end : FileState → Order → ℕ → List ℕ → Judgement Content FileState
 by_section_end file order total piece =
     if not (ends_block order total piece) then Stops why.BadBlock
     else Goes None (at file (place.Block order))
 
 -- a block without a body is skipped, where its type wants none
-abbrev pub by_empty : FileState → Order → BlockHead → Judgement Found FileState
+abbrev pub by_empty : FileState → Order → BlockHead → Judgement Content FileState
 by_empty file order head =
     if is_read_block head.kind || not (head.first == 12) then Stops why.BadBlock
     else Goes None (at (block_noted file head.kind) (place.Block order))
 
 -- the first bytes of a block, by its length: the rest comes next
-abbrev pub by_block_length : FileState → Order → BlockHead → Option PieceFault → Judgement Found FileState
+abbrev pub by_block_length : FileState → Order → BlockHead → Option PieceFault → Judgement Content FileState
 by_block_length file order head (Some fault) = Stops fault
 by_block_length file order head None =
     if not (head.total == 12) then Goes None (at file (place.Rest order head))
     else by_empty file order head
 
 -- the first bytes of a block: a long one that is not needed is passed over
-abbrev pub by_block_head : FileState → Order → BlockHead → Judgement Found FileState
+abbrev pub by_block_head : FileState → Order → BlockHead → Judgement Content FileState
 by_block_head file order head =
     if is_passed_over head then Goes None (at (passing_noted file head) (place.Passing order head.total (head.total - 12)))
     else by_block_length file order head (length_fault 12 head.total)
 
 -- the same by its byte order
-abbrev pub by_block : FileState → List ℕ → Option Order → Judgement Found FileState
+abbrev pub by_block : FileState → List ℕ → Option Order → Judgement Content FileState
 by_block file piece None = Stops why.BadBlock
 by_block file piece (Some order) = by_block_head file order (block_head order piece)
 
 -- a further section has interfaces of its own
-abbrev pub by_new_section : FileState → Order → List ℕ → Judgement Found FileState
+abbrev pub by_new_section : FileState → Order → List ℕ → Judgement Content FileState
 by_new_section file order piece =
     if nat_lt (length piece) 16 then Stops why.BadBlock
     else if not (is_section_version order 0 piece) then Stops why.BadVersion
@@ -186,12 +186,12 @@ begun_nanos (Some nanos) i = nanos
 begun_nanos None i = needs_nanos i.resolution
 
 -- so the first interface begins the capture
-abbrev pub begun_capture : Option Bool → Interface → Option Found
+abbrev pub begun_capture : Option Bool → Interface → Option Content
 begun_capture (Some nanos) i = None
 begun_capture None i = Some (Begins (needs_nanos i.resolution))
 
 -- an interface after those of the section
-abbrev pub by_interface : FileState → Order → Result Interface PieceFault → Judgement Found FileState
+abbrev pub by_interface : FileState → Order → Result Interface PieceFault → Judgement Content FileState
 by_interface file order (Err fault) = Stops fault
 by_interface file order (Ok i) =
     Goes (begun_capture file.nanos i) (record file { place = place.Block order; interfaces = file.interfaces ++ (i ∷ []); nanos = Some (begun_nanos file.nanos i) })
@@ -201,20 +201,20 @@ abbrev pub most_interfaces : ℕ
 most_interfaces = 256
 
 -- a block of an interface
-abbrev pub by_interface_block : FileState → Order → ℕ → List ℕ → Judgement Found FileState
+abbrev pub by_interface_block : FileState → Order → ℕ → List ℕ → Judgement Content FileState
 by_interface_block file order first piece =
     if nat_le most_interfaces (length file.interfaces) then Goes None (at file (place.Block order))
     else by_interface file order (interface_of order first piece)
 
 -- a packet is a record where its bytes come before the block's last four, and are not too many
-abbrev pub by_packet : FileState → Order → ℕ → RecordHeader → ℕ → List ℕ → Judgement Found FileState
+abbrev pub by_packet : FileState → Order → ℕ → RecordHeader → ℕ → List ℕ → Judgement Content FileState
 by_packet file order link head start piece =
     if nat_lt (length piece) (start + head.captured + 4) then Stops why.BadBlock
     else if nat_lt 262144 head.captured then Goes None (at (long_noted file head.captured) (place.Block order))
     else Goes (Some (Holds link head start)) (at (link_noted file link) (place.Block order))
 
 -- the same by what its record says, if its time can be told
-abbrev pub by_head : FileState → Order → ℕ → ℕ → List ℕ → Option RecordHeader → Judgement Found FileState
+abbrev pub by_head : FileState → Order → ℕ → ℕ → List ℕ → Option RecordHeader → Judgement Content FileState
 by_head file order link start piece None = Stops why.BadBlock
 by_head file order link start piece (Some head) = by_packet file order link head start piece
 
@@ -224,19 +224,19 @@ is_nanos None = false
 is_nanos (Some nanos) = nanos
 
 -- a packet with its interface and time
-abbrev pub by_enhanced : FileState → Order → List ℕ → Option Interface → Judgement Found FileState
+abbrev pub by_enhanced : FileState → Order → List ℕ → Option Interface → Judgement Content FileState
 by_enhanced file order piece None = Stops why.BadBlock
 by_enhanced file order piece (Some i) =
     if nat_lt (length piece) 20 then Stops why.BadBlock
     else by_head file order i.link 16 piece (enhanced_head i (is_nanos file.nanos) order piece)
 
 -- a packet of the first interface, without a time
-abbrev pub by_simple : FileState → Order → ℕ → List ℕ → Option Interface → Judgement Found FileState
+abbrev pub by_simple : FileState → Order → ℕ → List ℕ → Option Interface → Judgement Content FileState
 by_simple file order original piece None = Stops why.BadBlock
 by_simple file order original piece (Some i) = by_packet file order i.link (simple_head i.most original) 0 piece
 
 -- a block by its type
-abbrev pub by_kind : FileState → Order → BlockHead → List ℕ → Judgement Found FileState
+abbrev pub by_kind : FileState → Order → BlockHead → List ℕ → Judgement Content FileState
 by_kind file order head piece =
     if head.kind == section_block then by_new_section file order piece
     else if head.kind == interface_block then by_interface_block file order head.first piece
@@ -246,20 +246,20 @@ by_kind file order head piece =
     else Goes None (at (block_noted file head.kind) (place.Block order))
 
 -- the rest of a block
-abbrev pub by_rest : FileState → Order → BlockHead → List ℕ → Judgement Found FileState
+abbrev pub by_rest : FileState → Order → BlockHead → List ℕ → Judgement Content FileState
 by_rest file order head piece =
     if not (ends_block order head.total piece) then Stops why.BadBlock
     else by_kind file order head piece
 
 -- a piece of a block that is passed over: the next, or the last, in which the block ends
-abbrev pub by_passing : FileState → Order → ℕ → ℕ → List ℕ → Judgement Found FileState
+abbrev pub by_passing : FileState → Order → ℕ → ℕ → List ℕ → Judgement Content FileState
 by_passing file order total left piece =
     if nat_lt 524288 left then Goes None (at file (place.Passing order total (left - 524288)))
     else if not (ends_block order total piece) then Stops why.BadBlock
     else Goes None (at file (place.Block order))
 
 -- what a piece comes to, by where it stands
-abbrev pub judged_at : Place → FileState → List ℕ → Judgement Found FileState
+abbrev pub judged_at : Place → FileState → List ℕ → Judgement Content FileState
 judged_at place.Start file piece = by_start file piece
 judged_at (place.Header format) file piece = by_header file format (record_header format.order piece)
 judged_at (place.Body format head) file piece = Goes (Some (Holds format.link head 0)) (at file (place.Header format))
@@ -269,11 +269,11 @@ judged_at (place.Rest order head) file piece = by_rest file order head piece
 judged_at (place.Passing order total left) file piece = by_passing file order total left piece
 
 -- What a piece of a capture comes to: a deed of it is the capture's beginning, or a record.
-abbrev pub file_judged : FileState → List ℕ → Judgement Found FileState
+abbrev pub file_judged : FileState → List ℕ → Judgement Content FileState
 file_judged file piece = judged_at file.place file piece
 
 -- the bytes of a record are in its piece
-abbrev pub IsInside : Found → List ℕ → Type 0
+abbrev pub IsInside : Content → List ℕ → Type 0
 IsInside (Begins nanos) piece = ⊤
 IsInside (Holds link head start) piece = (start + head.captured ≤ length piece) × (head.captured ≤ 262144)
 
@@ -282,12 +282,12 @@ abbrev pub bytes_held : RecordHeader → ℕ → List ℕ → List ℕ
 bytes_held head start piece = take head.captured (drop start piece)
 
 -- A piece was read: what it comes to leads on, or nothing changed.
-abbrev pub ReadsPiece : Judgement Found FileState → List ℕ → FileState → FileState → Result (Option Found) PieceFault → Type 0
+abbrev pub ReadsPiece : Judgement Content FileState → List ℕ → FileState → FileState → Result (Option Content) PieceFault → Type 0
 ReadsPiece judged piece old new (Ok found) = (judged ≡ Goes found new) × IfSome found (λ f. IsInside f piece)
 ReadsPiece judged piece old new (Err fault) = (judged ≡ Stops fault) × (new ≡ old)
 
 -- The same where an interface may want memory. Where none was left nothing is told.
-abbrev pub ReadsOrLacks : Judgement Found FileState → List ℕ → FileState → FileState → Result (Option Found) PieceError → Type 0
+abbrev pub ReadsOrLacks : Judgement Content FileState → List ℕ → FileState → FileState → Result (Option Content) PieceError → Type 0
 ReadsOrLacks judged piece old new (Ok found) = ReadsPiece judged piece old new (Ok found)
 ReadsOrLacks judged piece old new (Err (piece_error.Refused fault)) = ReadsPiece judged piece old new (Err fault)
 ReadsOrLacks judged piece old new (Err piece_error.NoMemory) = Unit {0}

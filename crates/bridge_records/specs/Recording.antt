@@ -6,8 +6,8 @@ use Rattle.tool_text.specs.Ends.{Answers, IsAnswered, StopsWithin}
 use Rattle.bridge_records.specs.Pieces.{Goes, Judgement, PieceWork, Stops, Taken, pieces_of, text_of_pieces}
 use Rattle.bridge_records.specs.declared.pieces.fault.PieceFault.{PieceFault}
 use Rattle.bridge_records.specs.Reading.{FileState, bytes_held, file_judged, first_file, is_between, is_untold, next_length}
-use Rattle.bridge_records.specs.declared.found.Found.{Found}
-use Rattle.bridge_records.specs.declared.found.Found.TheVariants as found
+use Rattle.bridge_records.specs.declared.content.Content.{Content}
+use Rattle.bridge_records.specs.declared.content.Content.TheVariants as found
 use Rattle.bridge_records.specs.declared.recording.CaptureRefusal.{CaptureRefusal}
 use Rattle.bridge_records.specs.declared.recording.RecordsEnd.{RecordsEnd}
 use Rattle.bridge_records.specs.declared.skips.Skips.{Skips}
@@ -59,13 +59,13 @@ abbrev pub goes_from : {P V : Type 0} → FileState → Bool → ℕ → RecordS
 goes_from file nanos records passed = Goes passed.deed (reading_at file nanos records passed.next)
 
 -- what a piece holds is handed to the job
-abbrev pub by_found : {P V : Type 0} → RecordWork P V → RecordsState V → List ℕ → FileState → Option Found → Judgement P (RecordsState V)
+abbrev pub by_found : {P V : Type 0} → RecordWork P V → RecordsState V → List ℕ → FileState → Option Content → Judgement P (RecordsState V)
 by_found work s piece next None = Goes None (reading_at next s.nanos s.records s.job)
 by_found work s piece next (Some (found.Begins nanos)) = goes_from next nanos s.records (work.begun s.job nanos)
 by_found work s piece next (Some (found.Holds link head start)) = goes_from next s.nanos (one_more s.records) (held_passed work s link head start piece)
 
 -- what a piece comes to, by what it is in the capture that is read
-abbrev pub by_judged : {P V : Type 0} → RecordWork P V → RecordsState V → List ℕ → Judgement Found FileState → Judgement P (RecordsState V)
+abbrev pub by_judged : {P V : Type 0} → RecordWork P V → RecordsState V → List ℕ → Judgement Content FileState → Judgement P (RecordsState V)
 by_judged work s piece (Stops fault) = Stops fault
 by_judged work s piece (Goes deed next) = by_found work s piece next deed
 

@@ -8,7 +8,7 @@
 #![tactic(auto)]
 
 mod blocks;
-mod found;
+mod content;
 mod interfaces;
 mod links;
 mod packets;
@@ -18,7 +18,7 @@ mod recording;
 mod skips;
 mod writing;
 
-pub use crate::found::Found;
+pub use crate::content::Content;
 pub use crate::links::is_known_link;
 pub use crate::pieces::PieceFault;
 pub use crate::recording::{CaptureRefusal, RecordJob, RecordsEnd, run_records};

@@ -9,7 +9,7 @@ use crate::blocks::{
     BlockHead, ENHANCED, INTERFACE, MOST_BLOCK, PACKET, SECTION, SIMPLE, block_head, block_order,
     ends_block, is_passed_over, is_read_block, is_section_version, length_fault, section_order,
 };
-use crate::found::Found;
+use crate::content::Content;
 use crate::interfaces::{Interface, front_of, interface_of, needs_nanos};
 use crate::links::{classic_format, is_known_link};
 use crate::packets::{enhanced_head, simple_head};
@@ -65,7 +65,7 @@ impl Model for CaptureFile {
 }
 
 /// What a piece holds, if anything, or why the capture is refused at it.
-pub(crate) type Answer = Result<Option<Found>, PieceFault>;
+pub(crate) type Answer = Result<Option<Content>, PieceFault>;
 
 impl CaptureFile {
     /// Before the first piece. It takes no memory.
@@ -113,7 +113,7 @@ impl CaptureFile {
 
     /// Reads the next piece. What it holds is answered, if it holds anything. A piece that is refused changes nothing.
     /// NoMemory comes where no memory was left for an interface.
-    pub(crate) fn read(&mut self, piece: &[u8]) -> Result<Option<Found>, PieceError>
+    pub(crate) fn read(&mut self, piece: &[u8]) -> Result<Option<Content>, PieceError>
         requires { length piece.now ≡ spec.next_length self.old.place }
         ensures { ReadsOrLacks (file_judged self.old piece.now) piece.now self.old self.new result }
     {
@@ -179,7 +179,7 @@ impl CaptureFile {
         }
         let format = classic_format(piece)?;
         self.place = Place::Header(format);
-        Ok(Some(Found::Begins(format.nanos)))
+        Ok(Some(Content::Begins(format.nanos)))
     }
 
     // The first bytes of the first section.
@@ -220,10 +220,10 @@ impl CaptureFile {
     // The bytes of a record.
     fn end_record(&mut self, format: Format, head: RecordHeader) -> Answer
         ensures at { self.new ≡ spec.at self.old (Place.Header format) }
-        ensures found { result ≡ Ok (Some (Found.Holds format.link head 0)) }
+        ensures found { result ≡ Ok (Some (Content.Holds format.link head 0)) }
     {
         self.place = Place::Header(format);
-        Ok(Some(Found::Holds(format.link, head, 0)))
+        Ok(Some(Content::Holds(format.link, head, 0)))
     }
 
     // The rest of the file's first block.
@@ -290,7 +290,7 @@ impl CaptureFile {
         order: Order,
         head: BlockHead,
         piece: &[u8],
-    ) -> Result<Option<Found>, PieceError>
+    ) -> Result<Option<Content>, PieceError>
         requires least { 4 ≤ length piece.now }
         requires most { length piece.now ≤ 524288 }
         ensures { ReadsOrLacks (spec.by_rest self.old order head piece.now) piece.now self.old self.new result }
@@ -328,7 +328,7 @@ impl CaptureFile {
     }
 
     // The first interface of a file begins the capture.
-    fn begin_capture(&mut self, interface: &Interface) -> Option<Found>
+    fn begin_capture(&mut self, interface: &Interface) -> Option<Content>
         ensures found { result ≡ spec.begun_capture self.old.nanos interface.now }
         ensures told { self.new ≡ record self.old { nanos = Some (spec.begun_nanos self.old.nanos interface.now) } }
     {
@@ -337,7 +337,7 @@ impl CaptureFile {
         }
         let nanos = needs_nanos(interface.resolution);
         self.nanos = Some(nanos);
-        Some(Found::Begins(nanos))
+        Some(Content::Begins(nanos))
     }
 
     // The rest of an interface's block.
@@ -346,7 +346,7 @@ impl CaptureFile {
         order: Order,
         first: u32,
         piece: &[u8],
-    ) -> Result<Option<Found>, PieceError>
+    ) -> Result<Option<Content>, PieceError>
         requires { length piece.now ≤ 524288 }
         ensures { ReadsOrLacks (spec.by_interface_block self.old order first piece.now) piece.now self.old self.new result }
     {
@@ -397,7 +397,7 @@ impl CaptureFile {
             return Ok(None);
         }
         self.note_link(link);
-        Ok(Some(Found::Holds(link, head, start)))
+        Ok(Some(Content::Holds(link, head, start)))
     }
 
     // The rest of the block of a packet of this interface.

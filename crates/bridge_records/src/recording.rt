@@ -7,7 +7,7 @@ ghost use Rattle.tool_text.specs.Ends.{EndsForCause, SinkFails};
 ghost use Rattle.bridge_records.specs.Reading.{bytes_held};
 ghost use Rattle.bridge_records.specs.Recording.{GoesOverRecords, RecordWork, first_reading, held_passed, numbered_entry, reading_at, records_work, refusal_behind};
 
-use crate::found::Found;
+use crate::content::Content;
 use crate::pieces::{PieceError, PieceFault, PieceJob, run_pieces};
 use crate::reading::CaptureFile;
 use crate::skips::Skips;
@@ -33,10 +33,10 @@ pub trait RecordJob {
         ensures next { OnOk result (self.new ≡ (work.begun self.old nanos).next) };
 
     /// Takes the next record, and leaves the text of what it does at the text's end.
-    fn pass(&mut self, record: &Record<'_>, text: &mut Vec<u8>) -> Result<(), NoMemory>
-        requires { length record.now.bytes.now ≤ 262144 }
-        ensures text { OnOk result (text.new.items ≡ text.old.items ++ piece_text (records_work work) (work.passed self.old (entry_of record.now)).deed) }
-        ensures next { OnOk result (self.new ≡ (work.passed self.old (entry_of record.now)).next) };
+    fn pass(&mut self, item: &Record<'_>, text: &mut Vec<u8>) -> Result<(), NoMemory>
+        requires { length item.now.bytes.now ≤ 262144 }
+        ensures text { OnOk result (text.new.items ≡ text.old.items ++ piece_text (records_work work) (work.passed self.old (entry_of item.now)).deed) }
+        ensures next { OnOk result (self.new ≡ (work.passed self.old (entry_of item.now)).next) };
 
     /// Puts the text after the last of so many records: at the capture's end, or where it is refused. At the end of a
     /// pcapng file without an interface it is untold whether fractions are nanoseconds: then nothing began.
@@ -67,14 +67,14 @@ pub struct RecordsEnd {
 
 /// A capture while a job goes over its records.
 #[derive(Drop)]
-pub(crate) struct Recording<J> {
+pub(crate) struct CaptureWalk<J> {
     file: CaptureFile,
     nanos: bool,
     records: u64,
     job: J,
 }
 
-impl<J> Model for Recording<J> {
+impl<J> Model for CaptureWalk<J> {
     ghost use Rattle.bridge_records.specs.Recording.{RecordsState};
 
     ghost Value = { RecordsState J };
@@ -112,12 +112,12 @@ fn numbered<'a>(
     }
 }
 
-impl<J: RecordJob> Recording<J> {
+impl<J: RecordJob> CaptureWalk<J> {
     // Before the first piece.
-    fn new(alloc: Global, job: J) -> Recording<J>
+    fn new(alloc: Global, job: J) -> CaptureWalk<J>
         ensures { result ≡ first_reading job }
     {
-        Recording {
+        CaptureWalk {
             file: CaptureFile::new(alloc),
             nanos: false,
             records: 0,
@@ -171,12 +171,12 @@ impl<J: RecordJob> Recording<J> {
     {
         self.records = self.records.saturating_add(1);
         let bytes = bytes_of(head, start, piece);
-        let record = numbered(self.records, self.nanos, link, head, bytes);
-        self.job.pass(&record, text)
+        let item = numbered(self.records, self.nanos, link, head, bytes);
+        self.job.pass(&item, text)
     }
 }
 
-impl<J: RecordJob> PieceJob for Recording<J> {
+impl<J: RecordJob> PieceJob for CaptureWalk<J> {
     ghost use Rattle.bridge_records.specs.Recording.{records_work};
 
     ghost Deed = { J.Deed };
@@ -194,8 +194,8 @@ impl<J: RecordJob> PieceJob for Recording<J> {
     fn judge(&mut self, piece: &[u8], text: &mut Vec<u8>) -> Result<(), PieceError> {
         match self.file.read(piece)? {
             None => {}
-            Some(Found::Begins(nanos)) => self.begin(nanos, text)?,
-            Some(Found::Holds(link, head, start)) => {
+            Some(Content::Begins(nanos)) => self.begin(nanos, text)?,
+            Some(Content::Holds(link, head, start)) => {
                 self.pass_held(link, &head, start, piece, text)?;
             }
         }
@@ -215,7 +215,8 @@ impl<J: RecordJob> PieceJob for Recording<J> {
 /// counts time.
 ///
 /// Input comes where the capture has a fault, which is answered with how many records come before it; and what was
-/// skipped is answered, too. With status 0 or 1 the output is that of the whole input, with another a front of it. Read comes where the source failed, Write where the sink did, and Memory where no memory was left.
+/// skipped is answered, too. With status 0 or 1 the output is that of the whole input, with another a front of it. Read
+/// comes where the source failed, Write where the sink did, and Memory where no memory was left.
 pub fn run_records<J: RecordJob + Drop, S: Source, K: Sink>(
     alloc: Global,
     job: J,
@@ -226,7 +227,7 @@ pub fn run_records<J: RecordJob + Drop, S: Source, K: Sink>(
         → GoesOverRecords J.work job bytes result (S.left input.new) (K.taken output.old) (K.taken output.new) }
     ensures cause { EndsForCause result.end (Rose (S.faults input.old) (S.faults input.new)) (SinkFails K.faults K.empty_takes output.old output.new) }
 {
-    let mut recording = Recording::new(alloc, job);
+    let mut recording = CaptureWalk::new(alloc, job);
     let ended = run_pieces(alloc, &mut recording, input, output);
     RecordsEnd {
         end: ended.end,

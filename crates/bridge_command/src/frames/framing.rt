@@ -29,7 +29,7 @@ use world_events::Side;
 
 /// What is known of the flow, once a packet of it came.
 #[derive(Clone, Copy)]
-pub(crate) struct Met {
+pub(crate) struct KnownFlow {
     /// Its ends.
     pub(crate) ends: FlowEnds,
     /// The captured end's initial number, once it sent one of 48 bits.
@@ -38,7 +38,7 @@ pub(crate) struct Met {
 
 /// A capture while the packets of a flow are sought.
 #[derive(Drop)]
-pub(crate) struct Framing {
+pub(crate) struct FlowSearch {
     /// The number of the flow.
     pub(crate) flow: u64,
     /// The side that the packets go to.
@@ -48,7 +48,7 @@ pub(crate) struct Framing {
     /// The flows that were seen.
     pub(crate) flows: Flows,
     /// What is known of the flow.
-    pub(crate) met: Option<Met>,
+    pub(crate) known: Option<KnownFlow>,
 }
 
 // The captured end's initial number, once it sent this one.
@@ -62,12 +62,12 @@ fn initial_by(initial: Option<Seq48>, number: Number) -> Option<Seq48>
     }
 }
 
-fn met_by(met: Option<Met>, from: FlowEnd, kind: PacketType) -> Met
-    ensures { result ≡ spec.met_by met from kind }
+fn known_by(known: Option<KnownFlow>, from: FlowEnd, kind: PacketType) -> KnownFlow
+    ensures { result ≡ spec.known_by known from kind }
 {
-    match met {
-        Some(met) => met,
-        None => Met {
+    match known {
+        Some(known) => known,
+        None => KnownFlow {
             ends: ends_by(None, from, kind),
             initial: None,
         },
@@ -84,33 +84,33 @@ fn goes_to(side: Side, from: Side) -> bool
 }
 
 // What is known of the flow, once the captured end sent this number.
-fn met_number(met: &Met, number: Number) -> Met
-    ensures { result ≡ spec.met_number met.now number }
+fn known_number(known: &KnownFlow, number: Number) -> KnownFlow
+    ensures { result ≡ spec.known_number known.now number }
 {
-    Met {
-        ends: met.ends,
-        initial: initial_by(met.initial, number),
+    KnownFlow {
+        ends: known.ends,
+        initial: initial_by(known.initial, number),
     }
 }
 
-impl Framing {
+impl FlowSearch {
     // Before the first record.
-    fn new(alloc: Global, flow: u64, side: Side) -> Framing
+    fn new(alloc: Global, flow: u64, side: Side) -> FlowSearch
         ensures { result ≡ first_framing flow side }
     {
-        Framing {
+        FlowSearch {
             flow,
             side,
             end: usual_end(side),
             flows: Flows::new(alloc),
-            met: None,
+            known: None,
         }
     }
 
     // Puts the lines of a packet that goes to the side.
     fn put_lines(
         &self,
-        met: &Met,
+        known: &KnownFlow,
         item: &Record<'_>,
         there: &Datagram<'_>,
         packet: &Packet<'_>,
@@ -121,10 +121,10 @@ impl Framing {
         requires options { length packet.now.options.now ≤ 1008 }
         requires valid { IsTrue (is_valid packet.now.header) }
         ensures { OnOk result (text.new.items ≡ text.old.items
-            ++ flow_packet_text (spec.flow_packet self.now met.now (entry_of item.now) (carried_by there.now) (parts_by packet.now))) }
+            ++ flow_packet_text (spec.flow_packet self.now known.now (entry_of item.now) (carried_by there.now) (parts_by packet.now))) }
     {
         put_comment(text, item, there, packet, self.flow)?;
-        put_frame(text, &self.end, met.initial, packet)
+        put_frame(text, &self.end, known.initial, packet)
     }
 
     // A packet of the flow.
@@ -145,12 +145,12 @@ impl Framing {
             ≡ (spec.by_sender self.old (entry_of item.now) (carried_by there.now) (parts_by packet.now) (from_end there.now.pseudo packet.now.header.from)).next) }
     {
         let from = from_end(&there.pseudo, packet.header.from);
-        let met = met_by(self.met, from, packet.header.kind.packet_type());
-        if goes_to(self.side, side_from(&met.ends, from)) {
-            self.put_lines(&met, item, there, packet, text)?;
-            self.met = Some(met);
+        let known = known_by(self.known, from, packet.header.kind.packet_type());
+        if goes_to(self.side, side_from(&known.ends, from)) {
+            self.put_lines(&known, item, there, packet, text)?;
+            self.known = Some(known);
         } else {
-            self.met = Some(met_number(&met, packet.header.number));
+            self.known = Some(known_number(&known, packet.header.number));
         }
         Ok(())
     }
@@ -199,20 +199,20 @@ impl Framing {
 /// A capture while the packets of a flow are sought, with the memory for those that are taken out of extension
 /// headers.
 #[derive(Drop)]
-pub(crate) struct FramingJob {
+pub(crate) struct FramesJob {
     alloc: Global,
-    framing: Framing,
+    search: FlowSearch,
 }
 
-impl Model for FramingJob {
-    ghost use Rattle.bridge_command.specs.declared.frames.framing.Framing.{Framing};
+impl Model for FramesJob {
+    ghost use Rattle.bridge_command.specs.declared.frames.framing.FlowSearch.{FlowSearch};
 
-    ghost Value = { Framing };
+    ghost Value = { FlowSearch };
 
-    ghost view = { λ job. job.framing };
+    ghost view = { λ job. job.search };
 }
 
-impl RecordJob for FramingJob {
+impl RecordJob for FramesJob {
     ghost use Rattle.bridge_command.specs.Framing.{FlowPacket, frames_work};
 
     ghost Deed = { FlowPacket };
@@ -225,7 +225,7 @@ impl RecordJob for FramingJob {
 
     fn pass(&mut self, item: &Record<'_>, text: &mut Vec<u8>) -> Result<(), NoMemory> {
         let ip = ip_packet(self.alloc, item.link, item.bytes)?;
-        self.framing.pass_ip(&record_of_ip(item, ip.bytes()), text)
+        self.search.pass_ip(&record_of_ip(item, ip.bytes()), text)
     }
 
     fn finish(
@@ -268,7 +268,7 @@ pub(crate) fn frame_flow<S: Source, K: Sink>(
     ensures skipped { (bytes : List ℕ) → S.left input.old ≡ Some bytes → IsAnswered result.end → result.skips ≡ capture_skips (frames_pieces flow side bytes) }
     ensures cause { EndsForCause result.end (Rose (S.faults input.old) (S.faults input.new)) (SinkFails K.faults K.empty_takes output.old output.new) }
 {
-    let framing = Framing::new(alloc, flow, side);
-    let job = FramingJob { alloc, framing };
+    let search = FlowSearch::new(alloc, flow, side);
+    let job = FramesJob { alloc, search };
     run_records(alloc, job, input, output)
 }

@@ -24,26 +24,26 @@ use tool_text::malformed_name;
 
 /// Tells each record. Contracts see whether the bytes of data are asked for, and the flows that were seen.
 #[derive(Drop)]
-pub(crate) struct Telling {
+pub(crate) struct JsonJob {
     alloc: Global,
     payload: bool,
     flows: Flows,
 }
 
-impl Model for Telling {
-    ghost use Rattle.bridge_command.specs.Telling.{TellingParts};
+impl Model for JsonJob {
+    ghost use Rattle.bridge_command.specs.Telling.{JsonParts};
 
-    ghost Value = { TellingParts };
+    ghost Value = { JsonParts };
 
     ghost view = { λ t. record { payload = t.payload; seen = t.flows } };
 }
 
-impl Telling {
+impl JsonJob {
     /// Before the first record.
-    pub(crate) fn new(alloc: Global, payload: bool) -> Telling
+    pub(crate) fn new(alloc: Global, payload: bool) -> JsonJob
         ensures { result ≡ first_telling payload }
     {
-        Telling {
+        JsonJob {
             alloc,
             payload,
             flows: Flows::new(alloc),
@@ -100,7 +100,7 @@ fn put_malformed(
     object.text("malformed", malformed_name(fault))
 }
 
-impl Telling {
+impl JsonJob {
     // Puts a packet, with the number of its flow.
     fn put_numbered(
         &mut self,

@@ -6,7 +6,7 @@ ghost use Rattle.tool_text.specs.Ends.{Answers, IsAnswered, EndsForCause, SinkFa
 ghost use Rattle.bridge_command.specs.Members.{members_seen};
 ghost use Rattle.bridge_command.specs.Telling.{fault_members, is_json_faulty, json_closing, json_pieces, json_text};
 
-use crate::json::judging::Telling;
+use crate::json::judging::JsonJob;
 use crate::json::objects::Object;
 use crate::unwrap::fault_name;
 use bridge_records::{PieceFault, RecordJob, RecordsEnd, run_records};
@@ -38,7 +38,7 @@ fn put_fault(
     fault_object(alloc, records, fault)?.put_line(text)
 }
 
-impl RecordJob for Telling {
+impl RecordJob for JsonJob {
     ghost use Rattle.bridge_command.specs.Telling.{RecordTold, json_work};
 
     ghost Deed = { RecordTold };
@@ -97,6 +97,6 @@ pub(crate) fn json_records<S: Source, K: Sink>(
     ensures skipped { (bytes : List ℕ) → S.left input.old ≡ Some bytes → IsAnswered result.end → result.skips ≡ capture_skips (json_pieces payload bytes) }
     ensures cause { EndsForCause result.end (Rose (S.faults input.old) (S.faults input.new)) (SinkFails K.faults K.empty_takes output.old output.new) }
 {
-    let job = Telling::new(alloc, payload);
+    let job = JsonJob::new(alloc, payload);
     run_records(alloc, job, input, output)
 }

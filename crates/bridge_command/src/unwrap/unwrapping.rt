@@ -21,11 +21,11 @@ use tool_text::put;
 
 /// Makes of each record one of raw IP. Contracts see nothing of it.
 #[derive(Drop)]
-pub(crate) struct Unwrapping {
+pub(crate) struct UnwrapJob {
     alloc: Global,
 }
 
-impl Model for Unwrapping {
+impl Model for UnwrapJob {
     ghost Value = { Unit {0} };
 
     ghost view = { λ _. tt };
@@ -105,7 +105,7 @@ fn put_untold(text: &mut Vec<u8>, untold: bool) -> Result<(), NoMemory>
     Ok(())
 }
 
-impl RecordJob for Unwrapping {
+impl RecordJob for UnwrapJob {
     ghost use Rattle.bridge_command.specs.Unwrapping.{CapturePart, unwrap_work};
 
     ghost Deed = { CapturePart };
@@ -158,5 +158,5 @@ pub(crate) fn unwrap_capture<S: Source, K: Sink>(
     ensures skipped { (bytes : List ℕ) → S.left input.old ≡ Some bytes → IsAnswered result.end → result.skips ≡ capture_skips (unwrapped_pieces bytes) }
     ensures cause { EndsForCause result.end (Rose (S.faults input.old) (S.faults input.new)) (SinkFails K.faults K.empty_takes output.old output.new) }
 {
-    run_records(alloc, Unwrapping { alloc }, input, output)
+    run_records(alloc, UnwrapJob { alloc }, input, output)
 }

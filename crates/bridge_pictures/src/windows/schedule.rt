@@ -7,7 +7,7 @@ ghost use Rattle.bridge_pictures.specs.Played as spec;
 ghost use Rattle.bridge_pictures.specs.Played.{windows_accepted, windows_refusal, windows_refused, windows_text};
 
 use crate::windows::graph::Graph;
-use crate::windows::watched::{Watched, counts_of};
+use crate::windows::trace::{Trace, counts_of};
 use ccid_two::Kinds;
 use dccp_io::{Sink, Source};
 use seq_circle::NoMemory;
@@ -27,8 +27,8 @@ const HEADING: &[u8] =
 pub(crate) struct WorldWindows {
     alloc: Global,
     graph: Graph,
-    client: Watched,
-    server: Watched,
+    client: Trace,
+    server: Trace,
 }
 
 impl Model for WorldWindows {
@@ -47,8 +47,8 @@ impl WorldWindows {
         WorldWindows {
             alloc,
             graph: Graph::new(alloc),
-            client: Watched::new(alloc),
-            server: Watched::new(alloc),
+            client: Trace::new(alloc),
+            server: Trace::new(alloc),
         }
     }
 

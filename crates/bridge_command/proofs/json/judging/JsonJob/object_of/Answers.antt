@@ -5,7 +5,7 @@ use Rattle.bridge_links.specs.Links.{ip_bytes}
 use Rattle.bridge_command.specs.Judging.{flow_number_of, judged_ip}
 use Rattle.bridge_command.specs.Members.{members_seen}
 use Rattle.bridge_command.specs.Objects.{record_members, with_judged, with_stamp}
-use Rattle.bridge_command.proofs.json.judging.Telling.object_of.Goals as goal
+use Rattle.bridge_command.proofs.json.judging.JsonJob.object_of.Goals as goal
 
 pub returns-clause-told : goal.returns-clause-told
 unfolding record_members

@@ -1,6 +1,6 @@
 //! What is kept of an end of a schedule while its windows are drawn.
 ghost use Rattle.std.specs.Prelude.{◌≡◌, ◌++◌, OnOk};
-ghost use Rattle.bridge_pictures.specs.Watched as spec;
+ghost use Rattle.bridge_pictures.specs.Trace as spec;
 
 use crate::windows::bars::put_bar;
 use crate::windows::chart::Counts;
@@ -25,15 +25,15 @@ pub(crate) struct Departure {
 
 /// What is kept of an end: the values of its features that were told last, and the frames that it sent.
 #[derive(Drop)]
-pub(crate) struct Watched {
+pub(crate) struct Trace {
     rows: Vec<u8>,
     sent: Vec<Departure>,
 }
 
-impl Model for Watched {
-    ghost use Rattle.bridge_pictures.specs.Watched.{WatchedParts};
+impl Model for Trace {
+    ghost use Rattle.bridge_pictures.specs.Trace.{TraceParts};
 
-    ghost Value = { WatchedParts };
+    ghost Value = { TraceParts };
 
     ghost view = { λ w. record { rows = w.rows.items; sent = w.sent.items } };
 }
@@ -49,7 +49,7 @@ pub(crate) fn counts_of(end: &Endpoint<Kinds>) -> Counts
 }
 
 // Puts the values of an end's features, under the number of a column.
-#[tactic(auto, unfolding(crate::specs::Watched::rows_note))]
+#[tactic(auto, unfolding(crate::specs::Trace::rows_note))]
 fn put_rows_note(text: &mut Vec<u8>, column: u32, side: Side, rows: &[u8]) -> Result<(), NoMemory>
     ensures { OnOk result (text.new.items ≡ text.old.items ++ spec.rows_note column side rows.now) }
 {
@@ -69,12 +69,12 @@ fn put_loss(text: &mut Vec<u8>, processed: &[u64], sent: &Departure) -> Result<(
     put_bar(text, b"lost", sent.column, 3, 6, b"never processed")
 }
 
-impl Watched {
+impl Trace {
     /// Before the first event.
-    pub(crate) fn new(alloc: Global) -> Watched
-        ensures { result ≡ spec.first_watched }
+    pub(crate) fn new(alloc: Global) -> Trace
+        ensures { result ≡ spec.first_trace }
     {
-        Watched {
+        Trace {
             rows: Vec::new(alloc),
             sent: Vec::new(alloc),
         }
@@ -95,7 +95,7 @@ impl Watched {
     }
 
     // Notes the values of the end's features, and tells them below the charts where they are others than before.
-    #[tactic(auto, unfolding(crate::specs::Watched::rows_told, crate::specs::Watched::rows_kept))]
+    #[tactic(auto, unfolding(crate::specs::Trace::rows_told, crate::specs::Trace::rows_kept))]
     fn tell_rows(
         &mut self,
         alloc: Global,
@@ -118,7 +118,7 @@ impl Watched {
 
     /// Notes what an end has sent and holds by the last column. NoMemory comes where no memory was left, here and
     /// below.
-    #[tactic(auto, unfolding(crate::specs::Watched::end_told, crate::specs::Watched::end_watched))]
+    #[tactic(auto, unfolding(crate::specs::Trace::end_told, crate::specs::Trace::end_watched))]
     pub(crate) fn watch(
         &mut self,
         alloc: Global,
@@ -136,7 +136,7 @@ impl Watched {
     }
 
     /// Puts the marks of the frames that the other end never processed.
-    #[tactic(auto, unfolding(crate::specs::Watched::loss_marks))]
+    #[tactic(auto, unfolding(crate::specs::Trace::loss_marks))]
     pub(crate) fn put_losses(&self, text: &mut Vec<u8>, processed: &[u64]) -> Result<(), NoMemory>
         ensures { OnOk result (text.new.items ≡ text.old.items ++ spec.loss_marks self.now processed.now) }
     {

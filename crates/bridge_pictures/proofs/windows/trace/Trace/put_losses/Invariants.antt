@@ -1,7 +1,7 @@
 use Rattle.std.proofs.Common.{◌≡◌, ◌++◌, drop}
 use Rattle.std.specs.Prelude.{flat_map}
-use Rattle.bridge_pictures.specs.Watched.{loss_mark}
-use Rattle.bridge_pictures.proofs.windows.watched.Watched.put_losses.Given as goal
+use Rattle.bridge_pictures.specs.Trace.{loss_mark}
+use Rattle.bridge_pictures.proofs.windows.trace.Trace.put_losses.Given as goal
 
 abbrev pub invariant-loop-sent : goal.invariant-loop-sent
 invariant-loop-sent l =

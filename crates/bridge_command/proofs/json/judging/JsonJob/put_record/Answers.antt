@@ -3,7 +3,7 @@ use Rattle.serde_json.specs.Written.{members_have_float}
 use Rattle.capture_reader.specs.Records.{entry_of}
 use Rattle.bridge_command.specs.Telling.{record_told}
 use Rattle.bridge_command.proofs.WholeNumbers.{plain_record}
-use Rattle.bridge_command.proofs.json.judging.Telling.put_record.Goals as goal
+use Rattle.bridge_command.proofs.json.judging.JsonJob.put_record.Goals as goal
 
 pub put_line-requires : goal.put_line-requires
 put_line-requires c =

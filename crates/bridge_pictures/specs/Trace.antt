@@ -13,16 +13,16 @@ use Rattle.world_events.specs.declared.event.Side.{Side}
 use Rattle.bridge_pictures.specs.Bars.{bar}
 use Rattle.bridge_pictures.specs.Graph.{GraphParts, noted_below}
 use Rattle.bridge_pictures.specs.declared.windows.chart.Counts.{Counts}
-use Rattle.bridge_pictures.specs.declared.windows.watched.Departure.{Departure}
+use Rattle.bridge_pictures.specs.declared.windows.trace.Departure.{Departure}
 
 -- What is kept of an end: the values of its features that were told last, and the frames that it sent.
-pub record WatchedParts : Type 0 where
+pub record TraceParts : Type 0 where
   pub rows : List ℕ
   pub sent : List Departure
 
 -- before the first event
-abbrev pub first_watched : WatchedParts
-first_watched = record { rows = []; sent = [] }
+abbrev pub first_trace : TraceParts
+first_trace = record { rows = []; sent = [] }
 
 -- what an end's congestion control counts
 abbrev pub counts_of : End Both → Counts
@@ -34,24 +34,24 @@ unfoldable pub rows_note : ℕ → Side → List ℕ → List ℕ
 rows_note column side rows = decimal column ++ codes " " ++ side_name side ++ rows
 
 -- one more frame was sent, if there is one
-abbrev pub frame_noted_if : WatchedParts → ℕ → Option SentFrame → WatchedParts
+abbrev pub frame_noted_if : TraceParts → ℕ → Option SentFrame → TraceParts
 frame_noted_if w column None = w
 frame_noted_if w column (Some frame) = record w { sent = w.sent ++ record { column = column; number = frame.number } ∷ [] }
 
 -- the frame that the end sent last, if it is a further one
-abbrev pub frame_noted : WatchedParts → ℕ → List SentFrame → WatchedParts
+abbrev pub frame_noted : TraceParts → ℕ → List SentFrame → TraceParts
 frame_noted w column frames = frame_noted_if w column (slice_get frames (length w.sent))
 
 -- the values of an end's features are told where they are others than before
-unfoldable pub rows_told : GraphParts → WatchedParts → Side → List ℕ → GraphParts
+unfoldable pub rows_told : GraphParts → TraceParts → Side → List ℕ → GraphParts
 rows_told g w side rows = if bytes_eq rows w.rows then g else noted_below g (rows_note g.columns side rows)
 
 -- the values that were told last
-unfoldable pub rows_kept : WatchedParts → List ℕ → WatchedParts
+unfoldable pub rows_kept : TraceParts → List ℕ → TraceParts
 rows_kept w rows = if bytes_eq rows w.rows then w else record w { rows = rows }
 
 -- an end with the frame that it sent last
-abbrev pub end_noted : WatchedParts → ℕ → Side → Controlled Both → WatchedParts
+abbrev pub end_noted : TraceParts → ℕ → Side → Controlled Both → TraceParts
 end_noted w column side world = frame_noted w column (half_of world.world side).frames
 
 -- the values of an end's features in a world
@@ -59,11 +59,11 @@ abbrev pub rows_in : Controlled Both → Side → List ℕ
 rows_in world side = end_rows (end_of_side world side).state
 
 -- What is told of an end below the charts.
-unfoldable pub end_told : GraphParts → WatchedParts → Side → Controlled Both → GraphParts
+unfoldable pub end_told : GraphParts → TraceParts → Side → Controlled Both → GraphParts
 end_told g w side world = rows_told g (end_noted w g.columns side world) side (rows_in world side)
 
 -- What is kept of an end after a column.
-unfoldable pub end_watched : WatchedParts → ℕ → Side → Controlled Both → WatchedParts
+unfoldable pub end_watched : TraceParts → ℕ → Side → Controlled Both → TraceParts
 end_watched w column side world = rows_kept (end_noted w column side world) (rows_in world side)
 
 -- the mark of a frame that is not among the numbers which the other end processed
@@ -72,5 +72,5 @@ loss_mark processed sent =
     if list_any (λ number. number == sent.number) processed then [] else bar (codes "lost") sent.column 3 6 (codes "never processed")
 
 -- the marks of those among an end's frames
-unfoldable pub loss_marks : WatchedParts → List ℕ → List ℕ
+unfoldable pub loss_marks : TraceParts → List ℕ → List ℕ
 loss_marks w processed = flat_map (loss_mark processed) w.sent

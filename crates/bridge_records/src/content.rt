@@ -3,7 +3,7 @@ use capture_reader::RecordHeader;
 
 /// What a piece of a capture holds (own).
 #[derive(Clone, Copy, Debug, PartialEq, Eq)]
-pub enum Found {
+pub enum Content {
     /// The capture begins; the fractions of its records are nanoseconds, or microseconds.
     Begins(bool),
     /// A record of this link type: what its header says, the captured bytes at most 262,144, and where in the piece
