@@ -6,7 +6,7 @@ use Rattle.dccp_packets.specs.declared.reading.Malformed.{Malformed}
 use Rattle.packet_show.specs.Flows.{Flow}
 use Rattle.packet_show.specs.Lines.{shows, shows_carried, shows_decoded, shows_malformed}
 use Rattle.packet_show.specs.Network.{DatagramParts, carried}
-use Rattle.bridge_links.specs.Links.{IsUnextended, IsUntagged, ip_bytes}
+use Rattle.bridge_links.specs.Links.{IsPlainFrame, IsUnextended, ip_bytes}
 use Rattle.bridge_command.proofs.UnwrappedShowing.{ethernet-stays, raw-stays}
 use Rattle.bridge_command.specs.Judging.{judged_bytes, judged_carried, judged_fault, judged_ip, shown_of}
 
@@ -38,7 +38,7 @@ raw-agrees seen e raw none =
     (subst (λ (link : ℕ). carried link e.bytes ≡ carried 101 (ip_bytes link e.bytes)) (sym raw)
     (sym (raw-stays e.bytes (subst (λ (link : ℕ). IsUnextended link e.bytes) raw none))))
 
-pub ethernet-agrees : (seen : List Flow) (e : RecordParts) → e.link ≡ 1 → IsUntagged e.bytes → IsUnextended e.link e.bytes
+pub ethernet-agrees : (seen : List Flow) (e : RecordParts) → e.link ≡ 1 → IsPlainFrame e.bytes → IsUnextended e.link e.bytes
     → (shows seen e).shown ≡ shown_of (judged_ip (ip_bytes e.link e.bytes))
 ethernet-agrees seen e ethernet untagged none =
     agrees seen e

@@ -1,12 +1,13 @@
 -- What `show` finds in a record, found in the one that is made of it.
-use Rattle.std.proofs.Common.{arith, ◌≡◌, refl, sym, ap, ◌∙◌, ℕ, ◌/◌, ◌&&◌, ◌==◌, List, [], ◌∷◌, length, drop, slice_index, Bool, true, false, nat_lt, if◌then◌else◌, Option, Some, None}
+use Rattle.std.proofs.Common.{arith, ◌≡◌, refl, sym, ap, ◌∙◌, ℕ, ◌/◌, ◌&&◌, ◌||◌, ◌==◌, List, [], ◌∷◌, length, drop, slice_index, Bool, true, false, nat_lt, if◌then◌else◌, Option, Some, None}
 use Rattle.std.proofs.lemmas.Bool.Decides.{nat_tests}
 use Rattle.std.proofs.lemmas.Bool.{lt-ltb, ltb-false, or_parts}
 use Rattle.std.proofs.lemmas.List.{get_or-drop}
 use Rattle.std.proofs.Math.ListN.{drop_of_length-le}
 use Rattle.dccp_packets.specs.Grammar.{number_at}
 use Rattle.packet_show.specs.Network.{carried, in_ethernet, in_frame, in_ip, in_v4, in_v6, is_v4, is_v6, version}
-use Rattle.bridge_links.specs.Links.{IsUnextended, IsUntagged, bytes_at_start, captured_ip, ip_at_first, ip_by_type, ip_bytes, ip_of_type, is_tag}
+use Rattle.bridge_links.specs.EtherTypes.{ip_of_type, is_label_type, is_tag}
+use Rattle.bridge_links.specs.Links.{IsPlainFrame, IsUnextended, bytes_at_start, captured_ip, ip_at_first, ip_by_type, ip_bytes}
 use Rattle.bridge_links.specs.Starts.{ip_at, start_or}
 use Rattle.bridge_links.specs.Extensions.{plain_by, upper_of}
 
@@ -90,23 +91,24 @@ v6-stays bytes true true l x =
     ap (λ (s : Option ℕ). in_ip (bytes_at_start s bytes)) (ip-at-header 6 bytes true true l x) ∙ in-v6 (drop 14 bytes) x
 
 -- by the type of Ethernet
-frame-stays : (kind : ℕ) (bytes : List ℕ) (four six : Bool) → (kind == 2048) ≡ four → (kind == 34525) ≡ six → (kind == 34916) ≡ false
+frame-stays : (kind : ℕ) (bytes : List ℕ) (four six : Bool) → (kind == 2048) ≡ four → (kind == 34525) ≡ six → (kind == 34916) ≡ false → is_label_type kind ≡ false
     → in_ip (bytes_at_start (ip_of_type kind 14 bytes) bytes) ≡ in_frame kind (drop 14 bytes)
-frame-stays kind bytes true six f x other = rw f (v4-stays bytes (nat_lt 14 (length bytes)) (version (drop 14 bytes) == 4) refl refl)
-frame-stays kind bytes false true f x other = rw (f, x) (v6-stays bytes (nat_lt 14 (length bytes)) (version (drop 14 bytes) == 6) refl refl)
-frame-stays kind bytes false false f x other = rw (f, x, other) refl
+frame-stays kind bytes true six f x session labels = rw f (v4-stays bytes (nat_lt 14 (length bytes)) (version (drop 14 bytes) == 4) refl refl)
+frame-stays kind bytes false true f x session labels = rw (f, x) (v6-stays bytes (nat_lt 14 (length bytes)) (version (drop 14 bytes) == 6) refl refl)
+frame-stays kind bytes false false f x session labels = rw (f, x, session, labels) refl
 
-ethernet-by : (bytes : List ℕ) (short : Bool) → nat_lt (length bytes) 14 ≡ short → IsUntagged bytes
+ethernet-by : (bytes : List ℕ) (short : Bool) → nat_lt (length bytes) 14 ≡ short → IsPlainFrame bytes
     → in_ip (bytes_at_start (ip_by_type 12 14 bytes) bytes) ≡ in_ethernet bytes
 ethernet-by bytes true s untagged = rw s refl
 ethernet-by bytes false s untagged =
     let kind = number_at 12 2 bytes in
-    let parts = or_parts (is_tag kind) (kind == 34916) untagged in
+    let parts = or_parts (is_tag kind) (kind == 34916 || is_label_type kind) untagged in
+    let others = or_parts (kind == 34916) (is_label_type kind) parts.1 in
     let plain : ip_by_type 12 14 bytes ≡ ip_of_type kind 14 bytes = rw (s, parts.0) refl in
     let behind : in_ethernet bytes ≡ in_frame kind (drop 14 bytes) = rw s refl in
-    ap (λ (start : Option ℕ). in_ip (bytes_at_start start bytes)) plain ∙ frame-stays kind bytes (kind == 2048) (kind == 34525) refl refl parts.1 ∙ sym behind
+    ap (λ (start : Option ℕ). in_ip (bytes_at_start start bytes)) plain ∙ frame-stays kind bytes (kind == 2048) (kind == 34525) refl refl others.0 others.1 ∙ sym behind
 
-ethernet-captured : (bytes : List ℕ) → IsUntagged bytes → carried 101 (captured_ip 1 bytes) ≡ carried 1 bytes
+ethernet-captured : (bytes : List ℕ) → IsPlainFrame bytes → carried 101 (captured_ip 1 bytes) ≡ carried 1 bytes
 ethernet-captured bytes untagged = ethernet-by bytes (nat_lt (length bytes) 14) refl untagged
 
 -- a packet without extension headers stays
@@ -117,5 +119,5 @@ unextended-stays link bytes none =
 pub raw-stays : (bytes : List ℕ) → IsUnextended 101 bytes → carried 101 (ip_bytes 101 bytes) ≡ carried 101 bytes
 raw-stays bytes none = ap (carried 101) (unextended-stays 101 bytes none) ∙ raw-captured bytes
 
-pub ethernet-stays : (bytes : List ℕ) → IsUntagged bytes → IsUnextended 1 bytes → carried 101 (ip_bytes 1 bytes) ≡ carried 1 bytes
+pub ethernet-stays : (bytes : List ℕ) → IsPlainFrame bytes → IsUnextended 1 bytes → carried 101 (ip_bytes 1 bytes) ≡ carried 1 bytes
 ethernet-stays bytes untagged none = ap (carried 101) (unextended-stays 1 bytes none) ∙ ethernet-captured bytes untagged

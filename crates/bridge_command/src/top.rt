@@ -22,7 +22,7 @@ use tool_text::{JobEnd, LinesEnd, Status};
 
 /// Does what the words ask for (own), those after the program's name. `capture` reads what `run` or `replay` wrote, and
 /// writes a classic capture with a record for each frame that was sent. `unwrap` reads a capture, classic or pcapng, of
-/// any of eleven link types, and writes a classic one of raw IP, record for record. `seed` reads nothing, and writes
+/// any of fifteen link types, and writes a classic one of raw IP, record for record. `seed` reads nothing, and writes
 /// the schedule of a campaign's seed; so does `seeds`, which writes an object for each of many seeds. `frames` reads a
 /// capture as `unwrap` does, and writes lines of `replay` for the packets of a flow that go to a side; and `json`
 /// writes an object for each record. `ladder` draws what `run` or `replay` wrote, and with a flow the packets of that

@@ -1,4 +1,4 @@
-//! `unwrap`: a capture of any of eleven link types, classic or pcapng, as a classic one of raw IP, record for record
+//! `unwrap`: a capture of any of fifteen link types, classic or pcapng, as a classic one of raw IP, record for record
 //! (own).
 //!
 //! It finds the IP packet of a record after the header of its link and up to two VLAN tags, and looks no further into

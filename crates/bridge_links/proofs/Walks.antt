@@ -1,10 +1,12 @@
--- One turn of the walks over headers and parts.
-use Rattle.std.proofs.Common.{arith, if◌then◌else◌, ◌≡◌, refl, ap, ◌∙◌, sym, ℕ, zero, suc, ◌+◌, ◌-◌, ◌<◌, ◌≤◌, ◌&&◌, ◌==◌, nat_le, nat_lt, Bool, true, false, List, length, slice_index, Option, Some, None}
+-- One turn of the walks over headers, parts and labels.
+use Rattle.std.proofs.Common.{arith, if◌then◌else◌, ◌≡◌, refl, ap, ◌∙◌, sym, ℕ, zero, suc, ◌+◌, ◌-◌, ◌%◌, ◌<◌, ◌≤◌, ◌&&◌, ◌==◌, nat_le, nat_lt, Bool, true, false, List, length, slice_index, Option, Some, None}
 use Rattle.std.proofs.lemmas.Bool.{le-leb, le-ltb, lt-leb, lt-ltb, ne_eqb}
 use Rattle.capture_reader.specs.Format.{ordered_number_at}
 use Rattle.capture_reader.specs.declared.format.Order.{Order}
 use Rattle.bridge_links.specs.Extensions.{destination_after, extension_size, is_extension, upper_at, upper_from}
+use Rattle.bridge_links.specs.Labels.{ip_under_labels}
 use Rattle.bridge_links.specs.Logs.{part_size, payload_from}
+use Rattle.bridge_links.specs.Starts.{ip_at_either}
 
 -- one that was not captured is not passed over
 short-by : (left kind place to : ℕ) (bytes : List ℕ) (is : Bool) → nat_le (place + 8) (length bytes) ≡ false
@@ -78,3 +80,35 @@ payload_step (suc left) order place bytes some long other =
     let is = ne_eqb (ordered_number_at order (place + 2) 2 bytes) 9 other in
     let one : left ≡ suc left - 1 = omega arith in
     rw (there, is) (ap (λ (n : ℕ). payload_from n order (place + part_size order place bytes) bytes) one)
+
+-- no label is left
+pub labels_none : (left place : ℕ) (bytes : List ℕ) → left ≡ 0 → ip_under_labels left place bytes ≡ None
+unfolding ip_under_labels
+labels_none zero place bytes none = refl
+labels_none (suc left) place bytes none = absurd (omega (arith, none))
+
+pub labels_short : (left place : ℕ) (bytes : List ℕ) → length bytes < place + 4 → ip_under_labels left place bytes ≡ None
+unfolding ip_under_labels
+labels_short zero place bytes short = refl
+labels_short (suc left) place bytes short = let is = lt-ltb (length bytes) (place + 4) short in rw is refl
+
+-- IP follows the last
+pub labels_last : (left place : ℕ) (bytes : List ℕ) → 0 < left → place + 4 ≤ length bytes → slice_index bytes (place + 2) % 2 ≡ 1
+    → ip_under_labels left place bytes ≡ ip_at_either (place + 4) bytes
+unfolding ip_under_labels
+labels_last zero place bytes some long last = absurd (omega (arith, some))
+labels_last (suc left) place bytes some long last =
+    let there = le-ltb (length bytes) (place + 4) long in
+    let is : (slice_index bytes (place + 2) % 2 == 1) ≡ true = ap (λ (n : ℕ). n == 1) last in
+    rw (there, is) refl
+
+-- another label follows
+pub labels_step : (left place : ℕ) (bytes : List ℕ) → 0 < left → place + 4 ≤ length bytes → (slice_index bytes (place + 2) % 2 ≡ 1 → ⊥)
+    → ip_under_labels left place bytes ≡ ip_under_labels (left - 1) (place + 4) bytes
+unfolding ip_under_labels
+labels_step zero place bytes some long other = absurd (omega (arith, some))
+labels_step (suc left) place bytes some long other =
+    let there = le-ltb (length bytes) (place + 4) long in
+    let is = ne_eqb (slice_index bytes (place + 2) % 2) 1 other in
+    let one : left ≡ suc left - 1 = omega arith in
+    rw (there, is) (ap (λ (n : ℕ). ip_under_labels n (place + 4) bytes) one)

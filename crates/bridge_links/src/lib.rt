@@ -1,15 +1,18 @@
 //! Where the IP packet of a captured record stands, by the link type (the link-layer header types of libpcap).
 //!
-//! It looks at the header of the link, at VLAN tags and at PPPoE, at the packet's version, and at the extension headers of
-//! IPv6. Where these lead to DCCP they are taken out, which alone takes memory.
+//! It looks at the header of the link, at VLAN tags, PPPoE and the labels of MPLS, at the packet's version, and at the
+//! extension headers of IPv6. Where these lead to DCCP they are taken out, which alone takes memory.
 #![tactic(auto)]
 
+mod ether_types;
 mod extensions;
+mod labels;
 mod links;
 mod logs;
 mod numbers;
 mod packets;
 mod starts;
+mod wireless;
 
 pub use crate::extensions::{Upper, upper_of};
 pub use crate::numbers::read_u16;

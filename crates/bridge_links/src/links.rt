@@ -1,67 +1,32 @@
 //! Where the IP packet of a record begins, by the link type.
 ghost use Rattle.std.specs.Prelude.{◌≡◌, ◌+◌, ◌≤◌, ◌<◌, length, IfSome};
-ghost use Rattle.dccp_packets.specs.Grammar.{number_at};
-ghost use Rattle.bridge_links.specs.Links.{captured_ip, ip_at_first, ip_behind_tag, ip_behind_tags, ip_by_type, ip_in_loop, ip_in_null, ip_in_ppp, ip_in_session, ip_of_family, ip_of_later_link, ip_of_protocol, ip_of_type, ip_start, is_tag};
+ghost use Rattle.bridge_links.specs.Links as spec;
+ghost use Rattle.bridge_links.specs.Links.{captured_ip, ip_at_first, ip_by_type, ip_in_inner, ip_in_loop, ip_in_null, ip_in_ppp, ip_of_family, ip_of_later_link, ip_of_link, ip_start};
 
+use crate::ether_types::{ip_behind_tags, ip_of_protocol};
+use crate::labels::ip_in_labels;
 use crate::logs::ip_in_log;
 use crate::numbers::read_u16;
-use crate::starts::ip_at;
+use crate::starts::{ip_at, ip_at_either, start_after};
+use crate::wireless::{ip_after_radio, ip_in_wireless};
 use byteorder::{BigEndian, ByteOrder, LittleEndian};
+use capture_reader::{Order, rest_after};
 
-// The types of Ethernet.
-const IPV4: u16 = 0x0800;
-
-const IPV6: u16 = 0x86dd;
-
-const VLAN: u16 = 0x8100;
-
-const SERVICE_VLAN: u16 = 0x88a8;
-
-const OUTER_VLAN: u16 = 0x9100;
-
-const SESSION: u16 = 0x8864;
-
-// The protocols of PPP.
-const PPP_IPV4: u16 = 0x0021;
-
-const PPP_IPV6: u16 = 0x0057;
-
-// The address and the control byte that may come before them.
+// The address and the control byte that may come before a protocol of PPP.
 const PPP_CONTROL: u16 = 0xff03;
+
+// A record that has another in it.
+const OUTER: u32 = 258;
+
+// It has one.
+const HAS_INNER: u32 = 1;
 
 // IP of either version begins with the record.
 fn ip_at_first(bytes: &[u8]) -> Option<usize>
     ensures value { result ≡ ip_at_first bytes.now }
     ensures within { IfSome result (λ n. n < length bytes.now) }
 {
-    match ip_at(4, 0, bytes) {
-        Some(start) => Some(start),
-        None => ip_at(6, 0, bytes),
-    }
-}
-
-// What follows here has this protocol of PPP.
-fn ip_of_protocol(protocol: u16, next: usize, bytes: &[u8]) -> Option<usize>
-    ensures value { result ≡ ip_of_protocol protocol next bytes.now }
-    ensures within { IfSome result (λ n. n < length bytes.now) }
-{
-    match protocol {
-        PPP_IPV4 => ip_at(4, next, bytes),
-        PPP_IPV6 => ip_at(6, next, bytes),
-        _ => None,
-    }
-}
-
-// A session of PPPoE begins here.
-fn ip_in_session(next: usize, bytes: &[u8]) -> Option<usize>
-    requires { next ≤ 64 }
-    ensures value { result ≡ ip_in_session next bytes.now }
-    ensures within { IfSome result (λ n. n < length bytes.now) }
-{
-    if bytes.len() < next + 8 {
-        return None;
-    }
-    ip_of_protocol(read_u16(bytes, next + 6), next + 8, bytes)
+    ip_at_either(0, bytes)
 }
 
 // A frame of PPP.
@@ -76,56 +41,6 @@ fn ip_in_ppp(bytes: &[u8]) -> Option<usize>
         PPP_CONTROL => ip_of_protocol(read_u16(bytes, 2), 4, bytes),
         protocol => ip_of_protocol(protocol, 2, bytes),
     }
-}
-
-// What follows here has this type.
-fn ip_of_type(kind: u16, next: usize, bytes: &[u8]) -> Option<usize>
-    requires { next ≤ 64 }
-    ensures value { result ≡ ip_of_type kind next bytes.now }
-    ensures within { IfSome result (λ n. n < length bytes.now) }
-{
-    match kind {
-        IPV4 => ip_at(4, next, bytes),
-        IPV6 => ip_at(6, next, bytes),
-        SESSION => ip_in_session(next, bytes),
-        _ => None,
-    }
-}
-
-fn is_tag(kind: u16) -> bool
-    ensures { result ≡ is_tag kind }
-{
-    kind == VLAN || kind == SERVICE_VLAN || kind == OUTER_VLAN
-}
-
-// The same after a tag, of whose four bytes the last two are the next type.
-fn ip_behind_tag(kind: u16, next: usize, bytes: &[u8]) -> Option<usize>
-    requires { next ≤ 60 }
-    ensures value { result ≡ ip_behind_tag kind next bytes.now }
-    ensures within { IfSome result (λ n. n < length bytes.now) }
-{
-    if !is_tag(kind) {
-        return ip_of_type(kind, next, bytes);
-    }
-    if bytes.len() < next + 4 {
-        return None;
-    }
-    ip_of_type(read_u16(bytes, next + 2), next + 4, bytes)
-}
-
-// The same after up to two tags.
-fn ip_behind_tags(kind: u16, next: usize, bytes: &[u8]) -> Option<usize>
-    requires { next ≤ 32 }
-    ensures value { result ≡ ip_behind_tags kind next bytes.now }
-    ensures within { IfSome result (λ n. n < length bytes.now) }
-{
-    if !is_tag(kind) {
-        return ip_of_type(kind, next, bytes);
-    }
-    if bytes.len() < next + 4 {
-        return None;
-    }
-    ip_behind_tag(read_u16(bytes, next + 2), next + 4, bytes)
 }
 
 // The type is at one place of the link's header, and what follows after the header.
@@ -178,9 +93,9 @@ fn ip_in_null(bytes: &[u8]) -> Option<usize>
     }
 }
 
-// Where the IP packet begins in a record of this link type, or None where it has none.
-fn ip_start(link: u32, bytes: &[u8]) -> Option<usize>
-    ensures value { result ≡ ip_start link bytes.now }
+// Where the IP packet begins in a record of one link, or None where it has none.
+fn ip_of_link(link: u32, bytes: &[u8]) -> Option<usize>
+    ensures value { result ≡ ip_of_link link bytes.now }
     ensures within { IfSome result (λ n. n < length bytes.now) }
 {
     match link {
@@ -188,6 +103,7 @@ fn ip_start(link: u32, bytes: &[u8]) -> Option<usize>
         1 => ip_by_type(12, 14, bytes),
         9 => ip_in_ppp(bytes),
         12 | 101 => ip_at_first(bytes),
+        105 => ip_in_wireless(bytes),
         108 => ip_in_loop(bytes),
         _ => ip_of_later_link(link, bytes),
     }
@@ -201,11 +117,49 @@ fn ip_of_later_link(link: u32, bytes: &[u8]) -> Option<usize>
 {
     match link {
         113 => ip_by_type(14, 16, bytes),
+        127 => ip_after_radio(bytes),
+        219 => ip_in_labels(0, bytes),
         228 => ip_at(4, 0, bytes),
         229 => ip_at(6, 0, bytes),
         239 => ip_in_log(bytes),
         276 => ip_by_type(0, 20, bytes),
         _ => None,
+    }
+}
+
+// How many bytes are before the record in this one.
+fn outer_bytes(bytes: &[u8]) -> usize
+    requires { 12 ≤ length bytes.now }
+    ensures { result ≡ spec.outer_bytes bytes.now }
+{
+    Order::Little.read_u32(bytes, 0) as usize
+}
+
+// Where the IP packet begins in the record in this one, or None where it has none.
+#[tactic(auto, unfolding(crate::specs::Links::ip_in_inner))]
+fn ip_in_inner(bytes: &[u8]) -> Option<usize>
+    ensures value { result ≡ ip_in_inner bytes.now }
+    ensures within { IfSome result (λ n. n < length bytes.now) }
+{
+    if bytes.len() < 12 {
+        return None;
+    }
+    let size = outer_bytes(bytes);
+    if Order::Little.read_u32(bytes, 4) != HAS_INNER || bytes.len() < size {
+        return None;
+    }
+    let link = Order::Little.read_u32(bytes, 8);
+    start_after(size, ip_of_link(link, rest_after(bytes, size)), bytes)
+}
+
+// Where the IP packet begins in a record of this link type, or None where it has none.
+fn ip_start(link: u32, bytes: &[u8]) -> Option<usize>
+    ensures value { result ≡ ip_start link bytes.now }
+    ensures within { IfSome result (λ n. n < length bytes.now) }
+{
+    match link {
+        OUTER => ip_in_inner(bytes),
+        _ => ip_of_link(link, bytes),
     }
 }
 

@@ -6,10 +6,11 @@ use Rattle.capture_reader.specs.declared.fault.FormatFault.TheVariants as fault
 use Rattle.capture_reader.specs.declared.format.Format.{Format}
 use Rattle.capture_reader.specs.declared.format.Order.TheVariants.{Big, Little}
 
--- 0 and 108 begin with an address family, 1 is Ethernet, 9 PPP, 12 and 101 are raw IP, 113 and 276 those of the "any"
--- device of Linux, 228 is IPv4, 229 IPv6, and 239 a packet that Linux's packet filter logged
+-- 0 and 108 begin with an address family, 1 is Ethernet, 9 PPP, 12 and 101 are raw IP, 105 and 127 frames of 802.11, 113
+-- and 276 those of the "any" device of Linux, 219 is MPLS, 228 IPv4, 229 IPv6, 239 a packet that Linux's packet filter
+-- logged, and 258 a record of macOS with another in it
 abbrev pub known_links : List ℕ
-known_links = 0 ∷ 1 ∷ 9 ∷ 12 ∷ 101 ∷ 108 ∷ 113 ∷ 228 ∷ 229 ∷ 239 ∷ 276 ∷ []
+known_links = 0 ∷ 1 ∷ 9 ∷ 12 ∷ 101 ∷ 105 ∷ 108 ∷ 113 ∷ 127 ∷ 219 ∷ 228 ∷ 229 ∷ 239 ∷ 258 ∷ 276 ∷ []
 
 -- what is in a file header for its link type, in either byte order
 abbrev pub either_link : List ℕ → List ℕ

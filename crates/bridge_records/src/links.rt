@@ -6,7 +6,9 @@ ghost use Rattle.bridge_records.specs.Links.{classic_format, known_links};
 use capture_reader::{Format, FormatFault, Order};
 
 // The link types whose records may carry IP (the link-layer header types of libpcap).
-const KNOWN_LINKS: [u32; 11] = [0, 1, 9, 12, 101, 108, 113, 228, 229, 239, 276];
+const KNOWN_LINKS: [u32; 15] = [
+    0, 1, 9, 12, 101, 105, 108, 113, 127, 219, 228, 229, 239, 258, 276,
+];
 
 /// The link type is one of those whose records may carry IP (own).
 pub fn is_known_link(link: u32) -> bool

@@ -1,9 +1,10 @@
 -- Versions, times and captured lengths of pcapng files, and where IP begins in a record, by numbers of the drafts of pcapng and of libpcap.
 use Rattle.std.proofs.Common.{◌≡◌, refl, ℕ, Bool, true, false, List, [], ◌∷◌, ◌++◌, map, codes, Option, None, Some}
 use Rattle.capture_reader.specs.declared.format.Order.TheVariants.{Big, Little}
-use Rattle.bridge_records.specs.Blocks.{is_section_version}
+use Rattle.bridge_records.specs.Blocks.{is_passed_over, is_section_version, length_fault}
 use Rattle.bridge_records.specs.Interfaces.{needs_nanos, units_of}
 use Rattle.bridge_records.specs.Packets.{captured_of}
+use Rattle.bridge_records.specs.declared.pieces.fault.PieceFault.TheVariants as why
 use Rattle.bridge_links.specs.Extensions.{plain_ip, upper_from, without_extensions}
 use Rattle.bridge_links.specs.Links.{ip_start}
 use Rattle.bridge_links.specs.Logs.{ip_in_log, payload_from}
@@ -18,6 +19,17 @@ versions_of_sections :
     × (is_section_version Big 0 (0 ∷ 1 ∷ 0 ∷ 3 ∷ []) ≡ false)
     × (is_section_version Big 0 (0 ∷ 2 ∷ 0 ∷ 0 ∷ []) ≡ false)
 versions_of_sections = (refl, refl, refl, refl, refl, refl)
+
+-- A block has 12 bytes at least, whole words of four, and 524,288 at most; a longer one of a packet is passed over, and of an interface is not.
+lengths_of_blocks :
+    (length_fault 12 12 ≡ None)
+    × (length_fault 12 8 ≡ Some why.BadBlock)
+    × (length_fault 12 14 ≡ Some why.BadBlock)
+    × (length_fault 12 524288 ≡ None)
+    × (length_fault 12 524292 ≡ Some why.TooLong)
+    × (map (λ total. is_passed_over (record { kind = 6; total = total; first = 0 })) (524288 ∷ 524290 ∷ 524292 ∷ []) ≡ false ∷ false ∷ true ∷ [])
+    × (is_passed_over (record { kind = 1; total = 524292; first = 0 }) ≡ false)
+lengths_of_blocks = (refl, refl, refl, refl, refl, refl, refl)
 
 -- Six digits write tenths of up to the sixth power, and halves of up to the sixth; a number of 64 bits has room for 10^19 and 2^63.
 units_of_interfaces :

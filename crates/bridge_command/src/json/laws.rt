@@ -5,7 +5,7 @@ ghost use Rattle.capture_reader.specs.Records.{RecordParts, captured};
 ghost use Rattle.capture_reader.specs.declared.format.Format.{Format};
 ghost use Rattle.packet_show.specs.Flows.{Flow};
 ghost use Rattle.packet_show.specs.Lines.{shows};
-ghost use Rattle.bridge_links.specs.Links.{IsUnextended, IsUntagged, ip_bytes};
+ghost use Rattle.bridge_links.specs.Links.{IsPlainFrame, IsUnextended, ip_bytes};
 ghost use Rattle.bridge_command.specs.Unwrapping.{records_among, unwrapped_entry, unwrapped_pieces};
 ghost use Rattle.bridge_command.specs.Judging.{judged_ip, shown_of};
 ghost use Rattle.bridge_command.specs.Telling.{all_told, first_telling, json_pieces};
@@ -25,11 +25,11 @@ pub fn each_record_told_is_unwrapped()
         × ((unwrapped_pieces input).refusal ≡ (json_pieces payload input).refusal) }
 {}
 
-/// A record of raw IP, or of Ethernet without a VLAN tag, is told as skipped exactly where `show` skips it, except for
-/// packets with extension headers of IPv6, which `show` does not pass over (own).
+/// A record of raw IP, or of Ethernet without a VLAN tag, PPPoE and MPLS, is told as skipped exactly where `show` skips
+/// it, except for packets with extension headers of IPv6, which `show` does not pass over (own).
 pub fn what_show_shows_is_told()
     ensures raw { (seen : List Flow) (e : RecordParts) → e.link ≡ 101 → IsUnextended e.link e.bytes
         → (shows seen e).shown ≡ shown_of (judged_ip (ip_bytes e.link e.bytes)) }
-    ensures ethernet { (seen : List Flow) (e : RecordParts) → e.link ≡ 1 → IsUntagged e.bytes → IsUnextended e.link e.bytes
+    ensures ethernet { (seen : List Flow) (e : RecordParts) → e.link ≡ 1 → IsPlainFrame e.bytes → IsUnextended e.link e.bytes
         → (shows seen e).shown ≡ shown_of (judged_ip (ip_bytes e.link e.bytes)) }
 {}

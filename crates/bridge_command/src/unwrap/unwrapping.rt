@@ -135,12 +135,13 @@ impl RecordJob for UnwrapJob {
 }
 
 /// Makes of a capture a classic one of raw IP (own): a record for each record, at the same time, with the IP packet
-/// that is found after the header of its link and up to two VLAN tags, without the extension headers of IPv6 that lead
-/// to DCCP; or empty where there is none. Of link types it knows 0 and 108, which begin with an address family, 1
-/// (Ethernet), 9 (PPP), 12 and 101 (raw IP), 113 and 276 (the "any" device of Linux), 228 (IPv4), 229 (IPv6) and 239
-/// (packets that Linux's packet filter logged). The capture is a classic one or a pcapng file, whose records are its
-/// Enhanced Packet Blocks, and its Simple Packet Blocks at time 0. Fractions of a second are nanoseconds where six
-/// digits cannot write the parts in which the first interface of a pcapng file counts time.
+/// that is found after the header of its link, up to two VLAN tags, PPPoE and up to 16 labels of MPLS, without the
+/// extension headers of IPv6 that lead to DCCP; or empty where there is none. Of link types it knows 0 and 108, which
+/// begin with an address family, 1 (Ethernet), 9 (PPP), 12 and 101 (raw IP), 105 and 127 (802.11), 113 and 276 (the
+/// "any" device of Linux), 219 (MPLS), 228 (IPv4), 229 (IPv6), 239 (packets that Linux's packet filter logged) and 258
+/// (records of macOS with others in them). The capture is a classic one or a pcapng file, whose records are its Enhanced
+/// Packet Blocks, and its Simple Packet Blocks at time 0. Fractions of a second are nanoseconds where six digits cannot
+/// write the parts in which the first interface of a pcapng file counts time.
 ///
 /// Input comes where the capture has a fault, which is answered. With status 0 or 1 the output is that of the whole
 /// input, with another a front of it. Read comes where the source failed, Write where the sink did, and Memory where no
