@@ -14,7 +14,7 @@ comment_put old line text start is put =
     let parts : text ≡ old ++ comment = put ∙ append_assoc old (codes "# ") line in
     ap (λ (t : List ℕ). take start t ++ cut_comment (drop start t)) parts
     ∙ ap (λ (front : List ℕ). front ++ cut_comment (drop start (old ++ comment))) (take_at old comment start (sym is))
-    ∙ ap (λ (behind : List ℕ). old ++ cut_comment behind) (drop_at old comment start (sym is))
+    ∙ ap (λ (following : List ℕ). old ++ cut_comment following) (drop_at old comment start (sym is))
 
 -- by whether it is too long
 cut-by : (comment : List ℕ) (long : Bool) → nat_lt 4097 (length comment) ≡ long

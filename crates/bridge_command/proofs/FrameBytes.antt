@@ -54,8 +54,8 @@ each-byte [] are i = omega arith
 each-byte (byte ∷ bytes) are zero = first-byte byte bytes are
 each-byte (byte ∷ bytes) are (suc i) = each-byte bytes (other-bytes byte bytes are) i
 
-pub bytes-append : (front behind : List ℕ) → AreBytes front → AreBytes behind → AreBytes (front ++ behind)
-bytes-append front behind first second = list_all-append is_byte front behind ∙ and-true (list_all is_byte front) (list_all is_byte behind) first second
+pub bytes-append : (front following : List ℕ) → AreBytes front → AreBytes following → AreBytes (front ++ following)
+bytes-append front following first second = list_all-append is_byte front following ∙ and-true (list_all is_byte front) (list_all is_byte following) first second
 
 -- both parts of bytes that are cut
 halves : (count : ℕ) (bytes : List ℕ) → AreBytes bytes → AreBytes (take count bytes) × AreBytes (drop count bytes)

@@ -11,7 +11,7 @@ use Rattle.dccp_packets.specs.declared.header.Header.{Header}
 use Rattle.dccp_packets.specs.declared.reading.Malformed.{Malformed}
 use Rattle.capture_reader.specs.Records.{RecordParts}
 use Rattle.packet_show.specs.Flows.{AddressAndPort, Flow, flow_number, flow_of, from_end, with_flow}
-use Rattle.bridge_pictures.specs.Walk.{record_behind, side_from}
+use Rattle.bridge_pictures.specs.Walk.{record_after_link, side_from}
 use Rattle.packet_show.specs.Network.{DatagramParts, after_v4, after_v6, in_ip, in_v4, in_v6, is_v4, is_v6, v4_header, v4_total, v6_payload}
 use Rattle.bridge_records.specs.Pieces.{Goes, Judgement, Piece, PieceNext, PieceWork, PieceWrong, Stops, Taken, by_next_piece, most_piece_bytes, next_piece, pieces_from, taken_by}
 use Rattle.bridge_records.specs.declared.pieces.fault.PieceFault.TheVariants as why
@@ -164,10 +164,10 @@ plain-are : (ip : List ℕ) → AreBytes ip → AreBytes (plain_ip ip)
 plain-are ip are = either AreBytes (is_extended ip) (plain_by (upper_of ip) ip) ip (plain-by-are (upper_of ip) ip are) are
 
 -- a record of bytes, after its link's header
-record-reads : (s : FlowSearch) (entry : RecordParts) → AreBytes entry.bytes → IsPassedBack (framed_record s (record_behind entry))
+record-reads : (s : FlowSearch) (entry : RecordParts) → AreBytes entry.bytes → IsPassedBack (framed_record s (record_after_link entry))
 unfolding framed_record
 record-reads s entry are =
-    carried-reads s (record_behind entry) (in_ip (ip_bytes entry.link entry.bytes))
+    carried-reads s (record_after_link entry) (in_ip (ip_bytes entry.link entry.bytes))
     (ip-carried (ip_bytes entry.link entry.bytes)
     (plain-are (captured_ip entry.link entry.bytes) (start-are (ip_start entry.link entry.bytes) entry.bytes are)))
 

@@ -12,8 +12,8 @@ use Rattle.bridge_command.specs.Mapping.{frame_with}
 use Rattle.bridge_command.specs.declared.frames.mapping.NoFrame.TheVariants as none
 
 -- the data follow all else
-behind-spelling : (h : Header) (o d : List ℕ) → spelling h o d ≡ spelling h o [] ++ d
-behind-spelling h o d =
+after-spelling : (h : Header) (o d : List ℕ) → spelling h o d ≡ spelling h o [] ++ d
+after-spelling h o d =
     let front : List ℕ = header_bytes h ((header_length h + length (padded o)) / 4) in
     ap (λ (area : List ℕ). front ++ (area ++ d)) (sym (append-nil (padded o))) ∙ sym (append_assoc front (padded o ++ []) d)
 
@@ -29,7 +29,7 @@ all-too-long false false bytes is = cc is
 
 pub frame_too_long : (h : Header) (o d front : List ℕ) → front ≡ spelling h o [] → 2044 < length front + length d → frame_with h o d ≡ Err none.FrameTooLong
 frame_too_long h o d front is long =
-    let size : length (spelling h o d) ≡ length (front ++ d) = ap length (behind-spelling h o d ∙ ap (λ (b : List ℕ). b ++ d) (sym is)) in
+    let size : length (spelling h o d) ≡ length (front ++ d) = ap length (after-spelling h o d ∙ ap (λ (b : List ℕ). b ++ d) (sym is)) in
     let joined = length-append front d in
     all-too-long (nat_lt 1020 (header_length h + length (padded o))) (nat_lt 2044 (length (spelling h o d))) (spelling h o d)
     (lt-ltb 2044 (length (spelling h o d)) (omega (arith, size, joined, long)))
@@ -42,7 +42,7 @@ within false true bytes h w = cc w
 pub frame_in_parts : (h : Header) (o d front : List ℕ) → header_length h + length (padded o) ≤ 1020 → front ≡ spelling h o [] → length front + length d ≤ 2044
     → frame_with h o d ≡ Ok (front ++ d)
 frame_in_parts h o d front header is few =
-    let same : spelling h o d ≡ front ++ d = behind-spelling h o d ∙ ap (λ (b : List ℕ). b ++ d) (sym is) in
+    let same : spelling h o d ≡ front ++ d = after-spelling h o d ∙ ap (λ (b : List ℕ). b ++ d) (sym is) in
     let size : length (spelling h o d) ≡ length (front ++ d) = ap length same in
     let joined = length-append front d in
     within (nat_lt 1020 (header_length h + length (padded o))) (nat_lt 2044 (length (spelling h o d))) (spelling h o d)

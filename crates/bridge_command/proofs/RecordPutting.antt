@@ -26,10 +26,10 @@ longer old now held begin count held_is begin_is now_is =
     ∙ ap (λ (text : List ℕ). text ++ replicate (begin + count - held) 0) (take_all (begin + count) old (omega (arith, begin_is)))
     ∙ ap (λ (n : ℕ). old ++ replicate n 0) more
 
-pub put-behind : (old digits now room rest : List ℕ) (held begin count size : ℕ) → held ≡ length old → begin ≡ length old → count ≡ length digits
+pub put-after : (old digits now room rest : List ℕ) (held begin count size : ℕ) → held ≡ length old → begin ≡ length old → count ≡ length digits
     → now ≡ take (begin + count) old ++ replicate (begin + count - held) 0 → room ≡ digits → size ≡ begin + count
     → take size ((take begin now ++ (room ++ drop (length now - begin) (drop begin now))) ++ rest) ≡ old ++ digits
-put-behind old digits now room rest held begin count size held_is begin_is count_is now_is room_is size_is =
+put-after old digits now room rest held begin count size held_is begin_is count_is now_is room_is size_is =
     let whole : now ≡ old ++ replicate count 0 = longer old now held begin count held_is begin_is now_is in
     let front : take begin now ≡ old =
     ap (take begin) whole ∙ ap (λ (n : ℕ). take n (old ++ replicate count 0)) begin_is ∙ take-append_seam old (replicate count 0) in

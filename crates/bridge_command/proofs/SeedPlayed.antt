@@ -98,7 +98,7 @@ event-goes : (play : Play) (number given : ℕ) (event : Event) (rest : List ℕ
     → ((next : Play) → next.world ≡ Some (played run event).world → next.events ≡ play.events + 1
     → Follows (played run event).report last more next (gone_from run_job next (number + 1) (given + (length (event_text event) + 1)) (lines_of rest)))
     → Follows run.report last (event ∷ more) play (gone_from run_job play number given (lines_of (event_line event ++ rest)))
-event-goes play number given event rest run last more here few ok brief room behind =
+event-goes play number given event rest run last more here few ok brief room following =
     let found = step-of (happens_to kinds_control run.world event) ok in
     go found.0 found.1
   where
@@ -107,7 +107,7 @@ event-goes play number given event rest run last more here few ok brief room beh
     go step is =
         let ran = played-ok run event step is in
         let next = next_play play step in
-        let after = behind next (ap (λ (r : Running). Some r.world) (sym ran)) refl in
+        let after = following next (ap (λ (r : Running). Some r.world) (sym ran)) refl in
         let later = gone_from run_job next (number + 1) (given + (length (event_text event) + 1)) (lines_of rest) in
         let short = brief.short in
         let whole : gone_from run_job play number given (lines_of (event_line event ++ rest))

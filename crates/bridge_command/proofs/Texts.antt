@@ -41,8 +41,8 @@ IsText text = list_all is_text text ≡ true
 text-cons : (byte : ℕ) (text : List ℕ) → is_text byte ≡ true → IsText text → IsText (byte ∷ text)
 text-cons byte text first others = and-true (is_text byte) (list_all is_text text) first others
 
-pub text-append : (front behind : List ℕ) → IsText front → IsText behind → IsText (front ++ behind)
-text-append front behind first second = list_all-append is_text front behind ∙ and-true (list_all is_text front) (list_all is_text behind) first second
+pub text-append : (front following : List ℕ) → IsText front → IsText following → IsText (front ++ following)
+text-append front following first second = list_all-append is_text front following ∙ and-true (list_all is_text front) (list_all is_text following) first second
 
 -- text that is cut is text
 pub text-cut : (count : ℕ) (text : List ℕ) → IsText text → IsText (take count text)
@@ -76,8 +76,8 @@ unfolding digits
 decimal-text n = onto-text 64 n [] refl
 
 -- two texts with a word between them
-worded : (front word behind : List ℕ) → IsText front → IsText word → IsText behind → IsText (front ++ word ++ behind)
-worded front word behind first is second = text-append (front ++ word) behind (text-append front word first is) second
+worded : (front word following : List ℕ) → IsText front → IsText word → IsText following → IsText (front ++ word ++ following)
+worded front word following first is second = text-append (front ++ word) following (text-append front word first is) second
 
 -- the same where the second is a number
 numbers : (front word : List ℕ) (n : ℕ) → IsText front → IsText word → IsText (front ++ word ++ decimal n)
@@ -297,11 +297,11 @@ counted-bytes (count ∷ rest) are =
 body-bytes : (kind : ℕ) (bytes : List ℕ) → AreBytes bytes → MaybeBytes (option_body kind bytes)
 body-bytes kind bytes are = either MaybeBytes (is_one_byte kind) (Some []) (counted_body bytes) refl (counted-bytes bytes are)
 
-then-bytes : (place kind : ℕ) (body : Option (List ℕ)) (behind : ℕ → List RawOption) → MaybeBytes body → ((skip : ℕ) → HaveBytes (behind skip))
-    → HaveBytes (raw_then place kind body behind)
-then-bytes place kind None behind are rest = refl
-then-bytes place kind (Some body) behind are rest =
-    and-true (list_all is_byte body) (list_all has_bytes (behind (bytes_after kind body))) are (rest (bytes_after kind body))
+then-bytes : (place kind : ℕ) (body : Option (List ℕ)) (following : ℕ → List RawOption) → MaybeBytes body → ((skip : ℕ) → HaveBytes (following skip))
+    → HaveBytes (raw_then place kind body following)
+then-bytes place kind None following are rest = refl
+then-bytes place kind (Some body) following are rest =
+    and-true (list_all is_byte body) (list_all has_bytes (following (bytes_after kind body))) are (rest (bytes_after kind body))
 
 raw-bytes : (place skip : ℕ) (area : List ℕ) → AreBytes area → HaveBytes (raw_options place skip area)
 raw-bytes place skip [] are = refl
@@ -323,14 +323,14 @@ counting-bytes : (on_data : Bool) (raws : List RawOption) → HaveBytes raws →
 counting-bytes false raws are = are
 counting-bytes true raws are = filtered-bytes (λ raw. not (is_ignored_on_data raw.kind)) raws are
 
-then-text : (part : Part) (marked : Bool) (raw : RawOption) (behind : Bool → List (Result Entry OptFault)) → has_bytes raw ≡ true
-    → ((next : Bool) → IsText (options_text (behind next))) → IsText (options_text (entry_then part marked raw behind))
-then-text Padding marked raw behind are rest = rest false
-then-text Mandatory false raw behind are rest = rest true
-then-text Mandatory true raw behind are rest = refl
-then-text Listed marked raw behind are rest =
+then-text : (part : Part) (marked : Bool) (raw : RawOption) (following : Bool → List (Result Entry OptFault)) → has_bytes raw ≡ true
+    → ((next : Bool) → IsText (options_text (following next))) → IsText (options_text (entry_then part marked raw following))
+then-text Padding marked raw following are rest = rest false
+then-text Mandatory false raw following are rest = rest true
+then-text Mandatory true raw following are rest = refl
+then-text Listed marked raw following are rest =
     let entry : Entry = record { place = raw.place; mandatory = marked; kind = raw.kind; body = raw.body } in
-    text-append (item_text (Ok entry)) (options_text (behind false)) (listed-text entry are) (rest false)
+    text-append (item_text (Ok entry)) (options_text (following false)) (listed-text entry are) (rest false)
 
 entries-text : (marked : Bool) (raws : List RawOption) → HaveBytes raws → IsText (options_text (marked_entries marked raws))
 entries-text false [] are = refl
@@ -363,7 +363,7 @@ pub record IsTextLine (line : List ℕ) : Type 0 where
 in-front : (piece line : List ℕ) → IsText piece → IsTextLine line → IsTextLine (piece ++ line)
 in-front piece line are is = record {
   front = piece ++ is.front;
-  same = ap (λ (behind : List ℕ). piece ++ behind) is.same ∙ sym (append_assoc piece is.front (codes "\n"));
+  same = ap (λ (following : List ℕ). piece ++ following) is.same ∙ sym (append_assoc piece is.front (codes "\n"));
   text = text-append piece is.front are is.text;
 }
 

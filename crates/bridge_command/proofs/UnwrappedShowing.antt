@@ -65,14 +65,14 @@ in-v6 bytes six =
     rw (no-v4 bytes other) refl
 
 -- a header of Ethernet alone
-nothing-behind : (bytes : List ℕ) → nat_lt 14 (length bytes) ≡ false → drop 14 bytes ≡ []
-nothing-behind bytes short = drop_of_length-le bytes (ltb-false 14 (length bytes) short)
+nothing-after : (bytes : List ℕ) → nat_lt 14 (length bytes) ≡ false → drop 14 bytes ≡ []
+nothing-after bytes short = drop_of_length-le bytes (ltb-false 14 (length bytes) short)
 
 -- after a header of Ethernet that says IPv4
 v4-stays : (bytes : List ℕ) (long four : Bool) → nat_lt 14 (length bytes) ≡ long → (version (drop 14 bytes) == 4) ≡ four
     → in_ip (bytes_at_start (ip_at 4 14 bytes) bytes) ≡ in_v4 (drop 14 bytes)
 v4-stays bytes false four l f =
-    ap (λ (s : Option ℕ). in_ip (bytes_at_start s bytes)) (ip-at-header 4 bytes false four l f) ∙ ap in_v4 (sym (nothing-behind bytes l))
+    ap (λ (s : Option ℕ). in_ip (bytes_at_start s bytes)) (ip-at-header 4 bytes false four l f) ∙ ap in_v4 (sym (nothing-after bytes l))
 v4-stays bytes true false l f =
     let none : in_v4 (drop 14 bytes) ≡ None = rw (no-v4 (drop 14 bytes) f) refl in
     ap (λ (s : Option ℕ). in_ip (bytes_at_start s bytes)) (ip-at-header 4 bytes true false l f) ∙ sym none
@@ -83,7 +83,7 @@ v4-stays bytes true true l f =
 v6-stays : (bytes : List ℕ) (long six : Bool) → nat_lt 14 (length bytes) ≡ long → (version (drop 14 bytes) == 6) ≡ six
     → in_ip (bytes_at_start (ip_at 6 14 bytes) bytes) ≡ in_v6 (drop 14 bytes)
 v6-stays bytes false six l x =
-    ap (λ (s : Option ℕ). in_ip (bytes_at_start s bytes)) (ip-at-header 6 bytes false six l x) ∙ ap in_v6 (sym (nothing-behind bytes l))
+    ap (λ (s : Option ℕ). in_ip (bytes_at_start s bytes)) (ip-at-header 6 bytes false six l x) ∙ ap in_v6 (sym (nothing-after bytes l))
 v6-stays bytes true false l x =
     let none : in_v6 (drop 14 bytes) ≡ None = rw (no-v6 (drop 14 bytes) x) refl in
     ap (λ (s : Option ℕ). in_ip (bytes_at_start s bytes)) (ip-at-header 6 bytes true false l x) ∙ sym none
@@ -105,8 +105,8 @@ ethernet-by bytes false s untagged =
     let parts = or_parts (is_tag kind) (kind == 34916 || is_label_type kind) untagged in
     let others = or_parts (kind == 34916) (is_label_type kind) parts.1 in
     let plain : ip_by_type 12 14 bytes ≡ ip_of_type kind 14 bytes = rw (s, parts.0) refl in
-    let behind : in_ethernet bytes ≡ in_frame kind (drop 14 bytes) = rw s refl in
-    ap (λ (start : Option ℕ). in_ip (bytes_at_start start bytes)) plain ∙ frame-stays kind bytes (kind == 2048) (kind == 34525) refl refl others.0 others.1 ∙ sym behind
+    let following : in_ethernet bytes ≡ in_frame kind (drop 14 bytes) = rw s refl in
+    ap (λ (start : Option ℕ). in_ip (bytes_at_start start bytes)) plain ∙ frame-stays kind bytes (kind == 2048) (kind == 34525) refl refl others.0 others.1 ∙ sym following
 
 ethernet-captured : (bytes : List ℕ) → IsPlainFrame bytes → carried 101 (captured_ip 1 bytes) ≡ carried 1 bytes
 ethernet-captured bytes untagged = ethernet-by bytes (nat_lt (length bytes) 14) refl untagged

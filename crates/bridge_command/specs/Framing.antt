@@ -8,7 +8,7 @@ use Rattle.dccp_packets.specs.declared.header.Number.{Number}
 use Rattle.dccp_packets.specs.declared.header.Number.TheVariants.{Long, Short}
 use Rattle.dccp_packets.specs.declared.reading.Malformed.{Malformed}
 use Rattle.packet_show.specs.Flows.{AddressAndPort, Flow, flow_number, flow_of, from_end, with_flow}
-use Rattle.bridge_pictures.specs.Walk.{ends_by, record_behind, side_from}
+use Rattle.bridge_pictures.specs.Walk.{ends_by, record_after_link, side_from}
 use Rattle.packet_show.specs.Lines.{packet_line}
 use Rattle.packet_show.specs.Network.{DatagramParts, carried}
 use Rattle.bridge_records.specs.Pieces.{Taken, text_of_pieces}
@@ -125,7 +125,7 @@ framed_record s entry = by_carried s entry (carried entry.link entry.bytes)
 abbrev pub frames_work : RecordWork FlowPacket FlowSearch
 frames_work = record {
   begun = λ s nanos. passed_over s;
-  passed = λ s e. framed_record s (record_behind e);
+  passed = λ s e. framed_record s (record_after_link e);
   told = flow_packet_text;
   closing = λ job untold records end. [];
 }

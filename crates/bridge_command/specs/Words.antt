@@ -56,8 +56,8 @@ asked_picture picture _ = None
 
 -- The form of a first word and those after it: `capture`, `unwrap`, `seed`, `seeds`, `frames`, `json`, `ladder`
 -- or `windows`.
-unfoldable pub form_behind : String Global → List (String Global) → Option BridgeForm
-form_behind first words =
+unfoldable pub form_after : String Global → List (String Global) → Option BridgeForm
+form_after first words =
     if is_word first (codes "capture") then stands_alone form.Capture words
     else if is_word first (codes "unwrap") then stands_alone form.Unwrap words
     else if is_word first (codes "seed") then asked_seed words
@@ -71,7 +71,7 @@ form_behind first words =
 -- The form that the words have.
 abbrev pub asked_form : List (String Global) → Option BridgeForm
 asked_form [] = None
-asked_form (first ∷ words) = form_behind first words
+asked_form (first ∷ words) = form_after first words
 
 -- the numbers of a form are within their bounds
 abbrev pub IsBridgeFormWithinBounds : BridgeForm → Type 0
@@ -85,13 +85,13 @@ IsBridgeFormWithinBounds (form.Picture picture) = Unit {0}
 IsBridgeFormWithinBounds (form.FlowPicture picture flow) = 1 ≤ flow
 
 -- Only the words after `seed`, `seeds` and `frames` are settings.
-abbrev pub has_settings_behind : String Global → Bool
-has_settings_behind first = (is_word first (codes "seed") || is_word first (codes "seeds")) || is_word first (codes "frames")
+abbrev pub has_settings_after : String Global → Bool
+has_settings_after first = (is_word first (codes "seed") || is_word first (codes "seeds")) || is_word first (codes "frames")
 
 -- Some word may be a setting.
 abbrev pub has_bridge_settings : List (String Global) → Bool
 has_bridge_settings [] = false
-has_bridge_settings (first ∷ words) = has_settings_behind first
+has_bridge_settings (first ∷ words) = has_settings_after first
 
 -- The line that answers all other words.
 abbrev pub bridge_usage : List ℕ

@@ -1,6 +1,6 @@
 //! What the words after the program's name ask for.
 ghost use Rattle.std.specs.Prelude.{◌≡◌, IfOk, IfSome, IsOk, false};
-ghost use Rattle.bridge_command.specs.Words.{IsBridgeFormWithinBounds, asked_flow, asked_form, asked_json, asked_picture, asked_seed, asked_seeds, flow_picture, form_behind, joined_picture, has_bridge_settings, has_settings_behind, stands_alone};
+ghost use Rattle.bridge_command.specs.Words.{IsBridgeFormWithinBounds, asked_flow, asked_form, asked_json, asked_picture, asked_seed, asked_seeds, flow_picture, form_after, joined_picture, has_bridge_settings, has_settings_after, stands_alone};
 
 use seq_circle::NoMemory;
 use std::alloc::Global;
@@ -135,15 +135,15 @@ fn asked_picture(picture: Picture, words: &[String]) -> Option<BridgeForm>
 }
 
 // The job that a first word and those after it ask for.
-#[tactic(auto, unfolding(crate::specs::Words::form_behind))]
-fn form_behind(
+#[tactic(auto, unfolding(crate::specs::Words::form_after))]
+fn form_after(
     alloc: Global,
     first: &String,
     words: &[String],
 ) -> Result<Option<BridgeForm>, NoMemory>
-    ensures value { IfOk result (λ form. form ≡ form_behind first.now words.now) }
+    ensures value { IfOk result (λ form. form ≡ form_after first.now words.now) }
     ensures within { IfOk result (λ form. IfSome form IsBridgeFormWithinBounds) }
-    ensures memory { has_settings_behind first.now ≡ false → IsOk result }
+    ensures memory { has_settings_after first.now ≡ false → IsOk result }
 {
     if is_word(first, b"capture") {
         return Ok(stands_alone(BridgeForm::Capture, words));
@@ -181,7 +181,7 @@ pub fn form_of(alloc: Global, words: &[String]) -> Result<Option<BridgeForm>, No
     ensures memory { has_bridge_settings words.now ≡ false → IsOk result }
 {
     match words {
-        [first, words @ ..] => form_behind(alloc, first, words),
+        [first, words @ ..] => form_after(alloc, first, words),
         [] => Ok(None),
     }
 }

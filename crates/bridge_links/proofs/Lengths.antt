@@ -18,7 +18,7 @@ without_length upper ip least to inside =
     let middle = part-length 7 17 ip (omega (arith, least, inside)) in
     let address = part-length upper.to 16 ip (omega (arith, to, inside)) in
     let size : List ℕ = big_bytes 2 (plain_length upper ip) in
-    let behind = length-drop upper.place ip in
+    let following = length-drop upper.place ip in
     let two : List ℕ = bytes_at 0 4 ip ++ size in
     let three : List ℕ = two ++ (33 ∷ []) in
     let four : List ℕ = three ++ bytes_at 7 17 ip in
@@ -30,7 +30,7 @@ without_length upper ip least to inside =
     let c = length-append three (bytes_at 7 17 ip) in
     let d = length-append four (bytes_at upper.to 16 ip) in
     let e = length-append five (drop upper.place ip) in
-    omega (arith, front, middle, address, behind, same, some, a, b, c, d, e, least, to, inside)
+    omega (arith, front, middle, address, following, same, some, a, b, c, d, e, least, to, inside)
 
 pub without_fits : (upper : Upper) (ip : List ℕ) → 40 ≤ upper.place → upper.to + 16 ≤ upper.place → upper.place ≤ length ip
     → length (without_extensions upper ip) ≤ length ip

@@ -39,18 +39,18 @@ abbrev pub is_tag : ℕ → Bool
 is_tag kind = kind == 33024 || (kind == 34984 || kind == 37120)
 
 -- the same after a tag, of whose four bytes the last two are the next type
-abbrev pub ip_behind_tag : ℕ → ℕ → List ℕ → Option ℕ
-ip_behind_tag kind next bytes =
+abbrev pub ip_after_tag : ℕ → ℕ → List ℕ → Option ℕ
+ip_after_tag kind next bytes =
     if not (is_tag kind) then ip_of_type kind next bytes
     else if nat_lt (length bytes) (next + 4) then None
     else ip_of_type (number_at (next + 2) 2 bytes) (next + 4) bytes
 
 -- the same after up to two tags
-abbrev pub ip_behind_tags : ℕ → ℕ → List ℕ → Option ℕ
-ip_behind_tags kind next bytes =
+abbrev pub ip_after_tags : ℕ → ℕ → List ℕ → Option ℕ
+ip_after_tags kind next bytes =
     if not (is_tag kind) then ip_of_type kind next bytes
     else if nat_lt (length bytes) (next + 4) then None
-    else ip_behind_tag (number_at (next + 2) 2 bytes) (next + 4) bytes
+    else ip_after_tag (number_at (next + 2) 2 bytes) (next + 4) bytes
 
 -- a type after which other headers come before IP: a VLAN tag, PPPoE or MPLS
 abbrev pub has_inner_header : ℕ → Bool

@@ -4,7 +4,7 @@ use Rattle.byteorder.specs.Endian.{big_number, little_number}
 use Rattle.capture_reader.specs.Format.{ordered_number_at}
 use Rattle.capture_reader.specs.declared.format.Order.TheVariants.{Little}
 use Rattle.dccp_packets.specs.Grammar.{number_at}
-use Rattle.bridge_links.specs.EtherTypes.{has_inner_header, ip_behind_tags, ip_of_protocol}
+use Rattle.bridge_links.specs.EtherTypes.{has_inner_header, ip_after_tags, ip_of_protocol}
 use Rattle.bridge_links.specs.Extensions.{is_extended, plain_ip}
 use Rattle.bridge_links.specs.Labels.{ip_in_labels}
 use Rattle.bridge_links.specs.Logs.{ip_in_log}
@@ -28,7 +28,7 @@ ip_in_ppp bytes =
 
 -- the type is at one place of the link's header, and what follows after the header
 abbrev pub ip_by_type : ℕ → ℕ → List ℕ → Option ℕ
-ip_by_type place header bytes = if nat_lt (length bytes) header then None else ip_behind_tags (number_at place 2 bytes) header bytes
+ip_by_type place header bytes = if nat_lt (length bytes) header then None else ip_after_tags (number_at place 2 bytes) header bytes
 
 -- the address families of IP: 2 of IPv4, and 10, 24, 28 or 30 of IPv6, by the system that captured
 abbrev pub ip_of_family : ℕ → List ℕ → Option ℕ

@@ -4,7 +4,7 @@ use Rattle.std.specs.Prelude.{ℕ, ◌+◌, ◌*◌, ◌/◌, ◌%◌, Bool, ◌
 use Rattle.capture_reader.specs.Format.{ordered_number_at}
 use Rattle.capture_reader.specs.declared.format.Order.TheVariants.{Little}
 use Rattle.dccp_packets.specs.Grammar.{number_at}
-use Rattle.bridge_links.specs.EtherTypes.{ip_behind_tags}
+use Rattle.bridge_links.specs.EtherTypes.{ip_after_tags}
 use Rattle.bridge_links.specs.Starts.{start_after, start_or}
 
 -- a frame that carries data: version 0, type 2, and a subtype without its bit 4, which says that there are none
@@ -44,7 +44,7 @@ abbrev pub ip_after_snap : ℕ → List ℕ → Option ℕ
 ip_after_snap place bytes =
     if nat_lt (length bytes) (place + 8) then None
     else if not (is_snap place bytes) then None
-    else ip_behind_tags (number_at (place + 6) 2 bytes) (place + 8) bytes
+    else ip_after_tags (number_at (place + 6) 2 bytes) (place + 8) bytes
 
 -- a size filled up to whole words of four
 abbrev pub whole_words : ℕ → ℕ

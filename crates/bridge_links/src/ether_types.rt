@@ -1,6 +1,6 @@
 //! Where IP begins after a type of Ethernet, or a protocol of PPP.
 ghost use Rattle.std.specs.Prelude.{◌≡◌, ◌≤◌, ◌<◌, length, IfSome};
-ghost use Rattle.bridge_links.specs.EtherTypes.{ip_behind_tag, ip_behind_tags, ip_in_session, ip_of_protocol, ip_of_type, is_tag};
+ghost use Rattle.bridge_links.specs.EtherTypes.{ip_after_tag, ip_after_tags, ip_in_session, ip_of_protocol, ip_of_type, is_tag};
 
 use crate::labels::ip_in_labels;
 use crate::numbers::read_u16;
@@ -80,9 +80,9 @@ fn is_tag(kind: u16) -> bool
 }
 
 // The same after a tag, of whose four bytes the last two are the next type.
-fn ip_behind_tag(kind: u16, next: usize, bytes: &[u8]) -> Option<usize>
+fn ip_after_tag(kind: u16, next: usize, bytes: &[u8]) -> Option<usize>
     requires { next ≤ 80 }
-    ensures value { result ≡ ip_behind_tag kind next bytes.now }
+    ensures value { result ≡ ip_after_tag kind next bytes.now }
     ensures within { IfSome result (λ n. n < length bytes.now) }
 {
     if !is_tag(kind) {
@@ -95,9 +95,9 @@ fn ip_behind_tag(kind: u16, next: usize, bytes: &[u8]) -> Option<usize>
 }
 
 /// The same after up to two tags.
-pub(crate) fn ip_behind_tags(kind: u16, next: usize, bytes: &[u8]) -> Option<usize>
+pub(crate) fn ip_after_tags(kind: u16, next: usize, bytes: &[u8]) -> Option<usize>
     requires { next ≤ 64 }
-    ensures value { result ≡ ip_behind_tags kind next bytes.now }
+    ensures value { result ≡ ip_after_tags kind next bytes.now }
     ensures within { IfSome result (λ n. n < length bytes.now) }
 {
     if !is_tag(kind) {
@@ -106,5 +106,5 @@ pub(crate) fn ip_behind_tags(kind: u16, next: usize, bytes: &[u8]) -> Option<usi
     if bytes.len() < next + 4 {
         return None;
     }
-    ip_behind_tag(read_u16(bytes, next + 2), next + 4, bytes)
+    ip_after_tag(read_u16(bytes, next + 2), next + 4, bytes)
 }

@@ -3,7 +3,7 @@ ghost use Rattle.std.specs.Prelude.{◌≡◌, ◌+◌, ◌≤◌, ◌<◌, leng
 ghost use Rattle.bridge_links.specs.Links as spec;
 ghost use Rattle.bridge_links.specs.Links.{captured_ip, ip_at_first, ip_by_type, ip_in_inner, ip_in_loop, ip_in_null, ip_in_ppp, ip_of_family, ip_of_later_link, ip_of_link, ip_start};
 
-use crate::ether_types::{ip_behind_tags, ip_of_protocol};
+use crate::ether_types::{ip_after_tags, ip_of_protocol};
 use crate::labels::ip_in_labels;
 use crate::logs::ip_in_log;
 use crate::numbers::read_u16;
@@ -53,7 +53,7 @@ fn ip_by_type(place: usize, header: usize, bytes: &[u8]) -> Option<usize>
     if bytes.len() < header {
         return None;
     }
-    ip_behind_tags(read_u16(bytes, place), header, bytes)
+    ip_after_tags(read_u16(bytes, place), header, bytes)
 }
 
 // The address families of IP: 2 of IPv4, and 10, 24, 28 or 30 of IPv6, by the system that captured.

@@ -2,7 +2,7 @@
 ghost use Rattle.std.specs.Prelude.{◌≡◌, ◌+◌, ◌≤◌, ◌<◌, length, IfSome};
 ghost use Rattle.bridge_links.specs.Wireless as spec;
 
-use crate::ether_types::ip_behind_tags;
+use crate::ether_types::ip_after_tags;
 use crate::numbers::read_u16;
 use crate::starts::start_after;
 use byteorder::{BigEndian, ByteOrder};
@@ -99,7 +99,7 @@ fn ip_after_snap(place: usize, bytes: &[u8]) -> Option<usize>
     if !is_snap(place, bytes) {
         return None;
     }
-    ip_behind_tags(read_u16(bytes, place + 6), place + 8, bytes)
+    ip_after_tags(read_u16(bytes, place + 6), place + 8, bytes)
 }
 
 // IP in a frame that carries data.

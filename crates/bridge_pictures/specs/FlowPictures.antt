@@ -5,7 +5,7 @@ use Rattle.capture_reader.specs.Records.{RecordParts}
 use Rattle.dccp_packets.specs.Grammar.{Parts, decoded}
 use Rattle.dccp_packets.specs.declared.reading.Malformed.{Malformed}
 use Rattle.packet_show.specs.Network.{DatagramParts, carried}
-use Rattle.bridge_pictures.specs.Walk.{WalkParts, first_walk, flow_walked, record_behind, step_in_flow}
+use Rattle.bridge_pictures.specs.Walk.{WalkParts, first_walk, flow_walked, record_after_link, step_in_flow}
 use Rattle.bridge_pictures.specs.declared.walk.FlowStep.{FlowStep}
 
 -- A kind of picture: what it is after one more packet of its flow, and its text at last.
@@ -54,7 +54,7 @@ silent f = record { deed = None; next = f }
 abbrev pub flow_work : {V : Type 0} → PictureKind V → RecordWork (Unit {0}) (FlowDrawing V)
 flow_work kind = record {
   begun = λ f nanos. silent f;
-  passed = λ f e. silent (ip_drawn kind f (record_behind e));
+  passed = λ f e. silent (ip_drawn kind f (record_after_link e));
   told = λ _. [];
   closing = λ f untold records end. kind.text f.picture;
 }

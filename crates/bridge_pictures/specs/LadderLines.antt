@@ -155,8 +155,8 @@ sent_drawn left =
     word_read hex_kind.reads (first_word (later left)) >>= (λ frame. or_unknown (first_word left).column (sent_frame (first_word left).text frame))
 
 -- what a line tells that is no frame's, by its first word, in this column, and those that are left
-unfoldable pub behind : ℕ → List ℕ → WordsLeft → Result LadderLine LineFault
-behind column first left =
+unfoldable pub by_first_word : ℕ → List ℕ → WordsLeft → Result LadderLine LineFault
+by_first_word column first left =
     or_unknown column
     (told_drawn first (first_word left).text (first_word (later left)).text (first_word (later (later left))).text
     (first_word (later (later (later left)))).text)
@@ -179,7 +179,7 @@ abbrev pub ladder_row : WordsLeft → Result LadderLine LineFault
 ladder_row left =
     if bytes_eq (first_word left).text (codes "sent") then sent_drawn (later left)
     else if bytes_eq (first_word left).text (codes "came") then came_drawn (later left)
-    else behind (first_word left).column (first_word left).text (later left)
+    else by_first_word (first_word left).column (first_word left).text (later left)
 
 -- What a line draws, without its newline; an empty line and a comment draw nothing.
 abbrev pub drawn_by_line : List ℕ → Result (Option LadderLine) LineFault

@@ -59,13 +59,13 @@ unfoldable pub event_drawn : Played → List ℕ → Played
 event_drawn p said = if nat_lt 0 (length said) then drawn_in p p.play.world said else p
 
 -- the same, where the schedule goes on from there
-abbrev pub behind_line : Played → Play → List ℕ → Played
-behind_line p next said = event_drawn (record p { play = next }) said
+abbrev pub after_line : Played → Play → List ℕ → Played
+after_line p next said = event_drawn (record p { play = next }) said
 
 -- what a line comes to, by what it comes to in `run`
 abbrev pub played_by : Played → LineVerdict Scene Play → LineVerdict (Unit {0}) Played
 played_by p (Refused fault) = Refused fault
-played_by p (Accepted deed next) = Accepted None (behind_line p next (line_text run_job deed))
+played_by p (Accepted deed next) = Accepted None (after_line p next (line_text run_job deed))
 
 -- what is noted below the charts
 abbrev pub notes_heading : List ℕ

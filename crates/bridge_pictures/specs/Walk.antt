@@ -59,8 +59,8 @@ abbrev pub record_of_ip : RecordParts → List ℕ → RecordParts
 record_of_ip e ip = record e { link = 101; bytes = ip }
 
 -- the same by what `unwrap` finds
-abbrev pub record_behind : RecordParts → RecordParts
-record_behind e = record_of_ip e (ip_bytes e.link e.bytes)
+abbrev pub record_after_link : RecordParts → RecordParts
+record_after_link e = record_of_ip e (ip_bytes e.link e.bytes)
 
 -- the number of a packet in full, and how far it is ahead of its sender's latest one; of a first number, 1
 abbrev pub step_of : Option ℕ → Header → ℕ × ℕ

@@ -67,14 +67,14 @@ module _ {P V : Type 0} (job : PieceWork P V) (first : V) where
       ∙ ap (λ (more : List ℕ). flat_map job.told deeds ++ more) (piece-told deed)
       ∙ sym (flat_map-append job.told deeds (done_by deed))
 
-  accepted-piece : (state next : V) (given further : ℕ) (left behind : Option (List ℕ)) (text after : List ℕ) (before taken : Option (List ℕ)) (input : List ℕ)
+  accepted-piece : (state next : V) (given further : ℕ) (left following : Option (List ℕ)) (text after : List ℕ) (before taken : Option (List ℕ)) (input : List ℕ)
       (along : Along job first state given left text before taken input) (judgement : Judgement P V)
-      → behind ≡ Some (drop further input)
+      → following ≡ Some (drop further input)
       → pieces_from job 0 state given (drop given input) ≡ taken_by state given judgement (λ onward. pieces_from job 0 onward further (drop further input))
       → JudgesPiece job state judgement text after next (Ok tt)
-      → Along job first next further behind after before taken input
-  accepted-piece state next given further left behind text after before taken input along (Stops why) is goes judges = cc judges.2
-  accepted-piece state next given further left behind text after before taken input along (Goes deed onward) is goes judges = record {
+      → Along job first next further following after before taken input
+  accepted-piece state next given further left following text after before taken input along (Stops why) is goes judges = cc judges.2
+  accepted-piece state next given further left following text after before taken input along (Goes deed onward) is goes judges = record {
     written = along.written;
     deeds = along.deeds ++ done_by deed;
     rest_is = is;
@@ -106,7 +106,7 @@ module _ {P V : Type 0} (job : PieceWork P V) (first : V) where
       let bytes = drop given input in
       let all : pending ++ more ≡ bytes = cc along.rest_is in
       let front : take used bytes ≡ take used pending = ap (take used) (sym all) ∙ take-append-le used pending more there in
-      let behind : drop used bytes ≡ drop used pending ++ more = ap (drop used) (sym all) ∙ drop-append-le used pending more there in
+      let following : drop used bytes ≡ drop used pending ++ more = ap (drop used) (sym all) ∙ drop-append-le used pending more there in
       let moved : drop used bytes ≡ drop (given + used) input = drop-drop used given input in
       let enough : used ≤ length bytes = subst (λ (xs : List ℕ). used ≤ length xs) all (let size = length-append pending more in omega (arith, size, there)) in
       let stands = piece-there used given bytes state is enough counts some in
@@ -123,11 +123,11 @@ module _ {P V : Type 0} (job : PieceWork P V) (first : V) where
       (λ (onward : V). pieces_from job 0 onward (given + used) rest)) moved in
       accepted-piece state next given (given + used) (Some (pending ++ more)) (Some (drop used pending ++ more)) text after before taken input along
       (job.judged state (take used pending))
-      (ap Some (sym behind ∙ moved)) goes judges
+      (ap Some (sym following ∙ moved)) goes judges
 
   -- the text of what is left follows that of what was done
-  text-behind : (deeds : List P) (rest : Taken P V) → text_of_pieces job (in_front deeds rest) ≡ flat_map job.told deeds ++ text_of_pieces job rest
-  text-behind deeds rest =
+  text-after : (deeds : List P) (rest : Taken P V) → text_of_pieces job (in_front deeds rest) ≡ flat_map job.told deeds ++ text_of_pieces job rest
+  text-after deeds rest =
       let last = job.closing rest.last rest.refusal in
       ap (λ (told : List ℕ). told ++ last) (flat_map-append job.told deeds rest.deeds)
       ∙ append_assoc (flat_map job.told deeds) (flat_map job.told rest.deeds) last
@@ -137,7 +137,7 @@ module _ {P V : Type 0} (job : PieceWork P V) (first : V) where
       → text_of_pieces job (pieces_of job first input) ≡ along.written ++ (text ++ text_of_pieces job rest)
   whole-text rest state given left text before after input along is =
       ap (text_of_pieces job) (along.whole ∙ ap (in_front along.deeds) is)
-      ∙ text-behind along.deeds rest
+      ∙ text-after along.deeds rest
       ∙ ap (λ (told : List ℕ). told ++ text_of_pieces job rest) (sym along.told)
       ∙ append_assoc along.written text (text_of_pieces job rest)
 

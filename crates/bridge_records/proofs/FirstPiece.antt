@@ -24,6 +24,6 @@ pieces-cut job state given [] none some = absurd (omega (arith, none))
 pieces-cut job state given (byte ∷ bytes) none some =
     let wanted = job.wanted state in
     let one : wanted ≡ suc (wanted - 1) = omega (arith, some) in
-    let behind : drop (wanted - 1) bytes ≡ drop wanted (byte ∷ bytes) = sym (ap (λ (n : ℕ). drop n (byte ∷ bytes)) one) in
+    let following : drop (wanted - 1) bytes ≡ drop wanted (byte ∷ bytes) = sym (ap (λ (n : ℕ). drop n (byte ∷ bytes)) one) in
     followed-by state given (by_next_piece job state (next_piece job state given (byte ∷ bytes))) _ _
-    (λ next. skipped-bytes job (wanted - 1) next (given + wanted) bytes ∙ ap (pieces_from job 0 next (given + wanted)) behind)
+    (λ next. skipped-bytes job (wanted - 1) next (given + wanted) bytes ∙ ap (pieces_from job 0 next (given + wanted)) following)

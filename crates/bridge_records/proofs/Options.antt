@@ -29,11 +29,11 @@ cut order code place (byte ∷ bytes) some =
     let size = option_size order (byte ∷ bytes) in
     let further : place + 1 + (size - 1) ≡ place + size = omega arith in
     let one : size ≡ suc (size - 1) = omega arith in
-    let behind : drop (size - 1) bytes ≡ drop size (byte ∷ bytes) = sym (ap (λ (n : ℕ). drop n (byte ∷ bytes)) one) in
+    let following : drop (size - 1) bytes ≡ drop size (byte ∷ bytes) = sym (ap (λ (n : ℕ). drop n (byte ∷ bytes)) one) in
     ap (by_option order code place (byte ∷ bytes))
     (skipped order code (place + 1) (size - 1) bytes
     ∙ ap (λ (n : ℕ). option_from order code n 0 (drop (size - 1) bytes)) further
-    ∙ ap (λ (rest : List ℕ). option_from order code (place + size) 0 rest) behind)
+    ∙ ap (λ (rest : List ℕ). option_from order code (place + size) 0 rest) following)
 
 -- what is sought from a place on
 abbrev pub sought : Order → ℕ → ℕ → List ℕ → Option ℕ

@@ -26,7 +26,7 @@ use Rattle.bridge_records.specs.Links.{classic_format}
 use Rattle.bridge_records.specs.Skips.{no_skips}
 use Rattle.bridge_records.specs.declared.skips.Skips.{Skips}
 use Rattle.bridge_records.specs.Reading.{FileState, by_format, by_header, by_section, by_start, first_file}
-use Rattle.bridge_records.specs.Recording.{GoesOverRecords, RecordWork, RecordsState, by_judged, first_reading, numbered_entry, reading_at, records_of, records_work, refusal_behind}
+use Rattle.bridge_records.specs.Recording.{GoesOverRecords, RecordWork, RecordsState, by_judged, first_reading, numbered_entry, reading_at, records_of, records_work, refusal_after}
 use Rattle.bridge_records.specs.declared.pieces.loops.PiecesEnd.{PiecesEnd}
 use Rattle.bridge_records.specs.declared.recording.CaptureRefusal.{CaptureRefusal}
 use Rattle.bridge_records.specs.declared.recording.RecordsEnd.{RecordsEnd}
@@ -61,13 +61,13 @@ module _ {P V : Type 0} (work : RecordWork P V) where
   pub goes-over : (first : V) (input : List ℕ) (end : JobEnd) (fault : Option PieceFault) (last : RecordsState V) (refusal : Option CaptureRefusal)
       (skips : Skips) (left before after : Option (List ℕ))
       → GoesThroughPieces (records_work work) (first_reading first) input (record { end = end; fault = fault }) last left before after
-      → refusal ≡ refusal_behind last.records fault → skips ≡ last.file.skips
+      → refusal ≡ refusal_after last.records fault → skips ≡ last.file.skips
       → GoesOverRecords work first input (record { end = end; refusal = refusal; skips = skips }) left before after
   goes-over first input end fault last refusal skips left before after goes is skipped = record {
     answers = goes.answers;
     past = goes.past;
-    refused = λ answered. is ∙ ap (λ (s : RecordsState V). refusal_behind s.records fault) (goes.last_is answered)
-        ∙ ap (refusal_behind (records_of work first input).last.records) (goes.refused answered);
+    refused = λ answered. is ∙ ap (λ (s : RecordsState V). refusal_after s.records fault) (goes.last_is answered)
+        ∙ ap (refusal_after (records_of work first input).last.records) (goes.refused answered);
     skipped = λ answered. skipped ∙ ap (λ (s : RecordsState V). s.file.skips) (goes.last_is answered);
   }
 
@@ -121,8 +121,8 @@ module _ {P V : Type 0} (work : RecordWork P V) (format : Format) where
   inside head n job = reading_at (file (place.Body format head)) format.nanos n job
 
   -- a record after so many, with its bytes
-  abbrev entry-behind : ℕ → RecordHeader → List ℕ → RecordParts
-  entry-behind n head bytes = numbered_entry (one_more n) format.nanos format.link head bytes
+  abbrev entry-after : ℕ → RecordHeader → List ℕ → RecordParts
+  entry-after n head bytes = numbered_entry (one_more n) format.nanos format.link head bytes
 
   -- the pieces after a header, and what they come to
   abbrev onward : ℕ → RecordsState V → List ℕ → Taken P (RecordsState V)
@@ -133,12 +133,12 @@ module _ {P V : Type 0} (work : RecordWork P V) (format : Format) where
   passing n job entry given bytes = in_front (done_by (work.passed job entry).deed) (onward given (here (one_more n) (work.passed job entry).next) bytes)
 
   -- a header's numbers, read from its piece
-  head-read : (bytes header behind : List ℕ) → bytes ≡ header ++ behind → length header ≡ 16 → (at : ℕ) → at + 4 ≤ 16
+  head-read : (bytes header following : List ℕ) → bytes ≡ header ++ following → length header ≡ 16 → (at : ℕ) → at + 4 ≤ 16
       → ordered_number_at format.order at 4 (take 16 bytes) ≡ ordered_number_at format.order at 4 bytes
-  head-read bytes header behind parts long at fits =
-      let front : take 16 bytes ≡ header = ap (take 16) parts ∙ take_at header behind 16 long in
+  head-read bytes header following parts long at fits =
+      let front : take 16 bytes ≡ header = ap (take 16) parts ∙ take_at header following 16 long in
       ap (ordered_number_at format.order at 4) front
-      ∙ sym (number-front format.order at 4 header behind (omega (arith, fits, long)))
+      ∙ sym (number-front format.order at 4 header following (omega (arith, fits, long)))
       ∙ ap (ordered_number_at format.order at 4) (sym parts)
 
   -- a header is a piece
@@ -157,7 +157,7 @@ module _ {P V : Type 0} (work : RecordWork P V) (format : Format) where
   -- a record without bytes is made by its header alone
   none-judged : (n : ℕ) (job : V) (piece : List ℕ) (head : RecordHeader) → head.captured ≡ 0
       → by_judged work (here n job) piece (by_header (file (place.Header format)) format head)
-      ≡ Goes (work.passed job (entry-behind n head [])).deed (here (one_more n) (work.passed job (entry-behind n head [])).next)
+      ≡ Goes (work.passed job (entry-after n head [])).deed (here (one_more n) (work.passed job (entry-after n head [])).next)
   none-judged n job piece head none = rw none refl
 
   -- and otherwise its bytes are the next piece
@@ -171,29 +171,29 @@ module _ {P V : Type 0} (work : RecordWork P V) (format : Format) where
   -- the bytes of a record
   body-judged : (n : ℕ) (job : V) (piece : List ℕ) (head : RecordHeader)
       → pieces.judged (inside head n job) piece
-      ≡ Goes (work.passed job (entry-behind n head (take head.captured piece))).deed
-      (here (one_more n) (work.passed job (entry-behind n head (take head.captured piece))).next)
+      ≡ Goes (work.passed job (entry-after n head (take head.captured piece))).deed
+      (here (one_more n) (work.passed job (entry-after n head (take head.captured piece))).next)
   body-judged n job piece head = refl
 
   body-piece : (n given : ℕ) (job : V) (head : RecordHeader) (body rest : List ℕ) → length body ≡ head.captured → 1 ≤ length body → given + length body ≤ 2 ^ 32
-      → onward given (inside head n job) (body ++ rest) ≡ passing n job (entry-behind n head body) (given + length body) rest
+      → onward given (inside head n job) (body ++ rest) ≡ passing n job (entry-after n head body) (given + length body) rest
   body-piece n given job head body rest size some counts =
       let count = head.captured in
       let bytes = body ++ rest in
       let joined = length-append body rest in
       let one : 1 ≤ count = omega (arith, size, some) in
       let front : take count bytes ≡ body = take_at body rest count size in
-      let behind : drop count bytes ≡ rest = drop_at body rest count size in
+      let following : drop count bytes ≡ rest = drop_at body rest count size in
       pieces-cut pieces (inside head n job) given bytes (omega (arith, joined, some)) one
       ∙ ap (λ (p : PieceNext). taken_by (inside head n job) given (by_next_piece pieces (inside head n job) p)
       (λ (next : RecordsState V). onward (given + count) next (drop count bytes)))
       (piece-there pieces (inside head n job) count given bytes (inside head n job) refl (omega (arith, joined, size)) (omega (arith, counts, size)) one)
       ∙ ap (λ (j : Judgement P (RecordsState V)). taken_by (inside head n job) given j
       (λ (next : RecordsState V). onward (given + count) next (drop count bytes))) (body-judged n job (take count bytes) head)
-      ∙ ap (λ (piece : List ℕ). passing n job (entry-behind n head (take count piece)) (given + count) (drop count bytes)) front
-      ∙ ap (λ (held : List ℕ). passing n job (entry-behind n head held) (given + count) (drop count bytes)) (take_all count body (omega (arith, size)))
-      ∙ ap (λ (left : List ℕ). passing n job (entry-behind n head body) (given + count) left) behind
-      ∙ ap (λ (k : ℕ). passing n job (entry-behind n head body) (given + k) rest) (sym size)
+      ∙ ap (λ (piece : List ℕ). passing n job (entry-after n head (take count piece)) (given + count) (drop count bytes)) front
+      ∙ ap (λ (held : List ℕ). passing n job (entry-after n head held) (given + count) (drop count bytes)) (take_all count body (omega (arith, size)))
+      ∙ ap (λ (left : List ℕ). passing n job (entry-after n head body) (given + count) left) following
+      ∙ ap (λ (k : ℕ). passing n job (entry-after n head body) (given + k) rest) (sym size)
 
   -- nothing in front
   same-front : (taken : Taken P (RecordsState V)) → in_front [] taken ≡ taken
@@ -203,13 +203,13 @@ module _ {P V : Type 0} (work : RecordWork P V) (format : Format) where
   record-piece : (n given : ℕ) (job : V) (bytes body rest : List ℕ) → 16 ≤ length bytes → drop 16 bytes ≡ body ++ rest
       → (record_header format.order (take 16 bytes)).captured ≡ length body
       → length body ≤ 262144 → given + (16 + length body) ≤ 2 ^ 32
-      → onward given (here n job) bytes ≡ passing n job (entry-behind n (record_header format.order (take 16 bytes)) body) (given + (16 + length body)) rest
+      → onward given (here n job) bytes ≡ passing n job (entry-after n (record_header format.order (take 16 bytes)) body) (given + (16 + length body)) rest
   record-piece n given job bytes [] rest long parts size fits counts =
       let head = record_header format.order (take 16 bytes) in
       header-piece n given job bytes long counts
       ∙ ap (λ (j : Judgement P (RecordsState V)). taken_by (here n job) given j (λ (next : RecordsState V). onward (given + 16) next (drop 16 bytes)))
       (none-judged n job (take 16 bytes) head size)
-      ∙ ap (λ (left : List ℕ). passing n job (entry-behind n head []) (given + 16) left) parts
+      ∙ ap (λ (left : List ℕ). passing n job (entry-after n head []) (given + 16) left) parts
   record-piece n given job bytes (byte ∷ body) rest long parts size fits counts =
       let head = record_header format.order (take 16 bytes) in
       let all : List ℕ = byte ∷ body in
@@ -220,7 +220,7 @@ module _ {P V : Type 0} (work : RecordWork P V) (format : Format) where
       ∙ same-front (onward (given + 16) (inside head n job) (drop 16 bytes))
       ∙ ap (onward (given + 16) (inside head n job)) parts
       ∙ body-piece n (given + 16) job head all rest (sym size) (omega arith) (omega (arith, counts))
-      ∙ ap (λ (g : ℕ). passing n job (entry-behind n head all) g rest) further
+      ∙ ap (λ (g : ℕ). passing n job (entry-after n head all) g rest) further
 
   -- what the header of a record says
   head-same : (number given : ℕ) (entry : RecordParts) (rest bytes : List ℕ) (r : IsRecord format number given entry rest bytes)
@@ -241,10 +241,10 @@ module _ {P V : Type 0} (work : RecordWork P V) (format : Format) where
 
   -- the record that is handed on
   entry-same : (number given : ℕ) (entry : RecordParts) (rest bytes : List ℕ) (r : IsRecord format number given entry rest bytes) → number ≤ given
-      → entry-behind number (record_header format.order (take 16 bytes)) r.body ≡ entry
+      → entry-after number (record_header format.order (take 16 bytes)) r.body ≡ entry
   entry-same number given entry rest bytes r few =
       let next : one_more number ≡ number + 1 = few-more number given few (omega (arith, r.counts)) in
-      ap (λ (h : RecordHeader). entry-behind number h r.body) (head-same number given entry rest bytes r)
+      ap (λ (h : RecordHeader). entry-after number h r.body) (head-same number given entry rest bytes r)
       ∙ ap (λ (n : ℕ). numbered_entry n format.nanos format.link
       (head-of (ordered_number_at format.order 0 4 bytes) (ordered_number_at format.order 4 4 bytes) (length r.body)
       (ordered_number_at format.order 12 4 bytes)) r.body) next
@@ -258,7 +258,7 @@ module _ {P V : Type 0} (work : RecordWork P V) (format : Format) where
       let size : length entry.bytes ≡ length r.body = ap (λ (e : RecordParts). length e.bytes) r.stands in
       let whole : length bytes ≡ length (r.header ++ (r.body ++ rest)) = ap length r.whole in
       let joined = length-append r.header (r.body ++ rest) in
-      let behind : drop 16 bytes ≡ r.body ++ rest = ap (drop 16) r.whole ∙ drop_at r.header (r.body ++ rest) 16 r.header_length in
+      let following : drop 16 bytes ≡ r.body ++ rest = ap (drop 16) r.whole ∙ drop_at r.header (r.body ++ rest) 16 r.header_length in
       let captured : (record_header format.order (take 16 bytes)).captured ≡ length r.body =
       ap (λ (h : RecordHeader). h.captured) (head-same number given entry rest bytes r) in
       let further : given + (16 + length entry.bytes) ≡ given + (16 + length r.body) = ap (λ (k : ℕ). given + (16 + k)) size in
@@ -270,7 +270,7 @@ module _ {P V : Type 0} (work : RecordWork P V) (format : Format) where
       subst (λ (n : ℕ). ArePassed work after entries (onward (given + (16 + length r.body)) (here n after) rest)) next
       (subst (λ (g : ℕ). ArePassed work after entries (onward g (here (number + 1) after) rest)) further later) in
       subst (ArePassed work job (entry ∷ entries))
-      (sym (record-piece number given job bytes r.body rest (omega (arith, whole, joined, r.header_length)) behind captured r.fits r.counts
+      (sym (record-piece number given job bytes r.body rest (omega (arith, whole, joined, r.header_length)) following captured r.fits r.counts
       ∙ ap (λ (e : RecordParts). passing number job e (given + (16 + length r.body)) rest) (entry-same number given entry rest bytes r few)))
       (record { refusal = others.refusal; deeds = ap (λ (deeds : List P). done_by (work.passed job entry).deed ++ deeds) others.deeds })
 

@@ -34,15 +34,15 @@ record-there nanos number given r rest fits room =
     let size = length r.bytes in
     let head = record_head (header_for r) in
     let bytes = raw_record r ++ rest in
-    let behind = r.bytes ++ rest in
+    let following = r.bytes ++ rest in
     let small : size < 256 ^ 4 = omega (arith, fits.size) in
-    let parts : bytes ≡ head ++ behind = append_assoc head r.bytes rest in
-    let seconds : big_number 4 (head ++ behind) ≡ r.seconds =
-    big_number-reads_back 4 r.seconds (big_bytes 4 r.fraction ++ big_bytes 4 size ++ big_bytes 4 r.original ++ behind) fits.seconds in
-    let fraction : big_number 4 (drop 4 (head ++ behind)) ≡ r.fraction =
-    big_number-reads_back 4 r.fraction (big_bytes 4 size ++ big_bytes 4 r.original ++ behind) fits.fraction in
-    let captured : big_number 4 (drop 8 (head ++ behind)) ≡ size = big_number-reads_back 4 size (big_bytes 4 r.original ++ behind) small in
-    let original : big_number 4 (drop 12 (head ++ behind)) ≡ r.original = big_number-reads_back 4 r.original behind fits.original in
+    let parts : bytes ≡ head ++ following = append_assoc head r.bytes rest in
+    let seconds : big_number 4 (head ++ following) ≡ r.seconds =
+    big_number-reads_back 4 r.seconds (big_bytes 4 r.fraction ++ big_bytes 4 size ++ big_bytes 4 r.original ++ following) fits.seconds in
+    let fraction : big_number 4 (drop 4 (head ++ following)) ≡ r.fraction =
+    big_number-reads_back 4 r.fraction (big_bytes 4 size ++ big_bytes 4 r.original ++ following) fits.fraction in
+    let captured : big_number 4 (drop 8 (head ++ following)) ≡ size = big_number-reads_back 4 size (big_bytes 4 r.original ++ following) small in
+    let original : big_number 4 (drop 12 (head ++ following)) ≡ r.original = big_number-reads_back 4 r.original following fits.original in
     record {
       header = head;
       body = r.bytes;
@@ -77,9 +77,9 @@ header-length : (nanos : Bool) → length (file_header nanos) ≡ 24
 header-length true = refl
 header-length false = refl
 
-behind-header : (nanos : Bool) (rest : List ℕ) → drop 24 (file_header nanos ++ rest) ≡ rest
-behind-header true rest = refl
-behind-header false rest = refl
+after-header : (nanos : Bool) (rest : List ℕ) → drop 24 (file_header nanos ++ rest) ≡ rest
+after-header true rest = refl
+after-header false rest = refl
 
 pub records-read : (nanos : Bool) (records : List RawRecord) → All FitsHeader records → length (capture_of nanos records) ≤ 2 ^ 32
     → captured (capture_of nanos records) ≡ record { records = raw_entries nanos 0 records; end = None }
@@ -89,5 +89,5 @@ records-read nanos records fits room =
     let long = header-length nanos in
     capture-read (capture_of nanos records) (raw_entries nanos 0 records) None
     (Opened (written_format nanos) (header-opened nanos rest)
-    (subst (λ (bs : List ℕ). HasRecords (written_format nanos) 0 24 bs (raw_entries nanos 0 records) None) (sym (behind-header nanos rest))
+    (subst (λ (bs : List ℕ). HasRecords (written_format nanos) 0 24 bs (raw_entries nanos 0 records) None) (sym (after-header nanos rest))
     (have-all nanos 0 24 records fits (omega (arith, room, size, long)))))

@@ -84,13 +84,13 @@ abbrev pub records_of : {P V : Type 0} → RecordWork P V → V → List ℕ →
 records_of work first input = pieces_of (records_work work) (first_reading first) input
 
 -- a capture that is refused after so many records
-abbrev pub refusal_behind : ℕ → Option PieceFault → Option CaptureRefusal
-refusal_behind records None = None
-refusal_behind records (Some fault) = Some (record { fault = fault; records = records })
+abbrev pub refusal_after : ℕ → Option PieceFault → Option CaptureRefusal
+refusal_after records None = None
+refusal_after records (Some fault) = Some (record { fault = fault; records = records })
 
 -- Why a capture is refused, if it is, and after how many records.
 abbrev pub capture_refusal : {P V : Type 0} → Taken P (RecordsState V) → Option CaptureRefusal
-capture_refusal taken = refusal_behind taken.last.records taken.refusal
+capture_refusal taken = refusal_after taken.last.records taken.refusal
 
 -- What of a capture is skipped.
 abbrev pub capture_skips : {P V : Type 0} → Taken P (RecordsState V) → Skips

@@ -5,7 +5,7 @@ ghost use Rattle.capture_reader.specs.Records.{entry_of};
 ghost use Rattle.dccp_io.specs.Counts.{Rose, one_more};
 ghost use Rattle.tool_text.specs.Ends.{EndsForCause, SinkFails};
 ghost use Rattle.bridge_records.specs.Reading.{bytes_held};
-ghost use Rattle.bridge_records.specs.Recording.{GoesOverRecords, RecordWork, first_reading, held_passed, numbered_entry, reading_at, records_work, refusal_behind};
+ghost use Rattle.bridge_records.specs.Recording.{GoesOverRecords, RecordWork, first_reading, held_passed, numbered_entry, reading_at, records_work, refusal_after};
 
 use crate::content::Content;
 use crate::pieces::{PieceError, PieceFault, PieceJob, run_pieces};
@@ -127,7 +127,7 @@ impl<J: RecordJob> CaptureWalk<J> {
 
     // Why the capture is refused after the last record, if it is.
     fn refusal(&self, fault: Option<PieceFault>) -> Option<CaptureRefusal>
-        ensures { result ≡ refusal_behind self.now.records fault }
+        ensures { result ≡ refusal_after self.now.records fault }
     {
         match fault {
             Some(fault) => Some(CaptureRefusal {

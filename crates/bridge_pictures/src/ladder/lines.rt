@@ -285,9 +285,13 @@ fn sent<'a>(words: &mut Words<'a>) -> Result<LadderLine<'a>, LineFault>
 }
 
 // What a line tells that is no frame's, whose first word was read.
-#[tactic(auto, unfolding(crate::specs::LadderLines::behind))]
-fn behind<'a>(column: u32, first: &[u8], words: &mut Words<'a>) -> Result<LadderLine<'a>, LineFault>
-    ensures { result ≡ spec.behind column first.now (left_of words.old) }
+#[tactic(auto, unfolding(crate::specs::LadderLines::by_first_word))]
+fn by_first_word<'a>(
+    column: u32,
+    first: &[u8],
+    words: &mut Words<'a>,
+) -> Result<LadderLine<'a>, LineFault>
+    ensures { result ≡ spec.by_first_word column first.now (left_of words.old) }
 {
     let second = words.next_word();
     let third = words.next_word();
@@ -334,7 +338,7 @@ impl<'a> WordRow<'a> for LadderWords {
         if is_text(first.text, b"came") {
             return came_by_line(words);
         }
-        behind(first.column, first.text, words)
+        by_first_word(first.column, first.text, words)
     }
 }
 
