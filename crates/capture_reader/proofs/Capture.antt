@@ -9,7 +9,7 @@ use Rattle.capture_reader.specs.declared.fault.CaptureFault.TheVariants.{BadMagi
 use Rattle.capture_reader.specs.declared.format.Format.{Format}
 use Rattle.capture_reader.specs.declared.record.RecordHeader.{RecordHeader}
 use Rattle.capture_reader.specs.Format.{opened}
-use Rattle.capture_reader.specs.Records.{RecordParts, most_bytes, most_captured, missing, record_header, header_in, body_fault, found_by, entry_with, next_by, next_of, Captured, before, onward, records_from, captured_by, captured, unless_faulty}
+use Rattle.capture_reader.specs.Records.{RecordParts, most_bytes, most_captured, missing, record_header, header_in, body_fault, found_by, entry_with, next_by, next_of, CaptureContents, before, onward, records_from, captured_by, captured, unless_faulty}
 use Rattle.capture_reader.specs.Capture.{captured_length, IsRecord, HasHeader, IsWrong, HasRecords, IsCapture, Refused, Opened}
 
 -- what is missing, by its three cases
@@ -206,7 +206,7 @@ has-by : (format : Format) (number given : ℕ) (bytes : List ℕ) → 0 < lengt
     → Stands format number given bytes
     → HasRecords format number given bytes (records_from format 0 number given bytes).records (records_from format 0 number given bytes).end
 has-by format number given bytes some within others (IsWrongHere why wrong) =
-    subst (λ (c : Captured). HasRecords format number given bytes c.records c.end)
+    subst (λ (c : CaptureContents). HasRecords format number given bytes c.records c.end)
     (sym (records-wrong format number given bytes why some (wrong-read format number given bytes why some within wrong)))
     (some, wrong)
 has-by format number given bytes some within others (IsRecordHere entry rest r) =
@@ -217,7 +217,7 @@ has-by format number given bytes some within others (IsRecordHere entry rest r) 
     let following : records_from format 0 (number + 1) (given + (16 + length entry.bytes)) (drop (16 + length entry.bytes) bytes)
     ≡ records_from format 0 (number + 1) (given + (16 + length entry.bytes)) rest =
     ap (records_from format 0 (number + 1) (given + (16 + length entry.bytes))) (record-after format number given entry rest bytes r) in
-    subst (λ (c : Captured). HasRecords format number given bytes c.records c.end)
+    subst (λ (c : CaptureContents). HasRecords format number given bytes c.records c.end)
     (sym (records-next format number given bytes entry some (record-read format number given entry rest bytes r) ∙ ap (before entry) following))
     (rest, r, more)
 
@@ -248,7 +248,7 @@ same-records (entry ∷ entries) format number given bytes end within (rest, r, 
     ∙ same-records entries format (number + 1) (given + (16 + length entry.bytes)) rest end counts more)
 
 -- records and an end, of their two parts
-abbrev both : List RecordParts → Option CaptureFault → Captured
+abbrev both : List RecordParts → Option CaptureFault → CaptureContents
 both records end = record { records = records; end = end }
 
 pub capture-read : (bytes : List ℕ) (records : List RecordParts) (end : Option CaptureFault) → IsCapture bytes records end
@@ -266,4 +266,4 @@ capture-by bytes (Ok format) told = Opened format told (has-records (length (dro
 
 pub read-capture : (bytes : List ℕ) (records : List RecordParts) (end : Option CaptureFault) → captured bytes ≡ record { records = records; end = end }
     → IsCapture bytes records end
-read-capture bytes records end is = subst (λ (c : Captured). IsCapture bytes c.records c.end) is (capture-by bytes (opened bytes) refl)
+read-capture bytes records end is = subst (λ (c : CaptureContents). IsCapture bytes c.records c.end) is (capture-by bytes (opened bytes) refl)

@@ -120,32 +120,32 @@ abbrev pub next_of : Format → ℕ → ℕ → List ℕ → Result (Option Reco
 next_of format number given bytes = next_by format (number + 1) (found_in format.order (most_bytes - given) bytes) bytes
 
 -- The records of a capture, and the fault that ended it, if any.
-pub record Captured : Type 0 where
+pub record CaptureContents : Type 0 where
   pub records : List RecordParts
   pub end : Option CaptureFault
 
 -- one record before others
-abbrev pub before : RecordParts → Captured → Captured
+abbrev pub before : RecordParts → CaptureContents → CaptureContents
 before entry others = record { records = entry ∷ others.records; end = others.end }
 
 -- what comes next, and what is after it, which is asked for by the number of bytes that the record takes
-abbrev pub onward : Result (Option RecordParts) CaptureFault → (ℕ → Captured) → Captured
+abbrev pub onward : Result (Option RecordParts) CaptureFault → (ℕ → CaptureContents) → CaptureContents
 onward (Ok None) following = record { records = []; end = None }
 onward (Err why) following = record { records = []; end = Some why }
 onward (Ok (Some entry)) following = before entry (following (16 + length entry.bytes))
 
 -- the records after `number` records and `given` bytes; the first `skip` bytes belong to the record before
-abbrev pub records_from : Format → ℕ → ℕ → ℕ → List ℕ → Captured
+abbrev pub records_from : Format → ℕ → ℕ → ℕ → List ℕ → CaptureContents
 records_from format skip number given [] = record { records = []; end = None }
 records_from format (suc skip) number given (byte ∷ bytes) = records_from format skip number given bytes
 records_from format zero number given (byte ∷ bytes) =
     onward (next_of format number given (byte ∷ bytes)) (λ used. records_from format (used - 1) (number + 1) (given + used) bytes)
 
 -- the records after a file header that was read, or its fault
-abbrev pub captured_by : Result Format CaptureFault → List ℕ → Captured
+abbrev pub captured_by : Result Format CaptureFault → List ℕ → CaptureContents
 captured_by (Err why) bytes = record { records = []; end = Some why }
 captured_by (Ok format) bytes = records_from format 0 0 24 (drop 24 bytes)
 
 -- the records of an input
-abbrev pub captured : List ℕ → Captured
+abbrev pub captured : List ℕ → CaptureContents
 captured bytes = captured_by (opened bytes) bytes

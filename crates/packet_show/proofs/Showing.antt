@@ -7,7 +7,7 @@ use Rattle.std.specs.Io.KnownBytes.{append_known, prepend_known}
 use Rattle.capture_reader.specs.declared.fault.CaptureFault.{CaptureFault}
 use Rattle.capture_reader.specs.declared.format.Format.{Format}
 use Rattle.capture_reader.specs.Format.{opened}
-use Rattle.capture_reader.specs.Records.{RecordParts, Captured, next_of, records_from, captured, captured_by}
+use Rattle.capture_reader.specs.Records.{RecordParts, CaptureContents, next_of, records_from, captured, captured_by}
 use Rattle.capture_reader.specs.Records.{before as before_others}
 use Rattle.capture_reader.specs.State.{CapturesState, rest, Passed, Advances, Blames}
 use Rattle.capture_reader.specs.State as header
@@ -27,12 +27,12 @@ use Rattle.tool_text.specs.Ends.{HasBegun, IsCutOff, Answers, IsMovedOut}
 use Rattle.tool_text.proofs.Ending.{append-twice, begun-longer, begun-after, none-left, not-both, answers-early, on-ok, unwritten}
 
 -- the text of what is left
-abbrev pub rest_text : Tally → Captured → List ℕ
+abbrev pub rest_text : Tally → CaptureContents → List ℕ
 rest_text tally others = text_from tally others.records others.end
 
 -- Before a turn, where `left` is what is left of the input and `text` was not written yet.
 pub record Along (format : Format) (number given : ℕ) (left : Option (List ℕ)) (tally : Tally) (text : List ℕ) (before after : Option (List ℕ))
-    (whole : Captured) (input : List ℕ) : Type 0 where
+    (whole : CaptureContents) (input : List ℕ) : Type 0 where
   pub done : ℕ
   pub written : List ℕ
   pub rest_is : left ≡ Some (drop done input)
@@ -52,7 +52,7 @@ some-wrong format number given (byte ∷ bytes) why is = omega arith
 
 -- a record was shown
 pub along-turn : (format : Format) (number given : ℕ) (left next : Option (List ℕ)) (tally : Tally) (text : List ℕ) (before after : Option (List ℕ))
-    (whole : Captured)
+    (whole : CaptureContents)
     (input : List ℕ) (entry : RecordParts) → Along format number given left tally text before after whole input
     → IfSome left (λ bytes. (next_of format number given bytes ≡ Ok (Some entry)) × (next ≡ Some (drop (16 + length entry.bytes) bytes)))
     → Along format (number + 1) (given + (16 + length entry.bytes)) next (tallied tally entry) (text ++ record_text tally entry) before after whole input
@@ -68,7 +68,7 @@ along-turn format number given left next tally text before after whole input ent
     records-next format number given now entry (some-for format number given now entry here.0) here.0
     ∙ ap (λ (bytes : List ℕ). before_others entry (records_from format 0 (number + 1) (given + used) bytes)) moved in
     let size : size_of whole.records ≡ along.done + (used + size_of others.records) = along.size_is
-    ∙ ap (λ (c : Captured). along.done + size_of c.records) same in
+    ∙ ap (λ (c : CaptureContents). along.done + size_of c.records) same in
     record {
       done = along.done + used;
       written = along.written;
@@ -76,15 +76,15 @@ along-turn format number given left next tally text before after whole input ent
       taken_is = along.taken_is;
       text_is =
           along.text_is
-          ∙ ap (λ (c : Captured). along.written ++ (text ++ rest_text tally c)) same
+          ∙ ap (λ (c : CaptureContents). along.written ++ (text ++ rest_text tally c)) same
           ∙ ap (λ (more : List ℕ). along.written ++ more) (sym (append_assoc text (record_text tally entry) (rest_text (tallied tally entry) others)));
       size_is = omega (arith, size);
-      end_is = along.end_is ∙ ap (λ (c : Captured). c.end) same;
+      end_is = along.end_is ∙ ap (λ (c : CaptureContents). c.end) same;
     }
 
 -- a front of the text was written
 pub along-moved : (format : Format) (number given : ℕ) (left : Option (List ℕ)) (tally : Tally) (text kept : List ℕ) (before after later : Option (List ℕ))
-    (whole : Captured)
+    (whole : CaptureContents)
     (input : List ℕ) → Along format number given left tally text before after whole input → IsMovedOut after later text kept
     → Along format number given left tally kept before later whole input
 along-moved format number given left tally text kept before after later whole input along (moved, taken, parts) =
@@ -104,7 +104,7 @@ along-moved format number given left tally text kept before after later whole in
     }
 
 -- the same of an input that is known or not, where the call succeeded
-pub along-flushed : {A E : Type 0} (all : Option (List ℕ)) (records : List ℕ → Captured) (format : Format) (number given : ℕ) (left : Option (List ℕ))
+pub along-flushed : {A E : Type 0} (all : Option (List ℕ)) (records : List ℕ → CaptureContents) (format : Format) (number given : ℕ) (left : Option (List ℕ))
     (tally : Tally)
     (text kept : List ℕ) (before after later : Option (List ℕ)) (flushed : Result A E)
     → IfSome all (λ bytes. Along format number given left tally text before after (records bytes) bytes) → OnOk flushed (IsMovedOut after later text kept)
@@ -116,7 +116,7 @@ along-flushed all records format number given left tally text kept before after 
 
 -- the job ended early
 pub along-begun : (format : Format) (number given : ℕ) (left : Option (List ℕ)) (tally : Tally) (text : List ℕ) (before after later : Option (List ℕ))
-    (whole : Captured)
+    (whole : CaptureContents)
     (input : List ℕ) → Along format number given left tally text before after whole input → HasBegun after later text → HasBegun before later (shown_text whole)
 along-begun format number given left tally text before after later whole input along begun =
     let rest = rest_text tally (records_from format 0 number given (drop along.done input)) in
@@ -124,24 +124,24 @@ along-begun format number given left tally text before after later whole input a
     (begun-after before after later along.written (text ++ rest) along.taken_is (begun-longer after later text rest begun))
 
 -- the records are over
-pub record Over (tally : Tally) (text : List ℕ) (end : Option CaptureFault) (before after : Option (List ℕ)) (whole : Captured) : Type 0 where
+pub record Over (tally : Tally) (text : List ℕ) (end : Option CaptureFault) (before after : Option (List ℕ)) (whole : CaptureContents) : Type 0 where
   pub written : List ℕ
   pub taken_is : after ≡ append_known before written
   pub text_is : shown_text whole ≡ written ++ (text ++ last_line tally end)
   pub end_is : whole.end ≡ end
 
-over-by : (format : Format) (number given : ℕ) (left : Option (List ℕ)) (tally : Tally) (text : List ℕ) (before after : Option (List ℕ)) (whole : Captured)
+over-by : (format : Format) (number given : ℕ) (left : Option (List ℕ)) (tally : Tally) (text : List ℕ) (before after : Option (List ℕ)) (whole : CaptureContents)
     (input : List ℕ) (end : Option CaptureFault) (along : Along format number given left tally text before after whole input)
     → records_from format 0 number given (drop along.done input) ≡ record { records = []; end = end } → Over tally text end before after whole
 over-by format number given left tally text before after whole input end along over = record {
   written = along.written;
   taken_is = along.taken_is;
-  text_is = along.text_is ∙ ap (λ (c : Captured). along.written ++ (text ++ rest_text tally c)) over;
-  end_is = along.end_is ∙ ap (λ (c : Captured). c.end) over;
+  text_is = along.text_is ∙ ap (λ (c : CaptureContents). along.written ++ (text ++ rest_text tally c)) over;
+  end_is = along.end_is ∙ ap (λ (c : CaptureContents). c.end) over;
 }
 
 -- after them a text was closed
-over-closed : (tally : Tally) (text : List ℕ) (end : Option CaptureFault) (before after later left : Option (List ℕ)) (whole : Captured) (result : JobEnd)
+over-closed : (tally : Tally) (text : List ℕ) (end : Option CaptureFault) (before after later left : Option (List ℕ)) (whole : CaptureContents) (result : JobEnd)
     → Over tally text end before after whole → Closes (text ++ last_line tally end) end result after later → (result ≡ ended.Done → left ≡ Some [])
     → Answers (shown_text whole) (is_some whole.end) result left before later
 over-closed tally text end before after later left whole result over closes none = record {
@@ -157,7 +157,7 @@ over-closed tally text end before after later left whole result over closes none
 
 -- the input ended between two records
 pub shown-end : (format : Format) (number given : ℕ) (left known : Option (List ℕ)) (pending : List ℕ) (tally : Tally) (text : List ℕ)
-    (before after later : Option (List ℕ)) (whole : Captured) (input : List ℕ) (result : JobEnd)
+    (before after later : Option (List ℕ)) (whole : CaptureContents) (input : List ℕ) (result : JobEnd)
     → Along format number given left tally text before after whole input
     → IfSome left (λ bytes. (bytes ≡ []) × (prepend_known pending known ≡ Some [])) → Closes (text ++ last_line tally None) None result after later
     → ShowsRecords whole input result known before later
@@ -171,7 +171,7 @@ shown-end format number given left known pending tally text before after later w
 
 -- a fault ended the records
 pub shown-fault : (format : Format) (number given : ℕ) (left known : Option (List ℕ)) (tally : Tally) (text : List ℕ) (before after later : Option (List ℕ))
-    (whole : Captured)
+    (whole : CaptureContents)
     (input : List ℕ) (why : CaptureFault) (result : JobEnd) → Along format number given left tally text before after whole input
     → IfSome left (λ bytes. next_of format number given bytes ≡ Err why) → Passed 262160 left known
     → Closes (text ++ last_line tally (Some why)) (Some why) result after later
@@ -181,7 +181,7 @@ shown-fault format number given left known tally text before after later whole i
     let here = subst (λ (all : Option (List ℕ)). IfSome all (λ bytes. next_of format number given bytes ≡ Err why)) along.rest_is stands in
     let none = records-wrong format number given now why (some-wrong format number given now why here) here in
     let over = over-by format number given left tally text before after whole input (Some why) along none in
-    let sum = along.size_is ∙ ap (λ (c : Captured). along.done + size_of c.records) none in
+    let sum = along.size_is ∙ ap (λ (c : CaptureContents). along.done + size_of c.records) none in
     let size : size_of whole.records ≡ along.done = omega (arith, sum) in
     record {
       answers = over-closed tally text (Some why) before after later known whole result over closes (λ is. cc (closes.done is));
@@ -189,7 +189,7 @@ shown-fault format number given left known tally text before after later whole i
     }
 
 pub shown-early : (format : Format) (number given : ℕ) (left known : Option (List ℕ)) (tally : Tally) (text : List ℕ) (before after later : Option (List ℕ))
-    (whole : Captured)
+    (whole : CaptureContents)
     (input : List ℕ) (result : JobEnd) → IsCutOff result → Along format number given left tally text before after whole input → HasBegun after later text
     → ShowsRecords whole input result known before later
 shown-early format number given left known tally text before after later whole input result off along begun = record {
@@ -212,13 +212,13 @@ pub passed-whole : (bytes : List ℕ) (format : Format) (result : JobEnd) (left 
     → ShowsRecords (records_from format 0 0 24 (drop 24 bytes)) (drop 24 bytes) result left before after → result ≡ ended.Input
     → Passed 524288 (Some (drop (records_end bytes) bytes)) left
 passed-whole bytes format result left before after told shows is =
-    subst (λ (c : Captured). Passed 524288 (Some (drop (end_of_records c.records) bytes)) left) (sym (captured-after bytes format told))
+    subst (λ (c : CaptureContents). Passed 524288 (Some (drop (end_of_records c.records) bytes)) left) (sym (captured-after bytes format told))
     (passed-in (records_from format 0 0 24 (drop 24 bytes)).records bytes left (shows.past is))
 
 -- the turns of the loop, by what the reader says of them
 pub turned : {S : Type 0} (left : S → Option (List ℕ)) (faults lender : S → ℕ) (old new : CapturesState S) (entry : RecordParts) (tally next : Tally)
     (text written : List ℕ)
-    (before after : Option (List ℕ)) (whole : Captured) (input : List ℕ)
+    (before after : Option (List ℕ)) (whole : CaptureContents) (input : List ℕ)
     → Along old.format old.number old.given (rest left old) tally text before after whole input
     → Advances left faults lender old new (Ok (Some entry)) → next ≡ tallied tally entry → written ≡ text ++ record_text tally entry
     → Along new.format new.number new.given (rest left new) next written before after whole input
@@ -228,7 +228,7 @@ turned left faults lender old new entry tally next text written before after who
     (along-turn old.format old.number old.given (rest left old) (rest left new) tally text before after whole input entry along advances.answer.next)
 
 pub over-whole : {S : Type 0} (left : S → Option (List ℕ)) (faults lender : S → ℕ) (old new : CapturesState S) (tally : Tally) (text : List ℕ)
-    (before after later : Option (List ℕ)) (whole : Captured) (input : List ℕ) (result : JobEnd)
+    (before after later : Option (List ℕ)) (whole : CaptureContents) (input : List ℕ) (result : JobEnd)
     → Along old.format old.number old.given (rest left old) tally text before after whole input → Advances left faults lender old new (Ok None)
     → Closes (text ++ last_line tally None) None result after later → ShowsRecords whole input result (left new.source) before later
 over-whole left faults lender old new tally text before after later whole input result along advances closes =
@@ -243,7 +243,7 @@ blamed left faults old new why unended other (inr (is, inl (read, rose))) = absu
 blamed left faults old new why unended other (inr (is, inr (not, stands))) = stands
 
 pub faulted : {S : Type 0} (left : S → Option (List ℕ)) (faults lender : S → ℕ) (old new : CapturesState S) (tally : Tally) (text : List ℕ)
-    (before after later : Option (List ℕ)) (whole : Captured) (input : List ℕ) (why : CaptureFault) (result : JobEnd) → old.fault ≡ None → (why ≡ ReadFault → ⊥)
+    (before after later : Option (List ℕ)) (whole : CaptureContents) (input : List ℕ) (why : CaptureFault) (result : JobEnd) → old.fault ≡ None → (why ≡ ReadFault → ⊥)
     → Along old.format old.number old.given (rest left old) tally text before after whole input → Advances left faults lender old new (Err why)
     → Closes (text ++ last_line tally (Some why)) (Some why) result after later → ShowsRecords whole input result (left new.source) before later
 faulted left faults lender old new tally text before after later whole input why result unended other along advances closes =
@@ -278,14 +278,14 @@ refused-whole : (why : CaptureFault) (bytes : List ℕ) (result : JobEnd) (left 
     → Closes (fault_line first_tally why) (Some why) result before after → Answers (capture_text bytes) (is_faulty bytes) result left before after
 refused-whole why bytes result left before after told closes =
     let none : captured bytes ≡ record { records = []; end = Some why } = ap (λ (o : Result Format CaptureFault). captured_by o bytes) told in
-    subst (λ (c : Captured). Answers (shown_text c) (is_some c.end) result left before after) (sym none)
+    subst (λ (c : CaptureContents). Answers (shown_text c) (is_some c.end) result left before after) (sym none)
     (record { whole = closes.whole; front = closes.front; done = λ is. cc (closes.done is); input = closes.input })
 
 refused-past : (why : CaptureFault) (bytes : List ℕ) (left : Option (List ℕ)) → opened bytes ≡ Err why → Passed 262144 (Some bytes) left
     → Passed 524288 (Some (drop (records_end bytes) bytes)) left
 refused-past why bytes left told (n, most, is) =
     let none : captured bytes ≡ record { records = []; end = Some why } = ap (λ (o : Result Format CaptureFault). captured_by o bytes) told in
-    subst (λ (c : Captured). Passed 524288 (Some (drop (end_of_records c.records) bytes)) left) (sym none) (n, omega arith, is)
+    subst (λ (c : CaptureContents). Passed 524288 (Some (drop (end_of_records c.records) bytes)) left) (sym none) (n, omega arith, is)
 
 -- what a refused file header comes to
 pub record Refuses (bytes : List ℕ) (result : JobEnd) (left before after : Option (List ℕ)) : Type 0 where
@@ -337,7 +337,7 @@ refuses left faults source handed NoMemory bytes result before after told past c
 
 -- the records ended, however
 pub over : {S : Type 0} (left : S → Option (List ℕ)) (faults lender : S → ℕ) (old new : CapturesState S) (tally next : Tally) (text written : List ℕ)
-    (before after later : Option (List ℕ)) (whole : Captured) (input : List ℕ) (end : Option CaptureFault) (result : JobEnd) → old.fault ≡ None
+    (before after later : Option (List ℕ)) (whole : CaptureContents) (input : List ℕ) (end : Option CaptureFault) (result : JobEnd) → old.fault ≡ None
     → Along old.format old.number old.given (rest left old) tally text before after whole input
     → Turns left faults lender old new tally next text written (Ok (turn.Ended end)) → Closes (written ++ last_line next end) end result after later
     → ShowsRecords whole input result (left new.source) before later

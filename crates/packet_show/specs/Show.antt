@@ -2,7 +2,7 @@
 use Rattle.std.specs.Prelude.{◌≡◌, ◌≢◌, ℕ, ◌++◌, false, true, List, drop, Option, Some, None, is_some, Result, Ok, Err}
 use Rattle.capture_reader.specs.declared.fault.CaptureFault.{CaptureFault}
 use Rattle.capture_reader.specs.declared.fault.CaptureFault.TheVariants.{ReadFault, NoMemory}
-use Rattle.capture_reader.specs.Records.{RecordParts, Captured}
+use Rattle.capture_reader.specs.Records.{RecordParts, CaptureContents}
 use Rattle.capture_reader.specs.State.{CapturesState, Advances, Passed}
 use Rattle.seq_circle.specs.declared.memory.NoMemory as no_memory
 use Rattle.packet_show.specs.declared.show.Tally.{Tally}
@@ -43,11 +43,11 @@ ShowsHeaderFault NoMemory result before after = (result ≡ ended.Memory) × (af
 ShowsHeaderFault why result before after = Closes (fault_line first_tally why) (Some why) result before after
 
 -- all that `show` writes of a capture whose records are these
-abbrev pub shown_text : Captured → List ℕ
+abbrev pub shown_text : CaptureContents → List ℕ
 shown_text whole = text_from first_tally whole.records whole.end
 
 -- The records of an input after its file header were shown: what was written, how it ended, and, where a fault ended
 -- them, how far the input was read past the last whole record.
-pub record ShowsRecords (whole : Captured) (input : List ℕ) (result : JobEnd) (left before after : Option (List ℕ)) : Type 0 where
+pub record ShowsRecords (whole : CaptureContents) (input : List ℕ) (result : JobEnd) (left before after : Option (List ℕ)) : Type 0 where
   pub answers : Answers (shown_text whole) (is_some whole.end) result left before after
   pub past : result ≡ ended.Input → Passed 262160 (Some (drop (size_of whole.records) input)) left

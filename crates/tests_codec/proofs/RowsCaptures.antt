@@ -6,7 +6,7 @@ use Rattle.capture_reader.specs.declared.fault.CaptureFault.{CaptureFault}
 use Rattle.capture_reader.specs.declared.fault.CaptureFault.TheVariants.{BadLink, BadMagic, BadVersion, CutShort, RecordTooLong, TooLarge}
 use Rattle.capture_reader.specs.declared.format.Format.{Format}
 use Rattle.capture_reader.specs.declared.format.Order.TheVariants.{Big, Little}
-use Rattle.capture_reader.specs.Records.{Captured, RecordParts, body_fault, captured, found_in, next_of}
+use Rattle.capture_reader.specs.Records.{CaptureContents, RecordParts, body_fault, captured, found_in, next_of}
 use Rattle.capture_reader.specs.State.{CapturesState, holds_record}
 use Rattle.tests_codec.proofs.RowsSeen.{bytes}
 
@@ -24,7 +24,7 @@ entry number seconds fraction nanos link original captured = record {
 }
 
 -- the records of an input, and what ends them
-abbrev reads : List RecordParts → Option CaptureFault → Captured
+abbrev reads : List RecordParts → Option CaptureFault → CaptureContents
 reads records end = record { records = records; end = end }
 
 records_in_any_pieces :
@@ -68,7 +68,7 @@ abbrev captured_bytes : List RecordParts → ℕ
 captured_bytes [] = 0
 captured_bytes (first ∷ records) = length first.bytes + captured_bytes records
 
-abbrev summed : Captured → ℕ × ℕ × Option CaptureFault
+abbrev summed : CaptureContents → ℕ × ℕ × Option CaptureFault
 summed whole = (length whole.records, captured_bytes whole.records, whole.end)
 
 -- the same of the first bytes of an input, of one size after the other
