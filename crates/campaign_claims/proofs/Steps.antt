@@ -10,7 +10,7 @@ use Rattle.atomic_table.proofs.Lists.{at_set, at_snoc}
 use Rattle.campaign_claims.specs.declared.rule.View.{View}
 use Rattle.campaign_claims.specs.Numbers.{times, once_below, AreOnceBelow}
 use Rattle.campaign_claims.specs.Views.{Claimant, held, with_claimed, with_none, claimed, kept, given, both, spent}
-use Rattle.campaign_claims.specs.Rule.{all_drawn, ViewFits, Counted, Draws}
+use Rattle.campaign_claims.specs.Rule.{all_drawn, ViewFits, AreCounted, Draws}
 use Rattle.campaign_claims.proofs.Sums.{sum_set, part_of_sum, sum_le, alone}
 use Rattle.campaign_claims.proofs.Below.{is, lie_below, once_below-min, passed, not_passed, below_limit, past_limit}
 
@@ -31,7 +31,7 @@ times-push : (x : ℕ) (xs : List ℕ) (y : ℕ) → times x (xs ++ y ∷ []) �
 times-push x xs y = sum_by_push (is x) xs y
 
 -- a word that counts 2^62 claims at most does not wrap
-all_fit : (n : ℕ) (s : State ℕ View) → Counted n s → all_drawn s.views ≤ 2 ^ 62
+all_fit : (n : ℕ) (s : State ℕ View) → AreCounted n s → all_drawn s.views ≤ 2 ^ 62
 all_fit n s rule =
     let le = sum_le drawn_of share_of s.views (λ k v at. (rule.each k v at).within) in
     let all = rule.shares in
@@ -46,10 +46,10 @@ fit_after n views id w each fits k u at = ⊎_elim
     (at_set views id k w u at)
 
 -- a claim: the word and one view count one more, and the number that was passed is that view's, where there is one
-claim_keeps : (n id : ℕ) (s : State ℕ View) (v w : View) → Counted n s → get_elem? s.views id ≡ some v → v.drawn < v.share
+claim_keeps : (n id : ℕ) (s : State ℕ View) (v w : View) → AreCounted n s → get_elem? s.views id ≡ some v → v.drawn < v.share
     → w.drawn ≡ v.drawn + 1 → w.share ≡ v.share → w.limit ≡ v.limit → length w.numbers ≤ v.drawn + 1
     → ((x : ℕ) → times x w.numbers + once_below x (min n (all_drawn s.views)) ≡ times x v.numbers + once_below x (min n (all_drawn s.views + 1)))
-    → Counted n record { words = slice_set s.words 0 ((slice_index s.words 0 + 1) % 2 ^ 64); homes = s.homes; views = slice_set s.views id w }
+    → AreCounted n record { words = slice_set s.words 0 ((slice_index s.words 0 + 1) % 2 ^ 64); homes = s.homes; views = slice_set s.views id w }
 claim_keeps n id s v w rule at part drawn share limit few once =
     let fits = rule.each id v at in
     let all = all_fit n s rule in
@@ -71,7 +71,7 @@ claim_keeps n id s v w rule at part drawn share limit few once =
     }
 
 -- all numbers of a claimer lie below the word
-claim_above : (n id : ℕ) (s : State ℕ View) (v : View) → Counted n s → get_elem? s.views id ≡ some v
+claim_above : (n id : ℕ) (s : State ℕ View) (v : View) → AreCounted n s → get_elem? s.views id ≡ some v
     → slice_index s.words 0 ≡ all_drawn s.views → All (λ x. x < slice_index s.words 0) v.numbers
 claim_above n id s v rule at word = lie_below (slice_index s.words 0) v.numbers (λ x.
     let part = part_of_sum (times_of x) s.views id v at in
@@ -79,9 +79,9 @@ claim_above n id s v rule at word = lie_below (slice_index s.words 0) v.numbers 
     let less = once_below-min x n (all_drawn s.views) in
     rw word (omega arith))
 
-claim_goes : (n id : ℕ) (s : State ℕ View) (v : View) → Counted n s → get_elem? s.views id ≡ some v → v.drawn < v.share
+claim_goes : (n id : ℕ) (s : State ℕ View) (v : View) → AreCounted n s → get_elem? s.views id ≡ some v → v.drawn < v.share
     → slice_index s.words 0 ≡ all_drawn s.views → (b : Bool) → nat_lt (slice_index s.words 0) v.limit ≡ b
-    → Counted n record {
+    → AreCounted n record {
       words = slice_set s.words 0 ((slice_index s.words 0 + 1) % 2 ^ 64);
       homes = s.homes;
       views = slice_set s.views id (claimed v (slice_index s.words 0));
@@ -102,13 +102,13 @@ claim_goes n id s v rule at part word false test =
     (λ x. not_passed x n (all_drawn s.views) (times x v.numbers) (past_limit (slice_index s.words 0) (all_drawn s.views) v.limit n word limit test)))
 
 pub claims : (n slots id : ℕ) (me : Me ℕ View) → me.0.drawn < me.0.share
-    → Allows (Counted n) slots id me 0 (λ word. (word + 1) % 2 ^ 64) (Draws me)
+    → Allows (AreCounted n) slots id me 0 (λ word. (word + 1) % 2 ^ 64) (Draws me)
 claims n slots id me part s rule homes at wide =
     let found = slice_index s.words 0 in
     let is_all : found ≡ all_drawn s.views = ap (λ words. slice_index words 0) rule.word in
     (claimed me.0 found, keeps, tt, claim_goes n id s me.0 rule at part is_all (nat_lt found me.0.limit) refl, (refl, claim_above n id s me.0 rule at is_all))
 
-pub splits : (n id : ℕ) (v : View) → 2 ≤ v.share - v.drawn → Splits (Counted n) id v (kept v) (given v)
+pub splits : (n id : ℕ) (v : View) → 2 ≤ v.share - v.drawn → Splits (AreCounted n) id v (kept v) (given v)
 splits n id v room s rule at =
     let fits = rule.each id v at in
     let few = fits.few in
@@ -126,7 +126,7 @@ splits n id v room s rule at =
           omega (arith, sum_by_push (times_of x) (set s.views id (kept v)) (given v), sum_set (times_of x) s.views id v (kept v) at));
     }
 
-pub joins : (n id : ℕ) (v : View) (other : ℕ) (w : View) → 0 < v.share → Joins (Counted n) id v other w (both v w) spent
+pub joins : (n id : ℕ) (v : View) (other : ℕ) (w : View) → 0 < v.share → Joins (AreCounted n) id v other w (both v w) spent
 joins n id v other w some_share s rule at apart at_other =
     let fits = rule.each id v at in
     let within = fits.within in
@@ -163,7 +163,7 @@ none_of_none : (x : ℕ) (xs : List ℕ) → length xs ≤ 0 → times x xs ≡ 
 none_of_none x [] few = refl
 none_of_none x (y ∷ ys) few = absurd (omega arith)
 
-ends_by : (n id : ℕ) (v : View) (s : State ℕ View) → Counted n s → get_elem? s.views id ≡ some v → 0 < v.share → Ends v (all_drawn s.views)
+ends_by : (n id : ℕ) (v : View) (s : State ℕ View) → AreCounted n s → get_elem? s.views id ≡ some v → 0 < v.share → Ends v (all_drawn s.views)
 ends_by n id v s rule at some_share =
     let fits = rule.each id v at in
     let limit : v.limit ≡ n = fits.same some_share in
@@ -179,7 +179,7 @@ ends_by n id v s rule at some_share =
           (omega arith)) ∙ rule.once x);
     }
 
-ends : (n id : ℕ) (v : View) (words items : List ℕ) (word : ℕ) → 0 < v.share → Final (Seen (Counted n) id v) words items
+ends : (n id : ℕ) (v : View) (words items : List ℕ) (word : ℕ) → 0 < v.share → Final (Seen (AreCounted n) id v) words items
     → get_elem? words 0 ≡ some word → Ends v word
 ends n id v words items word some_share (s, (rule, at), is_words, homes, values) read =
     let found : all_drawn s.views ≡ word = some-injective (all_drawn s.views) word (ap (λ ws. get_elem? ws 0) (sym rule.word ∙ is_words) ∙ read) in
@@ -187,6 +187,6 @@ ends n id v words items word some_share (s, (rule, at), is_words, homes, values)
 
 -- of a claimer as its callers see it
 pub closes : (n id : ℕ) (table : TableId) (v : View) (last : Claimant) (words items : List ℕ) (word : ℕ) → held table v ≡ last → 0 < v.share
-    → Final (Seen (Counted n) id v) words items → get_elem? words 0 ≡ some word → Ends last.view word
+    → Final (Seen (AreCounted n) id v) words items → get_elem? words 0 ≡ some word → Ends last.view word
 closes n id table v last words items word seen_as some_share final read =
     subst (λ (h : Claimant). Ends h.view word) seen_as (ends n id v words items word some_share final read)

@@ -19,7 +19,7 @@ pub record ViewFits (n : ℕ) (v : View) : Type 0 where
 
 -- The word counts all claims, the shares are 2^62 together, and the numbers below n that were passed are in the
 -- views, each once, and no others
-pub record Counted (n : ℕ) (s : State ℕ View) : Type 0 where
+pub record AreCounted (n : ℕ) (s : State ℕ View) : Type 0 where
   pub word : s.words ≡ all_drawn s.views ∷ []
   pub shares : sum_by (λ v. v.share) s.views ≡ 2 ^ 62
   pub each : (k : ℕ) (v : View) → get_elem? s.views k ≡ some v → ViewFits n v

@@ -22,10 +22,10 @@ pub struct View {
 pub(crate) struct Counts;
 
 impl TableRule<u8, View, u64> for Counts {
-    ghost use Rattle.campaign_claims.specs.Rule.{Counted};
+    ghost use Rattle.campaign_claims.specs.Rule.{AreCounted};
     ghost use Rattle.campaign_claims.specs.Views.{first};
 
-    ghost holds = { Counted };
+    ghost holds = { AreCounted };
 
     ghost first = { first };
 }
