@@ -15,12 +15,12 @@ use Rattle.data_dropped.specs.declared.answers.Arrival.{Arrival}
 use Rattle.data_dropped.specs.declared.answers.Arrival.TheVariants as arrival
 
 -- the state of an end, and that of its inbox
-pub record Buffered (C : Type 0) : Type 0 where
+pub record BufferedState (C : Type 0) : Type 0 where
   pub end : End C
   pub inbox : InboxState
 
 -- an end that has sent and received nothing, and an empty inbox
-abbrev pub begins_buffered : {C : Type 0} → Control C → Config → C → ℕ → Buffered C
+abbrev pub begins_buffered : {C : Type 0} → Control C → Config → C → ℕ → BufferedState C
 begins_buffered control config congestion capacity =
     record { end = begins control config congestion; inbox = empty_inbox capacity }
 
@@ -67,7 +67,7 @@ HasDataWithin bytes (SentReset code detail) = Unit {0}
 -- the end and the inbox after a step, the frame that goes out, if any, the outcome, and what became of data, if any
 -- were delivered
 pub record BufferedStep (C : Type 0) : Type 0 where
-  pub after : Buffered C
+  pub after : BufferedState C
   pub frame : Option Outgoing
   pub outcome : Outcome
   pub arrival : Option Arrival
@@ -87,13 +87,13 @@ abbrev pub buffers_step : {C : Type 0} → InboxState → List ℕ → EndStep C
 buffers_step held bytes step = with_inbox step (delivery_by held (last_taken step.after.state) bytes step.answer)
 
 -- What an end with an inbox does with bytes that arrive: the end's step is that of any end.
-abbrev pub buffers : {C : Type 0} → Control C → Buffered C → List ℕ → BufferedStep C
+abbrev pub buffers : {C : Type 0} → Control C → BufferedState C → List ℕ → BufferedStep C
 buffers control b bytes =
     buffers_step b.inbox bytes (with_control control b.end.congestion (receives b.end.state bytes))
 
 -- the end and the inbox after a call of the end, the frame that goes out, if any, and the end's answer
 pub record BufferedCall (C Answer : Type 0) : Type 0 where
-  pub after : Buffered C
+  pub after : BufferedState C
   pub frame : Option Outgoing
   pub answer : Answer
 

@@ -8,7 +8,7 @@ use Rattle.dccp_endpoint.specs.Receiving.{receives}
 use Rattle.dccp_endpoint.specs.declared.config.Config.{Config}
 use Rattle.dccp_states.specs.declared.outcome.Outcome.{Outcome}
 use Rattle.dccp_states.specs.declared.outcome.Outcome.TheVariants.{Took, Dropped, Synced, WasReset, SentReset}
-use Rattle.data_dropped.specs.Buffering.{Buffered}
+use Rattle.data_dropped.specs.Buffering.{BufferedState}
 use Rattle.data_dropped.specs.History.{History, InboxCall, DataArrive, LongDataArrive, Takes, Stops, history_after, history_after_all, no_history}
 use Rattle.data_dropped.specs.Inbox.{InboxState, fits_item}
 use Rattle.data_dropped.specs.declared.answers.Arrival.{Arrival}
@@ -27,7 +27,7 @@ pub record BufferedPast (C : Type 0) : Type 0 where
   pub past : History
 
 -- the end and the inbox as they are
-abbrev pub buffered_now : {C : Type 0} → BufferedPast C → Buffered C
+abbrev pub buffered_now : {C : Type 0} → BufferedPast C → BufferedState C
 buffered_now p = record { end = p.end; inbox = p.past.held }
 
 -- before all calls

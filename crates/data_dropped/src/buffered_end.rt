@@ -25,9 +25,9 @@ pub struct BufferedEnd<C> {
 }
 
 impl<C> Model for BufferedEnd<C> {
-    ghost use Rattle.data_dropped.specs.Buffering.{Buffered};
+    ghost use Rattle.data_dropped.specs.Buffering.{BufferedState};
 
-    ghost Value = { Buffered C };
+    ghost Value = { BufferedState C };
 
     ghost view = { λ b. record { end = b.end; inbox = b.inbox } };
 }

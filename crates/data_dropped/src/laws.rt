@@ -10,7 +10,7 @@ ghost use Rattle.dccp_endpoint.specs.declared.config.Config.{Config};
 ghost use Rattle.dccp_endpoint.specs.Controlled.{with_control};
 ghost use Rattle.dccp_endpoint.specs.Inputs.{Input, end_stepped};
 ghost use Rattle.dccp_packets.specs.Outgoing.{Outgoing};
-ghost use Rattle.data_dropped.specs.Buffering.{Buffered, beside, buffers};
+ghost use Rattle.data_dropped.specs.Buffering.{BufferedState, beside, buffers};
 ghost use Rattle.data_dropped.specs.Drops.{HaveCodes, code_at, drop_bytes, drop_code, numbers_reached, tells_all};
 ghost use Rattle.data_dropped.specs.EndHistory.{BufferedPast, EndCall, EndReceives, IsToldSo, buffered_now, is_end_stop, no_past, past_after, past_all};
 ghost use Rattle.data_dropped.specs.Frames.{acknowledged_by};
@@ -72,14 +72,14 @@ pub fn what_an_end_keeps_is_taken<C: Congestion>()
 /// (own; RFC 4340, section 11.7). That holds for every input of the end beside any inbox (`calls`), and for bytes that
 /// arrive, whose data go into the inbox (`tells`). If the end sends nothing, nothing goes out.
 pub fn every_frame_tells_its_drops<C: Congestion>()
-    ensures calls { (b : Buffered C) (given : Input) (own : Outgoing) → IsProper b.end.state
+    ensures calls { (b : BufferedState C) (given : Input) (own : Outgoing) → IsProper b.end.state
         → (end_stepped b.end.state given).frame ≡ Some own
         → FrameTells (end_stepped b.end.state given).after.config.pseudo_out b.inbox own
         (beside b.inbox (with_control C.control b.end.congestion (end_stepped b.end.state given))).frame }
-    ensures tells { (b : Buffered C) (bytes : List ℕ) (own : Outgoing) → IsProper b.end.state
+    ensures tells { (b : BufferedState C) (bytes : List ℕ) (own : Outgoing) → IsProper b.end.state
         → (receives b.end.state bytes).frame ≡ Some own
         → FrameTells (buffers C.control b bytes).after.end.state.config.pseudo_out (buffers C.control b bytes).after.inbox own (buffers C.control b bytes).frame }
-    ensures silent { (b : Buffered C) (bytes : List ℕ) → (receives b.end.state bytes).frame ≡ None
+    ensures silent { (b : BufferedState C) (bytes : List ℕ) → (receives b.end.state bytes).frame ≡ None
         → (buffers C.control b bytes).frame ≡ None }
 {}
 

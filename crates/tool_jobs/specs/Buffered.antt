@@ -3,7 +3,7 @@
 use Rattle.std.specs.Prelude.{ℕ, ◌++◌, Bool, ◌||◌, if◌then◌else◌, is_some, List, [], ◌∷◌, codes, decimal, Option, Some, None, Result}
 use Rattle.std.specs.Str.{bytes_eq}
 use Rattle.ccid_two.specs.Kinds.{Both, at_first, kinds_control}
-use Rattle.data_dropped.specs.Buffering.{Buffered, BufferedCall, BufferedStep, begins_buffered, beside, buffers}
+use Rattle.data_dropped.specs.Buffering.{BufferedState, BufferedCall, BufferedStep, begins_buffered, beside, buffers}
 use Rattle.data_dropped.specs.Inbox.{KeptData, stopping, taking}
 use Rattle.data_dropped.specs.declared.answers.Arrival.{Arrival}
 use Rattle.data_dropped.specs.declared.answers.Arrival.TheVariants.{Kept, Dropped}
@@ -18,7 +18,7 @@ use Rattle.tool_text.specs.Text.{hex_or_dash}
 use Rattle.tool_jobs.specs.Replay.{ReplayStep, Acts, Heeded, opened_line, replay_config, replay_of_input, text_of_replay}
 
 -- the line of the call `open`, and the end after the call; its inbox is as it was
-abbrev pub buffered_opened : BufferedCall Both (Result (Unit {0}) OpenFault) → ReplayStep (Buffered Both)
+abbrev pub buffered_opened : BufferedCall Both (Result (Unit {0}) OpenFault) → ReplayStep (BufferedState Both)
 buffered_opened step = record { text = opened_line step.answer; after = step.after; frame = step.frame }
 
 -- the line of data that were dropped, by their code
@@ -32,7 +32,7 @@ arrival_line number bytes outcome (Some Kept) = result_line number (seen.Receive
 arrival_line number bytes outcome (Some (Dropped code)) = dropped_text number code
 
 -- that line, and the end and its inbox after the bytes that arrived
-abbrev pub buffered_heard : ℕ → List ℕ → BufferedStep Both → ReplayStep (Buffered Both)
+abbrev pub buffered_heard : ℕ → List ℕ → BufferedStep Both → ReplayStep (BufferedState Both)
 buffered_heard number bytes step = record { text = arrival_line number bytes step.outcome step.arrival; after = step.after; frame = step.frame }
 
 -- the line of data that the application reads
@@ -45,15 +45,15 @@ item_line number [] = decimal number ++ codes ": empty\n"
 item_line number (item ∷ items) = read_item_line number item.payload
 
 -- the application takes the first item
-abbrev pub item_read : Buffered Both → ℕ → Heeded (Buffered Both)
+abbrev pub item_read : BufferedState Both → ℕ → Heeded (BufferedState Both)
 item_read b number = record { text = item_line number b.inbox.items; after = record { end = b.end; inbox = taking b.inbox } }
 
 -- the application stops listening
-abbrev pub reading_stopped : Buffered Both → ℕ → Heeded (Buffered Both)
+abbrev pub reading_stopped : BufferedState Both → ℕ → Heeded (BufferedState Both)
 reading_stopped b number = record { text = decimal number ++ codes ": ok\n"; after = record { end = b.end; inbox = stopping b.inbox } }
 
 -- Its own lines are `read` and `stop`, each as a line of that word alone.
-abbrev pub buffered_acts : Acts (Buffered Both)
+abbrev pub buffered_acts : Acts (BufferedState Both)
 buffered_acts = record {
   opening = λ b. buffered_opened (beside b.inbox (with_control kinds_control b.end.congestion (opens b.end.state)));
   hearing = λ b number bytes. buffered_heard number bytes (buffers kinds_control b bytes);
@@ -63,7 +63,7 @@ buffered_acts = record {
 }
 
 -- a new end of a side, with its offers or without, and an empty inbox for so many packets
-abbrev pub buffered_end : Side → Bool → ℕ → Buffered Both
+abbrev pub buffered_end : Side → Bool → ℕ → BufferedState Both
 buffered_end side plain capacity = begins_buffered kinds_control (replay_config side plain) at_first capacity
 
 -- What `replay` then writes of an input.
