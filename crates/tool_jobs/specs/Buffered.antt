@@ -15,7 +15,7 @@ use Rattle.dccp_states.specs.declared.seen.Seen.TheVariants as seen
 use Rattle.world_events.specs.declared.event.Side.{Side}
 use Rattle.schedule_text.specs.Results.{result_line}
 use Rattle.tool_text.specs.Text.{hex_or_dash}
-use Rattle.tool_jobs.specs.Replay.{ReplayStep, Acts, Heeded, opened_line, replay_config, replay_of_input, text_of_replay}
+use Rattle.tool_jobs.specs.Replay.{ReplayStep, Acts, HeedStep, opened_line, replay_config, replay_of_input, text_of_replay}
 
 -- the line of the call `open`, and the end after the call; its inbox is as it was
 abbrev pub buffered_opened : BufferedCall Both (Result (Unit {0}) OpenFault) → ReplayStep (BufferedState Both)
@@ -45,11 +45,11 @@ item_line number [] = decimal number ++ codes ": empty\n"
 item_line number (item ∷ items) = read_item_line number item.payload
 
 -- the application takes the first item
-abbrev pub item_read : BufferedState Both → ℕ → Heeded (BufferedState Both)
+abbrev pub item_read : BufferedState Both → ℕ → HeedStep (BufferedState Both)
 item_read b number = record { text = item_line number b.inbox.items; after = record { end = b.end; inbox = taking b.inbox } }
 
 -- the application stops listening
-abbrev pub reading_stopped : BufferedState Both → ℕ → Heeded (BufferedState Both)
+abbrev pub reading_stopped : BufferedState Both → ℕ → HeedStep (BufferedState Both)
 reading_stopped b number = record { text = decimal number ++ codes ": ok\n"; after = record { end = b.end; inbox = stopping b.inbox } }
 
 -- Its own lines are `read` and `stop`, each as a line of that word alone.

@@ -29,7 +29,7 @@ pub record ReplayStep (E : Type 0) : Type 0 where
   pub frame : Option Outgoing
 
 -- the same of a line that makes it send nothing
-pub record Heeded (E : Type 0) : Type 0 where
+pub record HeedStep (E : Type 0) : Type 0 where
   pub text : List ℕ
   pub after : E
 
@@ -39,7 +39,7 @@ pub record Acts (E : Type 0) : Type 0 where
   pub opening : E → ReplayStep E
   pub hearing : E → ℕ → List ℕ → ReplayStep E
   pub is_own : List ℕ → Bool
-  pub heeding : E → ℕ → List ℕ → Heeded E
+  pub heeding : E → ℕ → List ℕ → HeedStep E
   pub standing : E → End Both
 
 -- the usual end of a side, with its offers or without
@@ -99,7 +99,7 @@ by_frame_line acts replay number (Ok (Some frame)) =
     by_act replay (acts.hearing replay.end number (arriving (usual (role_of replay.side)).pseudo_in frame))
 
 -- a line that says what the end should do is accepted
-abbrev pub by_heeded : {E : Type 0} → ReplayState E → Heeded E → LineVerdict (List ℕ) (ReplayState E)
+abbrev pub by_heeded : {E : Type 0} → ReplayState E → HeedStep E → LineVerdict (List ℕ) (ReplayState E)
 by_heeded replay heeded = Accepted (Some heeded.text) (record { sent = replay.sent; side = replay.side; end = heeded.after })
 
 -- A line without its newline.
@@ -124,5 +124,5 @@ abbrev pub Performs : {E : Type 0} → ReplayStep E → E → Option Outgoing �
 Performs act after frame old new = (after ≡ act.after) × (frame ≡ act.frame) × (new ≡ old ++ act.text)
 
 -- the same where nothing is sent
-abbrev pub Heeds : {E : Type 0} → Heeded E → E → List ℕ → List ℕ → Type 0
+abbrev pub Heeds : {E : Type 0} → HeedStep E → E → List ℕ → List ℕ → Type 0
 Heeds heeded after old new = (after ≡ heeded.after) × (new ≡ old ++ heeded.text)
