@@ -9,7 +9,7 @@ use Rattle.dccp_io.specs.Lines.{lines_of, most_input_bytes}
 use Rattle.dccp_states.specs.declared.phase.Role.TheVariants as role
 use Rattle.fault_campaign.specs.Draws.{after_two, after_one, generator, initial_number, word}
 use Rattle.fault_campaign.specs.Reports.{nothing, settled_of, with_seen}
-use Rattle.fault_campaign.specs.Seeded.{Running, after_event, begun_run, frames_of, goes_on, goes_on_for, next_event, next_events, opened_run, played, seeded, seeded_events, seeded_report, usual_from}
+use Rattle.fault_campaign.specs.Seeded.{RunState, after_event, begun_run, frames_of, goes_on, goes_on_for, next_event, next_events, opened_run, played, seeded, seeded_events, seeded_report, usual_from}
 use Rattle.fault_campaign.specs.declared.report.Report.{Report}
 use Rattle.fault_campaign.proofs.Schedules.{many, number-fits}
 use Rattle.fault_campaign.proofs.Short.{IsShort, after-so-many}
@@ -62,7 +62,7 @@ line-goes play number given text rest said reads few =
     (λ (next : Play). gone_from run_job next (number + 1) (given + (length text + 1)) (lines_of rest))) reads
 
 -- So many lines of a play were gone through as these events, from what was counted before to this run.
-pub record Follows (before : Report) (last : Running) (events : List Event) (play : Play) (whole : Gone Scene Play) : Type 0 where
+pub record Follows (before : Report) (last : RunState) (events : List Event) (play : Play) (whole : Gone Scene Play) : Type 0 where
   pub refusal : whole.refusal ≡ None
   pub told : scene_events whole.deeds ≡ events
   pub world : world_of whole.last ≡ last.world
@@ -74,7 +74,7 @@ step-of : (result : Result (ControlledStep Both) WorldFault) → IsOk result →
 step-of (Ok step) ok = (step, refl)
 step-of (Err fault) ok = cc ok
 
-played-ok : (run : Running) (event : Event) (step : ControlledStep Both) → happens_to kinds_control run.world event ≡ Ok step
+played-ok : (run : RunState) (event : Event) (step : ControlledStep Both) → happens_to kinds_control run.world event ≡ Ok step
     → played run event ≡ record run { world = step.after; report = with_seen run.report step.seen }
 unfolding played
 played-ok run event step is = ap (after_event run) is
@@ -93,7 +93,7 @@ event-accepted play number event step w here few is =
     ∙ ap (λ (r : Result (ControlledStep Both) WorldFault). by_scene play (by_step number (world_of play) event r))
     (ap (λ (v : Controlled Both). happens_to kinds_control v event) here ∙ is)
 
-event-goes : (play : Play) (number given : ℕ) (event : Event) (rest : List ℕ) (run last : Running) (more : List Event) → world_of play ≡ run.world
+event-goes : (play : Play) (number given : ℕ) (event : Event) (rest : List ℕ) (run last : RunState) (more : List Event) → world_of play ≡ run.world
     → play.events < most_events → IsOk (happens_to kinds_control run.world event) → IsBrief event → given + 201 ≤ most_input_bytes
     → ((next : Play) → next.world ≡ Some (played run event).world → next.events ≡ play.events + 1
     → Follows (played run event).report last more next (gone_from run_job next (number + 1) (given + (length (event_text event) + 1)) (lines_of rest)))
@@ -107,7 +107,7 @@ event-goes play number given event rest run last more here few ok brief room fol
     go step is =
         let ran = played-ok run event step is in
         let next = next_play play step in
-        let after = following next (ap (λ (r : Running). Some r.world) (sym ran)) refl in
+         let after = following next (ap (λ (r : RunState). Some r.world) (sym ran)) refl in
         let later = gone_from run_job next (number + 1) (given + (length (event_text event) + 1)) (lines_of rest) in
         let short = brief.short in
         let whole : gone_from run_job play number given (lines_of (event_line event ++ rest))
@@ -122,7 +122,7 @@ event-goes play number given event rest run last more here few ok brief room fol
           refusal = after.refusal;
           told = ap (λ (events : List Event). event ∷ events) after.told;
           world = after.world;
-          counted = ap (λ (r : Running). seen_counted r.report later.deeds) (sym ran) ∙ after.counted;
+          counted = ap (λ (r : RunState). seen_counted r.report later.deeds) (sym ran) ∙ after.counted;
           client = after.client;
           server = after.server;
         })
@@ -130,11 +130,11 @@ event-goes play number given event rest run last more here few ok brief room fol
 -- ---- the lines of further events
 
 -- Each of so many further events can happen, and is said in a short line.
-abbrev Passes : ℕ → Running → Type 0
+abbrev Passes : ℕ → RunState → Type 0
 Passes zero run = ⊤
 Passes (suc n) run = IsOk (happens_to kinds_control run.world (next_event run)) × (IsBrief (next_event run) × Passes n (goes_on run))
 
-rest-goes : (n number given : ℕ) (run : Running) (play : Play) → world_of play ≡ run.world → play.events + n ≤ most_events → given + 201 * n ≤ most_input_bytes
+rest-goes : (n number given : ℕ) (run : RunState) (play : Play) → world_of play ≡ run.world → play.events + n ≤ most_events → given + 201 * n ≤ most_input_bytes
     → Passes n run
     → Follows run.report (goes_on_for n run) (next_events n run) play (gone_from run_job play number given (lines_of (event_lines (next_events n run))))
 rest-goes zero number given run play here few room passes =
@@ -153,7 +153,7 @@ rest-goes (suc n) number given run play here few room passes =
 abbrev pub NextHappens : Type 0
 NextHappens = (seed events : ℕ) → events < 2 ^ 23 → IsOk (happens_to kinds_control (seeded seed events).world (next_event (seeded seed events)))
 
-abbrev CanGoOn : Running → Type 0
+abbrev CanGoOn : RunState → Type 0
 CanGoOn run = IsOk (happens_to kinds_control run.world (next_event run)) × IsBrief (next_event run)
 
 seeded-can : NextHappens → (seed events : ℕ) → events ≤ 4096 → CanGoOn (seeded seed events)
@@ -165,7 +165,7 @@ seeded-can law seed events few =
           (omega (arith, few, short.servers)),
     )
 
-one-more : (m : ℕ) (run : Running) → goes_on_for m (goes_on run) ≡ goes_on (goes_on_for m run)
+one-more : (m : ℕ) (run : RunState) → goes_on_for m (goes_on run) ≡ goes_on (goes_on_for m run)
 one-more zero run = refl
 one-more (suc m) run = one-more m (goes_on run)
 

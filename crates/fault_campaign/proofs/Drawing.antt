@@ -18,7 +18,7 @@ use Rattle.world_events.specs.declared.event.WorldFault.{WorldFault}
 use Rattle.world_events.specs.declared.event.WorldFault.TheVariants as fault
 use Rattle.two_ends.specs.declared.frames.SentFrame.{SentFrame}
 use Rattle.fault_campaign.specs.Draws.{after_one, drawn, drawn_delivery, drawn_index, ending, event_numbered, generator, preference, word}
-use Rattle.fault_campaign.specs.Seeded.{Running, begun_run, next_event, seeded}
+use Rattle.fault_campaign.specs.Seeded.{RunState, begun_run, next_event, seeded}
 use Rattle.fault_campaign.proofs.Schedules.{NeverFar, seeded-near}
 use Rattle.fault_campaign.proofs.Short.{IsShort, after-so-many}
 
@@ -137,7 +137,7 @@ happens w event room has =
     controls-happens w (actor event) (takes_place w.world (happening_of event (said_by kinds_control (congestion_of w (actor event)))))
     (takes-place w.world (happening_of event (said_by kinds_control (congestion_of w (actor event)))) room has)
 
-roomy : (n : ℕ) (run : Running) → n < 2 ^ 47 - 1 → IsShort n run → IsRoomy run.world.world
+roomy : (n : ℕ) (run : RunState) → n < 2 ^ 47 - 1 → IsShort n run → IsRoomy run.world.world
 roomy n run few short Client = omega (arith, short.clients)
 roomy n run few short Server = omega (arith, short.servers)
 

@@ -17,17 +17,17 @@ use Rattle.world_events.specs.declared.event.Event.TheVariants.{Open}
 use Rattle.world_events.specs.declared.event.WorldFault.{WorldFault}
 use Rattle.world_events.specs.declared.event.WorldFault.TheVariants as fault
 use Rattle.fault_campaign.specs.Draws.{after_two, after_one, generator, initial_number, word}
-use Rattle.fault_campaign.specs.Seeded.{Running, after_event, begun_run, goes_on, goes_on_for, next_event, next_events, opened_run, played, seeded, seeded_events, usual_from}
+use Rattle.fault_campaign.specs.Seeded.{RunState, after_event, begun_run, goes_on, goes_on_for, next_event, next_events, opened_run, played, seeded, seeded_events, usual_from}
 
-after-world : (run : Running) (result : Result (ControlledStep Both) WorldFault) → (after_event run result).world ≡ controlled_after run.world result
+after-world : (run : RunState) (result : Result (ControlledStep Both) WorldFault) → (after_event run result).world ≡ controlled_after run.world result
 after-world run (Ok step) = refl
 after-world run (Err why) = refl
 
-played-world : (run : Running) (event : Event) → (played run event).world ≡ controlled_after run.world (happens_to kinds_control run.world event)
+played-world : (run : RunState) (event : Event) → (played run event).world ≡ controlled_after run.world (happens_to kinds_control run.world event)
 unfolding played
 played-world run event = after-world run (happens_to kinds_control run.world event)
 
-rest-plays : (n : ℕ) (run : Running) → (goes_on_for n run).world ≡ plays kinds_control run.world (next_events n run)
+rest-plays : (n : ℕ) (run : RunState) → (goes_on_for n run).world ≡ plays kinds_control run.world (next_events n run)
 rest-plays zero run = refl
 rest-plays (suc n) run =
     rest-plays n (goes_on run)
@@ -39,7 +39,7 @@ schedule seed events =
     rest-plays (events - 1) (opened_run seed)
     ∙ ap (λ (w : Controlled Both). plays kinds_control w (next_events (events - 1) (opened_run seed))) (played-world (begun_run (generator seed)) Open)
 
-rest-many : (n : ℕ) (run : Running) → length (next_events n run) ≡ n
+rest-many : (n : ℕ) (run : RunState) → length (next_events n run) ≡ n
 rest-many zero run = refl
 rest-many (suc n) run = ap suc (rest-many n (goes_on run))
 

@@ -25,11 +25,11 @@ use Rattle.feature_lists.specs.declared.features.Feature.{Feature}
 use Rattle.feature_lists.specs.declared.features.Feature.TheVariants as feature
 use Rattle.fault_campaign.specs.Draws.{after_two, generator}
 use Rattle.fault_campaign.specs.Reports.{is_settled, one_if_settled, settled_at, settles, size, with_outcome, with_seen}
-use Rattle.fault_campaign.specs.Seeded.{Running, after_event, begun_run, frames_of, goes_on, goes_on_for, next_event, opened_run, played, run_report, seeded, seeded_report}
+use Rattle.fault_campaign.specs.Seeded.{RunState, after_event, begun_run, frames_of, goes_on, goes_on_for, next_event, opened_run, played, run_report, seeded, seeded_report}
 use Rattle.fault_campaign.specs.declared.report.Report.{Report}
 
 -- so much at most is there after n events
-pub record IsShort (n : ℕ) (run : Running) : Type 0 where
+pub record IsShort (n : ℕ) (run : RunState) : Type 0 where
   pub counted : size run.report ≤ 2 * n
   pub clients : frames_of run Client ≤ n
   pub servers : frames_of run Server ≤ n
@@ -93,7 +93,7 @@ happening-grows : (w : WorldState) (happening : Happening) → Grows w (takes_pl
 happening-grows w (Calls side given) = unless_full-grows w side (half_steps (half_of w side) None given) (one-frame (half_of w side) None given)
 happening-grows w (Delivers from index) = arrives-grows w from (slice_get (half_of w from).frames index)
 
-after-event : (n : ℕ) (run : Running) (acting : Side) (result : Result WorldStep WorldFault) → Grows run.world.world result → IsShort n run
+after-event : (n : ℕ) (run : RunState) (acting : Side) (result : Result WorldStep WorldFault) → Grows run.world.world result → IsShort n run
     → IsShort (n + 1) (after_event run (controls kinds_control run.world acting result))
 after-event n run Client (Ok step) grows short =
     record {
@@ -112,7 +112,7 @@ after-event n run Server (Ok step) grows short =
 after-event n run acting (Err fault) grows short =
     record { counted = omega (arith, short.counted); clients = omega (arith, short.clients); servers = omega (arith, short.servers) }
 
-pub after-one : (n : ℕ) (run : Running) (event : Event) → IsShort n run → IsShort (n + 1) (played run event)
+pub after-one : (n : ℕ) (run : RunState) (event : Event) → IsShort n run → IsShort (n + 1) (played run event)
 unfolding played
 after-one n run event short =
     after-event n run (actor event) (happens run.world.world event (said_by kinds_control (congestion_of run.world (actor event))))
@@ -125,12 +125,12 @@ at-first g = record { counted = omega arith; clients = omega arith; servers = om
 pub after-open : (seed : ℕ) → IsShort 1 (opened_run seed)
 after-open seed = after-one 0 _ Open (at-first (generator seed))
 
-pub after-next : (n : ℕ) (run : Running) → IsShort n run → IsShort (n + 1) (goes_on run)
+pub after-next : (n : ℕ) (run : RunState) → IsShort n run → IsShort (n + 1) (goes_on run)
 after-next n run short =
     after-one n (record run { words = after_two run.words }) (next_event run)
     (record { counted = short.counted; clients = short.clients; servers = short.servers })
 
-after-more : (more n m : ℕ) (run : Running) → n + more ≡ m → IsShort n run → IsShort m (goes_on_for more run)
+after-more : (more n m : ℕ) (run : RunState) → n + more ≡ m → IsShort n run → IsShort m (goes_on_for more run)
 after-more zero n m run all short =
     record { counted = omega (arith, short.counted); clients = omega (arith, short.clients); servers = omega (arith, short.servers) }
 after-more (suc more) n m run all short = after-more more (n + 1) m (goes_on run) (omega arith) (after-next n run short)
@@ -159,7 +159,7 @@ settled-few w side =
       few : (f : Feature) → settles w side f ≤ 1
       few f = one_if-few (is_settled w (record { feature = f; location = side }))
 
-reported-size : (events : ℕ) (run : Running) → IsShort events run → size (run_report run events) ≤ 5 * events + 19
+reported-size : (events : ℕ) (run : RunState) → IsShort events run → size (run_report run events) ≤ 5 * events + 19
 reported-size events run short =
     let clients = settled-few run.world.world Client in
     let servers = settled-few run.world.world Server in

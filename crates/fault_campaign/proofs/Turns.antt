@@ -10,11 +10,11 @@ use Rattle.world_events.specs.declared.event.WorldFault.{WorldFault}
 use Rattle.world_events.specs.declared.event.WorldFault.TheVariants as fault
 use Rattle.fault_campaign.specs.Draws.{after_two}
 use Rattle.fault_campaign.specs.Reports.{size, with_seen}
-use Rattle.fault_campaign.specs.Seeded.{Running, after_event, begun_run, goes_on, goes_on_for, next_event, opened_run, played, run_report, seeded_report}
+use Rattle.fault_campaign.specs.Seeded.{RunState, after_event, begun_run, goes_on, goes_on_for, next_event, opened_run, played, run_report, seeded_report}
 use Rattle.fault_campaign.specs.declared.report.Report.{Report}
 use Rattle.fault_campaign.proofs.Short.{at-first, seen-size}
 
-abbrev made : Lcg → Controlled Both → Report → Running
+abbrev made : Lcg → Controlled Both → Report → RunState
 made words world report = record { words = words; world = world; report = report }
 
 pub plays : (words : Lcg) (world after : Controlled Both) (report counted : Report) (event : Event) (seen : Seen)
@@ -43,30 +43,30 @@ refuses words world after report event fault.FarShort some lacks full far same =
 refuses words world after report event fault.NoMemory some lacks full far same = absurd (some refl)
 
 -- after so many of all further events
-pub record IsUnderWay (all done : ℕ) (first run : Running) : Type 0 where
+pub record IsUnderWay (all done : ℕ) (first run : RunState) : Type 0 where
   pub rest : goes_on_for (all - done) run ≡ goes_on_for all first
   pub few : size run.report + 2 * (all - done) < 2 ^ 62
 
-pub at-start : (all : ℕ) (run : Running) → size run.report + 2 * all < 2 ^ 62 → IsUnderWay all 0 run run
+pub at-start : (all : ℕ) (run : RunState) → size run.report + 2 * all < 2 ^ 62 → IsUnderWay all 0 run run
 at-start all run few =
     let none : all - 0 ≡ all = omega arith in
     record { rest = ap (λ (n : ℕ). goes_on_for n run) none; few = omega (arith, few) }
 
-pub starts-little : (g : Lcg) (events : ℕ) (run : Running) → events ≤ 4096 → run ≡ begun_run g → size run.report + 2 * events < 2 ^ 62
-starts-little g events run most is = subst (λ (r : Running). size r.report + 2 * events < 2 ^ 62) (sym is) (omega (arith, most, (at-first g).counted))
+pub starts-little : (g : Lcg) (events : ℕ) (run : RunState) → events ≤ 4096 → run ≡ begun_run g → size run.report + 2 * events < 2 ^ 62
+starts-little g events run most is = subst (λ (r : RunState). size r.report + 2 * events < 2 ^ 62) (sym is) (omega (arith, most, (at-first g).counted))
 
-event-size : (run : Running) (result : Result (ControlledStep Both) WorldFault) → size (after_event run result).report ≤ size run.report + 2
+event-size : (run : RunState) (result : Result (ControlledStep Both) WorldFault) → size (after_event run result).report ≤ size run.report + 2
 event-size run (Ok step) = seen-size run.report step.seen
 event-size run (Err fault) = omega arith
 
-goes-on-size : (run : Running) → size (goes_on run).report ≤ size run.report + 2
+goes-on-size : (run : RunState) → size (goes_on run).report ≤ size run.report + 2
 unfolding played
 goes-on-size run = event-size (record run { words = after_two run.words }) (happens_to kinds_control run.world (next_event run))
 
-pub counts-little : (all done : ℕ) (first run : Running) → IsUnderWay all done first run → size run.report < 2 ^ 62
+pub counts-little : (all done : ℕ) (first run : RunState) → IsUnderWay all done first run → size run.report < 2 ^ 62
 counts-little all done first run before = omega (arith, before.few)
 
-pub one-turn : (all done : ℕ) (first run next : Running) → done < all → next ≡ goes_on run → IsUnderWay all done first run
+pub one-turn : (all done : ℕ) (first run next : RunState) → done < all → next ≡ goes_on run → IsUnderWay all done first run
     → IsUnderWay all (done + 1) first next
 one-turn all done first run next near is before =
     let less : all - done ≡ suc (all - (done + 1)) = omega arith in
@@ -74,24 +74,24 @@ one-turn all done first run next near is before =
     subst (IsUnderWay all (done + 1) first) (sym is)
     (record { rest = sym (ap (λ (n : ℕ). goes_on_for n run) less) ∙ before.rest; few = omega (arith, before.few, size_of_next) })
 
-pub at-end : (all done : ℕ) (first run : Running) → all ≤ done → IsUnderWay all done first run → run ≡ goes_on_for all first
+pub at-end : (all done : ℕ) (first run : RunState) → all ≤ done → IsUnderWay all done first run → run ≡ goes_on_for all first
 at-end all done first run over before =
     let none : 0 ≡ all - done = omega arith in
     ap (λ (n : ℕ). goes_on_for n run) none ∙ before.rest
 
-played-size : (run : Running) (event : Event) → size (played run event).report ≤ size run.report + 2
+played-size : (run : RunState) (event : Event) → size (played run event).report ≤ size run.report + 2
 unfolding played
 played-size run event = event-size run (happens_to kinds_control run.world event)
 
 -- the events after the first
-pub opened-few : (events : ℕ) (run opened : Running) → 1 ≤ events → size run.report + 2 * events < 2 ^ 62 → opened ≡ played run Open
+pub opened-few : (events : ℕ) (run opened : RunState) → 1 ≤ events → size run.report + 2 * events < 2 ^ 62 → opened ≡ played run Open
     → size opened.report + 2 * (events - 1) < 2 ^ 62
 opened-few events run opened some few is =
     let more = played-size run Open in
-    subst (λ (r : Running). size r.report + 2 * (events - 1) < 2 ^ 62) (sym is) (omega (arith, some, few, more))
+    subst (λ (r : RunState). size r.report + 2 * (events - 1) < 2 ^ 62) (sym is) (omega (arith, some, few, more))
 
-pub reported : (seed events : ℕ) (opened run : Running) → opened ≡ opened_run seed → run ≡ goes_on_for (events - 1) opened
+pub reported : (seed events : ℕ) (opened run : RunState) → opened ≡ opened_run seed → run ≡ goes_on_for (events - 1) opened
     → run_report run events ≡ seeded_report seed events
 unfolding seeded_report
 reported seed events opened run begun is =
-    ap (λ (r : Running). run_report r events) (is ∙ ap (goes_on_for (events - 1)) begun)
+    ap (λ (r : RunState). run_report r events) (is ∙ ap (goes_on_for (events - 1)) begun)

@@ -21,7 +21,7 @@ use Rattle.fault_campaign.specs.Reports.{nothing, with_seen, settled_of}
 use Rattle.fault_campaign.specs.declared.report.Report.{Report}
 
 -- a run on its way: the generator, the two ends, and what was counted
-pub record Running : Type 0 where
+pub record RunState : Type 0 where
   pub words : Lcg
   pub world : Controlled Both
   pub report : Report
@@ -31,7 +31,7 @@ abbrev pub usual_from : Role → ℕ → Config
 usual_from role number = record (usual role) { iss = number }
 
 -- the client's number is drawn first
-unfoldable pub begun_run : Lcg → Running
+unfoldable pub begun_run : Lcg → RunState
 begun_run g =
     record {
       words = after_two (after_two g);
@@ -40,41 +40,41 @@ begun_run g =
     }
 
 -- how many frames this side has sent in the run
-abbrev pub frames_of : Running → Side → ℕ
+abbrev pub frames_of : RunState → Side → ℕ
 frames_of run side = length (half_of run.world.world side).frames
 
 -- an event and what is seen of it; one that cannot happen changes nothing
-abbrev pub after_event : Running → Result (ControlledStep Both) WorldFault → Running
+abbrev pub after_event : RunState → Result (ControlledStep Both) WorldFault → RunState
 after_event run (Ok step) = record run { world = step.after; report = with_seen run.report step.seen }
 after_event run (Err fault) = run
 
 -- a run after this event, with what was counted of it
-unfoldable pub played : Running → Event → Running
+unfoldable pub played : RunState → Event → RunState
 played run event = after_event run (happens_to kinds_control run.world event)
 
 -- one event more, drawn from two words
-abbrev pub next_event : Running → Event
+abbrev pub next_event : RunState → Event
 next_event run = drawn (word run.words) (word (after_one run.words)) (frames_of run Client) (frames_of run Server)
 
 -- a run after its next event, for which two words were drawn
-abbrev pub goes_on : Running → Running
+abbrev pub goes_on : RunState → RunState
 goes_on run = played (record run { words = after_two run.words }) (next_event run)
 
 -- a run after so many further events
-abbrev pub goes_on_for : ℕ → Running → Running
+abbrev pub goes_on_for : ℕ → RunState → RunState
 goes_on_for zero run = run
 goes_on_for (suc n) run = goes_on_for n (goes_on run)
 
 -- the first event opens the connection
-abbrev pub opened_run : ℕ → Running
+abbrev pub opened_run : ℕ → RunState
 opened_run seed = played (begun_run (generator seed)) Open
 
 -- The run of a seed with so many events.
-abbrev pub seeded : ℕ → ℕ → Running
+abbrev pub seeded : ℕ → ℕ → RunState
 seeded seed events = goes_on_for (events - 1) (opened_run seed)
 
 -- its events, as a schedule
-abbrev pub next_events : ℕ → Running → List Event
+abbrev pub next_events : ℕ → RunState → List Event
 next_events zero run = []
 next_events (suc n) run = next_event run ∷ next_events n (goes_on run)
 
@@ -83,7 +83,7 @@ abbrev pub seeded_events : ℕ → ℕ → List Event
 seeded_events seed events = Open ∷ next_events (events - 1) (opened_run seed)
 
 -- what is reported of a run
-abbrev pub run_report : Running → ℕ → Report
+abbrev pub run_report : RunState → ℕ → Report
 run_report run events =
     record run.report {
       seeds = 1;

@@ -29,9 +29,9 @@ pub struct OngoingRun {
 
 impl Model for OngoingRun {
     ghost use Rattle.fault_campaign.specs.Draws.{after_two};
-    ghost use Rattle.fault_campaign.specs.Seeded.{Running};
+    ghost use Rattle.fault_campaign.specs.Seeded.{RunState};
 
-    ghost Value = { Running };
+    ghost Value = { RunState };
 
     ghost view = { λ r. record { words = r.words; world = r.world; report = r.report } };
 }

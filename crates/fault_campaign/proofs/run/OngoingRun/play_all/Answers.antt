@@ -1,6 +1,6 @@
 use Rattle.std.proofs.Common.{rules, ◌∙◌, ap}
 use Rattle.world_events.specs.declared.event.Event.TheVariants.{Open}
-use Rattle.fault_campaign.specs.Seeded.{Running, played}
+use Rattle.fault_campaign.specs.Seeded.{RunState, played}
 use Rattle.fault_campaign.proofs.Turns.{opened-few, reported}
 use Rattle.fault_campaign.proofs.run.OngoingRun.play_all.Goals as goal
 
@@ -11,5 +11,5 @@ pub returns : goal.returns
 returns c seed begun =
     c.report.ensures
     ∙ reported seed c.args.events c.open.new.self c.go_on_for.new.self
-    (c.in_ok-open.ensures ∙ ap (λ (run : Running). played run Open) begun)
+    (c.in_ok-open.ensures ∙ ap (λ (run : RunState). played run Open) begun)
     c.in_ok-go_on_for.ensures
