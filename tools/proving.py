@@ -73,14 +73,16 @@ def urgency(needed, crate, seconds):
     return seconds.get(crate, 60) + max((urgency(needed, it, seconds) for it in above), default=0)
 
 
-# How much memory a proof beside another takes at most, in bytes.
+# How much memory a proof takes at most, in bytes.
 MEMORY = 4 * 2**30
 
 
 def lanes_beside():
-    """Returns how many crates are proved beside a heavy one: as many as leave it two processors, and as memory holds beside it."""
-    whole = os.sysconf("SC_PAGE_SIZE") * os.sysconf("SC_PHYS_PAGES")
-    return max(0, min((os.cpu_count() or 1) - 2, whole // MEMORY - 2))
+    """Returns how many crates are proved beside a heavy one: as many as it leaves processors, if memory allows. rt gives a crate that nothing
+    else is ready beside half of the processors, at least one and at most four."""
+    processors, memory = os.cpu_count() or 1, os.sysconf("SC_PAGE_SIZE") * os.sysconf("SC_PHYS_PAGES")
+    taken = max(1, min(4, processors // 2))
+    return max(0, min(processors - taken, memory // MEMORY - taken))
 
 
 def minutes_left(needed, proved, seconds):
