@@ -553,7 +553,7 @@ dccp_status dccp_feature(dccp_end *end, uint32_t feature, bool at_peer, dccp_fea
 /* For a server with an end for each peer: whether the peer has begun anew from its port, with another first number. The old end answers its Request
  * with a Sync, and the peer refuses this by a Reset (RFC 4340, section 8.5, step 4), which causes a further Sync, and so on without end. Ask after each
  * dccp_receive of a server's end that returned DCCP_OK, with the datagram and with what that call has left. If it is true, free the end and send
- * nothing: the peer's next Request opens another. A stranger cannot cause this, since only who sees the packets knows the number of the Sync (own). */
+ * nothing: the peer's next Request opens another. A stranger cannot cause this: only those who see the packets know the Sync's number (own). */
 bool dccp_begins_anew(dccp_last_sync *last, const uint8_t *datagram, size_t length, const dccp_told *told, const dccp_frame *frame);
 
 /* For a server with an end for each peer: answers a Request by a Response with an Init Cookie (RFC 4340, section 8.1.4), and keeps no end; it makes
