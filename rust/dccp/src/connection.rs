@@ -147,7 +147,7 @@ impl Outgoing {
 }
 
 /// How many buffers of frames are kept.
-const MOST_SPARE: usize = 64;
+const MOST_SPARE: usize = 128;
 
 impl Connection {
     /// A connection that has sent and received nothing. Refused if a wish is refused, or if there is no memory.
@@ -793,7 +793,11 @@ impl Connection {
             self.over(Event::Anew);
             return told;
         }
-        queue(&mut self.outgoing, (status, self.end.frame()), is_answer(&told));
+        queue(
+            &mut self.outgoing,
+            (status, self.end.frame()),
+            is_answer(&told),
+        );
         told
     }
 

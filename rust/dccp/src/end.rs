@@ -127,12 +127,7 @@ impl End {
     }
 
     /// Whether the peer of a server's end begins anew, by what the end has made of its datagram.
-    pub fn begins_anew(
-        &self,
-        last: &mut sys::LastSync,
-        told: &sys::Told,
-        datagram: &[u8],
-    ) -> bool {
+    pub fn begins_anew(&self, last: &mut sys::LastSync, told: &sys::Told, datagram: &[u8]) -> bool {
         let (bytes, length) = (datagram.as_ptr(), datagram.len());
         // SAFETY: as the head of this module says.
         unsafe { sys::dccp_begins_anew(last, bytes, length, told, &*self.frame) }
