@@ -55,10 +55,10 @@ pub record IsRead (e : EndState) (bytes : List ℕ) (number : ℕ) (d : Draft) :
 abbrev pub IsHere : EndState → List ℕ → ℕ → Kind → Type 0
 IsHere e bytes number k = IsRead e bytes number (alone k)
 
-same-test : (a b : ℕ) → a ≡ b → (a == b) ≡ true
+pub same-test : (a b : ℕ) → a ≡ b → (a == b) ≡ true
 same-test a b same = grind (arith, same)
 
-both-same : (a b c d : ℕ) → a ≡ b → c ≡ d → ((a == b) && (c == d)) ≡ true
+pub both-same : (a b c d : ℕ) → a ≡ b → c ≡ d → ((a == b) && (c == d)) ≡ true
 both-same a b c d left right = rw (same-test a b left, same-test c d right) refl
 
 pub draft-read : (from : Config) (e : EndState) (number : ℕ) (d : Draft) → IsSentTo from e.config → Fits from → number < 2 ^ 48 → IsPlain d

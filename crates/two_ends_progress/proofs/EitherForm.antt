@@ -1,5 +1,5 @@
 -- The frame of a draft comes in either form of its numbers, if the end takes short ones and can read them in full.
-use Rattle.std.proofs.Common.{map, Ok, ◌≡◌, refl, ap, sym, ◌∙◌, ◌==◌, ◌&&◌, ◌||◌, not, ℕ, ◌-◌, ◌%◌, ◌^◌, ◌<◌, Bool, true, false, List, length, Option, arith}
+use Rattle.std.proofs.Common.{map, Ok, ◌≡◌, refl, ap, sym, ◌∙◌, ◌&&◌, ◌||◌, not, ℕ, ◌-◌, ◌%◌, ◌^◌, ◌<◌, Bool, true, false, List, length, Option, arith}
 use Rattle.std.specs.Result.{result_ok}
 use Rattle.dccp_packets.specs.Forms.{may_be_short, number_in_form}
 use Rattle.dccp_packets.specs.Grammar.{KindFits, Parts, decoded, is_long, packet_type, padded}
@@ -23,6 +23,7 @@ use Rattle.two_ends.specs.Frames.{is_short_packet, packet_of}
 use Rattle.two_ends.specs.World.{is_far_frame}
 use Rattle.two_ends.specs.declared.frames.SentFrame.{SentFrame}
 use Rattle.two_ends_progress.specs.Paired.{IsSentTo}
+use Rattle.two_ends_progress.proofs.Arriving.{both-same}
 
 -- A packet came that is this draft's, under this number.
 pub record IsReadAs (e : EndState) (bytes : List ℕ) (number : ℕ) (d : Draft) : Type 0 where
@@ -36,12 +37,6 @@ pub record IsReadAs (e : EndState) (bytes : List ℕ) (number : ℕ) (d : Draft)
   pub is_packet : decoded bytes ≡ Ok parts
   pub payload_is : parts.payload ≡ d.payload
   pub placed : packet.data_place ≡ (length bytes - length d.payload, length bytes)
-
-same-test : (a b : ℕ) → a ≡ b → (a == b) ≡ true
-same-test a b same = grind (arith, same)
-
-both-same : (a b c d : ℕ) → a ≡ b → c ≡ d → ((a == b) && (c == d)) ≡ true
-both-same a b c d left right = rw (same-test a b left, same-test c d right) refl
 
 -- the number of a header that an end reads
 reading : (e : EndState) (short : Bool) (number : ℕ) → (short ≡ true → takes_short e ≡ true)

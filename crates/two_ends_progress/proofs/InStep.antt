@@ -15,7 +15,6 @@ use Rattle.dccp_states.specs.declared.calls.Timer.TheVariants as timers
 use Rattle.dccp_states.specs.declared.entrance.Entrance.TheVariants as entrance
 use Rattle.dccp_states.specs.declared.outcome.Outcome.{Outcome}
 use Rattle.dccp_states.specs.declared.phase.Phase.TheVariants as phases
-use Rattle.dccp_states.specs.declared.phase.Role.{Role}
 use Rattle.dccp_states.specs.declared.phase.Role.TheVariants as role
 use Rattle.dccp_states.specs.declared.reply.Reply.TheVariants as reply
 use Rattle.dccp_endpoint.specs.Calling.{fires}
@@ -50,22 +49,11 @@ use Rattle.two_ends_progress.proofs.Exchanging.{keeps}
 use Rattle.two_ends_progress.proofs.Leading.{leads-by, leads-within, next}
 use Rattle.two_ends_progress.proofs.Numbers.{AreHeard, later-so, window-or}
 use Rattle.two_ends_progress.proofs.Openly.{AreOpenWith, IsComingAs, IsOutAs, coming-as, few-next, fewer-open, out-as, stays-open, swapped}
-use Rattle.two_ends_progress.proofs.Receiving.{IsRow, bad-comes, next-so, row-heeds}
+use Rattle.two_ends_progress.proofs.Questions.{open-ack}
+use Rattle.two_ends_progress.proofs.Receiving.{bad-comes, next-so, row-heeds}
+use Rattle.two_ends_progress.proofs.Rounds.{open-sync, open-sync-ack}
 use Rattle.two_ends_progress.proofs.Stepping.{AreTwo, IsSent, turned, after-says, gsr-small, gss-small, heard-so, proper-of, timer-acts}
 use Rattle.two_ends_progress.proofs.Vectoring.{ack-alone, vectors-passed}
-
--- the rows of the tables, for both roles
-ack-row : (who : Role) → IsRow who phases.Open types.Ack phases.Open reply.Nothing
-ack-row role.Client = record { checked = refl; no_reset = λ is. cc is; expected = λ b. refl; for_us = λ x service. refl; next = refl }
-ack-row role.Server = record { checked = refl; no_reset = λ is. cc is; expected = λ b. refl; for_us = λ x service. refl; next = refl }
-
-sync-row : (who : Role) → IsRow who phases.Open types.Sync phases.Open reply.SyncAck
-sync-row role.Client = record { checked = refl; no_reset = λ is. cc is; expected = λ b. refl; for_us = λ x service. refl; next = refl }
-sync-row role.Server = record { checked = refl; no_reset = λ is. cc is; expected = λ b. refl; for_us = λ x service. refl; next = refl }
-
-told-row : (who : Role) → IsRow who phases.Open types.SyncAck phases.Open reply.Nothing
-told-row role.Client = record { checked = refl; no_reset = λ is. cc is; expected = λ b. refl; for_us = λ x service. refl; next = refl }
-told-row role.Server = record { checked = refl; no_reset = λ is. cc is; expected = λ b. refl; for_us = λ x service. refl; next = refl }
 
 module _ {C : Type 0} (control : Control C) (effects : EveryStepHasOneEffect) (own others : List Row)
     (alike : is_settled_on_one (held_by (row_at own ShortSeqnos Here)) ≡ true → (value_in others ShortSeqnos There == 1) ≡ true) where
@@ -154,7 +142,7 @@ module _ {C : Type 0} (control : Control C) (effects : EveryStepHasOneEffect) (o
     valid-so : by_window e.marks n (Some a1.ack) ≡ verdicts.Valid → AreSynced more v.world x y
     valid-so valid =
         let z : EndState = with_raised_marks e a in
-        let row = ack-row e.config.role in
+        let row = open-ack e.config.role in
         let fits = verdict-is verdicts.Valid valid in
         let goes =
         row-heeds e c.frame.bytes a c.here.came e.config.role phases.Open phases.Open types.Ack reply.Nothing row refl a1.opened.there type_is fits in
@@ -231,7 +219,7 @@ module _ {C : Type 0} (control : Control C) (effects : EveryStepHasOneEffect) (o
           subst (λ (m : ℕ). IsSent (half_of v.world y) (half_of v.world y).end.marks.gss (kind.Sync m)) (sym same_gss) said.sent in
           let g =
           get-in-step control effects rest v opened.under_way two (half_of v.world x).end.config.role (half_of v.world y).end.config.role phases.Open phases.Open
-          (sync-row (half_of v.world x).end.config.role) (told-row (half_of v.world y).end.config.role) refl refl opened.here opened.there refl refl refl sent in
+          (open-sync (half_of v.world x).end.config.role) (open-sync-ack (half_of v.world y).end.config.role) refl refl opened.here opened.there refl refl refl sent in
           let second : Event = event.Deliver y g.first in
           let v2 : Controlled C = next control v second in
           let third : Event = event.Deliver x g.second in
