@@ -1,9 +1,10 @@
 //! Frames that were sent.
-ghost use Rattle.std.specs.Prelude.{◌≡◌, ◌≤◌, ◌++◌, [], length, OnOk, vec_capacity};
+ghost use Rattle.std.specs.Prelude.{◌≡◌, ◌≤◌, ◌++◌, [], length, OnOk};
 ghost use Rattle.two_ends.specs.World.{HasPlace, HasRoomForFrame, as_sent};
 
 use dccp_packets::Outbox;
 use seq_circle::{NoMemory, Seq48};
+use smallvec::SmallVec;
 use std::alloc::Global;
 use std::marker::Model;
 use std::mem;
@@ -11,10 +12,13 @@ use std::mem;
 // No frame is longer.
 const MOST_BYTES: usize = 2044;
 
+// A frame of no more bytes, as most are, takes no block of its own.
+const FEW_BYTES: usize = 48;
+
 /// The bytes of a frame that was sent, at most 2,044. Contracts see the list of bytes.
 #[derive(Drop)]
 pub struct FrameBytes {
-    bytes: Vec<u8>,
+    bytes: SmallVec<u8, FEW_BYTES>,
 }
 
 impl Model for FrameBytes {
@@ -28,20 +32,12 @@ impl Model for FrameBytes {
 }
 
 impl FrameBytes {
-    // The vector itself is kept: no memory is taken.
-    fn of(bytes: Vec<u8>) -> FrameBytes
-        requires { length bytes.items ≤ 2044 }
-        ensures { result ≡ bytes.items }
-    {
-        FrameBytes { bytes }
-    }
-
     /// The bytes, at most 2,044.
     pub fn as_slice(&self) -> &[u8]
         ensures value { result.now ≡ self.now }
         ensures fits { length result.now ≤ 2044 }
     {
-        &self.bytes
+        self.bytes.as_slice()
     }
 }
 
@@ -74,7 +70,7 @@ pub(crate) fn take_memory(frames: &mut Vec<SentFrame>, spare: &mut Vec<u8>) -> R
 }
 
 /// Keeps the frame that a step sent, if any, in memory that was taken before the step: a place in the list, and a block
-/// that is given only where none of the frame's length is to be had.
+/// that is given only where a long frame gets none of its own.
 pub(crate) fn keep_frame(
     alloc: Global,
     frames: &mut Vec<SentFrame>,
@@ -104,6 +100,7 @@ pub(crate) fn keep_frame(
     }
 }
 
+// The bytes, where they are many in a block of their own, or else in the spare one.
 fn copied(alloc: Global, bytes: &[u8], spare: &mut Vec<u8>) -> FrameBytes
     requires room { HasRoomForFrame spare.old }
     requires empty { spare.old.items ≡ [] }
@@ -111,24 +108,26 @@ fn copied(alloc: Global, bytes: &[u8], spare: &mut Vec<u8>) -> FrameBytes
     ensures value { result ≡ bytes.now }
     ensures still_empty { spare.new.items ≡ [] }
 {
-    let mut block = block_of(alloc, bytes.len(), spare);
-    match block.extend_from_slice(bytes) {
-        Ok(()) => FrameBytes::of(block),
-        Err(_) => unreachable!(),
+    let mut kept = SmallVec::new(alloc);
+    match kept.extend_from_slice(bytes) {
+        Ok(()) => FrameBytes { bytes: kept },
+        Err(_) => in_spare(alloc, bytes, spare),
     }
 }
 
-// An empty block with room for so many bytes: of just this length, or else the spare one.
-fn block_of(alloc: Global, length: usize, spare: &mut Vec<u8>) -> Vec<u8>
+// The bytes in the spare block, for which no other was to be had.
+fn in_spare(alloc: Global, bytes: &[u8], spare: &mut Vec<u8>) -> FrameBytes
     requires room { HasRoomForFrame spare.old }
     requires empty { spare.old.items ≡ [] }
-    requires fits { length ≤ 2044 }
-    ensures has_room { length ≤ vec_capacity result }
-    ensures empty { result.items ≡ [] }
+    requires fits { length bytes.now ≤ 2044 }
+    ensures value { result ≡ bytes.now }
     ensures still_empty { spare.new.items ≡ [] }
 {
-    match Vec::with_capacity(alloc, length) {
-        Ok(exact) => exact,
-        Err(_) => mem::replace(spare, Vec::new(alloc)),
+    let mut block = mem::replace(spare, Vec::new(alloc));
+    match block.extend_from_slice(bytes) {
+        Ok(()) => FrameBytes {
+            bytes: SmallVec::from_vec(block),
+        },
+        Err(_) => unreachable!(),
     }
 }
