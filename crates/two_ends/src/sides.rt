@@ -1,7 +1,7 @@
 //! The two sides together, and exactly what an event makes of them.
-ghost use Rattle.std.specs.Prelude.{◌≡◌, ◌≢◌, ◌↔◌, Ok, Err, Some, None, IfOk, IfSome, OnErr, true, false, is_some, slice_get};
+ghost use Rattle.std.specs.Prelude.{◌≡◌, ◌≢◌, ◌↔◌, Ok, Err, Some, None, IfOk, IfSome, IsTrue, OnErr, true, false, is_some, slice_get};
 ghost use Rattle.dccp_endpoint.specs.Inputs.{Arrives};
-ghost use Rattle.two_ends.specs.Controlled.{controlled_half_steps, said_by};
+ghost use Rattle.two_ends.specs.Controlled.{controlled_half_steps, half_begins, said_by};
 ghost use Rattle.two_ends.specs.World.{is_far_at, is_far_frame, is_full, input_said};
 
 use crate::far::is_far_frame;
@@ -16,10 +16,11 @@ use std::marker::Model;
 // A side's numbers keep their order for so many frames (RFC 4340, section 3.1).
 const MOST_FRAMES: usize = (1 << 47) - 1;
 
+// A side is large, so it has a block, and is not moved as the two are handed on.
 #[derive(Drop)]
 pub(crate) struct Sides<C> {
-    client: HalfWorld<C>,
-    server: HalfWorld<C>,
+    client: Box<HalfWorld<C>>,
+    server: Box<HalfWorld<C>>,
 }
 
 impl<C> Model for Sides<C> {
@@ -27,7 +28,7 @@ impl<C> Model for Sides<C> {
 
     ghost Value = { Controlled C };
 
-    ghost view = { λ s. record { world = record { client = s.client.half; server = s.server.half }; for_client = s.client.congestion; for_server = s.server.congestion } };
+    ghost view = { λ s. record { world = record { client = s.client.value.half; server = s.server.value.half }; for_client = s.client.value.congestion; for_server = s.server.value.congestion } };
 }
 
 impl<C: Congestion + Drop> Sides<C> {
@@ -44,8 +45,8 @@ impl<C: Congestion + Drop> Sides<C> {
         requires { IsTrue (C.control.is_known 2) }
         ensures { IfOk result (λ sides. sides ≡ begins_with C.control client server for_client for_server) }
     {
-        let client = HalfWorld::new(alloc, client, for_client)?;
-        let server = HalfWorld::new(alloc, server, for_server)?;
+        let client = begin_side(alloc, client, for_client)?;
+        let server = begin_side(alloc, server, for_server)?;
         Ok(Sides { client, server })
     }
 }
@@ -134,6 +135,22 @@ impl<C: Congestion> Sides<C> {
     }
 }
 
+// A side before it has sent or received anything, in its block.
+fn begin_side<C: Congestion + Drop>(
+    alloc: Global,
+    config: Config,
+    congestion: C,
+) -> Result<Box<HalfWorld<C>>, NoMemory>
+    requires { IsTrue (C.control.is_known 2) }
+    ensures { IfOk result (λ side. side.value ≡ half_begins C.control config congestion) }
+{
+    let half = HalfWorld::new(alloc, config, congestion)?;
+    match Box::new(alloc, half) {
+        Ok(side) => Ok(side),
+        Err(_) => Err(NoMemory),
+    }
+}
+
 // The side has sent all the frames that the order of its numbers allows.
 fn is_full<C: Congestion>(half: &HalfWorld<C>) -> bool
     ensures { result ≡ is_full half.now.half }
@@ -152,10 +169,7 @@ fn call_half<C: Congestion>(half: &mut HalfWorld<C>, call: UserCall<'_>) -> Resu
     if is_full(half) {
         return Err(WorldFault::Full);
     }
-    match half.call(call) {
-        Ok(seen) => Ok(seen),
-        Err(NoMemory) => Err(WorldFault::NoMemory),
-    }
+    half.call(call)
 }
 
 fn deliver<C: Congestion>(
@@ -194,8 +208,5 @@ fn receive_half<C: Congestion>(
     if is_far_frame(half.end(), frame) {
         return Err(WorldFault::FarShort);
     }
-    match half.receive(frame.bytes.as_slice(), frame.number) {
-        Ok(seen) => Ok(seen),
-        Err(NoMemory) => Err(WorldFault::NoMemory),
-    }
+    half.receive(frame.bytes.as_slice(), frame.number)
 }
