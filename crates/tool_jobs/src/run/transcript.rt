@@ -15,13 +15,16 @@ use std::marker::Model;
 use tool_text::{JobEnd, LineError, LineJob, run_lines};
 use two_ends::{World, every_run_is_safe};
 
-/// A schedule while it is played (own), with room for what one line says. A line that sends data has its own room,
-/// since a line that is read as another kind is cleared together with its room for data. Contracts see the state of the
-/// schedule.
+/// A schedule while it is played (own), with room for what one line says. Each kind of line that comes often has its own
+/// room, since a line that is read as another kind is cleared together with its room for data. Contracts see the state
+/// of the schedule.
 #[derive(Drop)]
 pub struct Schedule {
     play: Play,
+    delivery: Line,
+    timer: Line,
     sending: Line,
+    wish: Line,
     other: Line,
 }
 
@@ -42,7 +45,10 @@ impl Schedule {
     {
         Schedule {
             play: Play::new(),
+            delivery: Line::Nothing,
+            timer: Line::Nothing,
             sending: Line::Nothing,
+            wish: Line::Nothing,
             other: Line::Nothing,
         }
     }
@@ -76,11 +82,30 @@ impl LineJob for Schedule {
         line: &[u8],
         text: &mut Vec<u8>,
     ) -> Result<(), LineError> {
-        // Into which of the two rooms a line is read changes nothing.
+        // Into which of the rooms a line is read changes nothing.
         match line {
+            [b'd', ..] => {
+                judge_into(
+                    &mut self.delivery,
+                    &mut self.play,
+                    alloc,
+                    number,
+                    line,
+                    text,
+                )
+            }
+            [b't', ..] => judge_into(&mut self.timer, &mut self.play, alloc, number, line, text),
             [b's', b'e', b'n', ..] => {
                 judge_into(&mut self.sending, &mut self.play, alloc, number, line, text)
             }
+            [b'p', b'r', ..] => judge_into(
+                &mut self.wish,
+                &mut self.play,
+                alloc,
+                number,
+                line,
+                text,
+            ),
             _ => judge_into(&mut self.other, &mut self.play, alloc, number, line, text),
         }
     }
