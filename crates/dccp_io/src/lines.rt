@@ -101,7 +101,8 @@ fn text_length(bytes: &[u8], seen: usize) -> usize
         return seen;
     }
     let large = blocks_seen::<64>(bytes, seen);
-    let front = blocks_seen::<16>(bytes, large);
+    let small = blocks_seen::<16>(bytes, large);
+    let front = blocks_seen::<8>(bytes, small);
     for index in front..bytes.len() {
         if bytes[index] == b'\n' {
             return index;
