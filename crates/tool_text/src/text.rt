@@ -1,7 +1,7 @@
 //! Text as it is put together, piece by piece.
 #![tactic(auto, using(crate::proofs::Keeping::keeps_itself, crate::proofs::Keeping::keeps_on, crate::proofs::Keeping::keeps_through))]
 
-ghost use Rattle.std.specs.Prelude.{◌≡◌, ◌<◌, ◌++◌, codes, decimal, OnOk, OnErr};
+ghost use Rattle.std.specs.Prelude.{◌≡◌, ◌<◌, ◌≤◌, ◌++◌, codes, decimal, length, OnOk, OnErr};
 ghost use Rattle.std.specs.Str.{bytes_eq};
 ghost use Rattle.hex.specs.Hex.{encode_lower};
 ghost use Rattle.tool_text.specs.Text.{Keeps, SameText, hex_or_dash, labelled_number, v4_text};
@@ -12,6 +12,9 @@ use seq_circle::NoMemory;
 
 // How many bytes are put as digits at a time.
 const BLOCK: usize = 128;
+
+// No more bytes than these have a small room for their digits, since a room is cleared before it is used.
+const FEW: usize = 32;
 
 /// Whether bytes are just this text (own).
 pub fn is_text(bytes: &[u8], text: &[u8]) -> bool
@@ -64,12 +67,28 @@ pub fn put_counted(text: &mut Vec<u8>, word: &[u8], number: u64) -> Result<(), N
     put_number(text, number)
 }
 
+// Puts few bytes in lower-case hexadecimal.
+#[tactic(auto, using(crate::proofs::Keeping::keeps_itself, crate::proofs::Keeping::keeps_more))]
+fn put_few_hex(text: &mut Vec<u8>, bytes: &[u8]) -> Result<(), NoMemory>
+    requires { length bytes.now ≤ 32 }
+    ensures ok { OnOk result (text.new.items ≡ text.old.items ++ encode_lower bytes.now) }
+    ensures front { Keeps text.old.items text.new.items }
+{
+    let mut digits = [0u8; 2 * FEW];
+    let room = &mut digits[..2 * bytes.len()];
+    encode(bytes, room);
+    put(text, room)
+}
+
 /// Puts bytes in lower-case hexadecimal, and nothing for none (own). NoMemory means that the text could not grow; then
 /// the digits of the first bytes may be there.
 pub fn put_hex(text: &mut Vec<u8>, bytes: &[u8]) -> Result<(), NoMemory>
     ensures ok { OnOk result (text.new.items ≡ text.old.items ++ encode_lower bytes.now) }
     ensures front { Keeps text.old.items text.new.items }
 {
+    if bytes.len() <= FEW {
+        return put_few_hex(text, bytes);
+    }
     let mut digits = [0u8; 2 * BLOCK];
     for block in bytes.chunks(BLOCK) {
         let room = &mut digits[..2 * block.len()];
