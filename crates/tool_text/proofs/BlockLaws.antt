@@ -2,6 +2,7 @@
 use Rattle.std.proofs.Common.{◌≡◌, refl, sym, ap, ◌∙◌, ℕ, zero, suc, ◌+◌, ◌-◌, List, [], ◌∷◌, length, take, drop, Bool, true, false, not, cond, ◌&&◌, Option, Some, None, arith}
 use Rattle.std.specs.List.{list_all, position_from}
 use Rattle.std.proofs.lemmas.Grind.{common_steps}
+use Rattle.std.proofs.lemmas.List.{take_all}
 use Rattle.tool_text.proofs.Bytes.{both-true, and-true}
 
 -- a place further on
@@ -102,6 +103,11 @@ found-near t (suc count) from place (x ∷ xs) is =
 -- what is found near is found in the whole
 pub some_near : (t : ℕ → Bool) (count place : ℕ) (text : List ℕ) → Some place ≡ position_from t 0 (take count text) → Some place ≡ position_from t 0 text
 some_near t count place text is = sym (found-near t count 0 place text (sym is))
+
+-- what is not found in a front that is all is found nowhere
+pub none_at_all : (t : ℕ → Bool) (count : ℕ) (text : List ℕ) → count ≡ length text → None ≡ position_from t 0 (take count text)
+    → None ≡ position_from t 0 text
+none_at_all t count text all is = is ∙ ap (position_from t 0) (take_all count text (omega (arith, all)))
 
 none-test : (test : Bool) (a : Option ℕ) (from : ℕ) (rest : Bool) → (a ≡ None → rest ≡ true) → cond test (Some from) a ≡ None → (not test && rest) ≡ true
 none-test true a from rest more is = cc is

@@ -86,7 +86,7 @@ pub(crate) fn first_far<S: ByteSearch>(what: &S, text: &[u8]) -> Option<usize>
 }
 
 /// The same, if it is mostly near.
-#[tactic(auto, using(crate::proofs::BlockLaws::none_there, crate::proofs::BlockLaws::some_near))]
+#[tactic(auto, using(crate::proofs::BlockLaws::none_there, crate::proofs::BlockLaws::none_at_all, crate::proofs::BlockLaws::some_near))]
 pub(crate) fn first_near<S: ByteSearch>(what: &S, text: &[u8]) -> Option<usize>
     ensures first { result ≡ position_from (S.sought what.now) 0 text.now }
     ensures within { IfSome result (IsPlaceOf text.now) }
@@ -95,6 +95,9 @@ pub(crate) fn first_near<S: ByteSearch>(what: &S, text: &[u8]) -> Option<usize>
     match first_in(what, &text[..near]) {
         Some(place) => Some(place),
         None => {
+            if near == text.len() {
+                return None;
+            }
             let front = far_from(what, text, near);
             first_after(what, text, front)
         }
