@@ -1,9 +1,10 @@
 -- What the tool's call leaves, by the status with which it ends.
-use Rattle.std.proofs.Common.{◌≡◌, ◌∙◌, ap, inl, inr, refl, sym, subst, ℕ, Bool, List, ◌++◌, Option, Some, length}
+use Rattle.std.proofs.Common.{◌≡◌, ◌∙◌, ap, inl, inr, refl, sym, subst, ℕ, ◌-◌, ◌^◌, ◌<◌, Bool, List, ◌++◌, Option, Some, length, arith}
 use Rattle.std.specs.Io.KnownBytes.{append_known}
 use Rattle.std.specs.Prelude.{◌⊎◌, take}
 use Rattle.std.proofs.Math.Seq.{take-length}
-use Rattle.tool_text.specs.Ends.{Answers, HasBegun, HasTaken, OnJobEnd}
+use Rattle.dccp_io.specs.Counts.{Rose}
+use Rattle.tool_text.specs.Ends.{Answers, HasBegun, HasTaken, OnJobEnd, SinkFailed}
 use Rattle.tool_text.specs.declared.output.status.JobEnd.{JobEnd}
 use Rattle.tool_text.specs.declared.output.status.JobEnd.TheVariants as ended
 use Rattle.tool_text.specs.declared.output.status.Status.{Status}
@@ -14,6 +15,23 @@ on-done s Holds on same = subst (λ (t : Status). OnJobEnd t Holds) same on
 
 pub on-input : (s : Status) (Holds : JobEnd → Type 0) → OnJobEnd s Holds → s ≡ status.Input → Holds ended.Input
 on-input s Holds on same = subst (λ (t : Status). OnJobEnd t Holds) same on
+
+pub on-read : (s : Status) (Holds : JobEnd → Type 0) → OnJobEnd s Holds → s ≡ status.Read → Holds ended.Read
+on-read s Holds on same = subst (λ (t : Status). OnJobEnd t Holds) same on
+
+pub on-write : (s : Status) (Holds : JobEnd → Type 0) → OnJobEnd s Holds → s ≡ status.Write → Holds ended.Write
+on-write s Holds on same = subst (λ (t : Status). OnJobEnd t Holds) same on
+
+-- a count that is what it was, and not at its end, has not risen
+pub has-not-risen : (before after : ℕ) → Rose before after → before ≡ after → after < 2 ^ 64 - 1 → ⊥
+has-not-risen before after (inl rose) same below = omega (arith, rose, same)
+has-not-risen before after (inr at_end) same below = omega (arith, at_end, below)
+
+-- nor has one of two
+pub has-not-failed : (faults faults_after takes takes_after : ℕ) → SinkFailed faults faults_after takes takes_after → faults ≡ faults_after
+    → takes ≡ takes_after → faults_after < 2 ^ 64 - 1 → takes_after < 2 ^ 64 - 1 → ⊥
+has-not-failed faults faults_after takes takes_after (inl rose) same taken below under = has-not-risen faults faults_after rose same below
+has-not-failed faults faults_after takes takes_after (inr rose) same taken below under = has-not-risen takes takes_after rose taken under
 
 module _ (text : List ℕ) (is_refused : Bool) (left before after : Option (List ℕ)) where
   abbrev Held : JobEnd → Type 0

@@ -1,8 +1,12 @@
--- What the laws say of a pair that a schedule with inboxes reached.
-use Rattle.std.proofs.Common.{◌≡◌, sym, subst, ap, ◌∙◌}
+-- What the laws say of a pair that a schedule with inboxes reached, and of outcomes without their place.
+use Rattle.std.proofs.Common.{◌≡◌, refl, sym, subst, ap, ◌∙◌, ℕ, Some, None}
 use Rattle.congestion_trait.specs.Control.{Control}
+use Rattle.dccp_states.specs.declared.outcome.Outcome.{Outcome}
+use Rattle.dccp_states.specs.declared.outcome.Outcome.TheVariants as outcome
+use Rattle.dccp_states.specs.declared.outcome.Why.{Why}
 use Rattle.tests_claims.specs.Inboxed.{ReachedWithInboxes}
 use Rattle.two_ends.specs.Controlled.{plays_from_start}
+use Rattle.two_inboxes.specs.Alike.{without_place}
 use Rattle.two_inboxes.specs.Apart.{TellOfTheirData, TellsOfItsData}
 use Rattle.two_inboxes.specs.Inboxes.{InboxPair, RunAsAlone, of_ends}
 use Rattle.world_events.specs.declared.event.Side.{Side}
@@ -31,3 +35,28 @@ module _ {C : Type 0} (control : Control C) where
       r.server_fits
       (r.there, r.back)
       side)
+
+-- An outcome is dropped, took nothing or took data, where another is that differs by the place of its data alone.
+pub dropped-so : (o : Outcome) (why : Why) → without_place o ≡ outcome.Dropped why → o ≡ outcome.Dropped why
+dropped-so (outcome.Dropped other) why same = same
+dropped-so (outcome.Took None) why same = cc same
+dropped-so (outcome.Took (Some place)) why same = cc same
+dropped-so (outcome.Synced number) why same = cc same
+dropped-so (outcome.WasReset code) why same = cc same
+dropped-so (outcome.SentReset code detail) why same = cc same
+
+pub quiet-so : (o : Outcome) → without_place o ≡ outcome.Took None → o ≡ outcome.Took None
+quiet-so (outcome.Took None) same = refl
+quiet-so (outcome.Took (Some place)) same = cc same
+quiet-so (outcome.Dropped why) same = cc same
+quiet-so (outcome.Synced number) same = cc same
+quiet-so (outcome.WasReset code) same = cc same
+quiet-so (outcome.SentReset code detail) same = cc same
+
+pub delivered-so : (o : Outcome) (place : ℕ × ℕ) → without_place o ≡ outcome.Took (Some place) → (other : ℕ × ℕ) × (o ≡ outcome.Took (Some other))
+delivered-so (outcome.Took (Some other)) place same = (other, refl)
+delivered-so (outcome.Took None) place same = cc same
+delivered-so (outcome.Dropped why) place same = cc same
+delivered-so (outcome.Synced number) place same = cc same
+delivered-so (outcome.WasReset code) place same = cc same
+delivered-so (outcome.SentReset code detail) place same = cc same

@@ -8,6 +8,8 @@ ghost use Rattle.data_dropped.specs.declared.drops.DropEntry.{DropEntry};
 ghost use Rattle.dccp_endpoint.specs.End.{EndState};
 ghost use Rattle.dccp_endpoint.specs.Receiving.{receives};
 ghost use Rattle.dccp_options.specs.Vectors.{VectorReport, report_of, state_at};
+ghost use Rattle.dccp_states.specs.declared.outcome.Outcome.TheVariants as outcomes;
+ghost use Rattle.dccp_states.specs.declared.outcome.Why.{Why};
 ghost use Rattle.dccp_packets.specs.Grammar.{Parts, decoded};
 ghost use Rattle.dccp_packets.specs.Outgoing.{Outgoing};
 ghost use Rattle.seq_circle.specs.Circle.{distance};
@@ -52,12 +54,20 @@ pub fn a_report_tells_the_drops()
 }
 
 /// An end that takes a frame that an inbox has lengthened is the end that takes the frame as it was, and answers with the
-/// same frame (`alike`, `answered`).
+/// same frame (`alike`, `answered`). It drops the one where it drops the other (`dropped`), and takes data of both or of
+/// none (`quiet`, `delivered`).
 pub fn longer_frames_are_taken_as_shorter_ones()
     ensures alike { (e : EndState) (held : InboxState) (own frame : Outgoing) → TellsItsDrops e.config.pseudo_in held own frame
         → (receives e frame.bytes).after ≡ (receives e own.bytes).after }
     ensures answered { (e : EndState) (held : InboxState) (own frame : Outgoing) → TellsItsDrops e.config.pseudo_in held own frame
         → (receives e frame.bytes).frame ≡ (receives e own.bytes).frame }
+    ensures dropped { (e : EndState) (held : InboxState) (own frame : Outgoing) (why : Why) → TellsItsDrops e.config.pseudo_in held own frame
+        → (receives e own.bytes).answer ≡ outcomes.Dropped why → (receives e frame.bytes).answer ≡ outcomes.Dropped why }
+    ensures quiet { (e : EndState) (held : InboxState) (own frame : Outgoing) → TellsItsDrops e.config.pseudo_in held own frame
+        → (receives e own.bytes).answer ≡ outcomes.Took None → (receives e frame.bytes).answer ≡ outcomes.Took None }
+    ensures delivered { (e : EndState) (held : InboxState) (own frame : Outgoing) (place : ℕ × ℕ) → TellsItsDrops e.config.pseudo_in held own frame
+        → (receives e own.bytes).answer ≡ outcomes.Took (Some place)
+        → (other : ℕ × ℕ) × ((receives e frame.bytes).answer ≡ outcomes.Took (Some other)) }
 {
     longer_frames_are_taken_alike();
 }

@@ -1,5 +1,5 @@
 //! What a caller has of the tool's call, and of a listener's input.
-ghost use Rattle.std.specs.Prelude.{◌≡◌, ◌⊎◌, ◌↔◌, ◌++◌, ℕ, List, Some, None, true, false, flat_map, map, take};
+ghost use Rattle.std.specs.Prelude.{◌≡◌, ◌⊎◌, ◌↔◌, ◌++◌, ◌-◌, ◌^◌, ◌<◌, ℕ, List, [], Some, None, true, false, flat_map, map, take};
 ghost use Rattle.dccp_command.specs.CampaignText.{campaign_text};
 ghost use Rattle.dccp_command.specs.Forms.{form_text, is_form_refused, reads_input};
 ghost use Rattle.dccp_io.specs.Lines.{lines_of};
@@ -23,10 +23,12 @@ use std::alloc::Global;
 use std::thread::Threads;
 use tool_jobs::each_peer_is_answered_by_its_chain;
 
-/// What `dccp` leaves. With status 0 or 1, and with no other of its statuses, each accepted event of `run` took place in a safe world (`done`,
-/// `refused`), and the sink took exactly the text of the input: for `run` the transcript (`transcript`), for each other form that reads its own
-/// (`whole`), for a campaign its sums (`sums`). Status 1 comes for an input that is refused, and 0 for none (`accepted`, `faulty`). With 3, 4 or
-/// 5 the sink took a front of the text (`front`).
+/// What `dccp` leaves. With status 0 or 1, and with no other of its statuses, each accepted event of `run` took place in a
+/// safe world (`done`, `refused`), and the sink took exactly the text of the input: for `run` the transcript
+/// (`transcript`), for each other form that reads its own (`whole`), for a campaign its sums (`sums`). Status 1 comes for
+/// an input that is refused, and 0 for none, which was read to its end (`accepted`, `faulty`, `emptied`). With 3, 4 or 5
+/// the sink took a front of the text (`front`): with 3 the source failed, with 4 the sink (`read`, `written`). Status 2
+/// comes for words that no form has (`unnamed`), and for these nothing else does but 5 (`named`).
 pub fn played<R: Threads + Sync, G: Gate + Sync, S: Source, K: Sink>(
     rt: &R,
     alloc: Global,
@@ -50,6 +52,14 @@ pub fn played<R: Threads + Sync, G: Gate + Sync, S: Source, K: Sink>(
     ensures front { (which : Form) (bytes before : List ℕ) → form_of words.now ≡ Some which → reads_input which ≡ true
         → S.left input.old ≡ Some bytes → K.taken output.old ≡ Some before
         → (count : ℕ) × (K.taken output.new ≡ Some (before ++ take count (form_text which bytes))) }
+    ensures emptied { (which : Form) (bytes : List ℕ) → form_of words.now ≡ Some which → reads_input which ≡ true
+        → S.left input.old ≡ Some bytes → result ≡ Status.Done → S.left input.new ≡ Some [] }
+    ensures read { (which : Form) → form_of words.now ≡ Some which → result ≡ Status.Read → S.faults input.old ≡ S.faults input.new
+        → S.faults input.new < 2 ^ 64 - 1 → ⊥ }
+    ensures written { (which : Form) → form_of words.now ≡ Some which → result ≡ Status.Write → K.faults output.old ≡ K.faults output.new
+        → K.empty_takes output.old ≡ K.empty_takes output.new → K.faults output.new < 2 ^ 64 - 1 → K.empty_takes output.new < 2 ^ 64 - 1 → ⊥ }
+    ensures unnamed { (which : Form) → form_of words.now ≡ Some which → result ≡ Status.Words → ⊥ }
+    ensures named { form_of words.now ≡ None → (result ≡ Status.Words) ⊎ (result ≡ Status.Memory) }
     ensures sums { (campaign : Campaign) (before : List ℕ) → form_of words.now ≡ Some (form.Campaign campaign)
         → K.taken output.old ≡ Some before → result ≡ Status.Done → K.taken output.new ≡ Some (before ++ campaign_text campaign) }
 {
