@@ -6,3 +6,4 @@ pub mod RowsInterfaces
 pub mod RowsLinks
 pub mod RowsPlaces
 pub mod RowsSeen
+pub mod RowsSkips
