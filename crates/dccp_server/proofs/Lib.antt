@@ -23,5 +23,6 @@ pub mod Through
 mod Tickets
 pub mod Timing
 pub mod Tying
+pub mod Walking
 pub mod FlowDropping
 pub mod FlowInboxing

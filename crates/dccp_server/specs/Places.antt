@@ -1,6 +1,7 @@
 -- What is kept of each peer that has a flow, in the order of the peers (own).
-use Rattle.std.specs.Prelude.{◌≡◌, Bool, true, false, List, [], ◌∷◌, Option, Some, None, IsSome, if◌then◌else◌}
+use Rattle.std.specs.Prelude.{◌≡◌, ◌≤◌, ℕ, zero, suc, length, slice_get, Bool, true, false, List, [], ◌∷◌, Option, Some, None, IsSome, if◌then◌else◌}
 use Rattle.std.specs.BTreeMap.{insert_entry}
+use Rattle.std.specs.List.Sorted.{IsStrictlySortedBy}
 use Rattle.std.specs.Map.{lookup, remove_entry}
 use Rattle.std.specs.Ordering.{is_lt}
 use Rattle.dccp_listener.specs.Peers.{FlowEnd, is_peer, peer_cmp}
@@ -20,6 +21,17 @@ IsPlaced fresh false before after peer = (lookup (is_peer peer) before ≡ None)
 abbrev pub peer_after : Peer → List Peer → Option Peer
 peer_after peer [] = None
 peer_after peer (one ∷ rest) = if is_lt (peer_cmp peer one) then Some one else peer_after peer rest
+
+-- the peers that a walk names, at most so many: this one, and then whoever comes after the last
+abbrev pub peers_walked : ℕ → List Peer → Option Peer → List Peer
+peers_walked zero peers here = []
+peers_walked (suc most) peers None = []
+peers_walked (suc most) peers (Some peer) = peer ∷ peers_walked most peers (peer_after peer peers)
+
+-- A walk from the first of peers in order names each of them once, in their order, and ends.
+abbrev pub WalksNameEachOnce : Type 0
+WalksNameEachOnce =
+    (peers : List Peer) (most : ℕ) → IsStrictlySortedBy peer_cmp peers → length peers ≤ most → peers_walked most peers (slice_get peers 0) ≡ peers
 
 -- a peer that has an end has a place
 abbrev pub HasPlaceIf : {V : Type 0} → Option FlowEnd → List (Peer × V) → Peer → Type 0

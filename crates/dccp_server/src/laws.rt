@@ -2,6 +2,7 @@
 ghost use Rattle.dccp_server.specs.Ending.{EachMayStay, ListenerTicksEnd, NoneIsPassedOver};
 ghost use Rattle.dccp_server.specs.FlowInboxes.{InboxesStayFew};
 ghost use Rattle.dccp_server.specs.Meeting.{MeetingsAreDeeds};
+ghost use Rattle.dccp_server.specs.Places.{WalksNameEachOnce};
 ghost use Rattle.dccp_server.specs.Rooms.{ForgottenHaveNone, LivesChangeNothing, RulesAreDeeds};
 ghost use Rattle.dccp_server.specs.Serving.{CallsAreARun, CallsWantNoMemory, OnlyStrangersWantMemory, RefusedCallsChangeNothing, UpkeepsStandWithFlows};
 ghost use Rattle.dccp_server.specs.Timing.{FlowsAreTimedEnds};
@@ -66,4 +67,10 @@ pub fn forgotten_peers_have_no_flow()
 /// No more inboxes stand than may, whatever arrives, is read, stopped or forgotten (own).
 pub fn inboxes_stay_few()
     ensures { InboxesStayFew }
+{}
+
+/// A walk from the first peer to the one after it, and so on, names each peer that has a flow once, in their order, and
+/// ends (own).
+pub fn walks_name_each_peer_once()
+    ensures { WalksNameEachOnce }
 {}

@@ -43,6 +43,7 @@ pub use crate::laws::{
     calls_are_a_run, flows_are_timed_ends, forgotten_peers_have_no_flow, inboxes_stay_few,
     meetings_are_deeds, no_flow_is_passed_over, only_strangers_want_memory,
     refused_calls_change_nothing, rules_are_deeds, ticks_of_a_listener_end,
+    walks_name_each_peer_once,
 };
 pub use crate::life::{Life, Signs};
 pub use crate::meeting::{CookieUse, Meeting, Way, append_cookie};
