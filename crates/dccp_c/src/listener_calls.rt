@@ -347,6 +347,23 @@ fn serve(
     }
 }
 
+// The same, where what is kept of the peer is searched once.
+fn attend(
+    serving: &mut Serving,
+    peer: Peer,
+    iss: Seq48,
+    datagram: &[u8],
+    now: u64,
+    frame: &mut Frame,
+    told: &mut Told,
+) -> u32
+    requires { length datagram.now ≤ 2044 }
+    ensures { HearsIfOpen now (holding_of serving.old) (holding_of serving.new) peer iss datagram.now (is_shut_out serving.old.server peer datagram.now) (handed_in frame.new) serving.new.evicted serving.new.way result told.old told.new }
+{
+    serving.server.seek(peer);
+    serve(serving, peer, iss, datagram, now, frame, told)
+}
+
 /// `EventServer::arrive`. BUSY where it answers Busy, REFUSED where it is shut and the datagram would open a flow. NO_NUMBER where the first number is
 /// none and TOO_LONG where the datagram is; then nothing changes, nor with NOT_MADE. With NO_MEMORY nothing changes but
 /// that a flow may have made room. C is told of the datagram where the answer is DONE alone.
@@ -373,7 +390,7 @@ pub extern "C" fn dccp_listener_arrive(
     let Some(mut serving) = listener.take(alloc) else {
         return NOT_MADE;
     };
-    let code = serve(
+    let code = attend(
         &mut serving,
         peer_named(peer),
         iss,
@@ -469,6 +486,7 @@ fn ask(serving: &mut Serving, peer: Peer, call: UserCall<'_>, now: u64) -> Resul
     ensures sent { serving.new.out ≡ flow_speaks serving.new.inboxes serving.new.server.server peer (listens serving.old.server.server.room.served.listening peer (Calls (asked call.entry))).frame }
     ensures told { Stepped (seen_if result) ≡ (listens serving.old.server.server.room.served.listening peer (Calls (asked call.entry))).told }
 {
+    serving.server.seek(peer);
     let answer = serving.server.ask(peer, call, now, &mut serving.out);
     go_on(serving, peer);
     answer
@@ -778,7 +796,7 @@ fn let_go(serving: &mut Serving, peer: Peer, now: u64)
 pub(crate) fn has_flow(server: &Server, peer: Peer) -> bool
     ensures { result ≡ is_some (end_of_peer server.now.room.served.listening.flows peer) }
 {
-    server.flow(peer).is_some()
+    server.has_flow(peer)
 }
 
 /// A peer's flow goes at once, whatever its phase, with the data that wait of it, and nothing is sent. Answers DONE, NOT_MADE or NO_FLOW.

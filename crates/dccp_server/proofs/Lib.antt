@@ -24,5 +24,6 @@ mod Tickets
 pub mod Timing
 pub mod Tying
 pub mod Walking
+pub mod Writing
 pub mod FlowDropping
 pub mod FlowInboxing

@@ -1,13 +1,13 @@
 -- A place that was made for what is kept of a peer changes nothing of what that is then.
-use Rattle.std.proofs.Common.{◌≡◌, refl, sym, ap, ◌∙◌, Bool, true, false, cond, List, [], ◌∷◌, Option, Some, None, Ordering, Less, Equal, Greater, is_eq}
+use Rattle.std.proofs.Common.{◌≡◌, refl, sym, ap, ◌∙◌, subst, Bool, true, false, cond, List, [], ◌∷◌, Option, Some, None, Ordering, Less, Equal, Greater, is_eq}
 use Rattle.std.specs.BTreeMap.{insert_entry}
 use Rattle.std.specs.Map.{lookup, remove_entry}
 use Rattle.std.specs.Ordering.{match_ordering}
 use Rattle.std.specs.Prelude.{if◌then◌else◌}
-use Rattle.dccp_listener.proofs.OnePeer.{peers_alike}
+use Rattle.dccp_listener.proofs.OnePeer.{one_peer, peers_alike}
 use Rattle.dccp_listener.specs.Peers.{FlowEnd, is_peer, peer_cmp}
 use Rattle.dccp_listener.specs.declared.peer.Peer.{Peer}
-use Rattle.dccp_server.specs.Places.{IsPlaced, kept_then}
+use Rattle.dccp_server.specs.Places.{IsAtHand, IsPlaced, kept_then}
 
 equal-from : (o : Ordering) → is_eq o ≡ true → o ≡ Equal
 equal-from Less h = cc h
@@ -93,3 +93,9 @@ pub taken_back : {X : Type 0} (fresh : X) (had : Bool) (before after : List (Pee
     → (if had then after else remove_entry (is_peer peer) after) ≡ before
 taken_back fresh true before after peer is = is.1
 taken_back fresh false before after peer is = undone fresh peer before after is
+
+-- what is at hand of a peer is found there
+pub at_hand_is : {X : Type 0} (at_hand : Option (Peer × X)) (kept : List (Peer × X)) (last : Peer) (value : X) (peer : Peer) → IsAtHand at_hand kept
+    → at_hand ≡ Some (last, value) → is_peer last peer ≡ true → lookup (is_peer peer) kept ≡ Some value
+at_hand_is {X} at_hand kept last value peer is same here =
+    subst (λ (p : Peer). lookup (is_peer p) kept ≡ Some value) (one_peer last peer here) (subst (λ (a : Option (Peer × X)). IsAtHand a kept) same is)

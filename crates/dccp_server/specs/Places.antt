@@ -17,6 +17,11 @@ abbrev pub IsPlaced : {V : Type 0} → V → Bool → List (Peer × V) → List 
 IsPlaced fresh true before after peer = IsSome (lookup (is_peer peer) before) × (after ≡ before)
 IsPlaced fresh false before after peer = (lookup (is_peer peer) before ≡ None) × (after ≡ insert_entry peer_cmp before peer fresh)
 
+-- what is at hand of a peer is what is kept of it
+abbrev pub IsAtHand : {V : Type 0} → Option (Peer × V) → List (Peer × V) → Type 0
+IsAtHand None kept = Unit {0}
+IsAtHand (Some it) kept = lookup (is_peer it.0) kept ≡ Some it.1
+
 -- the first of these peers that comes after one, in their order
 abbrev pub peer_after : Peer → List Peer → Option Peer
 peer_after peer [] = None

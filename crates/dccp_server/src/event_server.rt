@@ -53,7 +53,7 @@ fn leaver_life(server: &Server, peer: Peer, bytes: &[u8], now: u64) -> Option<Li
     requires { length bytes.now ≤ 2044 }
     ensures { result ≡ leaver_life now server.now peer bytes.now }
 {
-    if server.flow(peer).is_some() || !server.is_full() {
+    if server.has_flow(peer) || !server.is_full() {
         return None;
     }
     let returned = server.returned(peer, bytes, now);
@@ -154,13 +154,20 @@ impl EventServer {
         &self.server
     }
 
+    /// What is kept of a peer's flow is at hand from now on: calls about the same peer are faster, and do the same.
+    pub fn seek(&mut self, peer: Peer)
+        ensures { self.new ≡ self.old }
+    {
+        self.server.seek(peer);
+    }
+
     /// The next event of the last call, or None if there are no more.
     pub fn next_event(&mut self) -> Option<FlowEvent>
         ensures next { result ≡ first_event self.old.events }
         ensures after { self.new ≡ record self.old { events = events_left self.old.events } }
     {
         let next = self.events.first();
-        self.events = self.events.left();
+        self.events.drop_first();
         next
     }
 
@@ -282,6 +289,15 @@ impl EventServer {
         self.tell(peer, was, silent_end(EndCause::Own));
     }
 
+    // What is kept of the flow of which there is something to do is at hand.
+    fn seek_due(&mut self, duty: Option<Duty>)
+        ensures { self.new ≡ self.old }
+    {
+        if let Some(duty) = duty {
+            self.server.seek(duty.peer());
+        }
+    }
+
     // What the owner sees of the flow of which there is something to do.
     fn due_state(&self, duty: Option<Duty>) -> Option<FlowState>
         ensures { result ≡ due_state self.now.server.room duty }
@@ -309,6 +325,7 @@ impl EventServer {
         ensures sent { out.new ≡ duty_frame now self.old.server.room result }
     {
         let duty = self.server.duty(now);
+        self.seek_due(duty);
         let was = self.due_state(duty);
         self.server.perform(duty, now, out);
         self.tell_duty(duty, was);

@@ -5,6 +5,7 @@ ghost use Rattle.dccp_packets.specs.Grammar.{decoded};
 ghost use Rattle.dccp_uses.specs.DropRecord.{packet_recorded, report_recorded};
 ghost use Rattle.dccp_server.specs.FlowDrops.{flow_drop_code, flow_record_after, flow_recorded};
 
+use crate::register::is_peer;
 use circular_buffer::HeapCircularBuffer;
 use data_dropped::DropReport;
 use dccp_endpoint::{NoMemory, Seq48};
@@ -13,16 +14,9 @@ use dccp_options::options;
 use dccp_packets::decode;
 use dccp_uses::{Reader, new_reach};
 use std::alloc::Global;
-use std::cmp::Ordering;
 use std::marker::Model;
 
 const MOST_DROPS: usize = 2048;
-
-fn is_peer(one: &Peer, other: &Peer) -> bool
-    ensures { result ≡ is_peer one.now other.now }
-{
-    matches!(one.cmp(other), Ordering::Equal)
-}
 
 /// Data to a peer that were dropped. No call gives one out; contracts speak of them.
 #[derive(Clone, Copy, Debug, PartialEq, Eq)]
@@ -137,7 +131,7 @@ impl FlowDropRecord {
 fn found_in(found: Option<u8>, drop: &FlowDrop, peer: Peer, number: Seq48) -> Option<u8>
     ensures { result ≡ (if is_peer peer drop.now.peer && drop.now.number == number then Some drop.now.code else found) }
 {
-    if is_peer(&peer, &drop.peer) && drop.number == number {
+    if is_peer(peer, drop.peer) && drop.number == number {
         Some(drop.code)
     } else {
         found

@@ -113,30 +113,34 @@ impl FlowEvents {
     pub fn first(&self) -> Option<FlowEvent>
         ensures { result ≡ first_event self.now }
     {
-        self.evicted
-            .or(self.opened)
-            .or(self.delivery)
-            .or(self.room)
-            .or(self.ended)
+        if self.evicted.is_some() {
+            self.evicted
+        } else if self.opened.is_some() {
+            self.opened
+        } else if self.delivery.is_some() {
+            self.delivery
+        } else if self.room.is_some() {
+            self.room
+        } else {
+            self.ended
+        }
     }
 
-    /// All except the first.
-    pub fn left(&self) -> FlowEvents
-        ensures { result ≡ events_left self.now }
+    /// The first was told.
+    pub(crate) fn drop_first(&mut self)
+        ensures { self.new ≡ events_left self.old }
     {
-        let mut left = *self;
         if self.evicted.is_some() {
-            left.evicted = None;
+            self.evicted = None;
         } else if self.opened.is_some() {
-            left.opened = None;
+            self.opened = None;
         } else if self.delivery.is_some() {
-            left.delivery = None;
+            self.delivery = None;
         } else if self.room.is_some() {
-            left.room = None;
+            self.room = None;
         } else {
-            left.ended = None;
+            self.ended = None;
         }
-        left
     }
 }
 

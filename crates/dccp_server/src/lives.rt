@@ -34,7 +34,7 @@ pub(crate) fn go_on(
     match timed.flow(peer) {
         Some(end) => {
             let next = lives_on(life, end, signs, now);
-            lives.put(peer, next);
+            lives.put(peer, &next);
         }
         None => {
             lives.remove(peer);
@@ -57,7 +57,7 @@ pub(crate) fn write_user(
         Some(_) => {
             let mut life = life_of(lives, peer);
             life.user = user;
-            lives.put(peer, life);
+            lives.put(peer, &life);
             Ok(())
         }
         None => Err(NoFlow),

@@ -1,20 +1,54 @@
 //! The tickets of peers: in which order what is kept of them wants something.
 ghost use Rattle.std.specs.Prelude.{◌≡◌, ◌<◌, ◌≤◌, length, true, vec_capacity};
+ghost use Rattle.std.proofs.Common.{rules};
 ghost use Rattle.std.specs.BTreeSet.{insert_key};
+ghost use Rattle.std.proofs.lemmas.Cmp.{nat_cmp_total, on_total, then_total};
+ghost use Rattle.std.specs.Cmp.{partial_order_from_own_ties, partial_order_from_total};
+ghost use Rattle.dccp_listener.proofs.OnePeer.{peers_total};
+ghost use Rattle.std.specs.Cmp.Lexicographic.{slice_cmp};
+ghost use Rattle.std.specs.Cmp.Rules.{comparing};
+ghost use Rattle.std.specs.Ordering.{as_partial_cmp, nat_cmp, on, then_cmp};
 ghost use Rattle.dccp_server.specs.Queues.{AreTicketsInOrder, count_in, first_in, of_class, queued, ticket_cmp, unqueued, without};
 
 use dccp_listener::Peer;
+use std::cmp::Ordering;
 
 /// The ticket of a peer: at which time of its class something is wanted (own). Tickets are in the order of classes, then
-/// of times, then of peers.
-#[derive(Clone, Copy, Debug, PartialEq, Eq, PartialOrd, Ord)]
+/// of times, then of peers. Its fields are in the order in which they take 16 bytes.
+#[derive(Clone, Copy, Debug, PartialEq, Eq)]
 pub struct Ticket {
-    /// What it is for.
-    pub class: u8,
     /// In milliseconds.
     pub time: u64,
     /// Whose it is.
     pub peer: Peer,
+    /// What it is for.
+    pub class: u8,
+}
+
+impl Ord for Ticket {
+    ghost cmp = { then_cmp (on (λ t. t.class) nat_cmp) (then_cmp (on (λ t. t.time) nat_cmp) (on (λ t. t.peer) (then_cmp (on (λ p. p.address) (slice_cmp nat_cmp)) (on (λ p. p.port) nat_cmp)))) };
+
+    ghost total = { then_total (on_total (λ t. t.class) nat_cmp_total) (then_total (on_total (λ t. t.time) nat_cmp_total) (on_total (λ t. t.peer) peers_total)) };
+
+    ghost matches_partial_cmp = { Prim.search (comparing, rules) };
+
+    ghost matches_eq = { Prim.search (comparing, rules) };
+
+    fn cmp(&self, other: &Ticket) -> Ordering {
+        let by_peer = self.peer.cmp(&other.peer);
+        let by_time = self.time.cmp(&other.time).then(by_peer);
+        self.class.cmp(&other.class).then(by_time)
+    }
+}
+
+impl PartialOrd for Ticket {
+    ghost partial_cmp = { as_partial_cmp (then_cmp (on (λ t. t.class) nat_cmp) (then_cmp (on (λ t. t.time) nat_cmp) (on (λ t. t.peer) (then_cmp (on (λ p. p.address) (slice_cmp nat_cmp)) (on (λ p. p.port) nat_cmp))))) };
+
+    ghost laws = { partial_order_from_own_ties (partial_order_from_total (then_total (on_total (λ t. t.class) nat_cmp_total) (then_total (on_total (λ t. t.time) nat_cmp_total) (on_total (λ t. t.peer) peers_total)))) (Prim.search (comparing, rules)) };
+
+    fn partial_cmp(&self, other: &Ticket) -> Option<Ordering> {
+        Some(self.cmp(other))
+    }
 }
 
 // A ticket gets its place, unless it is there.

@@ -1,10 +1,15 @@
 //! What is kept of each peer that has a flow, and in which order it wants something.
-ghost use Rattle.std.specs.Prelude.{◌≡◌};
+ghost use Rattle.std.specs.Prelude.{◌≡◌, IsSome};
+ghost use Rattle.std.specs.Map.{lookup, set_value};
+ghost use Rattle.dccp_listener.specs.Peers.{is_peer};
+ghost use Rattle.dccp_server.specs.Places.{IsAtHand};
+ghost use Rattle.dccp_server.specs.Queues.{moment_if};
 
 use crate::queue::{Ticket, count_in, first_in, is_one_moment, requeue};
 use dccp_endpoint::NoMemory;
 use dccp_listener::Peer;
 use std::alloc::Global;
+use std::cmp::Ordering;
 use std::collections::BTreeMap;
 use std::marker::Model;
 use std::ops::Bound;
@@ -25,22 +30,63 @@ pub trait Moment: Copy {
 pub struct Register<V: Moment> {
     entries: BTreeMap<Peer, V>,
     tickets: Vec<Ticket>,
+    /// What is kept of the last peer, so that a call that looks at it again and again searches once.
+    at_hand: Option<(Peer, V)>,
 }
 
 impl<V: Moment> Model for Register<V> {
     ghost use Rattle.std.specs.Prelude.{List, vec_capacity};
     ghost use Rattle.dccp_listener.specs.declared.peer.Peer.{Peer};
+    ghost use Rattle.dccp_server.specs.Places.{IsAtHand};
     ghost use Rattle.dccp_server.specs.Queues.{IsQueued};
 
     ghost Value = { List (Peer × V) };
 
     ghost view = { λ r. r.entries.entries };
 
-    ghost invariant = { λ r. IsQueued V.moment_of r.entries.entries r.tickets.items (vec_capacity r.tickets) };
+    ghost invariant = { λ r. IsQueued V.moment_of r.entries.entries r.tickets.items (vec_capacity r.tickets) × IsAtHand r.at_hand r.entries.entries };
+}
+
+// What is kept of a peer, with the peer.
+fn entry_of<V: Moment>(entries: &BTreeMap<Peer, V>, peer: Peer) -> Option<(Peer, V)>
+    ensures { IsAtHand result entries.now.entries }
+{
+    match entries.get(&peer) {
+        Some(value) => Some((peer, *value)),
+        None => None,
+    }
+}
+
+// Writes over what is kept of a peer, and answers at which moment that wanted something.
+fn write_over<V: Moment>(
+    entries: &mut BTreeMap<Peer, V>,
+    peer: Peer,
+    value: &V,
+) -> Option<(u8, u64)>
+    requires { IsSome (lookup (is_peer peer) entries.old.entries) }
+    ensures written { entries.new.entries ≡ set_value (is_peer peer) entries.old.entries value.now }
+    ensures was { result ≡ moment_if V.moment_of (lookup (is_peer peer) entries.old.entries) }
+{
+    match entries.get_mut(&peer) {
+        Some(place) => {
+            let was = place.moment();
+            *place = *value;
+            was
+        }
+        // The peer has a place.
+        None => unreachable!(),
+    }
+}
+
+/// Whether two peers are one.
+pub(crate) fn is_peer(one: Peer, other: Peer) -> bool
+    ensures { result ≡ is_peer one other }
+{
+    matches!(one.cmp(&other), Ordering::Equal)
 }
 
 impl<V: Moment> Register<V> {
-    ghost use Rattle.std.specs.Prelude.{◌≡◌, [], None, Some, MatchOption, IfOk, OnOk, OnErr, IsSome, length, slice_get, if◌then◌else◌};
+    ghost use Rattle.std.specs.Prelude.{◌≡◌, [], None, Some, MatchOption, IfOk, IfSome, OnOk, OnErr, IsSome, is_some, length, slice_get, if◌then◌else◌};
     ghost use Rattle.std.specs.BTreeMap.{insert_entry};
     ghost use Rattle.std.specs.Map.{keys_of, lookup, remove_entry};
     ghost use Rattle.dccp_listener.specs.Peers.{is_peer, peer_cmp};
@@ -54,24 +100,48 @@ impl<V: Moment> Register<V> {
         Register {
             entries: BTreeMap::new(alloc),
             tickets: Vec::new(alloc),
+            at_hand: None,
         }
     }
 
-    /// What is kept of a peer, if something is.
-    pub(crate) fn of(&self, peer: Peer) -> Option<V>
-        ensures { result ≡ lookup (is_peer peer) self.now }
+    /// What is kept of a peer is at hand from now on, and found without a search.
+    pub(crate) fn seek(&mut self, peer: Peer)
+        ensures { self.new ≡ self.old }
     {
-        match self.entries.get(&peer) {
-            Some(value) => Some(*value),
+        self.at_hand = entry_of(&self.entries, peer);
+    }
+
+    // What is kept of a peer, if it is at hand.
+    fn value_at_hand(&self, peer: Peer) -> Option<&V>
+        ensures { IfSome result (λ value. lookup (is_peer peer) self.now ≡ Some value.now) }
+    {
+        match &self.at_hand {
+            Some((last, value)) => {
+                if is_peer(*last, peer) {
+                    Some(value)
+                } else {
+                    None
+                }
+            }
             None => None,
         }
     }
 
-    /// What is kept of a peer, to be read where it is.
+    /// What is kept of a peer, if something is.
     pub(crate) fn get(&self, peer: Peer) -> Option<&V>
         ensures { MatchOption result (lookup (is_peer peer) self.now ≡ None) (λ value. lookup (is_peer peer) self.now ≡ Some value.now) }
     {
-        self.entries.get(&peer)
+        match self.value_at_hand(peer) {
+            Some(value) => Some(value),
+            None => self.entries.get(&peer),
+        }
+    }
+
+    /// Whether something is kept of a peer.
+    pub(crate) fn has(&self, peer: Peer) -> bool
+        ensures { result ≡ is_some (lookup (is_peer peer) self.now) }
+    {
+        self.get(peer).is_some()
     }
 
     /// The peer has a place from now on: whether it had one before.
@@ -81,13 +151,14 @@ impl<V: Moment> Register<V> {
         ensures unchanged { OnErr result (self.new ≡ self.old) }
         ensures absent { OnErr result (lookup (is_peer peer) self.old ≡ None) }
     {
-        if self.entries.contains_key(&peer) {
+        if self.has(peer) {
             return Ok(true);
         }
         let more = (self.entries.len() + 2).saturating_sub(self.tickets.len());
         let Ok(()) = self.tickets.try_reserve(more) else {
             return Err(NoMemory);
         };
+        self.at_hand = None;
         match self.entries.insert(peer, fresh) {
             Ok(_) => {
                 requeue(&mut self.tickets, peer, None, fresh.moment());
@@ -107,21 +178,15 @@ impl<V: Moment> Register<V> {
     }
 
     /// The peer, which has a place, has this there from now on.
-    pub(crate) fn put(&mut self, peer: Peer, value: V)
+    pub(crate) fn put(&mut self, peer: Peer, value: &V)
         requires { IsSome (lookup (is_peer peer) self.old) }
-        ensures { self.new ≡ insert_entry peer_cmp self.old peer value }
+        ensures { self.new ≡ insert_entry peer_cmp self.old peer value.now }
     {
-        match self.entries.insert(peer, value) {
-            Ok(Some(was)) => {
-                let from = was.moment();
-                let to = value.moment();
-                if !is_one_moment(from, to) {
-                    requeue(&mut self.tickets, peer, from, to);
-                }
-            }
-            // The peer has a place.
-            Ok(None) => unreachable!(),
-            Err(_) => unreachable!(),
+        let from = write_over(&mut self.entries, peer, value);
+        let to = value.moment();
+        self.at_hand = Some((peer, *value));
+        if !is_one_moment(from, to) {
+            requeue(&mut self.tickets, peer, from, to);
         }
     }
 
@@ -129,6 +194,7 @@ impl<V: Moment> Register<V> {
     pub(crate) fn remove(&mut self, peer: Peer)
         ensures { self.new ≡ remove_entry (is_peer peer) self.old }
     {
+        self.at_hand = None;
         if let Some(was) = self.entries.remove(&peer) {
             requeue(&mut self.tickets, peer, was.moment(), None);
         }

@@ -88,10 +88,19 @@ impl Server {
         }
     }
 
-    fn has_flow(&self, peer: Peer) -> bool
+    /// Whether a peer has a flow.
+    pub fn has_flow(&self, peer: Peer) -> bool
         ensures { result ≡ is_some (end_of_peer self.now.room.served.listening.flows peer) }
     {
-        self.timed.flow(peer).is_some()
+        self.lives.has(peer)
+    }
+
+    /// What is kept of a peer's flow is at hand from now on: calls about the same peer are faster, and do the same.
+    pub(crate) fn seek(&mut self, peer: Peer)
+        ensures { self.new ≡ self.old }
+    {
+        self.timed.seek(peer);
+        self.lives.seek(peer);
     }
 
     /// A datagram of a peer has arrived, at most 2,044 bytes: `Listener::arrive`, and then the rules. One that would be

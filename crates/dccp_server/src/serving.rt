@@ -8,9 +8,9 @@ ghost use Rattle.dccp_listener.specs.Listens.{listening_after, listens};
 ghost use Rattle.dccp_listener.specs.Peers.{end_of_peer, is_peer, peer_cmp};
 ghost use Rattle.dccp_listener.specs.Runs.{Stepped, told_of};
 ghost use Rattle.dccp_uses.specs.Syncs.{admitted};
-ghost use Rattle.dccp_server.specs.Places.{HasPlaceIf};
+ghost use Rattle.dccp_server.specs.Places.{HasPlaceIf, IsPlaced};
 ghost use Rattle.dccp_server.specs.Serving.{IsDone, WantsMemory, deed_served, call_due, due_of_flow, upkeep_counted, first_due_flow, rule_followed, frame_if, is_admitted, least_wait, listening_if, served, served_counted, soonest, upkeep_at, upkeeps_then};
-ghost use Rattle.dccp_server.specs.Upkeeps.{call_for_rule, ratio_held, rule_call, sight_if};
+ghost use Rattle.dccp_server.specs.Upkeeps.{call_for_rule, ratio_held, rule_call, sight_if, upkeep_begins};
 
 use crate::happening::{Happening, arrived_so, called_so};
 use crate::queue::Ticket;
@@ -53,6 +53,19 @@ pub(crate) fn upkeep_at(upkeeps: &Register<Upkeep>, pace: Pace, peer: Peer) -> U
     }
 }
 
+// The peer has a place for what is kept of it from now on: whether it had one before.
+fn place(upkeeps: &mut Register<Upkeep>, pace: Pace, peer: Peer) -> Result<bool, NoMemory>
+    ensures placed { IfOk result (λ had. IsPlaced (upkeep_begins pace) had upkeeps.old upkeeps.new peer) }
+    ensures there { OnOk result (IsSome (lookup (is_peer peer) upkeeps.new)) }
+    ensures unchanged { OnErr result (upkeeps.new ≡ upkeeps.old) }
+    ensures absent { OnErr result (lookup (is_peer peer) upkeeps.old ≡ None) }
+{
+    if upkeeps.get(peer).is_some() {
+        return Ok(true);
+    }
+    upkeeps.place_for(peer, Upkeep::begins(pace))
+}
+
 /// What is known of the application that reads a peer's data.
 pub(crate) fn reader_at(upkeeps: &Register<Upkeep>, pace: Pace, peer: Peer) -> Reader
     ensures { result ≡ (upkeep_at pace upkeeps.now peer).path.reader }
@@ -80,7 +93,7 @@ fn arrange(
         Some(end) => {
             let mut next = *upkeep;
             next.note(happening, end, pace, now);
-            upkeeps.put(peer, next);
+            upkeeps.put(peer, &next);
         }
         None => {
             upkeeps.remove(peer);
@@ -124,10 +137,10 @@ fn soonest(upkeeps: &Register<Upkeep>) -> Option<Ticket>
 }
 
 // The first that is due of a peer's flow, by what is kept of it.
-fn due_of_flow(peer: Peer, upkeep: Option<Upkeep>, now: u64) -> Option<(Peer, Due)>
-    ensures { result ≡ due_of_flow now peer upkeep }
+fn due_of_flow(upkeeps: &Register<Upkeep>, peer: Peer, now: u64) -> Option<(Peer, Due)>
+    ensures { result ≡ due_of_flow now peer (lookup (is_peer peer) upkeeps.now) }
 {
-    match upkeep {
+    match upkeeps.get(peer) {
         Some(upkeep) => match upkeep.first_due(now) {
             Some(due) => Some((peer, due)),
             None => None,
@@ -141,7 +154,7 @@ pub(crate) fn first_due_flow(upkeeps: &Register<Upkeep>, now: u64) -> Option<(Pe
     ensures { result ≡ first_due_flow now upkeeps.now }
 {
     match soonest(upkeeps) {
-        Some(ticket) => due_of_flow(ticket.peer, upkeeps.of(ticket.peer), now),
+        Some(ticket) => due_of_flow(upkeeps, ticket.peer, now),
         None => None,
     }
 }
@@ -171,7 +184,7 @@ fn count(
 {
     let mut upkeep = upkeep_at(upkeeps, pace, peer);
     let heard = admit(end, &mut upkeep.path, bytes, now);
-    upkeeps.put(peer, upkeep);
+    upkeeps.put(peer, &upkeep);
     heard
 }
 
@@ -215,7 +228,7 @@ pub(crate) fn arrive(
 {
     let was = sight_at(listener, peer);
     let upkeep = upkeep_at(upkeeps, pace, peer);
-    let had = upkeeps.place_for(peer, Upkeep::begins(pace))?;
+    let had = place(upkeeps, pace, peer)?;
     match hear(listener, peer, iss, bytes, out) {
         Ok(heard) => {
             let happening = arrived_so(was, &heard, is_silent(out));
@@ -251,7 +264,7 @@ pub(crate) fn act(
         return Ok(refused);
     }
     let upkeep = upkeep_at(upkeeps, pace, peer);
-    upkeeps.place_for(peer, Upkeep::begins(pace))?;
+    place(upkeeps, pace, peer)?;
     let answer = ask(listener, peer, call, out);
     let happening = called_so(call, &answer);
     arrange(listener, upkeeps, peer, &upkeep, &happening, pace, now);
@@ -331,7 +344,7 @@ pub(crate) fn follow(
     }
     let upkeep = upkeep_at(upkeeps, pace, peer);
     let rule = due_rule(&upkeep.path, now);
-    upkeeps.place_for(peer, Upkeep::begins(pace))?;
+    place(upkeeps, pace, peer)?;
     obey_at(listener, peer, rule, upkeep.path.aim, out);
     let happening = Happening::Ruled(rule);
     arrange(listener, upkeeps, peer, &upkeep, &happening, pace, now);

@@ -194,6 +194,13 @@ impl TimedListener {
         self.listener.greet(peer, iss, bytes, out)
     }
 
+    /// What is kept of a peer's flow is at hand from now on, and found without a search.
+    pub(crate) fn seek(&mut self, peer: Peer)
+        ensures { self.new ≡ self.old }
+    {
+        self.upkeeps.seek(peer);
+    }
+
     /// A peer's end, or None exactly where it has none.
     pub fn flow(&self, peer: Peer) -> Option<&Endpoint<Kinds>>
         ensures { MatchOption result (end_of_peer self.now.listening.flows peer ≡ None) (λ end. end_of_peer self.now.listening.flows peer ≡ Some end.now) }

@@ -6,4 +6,4 @@ use Rattle.dccp_server.proofs.register.Register.count_in.Goals as goal
 pub count_in-requires : goal.count_in-requires
 count_in-requires g c =
     subst AreTicketsInOrder (sym c.as_slice.ensures.value)
-    (stays_ordered g.V.Moment.moment_of c.self.inside.entries.entries c.self.inside.tickets.items (vec_capacity c.self.inside.tickets) c.self.invariant)
+    (stays_ordered g.V.Moment.moment_of c.self.inside.entries.entries c.self.inside.tickets.items (vec_capacity c.self.inside.tickets) c.self.invariant.0)
