@@ -14,8 +14,8 @@ use Rattle.dccp_server.specs.Meeting.{IsGreeted, IsMet, IsReopened, IsUnopened, 
 use Rattle.dccp_server.specs.Rooms.{IsServed, Reception, Room, Ruled, does_all, left_without_memory, received_at, room_does, unreceived_at}
 use Rattle.dccp_server.specs.Rules.{refuses_last_sync}
 use Rattle.dccp_server.specs.Serving.{Does, Served, Spends, TimedDoing, served_by, served_through}
-use Rattle.dccp_server.specs.declared.meeting.Entry.{Entry}
-use Rattle.dccp_server.specs.declared.meeting.Entry.TheVariants as entry
+use Rattle.dccp_server.specs.declared.meeting.DatagramKind.{DatagramKind}
+use Rattle.dccp_server.specs.declared.meeting.DatagramKind.TheVariants as entry
 use Rattle.dccp_server.specs.declared.meeting.Way.{Way}
 use Rattle.dccp_server.specs.declared.meeting.Way.TheVariants as way
 use Rattle.dccp_server.proofs.Judging.{lives_change_nothing, rules_are_deeds}
@@ -92,7 +92,7 @@ unreopened-so now s peer o made_room =
     and-then s (cleared now s peer) (unreopened now s peer o made_room) (cleared-so now s peer (flow_at s peer))
     (unserved o.time peer o.iss (request_at s peer o) (hurrying (cleared now s peer)) made_room)
 
-greeted-so : (keys : Option CookieKeys) (it : Entry) (s after : Ruled) (peer : Peer) (frame : Option Outgoing) (told : Result (Option Heard) NoMemory)
+greeted-so : (keys : Option CookieKeys) (it : DatagramKind) (s after : Ruled) (peer : Peer) (frame : Option Outgoing) (told : Result (Option Heard) NoMemory)
     → IsGreeted keys it s after peer frame told → LeavesByDoings s after
 greeted-so (Some keys) (entry.Asks o) s after peer frame told is = as-it-was s after is.0
 greeted-so (Some keys) entry.Plain s after peer frame told is = absurd is
@@ -100,7 +100,7 @@ greeted-so (Some keys) entry.TooLong s after peer frame told is = absurd is
 greeted-so (Some keys) (entry.Returns o) s after peer frame told is = absurd is
 greeted-so None it s after peer frame told is = absurd is
 
-unopened-so : (now : ℕ) (it : Entry) (s after : Ruled) (peer : Peer) (frame : Option Outgoing) (told : Result (Option Heard) NoMemory)
+unopened-so : (now : ℕ) (it : DatagramKind) (s after : Ruled) (peer : Peer) (frame : Option Outgoing) (told : Result (Option Heard) NoMemory)
     (made_room : Option Peer) → IsUnopened now it s after peer frame told made_room → LeavesByDoings s after
 unopened-so now (entry.Returns o) s after peer frame (Ok heard) made_room is = moved-along s (reopened now s peer o) after is.0 (reopened-so now s peer o)
 unopened-so now (entry.Returns o) s after peer frame (Err fault) made_room is =
@@ -109,7 +109,7 @@ unopened-so now entry.Plain s after peer frame told made_room is = absurd is
 unopened-so now entry.TooLong s after peer frame told made_room is = absurd is
 unopened-so now (entry.Asks o) s after peer frame told made_room is = absurd is
 
-opened-so : (now : ℕ) (it : Entry) (s after : Ruled) (peer : Peer) (iss : ℕ) (bytes : List ℕ) (frame : Option Outgoing) (told : Result (Option Heard) NoMemory)
+opened-so : (now : ℕ) (it : DatagramKind) (s after : Ruled) (peer : Peer) (iss : ℕ) (bytes : List ℕ) (frame : Option Outgoing) (told : Result (Option Heard) NoMemory)
     (evicted : Option Peer) (anew : Bool) (made_room : Option Peer) → IsReopened now it s after peer iss bytes frame told evicted anew made_room
     → LeavesByDoings s after
 opened-so now (entry.Returns o) s after peer iss bytes frame told evicted anew made_room is =

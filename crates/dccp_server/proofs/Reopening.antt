@@ -13,8 +13,8 @@ use Rattle.init_cookies.specs.declared.cookie.CookieKeys.{CookieKeys}
 use Rattle.seq_circle.specs.declared.memory.NoMemory.{NoMemory}
 use Rattle.dccp_server.specs.Meeting.{IsGreeted, IsMet, MovesNobody, cleared, entry_met, going_by, greeting_frame, hurrying, received_hurrying, request_at, unreceived_hurrying, unreopened}
 use Rattle.dccp_server.specs.Rooms.{IsServed, Reception, Ruled, received_at, unreceived_at}
-use Rattle.dccp_server.specs.declared.meeting.Entry.{Entry}
-use Rattle.dccp_server.specs.declared.meeting.Entry.TheVariants as entry
+use Rattle.dccp_server.specs.declared.meeting.DatagramKind.{DatagramKind}
+use Rattle.dccp_server.specs.declared.meeting.DatagramKind.TheVariants as entry
 use Rattle.dccp_server.specs.declared.meeting.Way.{Way}
 use Rattle.dccp_server.specs.declared.meeting.Way.TheVariants as way
 
@@ -62,6 +62,6 @@ greeted now s peer iss bytes frame told evicted anew made_room w keys o outcome 
     (refl, frame-is, told-is ∙ ap (λ (x : Outcome). Ok (Some (heard.Flow x))) outcome-is, ap is_taken (sym outcome-is) ∙ taken) in
     subst (λ (x : Way). IsMet now s s peer iss bytes frame told evicted anew made_room x) (sym way-is) (
       subst (λ (k : Option CookieKeys). IsGreeted k (entry_met now s peer iss bytes) s s peer frame told) (sym keys-are)
-          (subst (λ (e : Entry). IsGreeted (Some keys) e s s peer frame told) (sym entry-is) inner),
+          (subst (λ (e : DatagramKind). IsGreeted (Some keys) e s s peer frame told) (sym entry-is) inner),
       nobody,
     )

@@ -32,8 +32,8 @@ use Rattle.dccp_server.specs.declared.flow_event.FlowEvent.{FlowEvent}
 use Rattle.dccp_server.specs.declared.flow_event.FlowEvents.{FlowEvents}
 use Rattle.dccp_server.specs.declared.flow_event.FlowState.{FlowState}
 use Rattle.dccp_server.specs.declared.life.Life.{Life}
-use Rattle.dccp_server.specs.declared.meeting.Entry.{Entry}
-use Rattle.dccp_server.specs.declared.meeting.Entry.TheVariants as entry
+use Rattle.dccp_server.specs.declared.meeting.DatagramKind.{DatagramKind}
+use Rattle.dccp_server.specs.declared.meeting.DatagramKind.TheVariants as entry
 use Rattle.dccp_server.specs.declared.meeting.Way.{Way}
 use Rattle.dccp_server.specs.declared.meeting.Way.TheVariants as way
 use Rattle.dccp_server.specs.declared.rules.Rules.{Rules}
@@ -252,5 +252,5 @@ abbrev pub shut_out : ℕ → Watched → Peer → List ℕ → Watched
 shut_out now s peer bytes = record s { server = refused_server now s.server peer bytes; events = no_events }
 
 -- What a datagram is to it: where it takes no new flows no cookie is given, and none opens a flow.
-abbrev pub entry_at : ℕ → Watched → Peer → ℕ → List ℕ → Entry
+abbrev pub entry_at : ℕ → Watched → Peer → ℕ → List ℕ → DatagramKind
 entry_at now s peer iss bytes = if s.is_shut then entry.Plain else entry_met now s.server peer iss bytes

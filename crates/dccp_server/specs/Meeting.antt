@@ -37,8 +37,8 @@ use Rattle.dccp_server.specs.Rooms.{IsServed, Ruled, forgets, is_crowded, is_to_
 use Rattle.dccp_server.specs.Serving.{TimedDoing, served_through}
 use Rattle.dccp_server.specs.declared.asking.Asking.{Asking}
 use Rattle.dccp_server.specs.declared.asking.Asking.TheVariants.{Nothing, TooLong, This}
-use Rattle.dccp_server.specs.declared.meeting.Entry.{Entry}
-use Rattle.dccp_server.specs.declared.meeting.Entry.TheVariants as entry
+use Rattle.dccp_server.specs.declared.meeting.DatagramKind.{DatagramKind}
+use Rattle.dccp_server.specs.declared.meeting.DatagramKind.TheVariants as entry
 use Rattle.dccp_server.specs.declared.meeting.Way.{Way}
 use Rattle.dccp_server.specs.declared.meeting.Way.TheVariants as way
 use Rattle.dccp_server.specs.declared.rules.Rules.{Rules}
@@ -137,23 +137,23 @@ needs_no_flow now s peer bytes (Some e) =
     is_ever_in_use s.cookies && (is_half_open e.state.phase && not (is_to_be_heard now s.rules s.room peer bytes))
 
 -- what a Request is, by what it asks for
-abbrev pub entry_by : Asking → Entry
+abbrev pub entry_by : Asking → DatagramKind
 entry_by Nothing = entry.Plain
 entry_by TooLong = entry.TooLong
 entry_by (This o) = entry.Asks o
 
 -- a datagram that brings nothing back
-abbrev pub entry_without : ℕ → Ruled → Peer → ℕ → List ℕ → Entry
+abbrev pub entry_without : ℕ → Ruled → Peer → ℕ → List ℕ → DatagramKind
 entry_without now s peer iss bytes =
     if is_some s.keys && needs_no_flow now s peer bytes (flow_at s peer) then entry_by (asking_of now iss (route_to s peer) bytes) else entry.Plain
 
 -- or something
-abbrev pub entry_or : Entry → Option OpeningState → Entry
+abbrev pub entry_or : DatagramKind → Option OpeningState → DatagramKind
 entry_or other None = other
 entry_or other (Some o) = entry.Returns o
 
 -- What a datagram is to a server.
-abbrev pub entry_met : ℕ → Ruled → Peer → ℕ → List ℕ → Entry
+abbrev pub entry_met : ℕ → Ruled → Peer → ℕ → List ℕ → DatagramKind
 entry_met now s peer iss bytes = entry_or (entry_without now s peer iss bytes) (returned now s peer bytes)
 
 -- the Request of an opening at a server, spelled again
@@ -229,7 +229,7 @@ abbrev pub MovesNobody : Option Peer → Bool → Option Peer → Type 0
 MovesNobody evicted anew made_room = (evicted ≡ None) × (anew ≡ false) × (made_room ≡ None)
 
 -- A Request was answered without a flow: nothing is kept.
-abbrev pub IsGreeted : Option CookieKeys → Entry → Ruled → Ruled → Peer → Option Outgoing → Result (Option Heard) NoMemory → Type 0
+abbrev pub IsGreeted : Option CookieKeys → DatagramKind → Ruled → Ruled → Peer → Option Outgoing → Result (Option Heard) NoMemory → Type 0
 IsGreeted (Some keys) (entry.Asks o) s after peer frame told =
     (after ≡ s) × (frame ≡ greeting_frame keys s peer o)
     × (told ≡ Ok (Some (heard.Flow (greets s.room.served.listening peer o.iss (request_at s peer o)).answer)))
@@ -237,14 +237,14 @@ IsGreeted (Some keys) (entry.Asks o) s after peer frame told =
 IsGreeted _ _ s after peer frame told = ⊥
 
 -- An opening came back, but there is no room or no memory for its flow: nothing is sent.
-abbrev pub IsUnopened : ℕ → Entry → Ruled → Ruled → Peer → Option Outgoing → Result (Option Heard) NoMemory → Option Peer → Type 0
+abbrev pub IsUnopened : ℕ → DatagramKind → Ruled → Ruled → Peer → Option Outgoing → Result (Option Heard) NoMemory → Option Peer → Type 0
 IsUnopened now (entry.Returns o) s after peer frame (Ok it) made_room =
     (after ≡ reopened now s peer o) × (frame ≡ None) × (it ≡ None) × (made_room ≡ maker_of now s peer o)
 IsUnopened now (entry.Returns o) s after peer frame (Err _) made_room = (after ≡ unreopened now s peer o made_room) × (frame ≡ None)
 IsUnopened now _ s after peer frame told made_room = ⊥
 
 -- An opening came back, and its flow stands: the datagram was served then.
-abbrev pub IsReopened : ℕ → Entry → Ruled → Ruled → Peer → ℕ → List ℕ → Option Outgoing → Result (Option Heard) NoMemory → Option Peer → Bool → Option Peer
+abbrev pub IsReopened : ℕ → DatagramKind → Ruled → Ruled → Peer → ℕ → List ℕ → Option Outgoing → Result (Option Heard) NoMemory → Option Peer → Bool → Option Peer
     → Type 0
 IsReopened now (entry.Returns o) s after peer iss bytes frame told evicted anew made_room =
     IsServed now (reopened now s peer o) after peer iss bytes frame told evicted anew × (made_room ≡ maker_of now s peer o)
@@ -265,7 +265,7 @@ IsMet now s after peer iss bytes frame told evicted anew made_room way.Unopened 
 
 -- Which ways there are to meet an entry: a Request that a fresh end does not take is served as it would be without
 -- cookies.
-abbrev pub may_meet : Entry → Way → Bool
+abbrev pub may_meet : DatagramKind → Way → Bool
 may_meet entry.Plain way.Plain = true
 may_meet entry.TooLong way.Unanswered = true
 may_meet (entry.Asks o) way.Greeted = true

@@ -34,7 +34,7 @@ pub enum CookieUse {
 
 /// What a datagram is to a server.
 #[derive(Clone, Debug, Drop)]
-pub enum Entry {
+pub enum DatagramKind {
     /// One that is served.
     Plain,
     /// A Request that needs no flow.
@@ -150,13 +150,13 @@ pub(crate) fn rekeyed(keys: &Option<CookieKeys>, key: [u8; 32], now: u64) -> Coo
 }
 
 /// What a Request is, by what it asks for.
-pub(crate) fn entry_by(asking: Asking) -> Entry
+pub(crate) fn entry_by(asking: Asking) -> DatagramKind
     ensures { result ≡ entry_by asking }
 {
     match asking {
-        Asking::Nothing => Entry::Plain,
-        Asking::TooLong => Entry::TooLong,
-        Asking::This(opening) => Entry::Asks(opening),
+        Asking::Nothing => DatagramKind::Plain,
+        Asking::TooLong => DatagramKind::TooLong,
+        Asking::This(opening) => DatagramKind::Asks(opening),
     }
 }
 

@@ -6,7 +6,7 @@ use crate::duty::Duty;
 use crate::life::Life;
 use crate::lives::{life_of, write_user};
 use crate::meeting::{
-    CookieUse, Entry, Meeting, Way, entry_by, greet_with_cookie, hurried, is_ever_in_use,
+    CookieUse, DatagramKind, Meeting, Way, entry_by, greet_with_cookie, hurried, is_ever_in_use,
     is_half_open, is_in_use, leave_out, rekeyed,
 };
 use crate::refusal::refuse_stranger;
@@ -210,7 +210,7 @@ impl Server {
     }
 
     // What a datagram is that brings nothing back.
-    fn entry_without(&self, peer: Peer, iss: Seq48, bytes: &[u8], now: u64) -> Entry
+    fn entry_without(&self, peer: Peer, iss: Seq48, bytes: &[u8], now: u64) -> DatagramKind
         requires { length bytes.now ≤ 2044 }
         ensures { result ≡ entry_without now self.now peer iss bytes.now }
     {
@@ -218,16 +218,16 @@ impl Server {
             let route = route_of(self.timed.config(), peer);
             return entry_by(asking_of(now, iss, &route, bytes));
         }
-        Entry::Plain
+        DatagramKind::Plain
     }
 
     // What a datagram is.
-    fn entry_met(&self, peer: Peer, iss: Seq48, bytes: &[u8], now: u64) -> Entry
+    fn entry_met(&self, peer: Peer, iss: Seq48, bytes: &[u8], now: u64) -> DatagramKind
         requires { length bytes.now ≤ 2044 }
         ensures { result ≡ entry_met now self.now peer iss bytes.now }
     {
         match self.returned(peer, bytes, now) {
-            Some(opening) => Entry::Returns(opening),
+            Some(opening) => DatagramKind::Returns(opening),
             None => self.entry_without(peer, iss, bytes, now),
         }
     }
@@ -308,10 +308,12 @@ impl Server {
         ensures way { may_meet (entry_met now self.old peer iss bytes.now) result.way ≡ true }
     {
         match self.entry_met(peer, iss, bytes, now) {
-            Entry::Plain => self.serve(peer, iss, bytes, now, out),
-            Entry::TooLong => leave_out(Ok(None), out),
-            Entry::Asks(opening) => self.greet(peer, &opening, iss, bytes, now, out),
-            Entry::Returns(opening) => self.serve_returned(peer, &opening, iss, bytes, now, out),
+            DatagramKind::Plain => self.serve(peer, iss, bytes, now, out),
+            DatagramKind::TooLong => leave_out(Ok(None), out),
+            DatagramKind::Asks(opening) => self.greet(peer, &opening, iss, bytes, now, out),
+            DatagramKind::Returns(opening) => self.serve_returned(
+                peer, &opening, iss, bytes, now, out,
+            ),
         }
     }
 
@@ -348,9 +350,9 @@ impl Server {
         out: &mut Outbox,
     ) -> Meeting
         requires short { length bytes.now ≤ 2044 }
-        requires asks { entry_met now self.old peer iss bytes.now ≡ Entry.Asks opening.now }
+        requires asks { entry_met now self.old peer iss bytes.now ≡ DatagramKind.Asks opening.now }
         ensures met { IsMet now self.old self.new peer iss bytes.now out.new result.arrival.heard result.arrival.evicted result.arrival.anew result.made_room result.way }
-        ensures way { may_meet (Entry.Asks opening.now) result.way ≡ true }
+        ensures way { may_meet (DatagramKind.Asks opening.now) result.way ≡ true }
     {
         let Some(keys) = self.keys else {
             return self.serve(peer, iss, bytes, now, out);
@@ -378,9 +380,9 @@ impl Server {
         out: &mut Outbox,
     ) -> Meeting
         requires short { length bytes.now ≤ 2044 }
-        requires returns { entry_met now self.old peer iss bytes.now ≡ Entry.Returns opening.now }
+        requires returns { entry_met now self.old peer iss bytes.now ≡ DatagramKind.Returns opening.now }
         ensures met { IsMet now self.old self.new peer iss bytes.now out.new result.arrival.heard result.arrival.evicted result.arrival.anew result.made_room result.way }
-        ensures way { may_meet (Entry.Returns opening.now) result.way ≡ true }
+        ensures way { may_meet (DatagramKind.Returns opening.now) result.way ≡ true }
     {
         let first = self.reopen(peer, opening, now, out);
         if let Err(fault) = first.heard {

@@ -13,7 +13,7 @@ use Rattle.dccp_server.specs.Queues.{count_in, first_in, of_class, ticket, ticke
 use Rattle.dccp_server.specs.Rules.{usual_rules}
 use Rattle.dccp_server.specs.declared.asking.Asking.TheVariants as asking
 use Rattle.dccp_server.specs.declared.meeting.CookieUse.TheVariants as cookies
-use Rattle.dccp_server.specs.declared.meeting.Entry.TheVariants as entry
+use Rattle.dccp_server.specs.declared.meeting.DatagramKind.TheVariants as entry
 use Rattle.dccp_server.specs.declared.meeting.Way.TheVariants as way
 use Rattle.dccp_server.specs.declared.queue.Ticket.{Ticket}
 

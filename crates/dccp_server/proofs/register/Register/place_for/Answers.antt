@@ -29,22 +29,24 @@ requeue-requires-clause-room g c =
     )
 
 pub invariant_of-self-in-Ok-insert : goal.invariant_of-self-in-Ok-insert
-invariant_of-self-in-Ok-insert g c =
-    (goes_on g.V.Moment.moment_of c.self.inside.entries.entries c.insert.new.self.entries c.self.inside.tickets.items c.requeue.new.tickets.items
-    (vec_capacity c.self.inside.tickets) (vec_capacity c.requeue.new.tickets) c.args.peer None (Some c.args.fresh) c.self.invariant.0
-    c.insert.ensures.ordered (none_from _ (ap (λ (es : List (Peer × g.row.V.Denot)). is_some (lookup (is_peer c.args.peer) es)) c.self.view_is ∙ sym c.has.ensures ∙ c.if-has.false)) c.in-Ok-insert.ensures.updates.0
-    (c.requeue.ensures.moved
-    ∙ ap (λ (m : Option (ℕ × ℕ)). queued m c.args.peer c.try_reserve.new.self.items) c.moment.ensures
-    ∙ ap (λ (l : List Ticket). queued (g.V.Moment.moment_of c.args.fresh) c.args.peer l) c.try_reserve.ensures.items)
-    (λ some.
-    omega (
-      arith,
-      c.in-Ok.ensures.ok,
-      c.try_reserve.ensures.len,
-      c.saturating_sub-more.ensures,
-      c.len.ensures.len,
-      c.len-2.ensures,
-      c.in-Ok-insert.ensures.len,
-      one_more_at_most c.in-Ok-insert.field-0 (length c.self.inside.entries.entries),
-      c.requeue.ensures.room,
-    )), tt)
+invariant_of-self-in-Ok-insert g c = (
+  goes_on g.V.Moment.moment_of c.self.inside.entries.entries c.insert.new.self.entries c.self.inside.tickets.items c.requeue.new.tickets.items
+      (vec_capacity c.self.inside.tickets) (vec_capacity c.requeue.new.tickets) c.args.peer None (Some c.args.fresh) c.self.invariant.0
+      c.insert.ensures.ordered (none_from _ (ap (λ (es : List (Peer × g.row.V.Denot)). is_some (lookup (is_peer c.args.peer) es)) c.self.view_is ∙ sym c.has.ensures ∙ c.if-has.false)) c.in-Ok-insert.ensures.updates.0
+      (c.requeue.ensures.moved
+      ∙ ap (λ (m : Option (ℕ × ℕ)). queued m c.args.peer c.try_reserve.new.self.items) c.moment.ensures
+      ∙ ap (λ (l : List Ticket). queued (g.V.Moment.moment_of c.args.fresh) c.args.peer l) c.try_reserve.ensures.items)
+      (λ some.
+      omega (
+        arith,
+        c.in-Ok.ensures.ok,
+        c.try_reserve.ensures.len,
+        c.saturating_sub-more.ensures,
+        c.len.ensures.len,
+        c.len-2.ensures,
+        c.in-Ok-insert.ensures.len,
+        one_more_at_most c.in-Ok-insert.field-0 (length c.self.inside.entries.entries),
+        c.requeue.ensures.room,
+      )),
+  tt,
+)
