@@ -49,7 +49,7 @@ pub use crate::life::{Life, Signs};
 pub use crate::meeting::{CookieUse, Meeting, Way, append_cookie};
 pub use crate::naming::{stand_in, stand_ins_are_read_as_their_peers};
 pub use crate::refusal::refuse;
-pub use crate::room::Arrival;
+pub use crate::room::ArrivalResult;
 pub use crate::rules::{Rules, answers_to_strangers};
 pub use crate::server::Server;
 pub use crate::stage::Stage;

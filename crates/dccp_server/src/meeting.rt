@@ -9,7 +9,7 @@ ghost use Rattle.init_cookies.specs.Routes.{back};
 ghost use Rattle.dccp_options.specs.Written.{spelled};
 
 use crate::asking::{Asking, route_of};
-use crate::room::Arrival;
+use crate::room::ArrivalResult;
 use crate::rules::Rules;
 use crate::timed_listener::TimedListener;
 use dccp_endpoint::{NoMemory, Outbox, Outcome, Phase};
@@ -65,7 +65,7 @@ pub enum Way {
 #[derive(Clone, Copy, Debug, PartialEq, Eq)]
 pub struct Meeting {
     /// What came of it as it arrived; where it was not served, what a fresh end made of it, or nothing.
-    pub arrival: Arrival,
+    pub arrival: ArrivalResult,
     /// How it was met.
     pub way: Way,
     /// Whose flow made room for the flow that its cookie opened.
@@ -84,7 +84,7 @@ impl Meeting {
         ensures way { result.way ≡ Way.Greeted }
     {
         Meeting {
-            arrival: Arrival {
+            arrival: ArrivalResult {
                 heard: Ok(Some(Heard::Flow(outcome))),
                 evicted: None,
                 anew: false,
@@ -106,7 +106,7 @@ impl Meeting {
         ensures way { result.way ≡ Way.Unopened }
     {
         Meeting {
-            arrival: Arrival {
+            arrival: ArrivalResult {
                 heard,
                 evicted: None,
                 anew: false,
@@ -125,7 +125,7 @@ pub(crate) fn leave_out(heard: Result<Option<Heard>, NoMemory>, out: &mut Outbox
 {
     out.clear();
     Meeting {
-        arrival: Arrival {
+        arrival: ArrivalResult {
             heard,
             evicted: None,
             anew: false,

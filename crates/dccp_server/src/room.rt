@@ -18,7 +18,7 @@ use dccp_listener::{Heard, NoFlow, Peer};
 
 /// What came of a datagram (own).
 #[derive(Clone, Copy, Debug, PartialEq, Eq)]
-pub struct Arrival {
+pub struct ArrivalResult {
     /// What became of it, or None where it was left out, since it would have been answered by one Sync too many;
     /// NoMemory where it would have opened a flow and no memory was to be had.
     pub heard: Result<Option<Heard>, NoMemory>,
@@ -288,7 +288,7 @@ fn count(
 }
 
 // What came of a datagram that was heard, where it might have been left out. Nothing goes out where there was no memory.
-fn as_arrival(judged: &Judged, out: &mut Outbox) -> Arrival
+fn as_arrival(judged: &Judged, out: &mut Outbox) -> ArrivalResult
     ensures heard { result.heard ≡ heard_or_fault judged.now.heard }
     ensures evicted { result.evicted ≡ judged.now.evicted }
     ensures anew { result.anew ≡ judged.now.anew }
@@ -301,7 +301,7 @@ fn as_arrival(judged: &Judged, out: &mut Outbox) -> Arrival
             Err(fault)
         }
     };
-    Arrival {
+    ArrivalResult {
         heard,
         evicted: judged.evicted,
         anew: judged.anew,
@@ -318,7 +318,7 @@ pub(crate) fn arrive(
     bytes: &[u8],
     now: u64,
     out: &mut Outbox,
-) -> Arrival
+) -> ArrivalResult
     requires short { length bytes.now ≤ 2044 }
     requires living { IsLiving (as_room timed.old lives.old) }
     ensures living { IsLiving (as_room timed.new lives.new) }
@@ -327,7 +327,7 @@ pub(crate) fn arrive(
     let life = life_of(lives, peer);
     if !count(timed, lives, rules, &life, peer, bytes, now) {
         out.clear();
-        return Arrival {
+        return ArrivalResult {
             heard: Ok(None),
             evicted: None,
             anew: false,

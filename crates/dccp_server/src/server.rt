@@ -11,7 +11,7 @@ use crate::meeting::{
 };
 use crate::refusal::refuse_stranger;
 use crate::register::Register;
-use crate::room::{Arrival, arrive, ask, follow, forget, is_crowded, who_leaves};
+use crate::room::{ArrivalResult, arrive, ask, follow, forget, is_crowded, who_leaves};
 use crate::rules::{Rules, first_given_up, least_left, refuses_last_sync};
 use crate::strangers::{Strangers, answer_spared, spare};
 use crate::timed_listener::TimedListener;
@@ -114,7 +114,7 @@ impl Server {
         bytes: &[u8],
         now: u64,
         out: &mut Outbox,
-    ) -> Arrival
+    ) -> ArrivalResult
         requires { length bytes.now ≤ 2044 }
         ensures { IsServed now self.old self.new peer iss bytes.now out.new result.heard result.evicted result.anew }
     {
@@ -133,7 +133,14 @@ impl Server {
     }
 
     // The same, except that the frame for a stranger may be one too many.
-    fn come(&mut self, peer: Peer, iss: Seq48, bytes: &[u8], now: u64, out: &mut Outbox) -> Arrival
+    fn come(
+        &mut self,
+        peer: Peer,
+        iss: Seq48,
+        bytes: &[u8],
+        now: u64,
+        out: &mut Outbox,
+    ) -> ArrivalResult
         requires { length bytes.now ≤ 2044 }
         ensures arrived { HasArrived now self.old.rules self.old.room self.new.room peer iss bytes.now out.new result.heard result.evicted result.anew }
         ensures rules { self.new.rules ≡ self.old.rules }
@@ -239,7 +246,7 @@ impl Server {
         opening: &FirstRequest,
         now: u64,
         out: &mut Outbox,
-    ) -> Arrival
+    ) -> ArrivalResult
         ensures opened { IfOk result.heard (λ _. self.new ≡ heard_again now self.old peer opening.now) }
         ensures evicted { IfOk result.heard (λ _. result.evicted ≡ maker_of now self.old peer opening.now) }
         ensures unopened { OnErr result.heard (self.new ≡ unreopened now self.old peer opening.now result.evicted) }
@@ -258,7 +265,7 @@ impl Server {
         bytes: &[u8],
         now: u64,
         out: &mut Outbox,
-    ) -> Arrival
+    ) -> ArrivalResult
         requires { length bytes.now ≤ 2044 }
         ensures opened { IfOk result.heard (λ _. self.new ≡ received_hurrying now self.old peer iss bytes.now) }
         ensures evicted { IfOk result.heard (λ _. result.evicted ≡ (received_at now (hurrying self.old) peer iss bytes.now).evicted) }
@@ -272,7 +279,13 @@ impl Server {
     }
 
     // The same, and the number beside a flow that was half open stays.
-    fn reopen(&mut self, peer: Peer, opening: &FirstRequest, now: u64, out: &mut Outbox) -> Arrival
+    fn reopen(
+        &mut self,
+        peer: Peer,
+        opening: &FirstRequest,
+        now: u64,
+        out: &mut Outbox,
+    ) -> ArrivalResult
         ensures opened { IfOk result.heard (λ _. self.new ≡ reopened now self.old peer opening.now) }
         ensures evicted { IfOk result.heard (λ _. result.evicted ≡ maker_of now self.old peer opening.now) }
         ensures unopened { OnErr result.heard (self.new ≡ unreopened now self.old peer opening.now result.evicted) }
