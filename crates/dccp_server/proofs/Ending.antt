@@ -31,8 +31,8 @@ use Rattle.dccp_server.specs.Ending.{ListenerTicksEnd, doing_due, due_served, li
 use Rattle.dccp_server.specs.Serving.{Served, Upkeeps, due_of_flow, due_of_ticket, first_due_flow, is_refusal, listening_if, served_by, served_through, serves_on, serving_begins, soonest, upkeep_at, upkeeps_then}
 use Rattle.dccp_server.specs.Timing.{flow_after}
 use Rattle.dccp_server.specs.Upkeeps.{call_for_rule, called_so, first_due, kept_alarm, next_upkeep, timed_flow, upkeep_begins, upkeep_of}
-use Rattle.dccp_server.specs.declared.happening.Happening.{Happening}
-use Rattle.dccp_server.specs.declared.happening.Happening.TheVariants as happening
+use Rattle.dccp_server.specs.declared.happening.FlowHappening.{FlowHappening}
+use Rattle.dccp_server.specs.declared.happening.FlowHappening.TheVariants as happening
 use Rattle.dccp_server.specs.declared.queue.Ticket.{Ticket}
 use Rattle.dccp_server.specs.declared.upkeep.Upkeep.{Upkeep}
 use Rattle.dccp_server.proofs.Refusing.{IsResting, kept_at, rests_after, resting}
@@ -243,7 +243,7 @@ module _ (now : ℕ) where
   total list = sum_by weight (values_of list)
 
   -- what is kept of a peer goes, or weighs less
-  less-by : (pace : Pace) (list : Upkeeps) (peer : Peer) (v : Upkeep) (it : Happening) (next : FlowEnd) (over : Bool) → IsStrictlySortedBy peer_cmp (keys_of list)
+  less-by : (pace : Pace) (list : Upkeeps) (peer : Peer) (v : Upkeep) (it : FlowHappening) (next : FlowEnd) (over : Bool) → IsStrictlySortedBy peer_cmp (keys_of list)
       → lookup (is_peer peer) list ≡ Some v → weight (next_upkeep now pace v it next) + 1 ≤ weight v
       → total (upkeeps_then now pace list peer (if over then None else Some next) v it) + 1 ≤ total list
   less-by pace list peer v it next true ordered found falls =
@@ -305,7 +305,7 @@ module _ (now : ℕ) where
     u peer = upkeep_at s.pace s.upkeeps peer
 
     -- what happened to a flow's end, once a call that there may be was done
-    falls-by : (peer : Peer) (e : FlowEnd) (call : Option FlowCall) (it : Happening) → end_of_peer s.listening.flows peer ≡ Some e
+    falls-by : (peer : Peer) (e : FlowEnd) (call : Option FlowCall) (it : FlowHappening) → end_of_peer s.listening.flows peer ≡ Some e
         → weight (next_upkeep now s.pace (u peer) it (flow_after e call)) + 1 ≤ weight (u peer)
         → total (serves_on now s (listening_if s.listening peer call) peer it).upkeeps + 1 ≤ total s.upkeeps
     falls-by peer e call it found falls =

@@ -13,8 +13,8 @@ use Rattle.dccp_uses.specs.declared.sight.Sight.{Sight}
 use Rattle.dccp_server.specs.Upkeeps.{arrived_so, call_for_rule, called_so, next_upkeep, sight_if}
 use Rattle.dccp_server.specs.Serving.{IsDone, Served, Upkeeps, call_by_rule, call_due, deed_served, rule_followed, frame_if, happening_by, is_refusal, listening_if, served, serves_on, upkeep_at, upkeeps_then}
 use Rattle.dccp_server.specs.Places.{IsPlaced}
-use Rattle.dccp_server.specs.declared.happening.Happening.{Happening}
-use Rattle.dccp_server.specs.declared.happening.Happening.TheVariants as happening
+use Rattle.dccp_server.specs.declared.happening.FlowHappening.{FlowHappening}
+use Rattle.dccp_server.specs.declared.happening.FlowHappening.TheVariants as happening
 use Rattle.dccp_server.specs.declared.upkeep.Upkeep.{Upkeep}
 use Rattle.dccp_server.proofs.Placing.{then_placed}
 
@@ -23,7 +23,7 @@ module _ (fresh : Upkeep) (now : ℕ) (had : Bool) (before : Listening) (pace : 
   s = served before pace kept
 
   -- the listener is this, and what is kept went on from a place
-  pub goes_on : (after next : Listening) (u : Upkeep) (it happening : Happening) → IsPlaced fresh had kept placed peer → after ≡ next
+  pub goes_on : (after next : Listening) (u : Upkeep) (it happening : FlowHappening) → IsPlaced fresh had kept placed peer → after ≡ next
       → then' ≡ upkeeps_then now pace placed peer (end_of_peer after.flows peer) u it → u ≡ upkeep_at pace kept peer → it ≡ happening
       → served after pace then' ≡ serves_on now s next peer happening
   goes_on after next u it happening is-placed is-next is-then is-u is-it =
@@ -31,17 +31,17 @@ module _ (fresh : Upkeep) (now : ℕ) (had : Bool) (before : Listening) (pace : 
       (is-then ∙ then_placed fresh had kept placed peer (next_upkeep now pace u it) (end_of_peer after.flows peer) is-placed)
       ∙ ap (λ (l : Listening). served l pace (upkeeps_then now pace kept peer (end_of_peer l.flows peer) u it)) is-next
       ∙ ap (λ (v : Upkeep). served next pace (upkeeps_then now pace kept peer (end_of_peer next.flows peer) v it)) is-u
-      ∙ ap (λ (h : Happening). serves_on now s next peer h) is-it
+      ∙ ap (λ (h : FlowHappening). serves_on now s next peer h) is-it
 
   -- a deed was done
-  pub deed_goes_on : (after : Listening) (deed : Deed) (frame : Option Outgoing) (told : CallTold) (u : Upkeep) (it : Happening)
+  pub deed_goes_on : (after : Listening) (deed : Deed) (frame : Option Outgoing) (told : CallTold) (u : Upkeep) (it : FlowHappening)
       → IsPlaced fresh had kept placed peer → IsDone before after peer deed frame told
       → then' ≡ upkeeps_then now pace placed peer (end_of_peer after.flows peer) u it → u ≡ upkeep_at pace kept peer → it ≡ happening_by s peer deed
       → served after pace then' ≡ deed_served now s peer deed
   deed_goes_on after deed frame told u it is-placed done is-then is-u is-it =
       goes_on after (listening_after before peer deed) u it (happening_by s peer deed) is-placed done.0 is-then is-u is-it
 
-  pub arrival_goes_on : (after : Listening) (iss : ℕ) (bytes : List ℕ) (frame : Option Outgoing) (told : CallTold) (u : Upkeep) (it : Happening)
+  pub arrival_goes_on : (after : Listening) (iss : ℕ) (bytes : List ℕ) (frame : Option Outgoing) (told : CallTold) (u : Upkeep) (it : FlowHappening)
       (was : Option Sight) (silent : Bool)
       → IsPlaced fresh had kept placed peer → IsDone before after peer (Arrives iss bytes) frame told
       → then' ≡ upkeeps_then now pace placed peer (end_of_peer after.flows peer) u it → u ≡ upkeep_at pace kept peer
@@ -54,7 +54,7 @@ module _ (fresh : Upkeep) (now : ℕ) (had : Bool) (before : Listening) (pace : 
       ∙ ap (λ (b : Bool). arrived_so (sight_if (end_of_peer before.flows peer)) (listens before peer (Arrives iss bytes)).told b)
       (is-silent ∙ ap (λ (f : Option Outgoing). not (is_some f)) done.1))
 
-  pub call_goes_on : (after : Listening) (call : FlowCall) (frame : Option Outgoing) (told : CallTold) (u : Upkeep) (it : Happening)
+  pub call_goes_on : (after : Listening) (call : FlowCall) (frame : Option Outgoing) (told : CallTold) (u : Upkeep) (it : FlowHappening)
       → IsPlaced fresh had kept placed peer → IsDone before after peer (Calls call) frame told
       → then' ≡ upkeeps_then now pace placed peer (end_of_peer after.flows peer) u it → u ≡ upkeep_at pace kept peer
       → it ≡ called_so call (is_refusal told)

@@ -39,8 +39,8 @@ use Rattle.dccp_listener.specs.declared.peer.Peer.{Peer}
 use Rattle.dccp_uses.specs.declared.pace.Pace.{Pace}
 use Rattle.dccp_server.specs.Serving.{Does, Doing, Follows, IsTied, RefusedCallsChangeNothing, Served, Spends, TimedDoing, Upkeeps, call_due, is_refusal, listening_if, served, served_by, served_through, serving_begins, served_counted_by, upkeep_at, upkeeps_then}
 use Rattle.dccp_server.specs.Upkeeps.{called_so, upkeep_begins}
-use Rattle.dccp_server.specs.declared.happening.Happening.{Happening}
-use Rattle.dccp_server.specs.declared.happening.Happening.TheVariants as happening
+use Rattle.dccp_server.specs.declared.happening.FlowHappening.{FlowHappening}
+use Rattle.dccp_server.specs.declared.happening.FlowHappening.TheVariants as happening
 use Rattle.dccp_server.specs.declared.upkeep.Upkeep.{Upkeep}
 use Rattle.dccp_server.proofs.Placing.{none_gone}
 use Rattle.dccp_server.proofs.Tying.{all_after, begun_tied, found_among, none_from, not_among, tied_does}
@@ -245,7 +245,7 @@ module _ (now : ℕ) (s : Served) (peer : Peer) (call : FlowCall) (is : IsRestin
   abbrev u : Upkeep
   u = upkeep_at s.pace s.upkeeps peer
 
-  abbrev by : Flows → Happening → Served
+  abbrev by : Flows → FlowHappening → Served
   by flows it = served (record s.listening { flows = flows }) s.pace (upkeeps_then now s.pace s.upkeeps peer (end_of_peer flows peer) u it)
 
   none-kept : end_of_peer s.listening.flows peer ≡ None → lookup (is_peer peer) s.upkeeps ≡ None

@@ -19,7 +19,7 @@ use Rattle.dccp_server.specs.Rules.{first_given_up, is_crowd, least_left, life_l
 use Rattle.dccp_server.specs.Strangers.{is_no_connection, spared, spared_if, strangers_begin}
 use Rattle.dccp_server.specs.Upkeeps.{arrived_so, call_if_held, called_so, rule_call}
 use Rattle.dccp_server.specs.declared.flow_drops.FlowDrop.{FlowDrop}
-use Rattle.dccp_server.specs.declared.happening.Happening.TheVariants as happening
+use Rattle.dccp_server.specs.declared.happening.FlowHappening.TheVariants as happening
 use Rattle.dccp_server.specs.declared.life.Life.{Life}
 use Rattle.dccp_server.specs.declared.strangers.Strangers.{Strangers}
 

@@ -29,8 +29,8 @@ use Rattle.seq_circle.specs.declared.memory.NoMemory.{NoMemory}
 use Rattle.dccp_server.specs.Places.{HasPlaceIf, kept_then}
 use Rattle.dccp_server.specs.Serving.{CallsWantNoMemory, Does, Doing, Follows, IsTied, OnlyStrangersWantMemory, Served, Spends, TimedDoing, Upkeeps, UpkeepsStandWithFlows, WantsMemory, call_due, upkeep_counted, deed_served, happening_by, listening_if, served, served_by, served_through, serves_on, serving_begins, served_counted_by, upkeep_at}
 use Rattle.dccp_server.specs.Upkeeps.{next_upkeep}
-use Rattle.dccp_server.specs.declared.happening.Happening.{Happening}
-use Rattle.dccp_server.specs.declared.happening.Happening.TheVariants as happening
+use Rattle.dccp_server.specs.declared.happening.FlowHappening.{FlowHappening}
+use Rattle.dccp_server.specs.declared.happening.FlowHappening.TheVariants as happening
 use Rattle.dccp_server.specs.declared.upkeep.Upkeep.{Upkeep}
 use Rattle.dccp_server.proofs.Through.{none_in_order}
 
@@ -189,7 +189,7 @@ tied-spent now s peer bytes u (Some e) is tied =
       ordered = tied.ordered;
     }
 
-tied-called : (now : ℕ) (s : Served) (peer : Peer) (call : Option FlowCall) (it : Happening) → IsTied s
+tied-called : (now : ℕ) (s : Served) (peer : Peer) (call : Option FlowCall) (it : FlowHappening) → IsTied s
     → IsTied (serves_on now s (listening_if s.listening peer call) peer it)
 tied-called now s peer None it tied =
     record {

@@ -25,8 +25,8 @@ use Rattle.dccp_server.specs.Due.{never}
 use Rattle.dccp_server.specs.Places.{kept_then}
 use Rattle.dccp_server.specs.Queues.{first_in, queue_of}
 use Rattle.dccp_server.specs.Upkeeps.{arrived_so, call_for_rule, called_so, first_due, next_upkeep, sight_if, upkeep_begins, upkeep_moment}
-use Rattle.dccp_server.specs.declared.happening.Happening.{Happening}
-use Rattle.dccp_server.specs.declared.happening.Happening.TheVariants as happening
+use Rattle.dccp_server.specs.declared.happening.FlowHappening.{FlowHappening}
+use Rattle.dccp_server.specs.declared.happening.FlowHappening.TheVariants as happening
 use Rattle.dccp_server.specs.declared.queue.Ticket.{Ticket}
 use Rattle.dccp_server.specs.declared.upkeep.Upkeep.{Upkeep}
 
@@ -53,7 +53,7 @@ abbrev pub upkeep_at : Pace → Upkeeps → Peer → Upkeep
 upkeep_at pace upkeeps peer = unwrap_or (lookup (is_peer peer) upkeeps) (upkeep_begins pace)
 
 -- what is kept goes on with the peer's end, and goes with it
-abbrev pub upkeeps_then : ℕ → Pace → Upkeeps → Peer → Option FlowEnd → Upkeep → Happening → Upkeeps
+abbrev pub upkeeps_then : ℕ → Pace → Upkeeps → Peer → Option FlowEnd → Upkeep → FlowHappening → Upkeeps
 upkeeps_then now pace upkeeps peer end u it = kept_then upkeeps peer (next_upkeep now pace u it) end
 
 -- the peer's end has refused the call, or there is none
@@ -63,14 +63,14 @@ is_refusal (Stepped (Some (Called (Err fault)))) = true
 is_refusal _ = false
 
 -- what a deed is to the peer's end
-abbrev pub happening_by : Served → Peer → Deed → Happening
+abbrev pub happening_by : Served → Peer → Deed → FlowHappening
 happening_by s peer (Arrives iss bytes) =
     arrived_so (sight_if (end_of_peer s.listening.flows peer)) (listens s.listening peer (Arrives iss bytes)).told
     (not (is_some (listens s.listening peer (Arrives iss bytes)).frame))
 happening_by s peer (Calls call) = called_so call (is_refusal (listens s.listening peer (Calls call)).told)
 
 -- once the listener is this, and that has happened to the peer's end
-abbrev pub serves_on : ℕ → Served → Listening → Peer → Happening → Served
+abbrev pub serves_on : ℕ → Served → Listening → Peer → FlowHappening → Served
 serves_on now s after peer it =
     served after s.pace (upkeeps_then now s.pace s.upkeeps peer (end_of_peer after.flows peer) (upkeep_at s.pace s.upkeeps peer) it)
 

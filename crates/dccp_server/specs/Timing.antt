@@ -13,7 +13,7 @@ use Rattle.dccp_uses.specs.Rules.{due_rule}
 use Rattle.dccp_uses.specs.Timed.{tells_rules, timed_fires, timed_hears}
 use Rattle.dccp_uses.specs.declared.pace.Pace.{Pace}
 use Rattle.dccp_server.specs.Upkeeps.{arrived_so, call_for_rule, next_upkeep, timed_flow, upkeep_of}
-use Rattle.dccp_server.specs.declared.happening.Happening.TheVariants as happening
+use Rattle.dccp_server.specs.declared.happening.FlowHappening.TheVariants as happening
 use Rattle.dccp_server.specs.declared.upkeep.Upkeep.{Upkeep}
 
 -- an end after a call that there may be

@@ -26,8 +26,8 @@ use Rattle.dccp_uses.specs.declared.rule.Rule.TheVariants as rules
 use Rattle.dccp_uses.specs.declared.sight.Sight.{Sight}
 use Rattle.dccp_uses.specs.declared.timed_end.Due.{Due}
 use Rattle.dccp_uses.specs.declared.timed_end.Due.TheVariants as due
-use Rattle.dccp_server.specs.declared.happening.Happening.{Happening}
-use Rattle.dccp_server.specs.declared.happening.Happening.TheVariants as happening
+use Rattle.dccp_server.specs.declared.happening.FlowHappening.{FlowHappening}
+use Rattle.dccp_server.specs.declared.happening.FlowHappening.TheVariants as happening
 use Rattle.dccp_server.specs.declared.happening.Hearing.{Hearing}
 use Rattle.dccp_server.specs.declared.upkeep.Upkeep.{Upkeep}
 
@@ -91,7 +91,7 @@ kept_ruled now u rule e =
     kept_on now 1 (alarms_by_rule (path_waits u.path) u.alarms rule now) (path_by_rule u.path rule (sight_of kinds_control e) now) e
 
 -- What is kept once something happened to a flow: its end is this then. A refused call changes nothing.
-abbrev pub next_upkeep : ℕ → Pace → Upkeep → Happening → FlowEnd → Upkeep
+abbrev pub next_upkeep : ℕ → Pace → Upkeep → FlowHappening → FlowEnd → Upkeep
 next_upkeep now pace u happening.Opened e = kept_opened now pace e
 next_upkeep now pace u (happening.Heard it) e = kept_heard now u it e
 next_upkeep now pace u happening.Sent e = kept_sent now u e
@@ -118,13 +118,13 @@ sight_if None = None
 sight_if (Some e) = Some (sight_of kinds_control e)
 
 -- a datagram opens a flow, or is heard by the end that there was
-abbrev pub arrived_so : Option Sight → CallTold → Bool → Happening
+abbrev pub arrived_so : Option Sight → CallTold → Bool → FlowHappening
 arrived_so None told silent = happening.Opened
 arrived_so (Some was) told silent =
     happening.Heard (record { was = was; taken = tells_taken told; delivered = tells_data told; silent = silent })
 
 -- a call that was not refused
-abbrev pub call_happening : FlowCall → Happening
+abbrev pub call_happening : FlowCall → FlowHappening
 call_happening Opens = happening.Called
 call_happening (Sends payload) = happening.Sent
 call_happening (SendsEarly payload) = happening.Sent
@@ -134,7 +134,7 @@ call_happening Aborts = happening.Called
 call_happening (Prefers feature place values) = happening.Preferred
 
 -- a call, by whether it was refused
-abbrev pub called_so : FlowCall → Bool → Happening
+abbrev pub called_so : FlowCall → Bool → FlowHappening
 called_so call true = happening.Refused
 called_so call false = call_happening call
 

@@ -25,7 +25,7 @@ pub struct Hearing {
 
 /// What happened to a flow's end.
 #[derive(Clone, Copy, Debug, PartialEq, Eq)]
-pub enum Happening {
+pub enum FlowHappening {
     /// It was made, and has answered a Request.
     Opened,
     /// It has heard a datagram.
@@ -65,14 +65,14 @@ fn tells_data(heard: &Heard) -> bool
 }
 
 /// A datagram was heard, by an end of which there was this to see, if there was one; whether nothing went out.
-pub(crate) fn arrived_so(was: Option<Sight>, heard: &Heard, silent: bool) -> Happening
+pub(crate) fn arrived_so(was: Option<Sight>, heard: &Heard, silent: bool) -> FlowHappening
     ensures { result ≡ arrived_so was (told_of (Ok heard.now)) silent }
 {
     let taken = tells_taken(heard);
     let delivered = tells_data(heard);
     match was {
-        None => Happening::Opened,
-        Some(was) => Happening::Heard(Hearing {
+        None => FlowHappening::Opened,
+        Some(was) => FlowHappening::Heard(Hearing {
             was,
             taken,
             delivered,
@@ -82,15 +82,15 @@ pub(crate) fn arrived_so(was: Option<Sight>, heard: &Heard, silent: bool) -> Hap
 }
 
 // A call that was not refused.
-fn call_happening(call: UserCall<'_>) -> Happening
+fn call_happening(call: UserCall<'_>) -> FlowHappening
     ensures { result ≡ call_happening (asked call.entry) }
 {
     match call {
-        UserCall::Send(_) | UserCall::SendEarly(_) => Happening::Sent,
-        UserCall::Timer(timer) => Happening::Rang(timer),
-        UserCall::Close => Happening::Closed,
-        UserCall::Prefer { .. } => Happening::Preferred,
-        UserCall::Open | UserCall::Abort => Happening::Called,
+        UserCall::Send(_) | UserCall::SendEarly(_) => FlowHappening::Sent,
+        UserCall::Timer(timer) => FlowHappening::Rang(timer),
+        UserCall::Close => FlowHappening::Closed,
+        UserCall::Prefer { .. } => FlowHappening::Preferred,
+        UserCall::Open | UserCall::Abort => FlowHappening::Called,
     }
 }
 
@@ -104,11 +104,11 @@ fn is_refusal(answer: &Result<Seen, NoFlow>) -> bool
 }
 
 /// A call was answered so.
-pub(crate) fn called_so(call: UserCall<'_>, answer: &Result<Seen, NoFlow>) -> Happening
+pub(crate) fn called_so(call: UserCall<'_>, answer: &Result<Seen, NoFlow>) -> FlowHappening
     ensures { result ≡ called_so (asked call.entry) (is_refusal (Stepped (seen_if answer.now))) }
 {
     if is_refusal(answer) {
-        return Happening::Refused;
+        return FlowHappening::Refused;
     }
     call_happening(call)
 }

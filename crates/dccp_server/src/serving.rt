@@ -12,7 +12,7 @@ ghost use Rattle.dccp_server.specs.Places.{HasPlaceIf, IsPlaced};
 ghost use Rattle.dccp_server.specs.Serving.{IsDone, WantsMemory, deed_served, call_due, due_of_flow, upkeep_counted, first_due_flow, rule_followed, frame_if, is_admitted, least_wait, listening_if, served, served_counted, soonest, upkeep_at, upkeeps_then};
 ghost use Rattle.dccp_server.specs.Upkeeps.{call_for_rule, ratio_held, rule_call, sight_if, upkeep_begins};
 
-use crate::happening::{Happening, arrived_so, called_so};
+use crate::happening::{FlowHappening, arrived_so, called_so};
 use crate::queue::Ticket;
 use crate::register::Register;
 use crate::upkeep::Upkeep;
@@ -82,7 +82,7 @@ fn arrange(
     upkeeps: &mut Register<Upkeep>,
     peer: Peer,
     upkeep: &Upkeep,
-    happening: &Happening,
+    happening: &FlowHappening,
     pace: Pace,
     now: u64,
 )
@@ -346,7 +346,7 @@ pub(crate) fn follow(
     let rule = due_rule(&upkeep.path, now);
     place(upkeeps, pace, peer)?;
     obey_at(listener, peer, rule, upkeep.path.aim, out);
-    let happening = Happening::Ruled(rule);
+    let happening = FlowHappening::Ruled(rule);
     arrange(listener, upkeeps, peer, &upkeep, &happening, pace, now);
     Ok(())
 }

@@ -4,7 +4,7 @@ ghost use Rattle.dccp_uses.specs.Alarms.{has_run_out};
 ghost use Rattle.dccp_uses.specs.Timed.{every_due};
 ghost use Rattle.dccp_server.specs.Upkeeps.{first_due, kept_alarm, kept_closed, kept_heard, kept_on, kept_opened, kept_preferred, kept_ruled, kept_rung, kept_seen, kept_sent, next_upkeep, upkeep_begins, upkeep_moment, earlier, alarm_end, first_end};
 
-use crate::happening::{Happening, Hearing};
+use crate::happening::{FlowHappening, Hearing};
 use crate::register::Moment;
 use ccid_two::Kinds;
 use dccp_endpoint::{Endpoint, Timer};
@@ -214,7 +214,7 @@ impl Upkeep {
     /// Something happened to a flow, whose end is this then.
     pub(crate) fn note(
         &mut self,
-        happening: &Happening,
+        happening: &FlowHappening,
         end: &Endpoint<Kinds>,
         pace: Pace,
         now: u64,
@@ -222,15 +222,15 @@ impl Upkeep {
         ensures { self.new ≡ next_upkeep now pace self.old happening.now end.now }
     {
         match happening {
-            Happening::Opened => self.open(end, pace, now),
-            Happening::Heard(hearing) => self.hear(hearing, end, now),
-            Happening::Sent => self.send(end, now),
-            Happening::Rang(timer) => self.ring(*timer, end, now),
-            Happening::Closed => self.close(end, now),
-            Happening::Called => self.go_on(end, now),
-            Happening::Preferred => self.prefer(end, now),
-            Happening::Refused => {}
-            Happening::Ruled(rule) => self.follow(*rule, end, now),
+            FlowHappening::Opened => self.open(end, pace, now),
+            FlowHappening::Heard(hearing) => self.hear(hearing, end, now),
+            FlowHappening::Sent => self.send(end, now),
+            FlowHappening::Rang(timer) => self.ring(*timer, end, now),
+            FlowHappening::Closed => self.close(end, now),
+            FlowHappening::Called => self.go_on(end, now),
+            FlowHappening::Preferred => self.prefer(end, now),
+            FlowHappening::Refused => {}
+            FlowHappening::Ruled(rule) => self.follow(*rule, end, now),
         }
     }
 }
