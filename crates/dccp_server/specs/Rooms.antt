@@ -30,7 +30,7 @@ use Rattle.dccp_server.specs.declared.duty.Duty.TheVariants.{Ring, Follow, GiveU
 use Rattle.dccp_server.specs.declared.life.Life.{Life}
 use Rattle.dccp_server.specs.declared.life.Signs.{Signs}
 use Rattle.dccp_server.specs.declared.rules.Rules.{Rules}
-use Rattle.dccp_server.specs.declared.strangers.Spared.{Spared}
+use Rattle.dccp_server.specs.declared.strangers.StrangerAnswer.{StrangerAnswer}
 use Rattle.dccp_server.specs.declared.strangers.Strangers.{Strangers}
 
 -- the listener with the timers of its flows, and their lives
@@ -273,7 +273,7 @@ is_to_stranger before after peer frame =
     && (not (is_some (end_of_peer after.served.listening.flows peer)) && is_some frame)
 
 -- whether the frame that was left goes out, and what is left of the limits
-abbrev pub reply_spared : ℕ → Ruled → Peer → Room → Option Outgoing → Option CallTold → Spared
+abbrev pub reply_spared : ℕ → Ruled → Peer → Room → Option Outgoing → Option CallTold → StrangerAnswer
 reply_spared now s peer after left told = spared_if now s.rules s.strangers (is_to_stranger s.room after peer left) told
 
 -- What a server makes of a datagram: itself after it, the frame that goes to the peer, what was told, if it was heard,

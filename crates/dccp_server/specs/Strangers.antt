@@ -12,7 +12,7 @@ use Rattle.path_rules.specs.declared.limits.Limit.{Limit}
 use Rattle.path_rules.specs.declared.limits.Taking.{Taking}
 use Rattle.dccp_server.specs.Rules.{answers_to_strangers}
 use Rattle.dccp_server.specs.declared.rules.Rules.{Rules}
-use Rattle.dccp_server.specs.declared.strangers.Spared.{Spared}
+use Rattle.dccp_server.specs.declared.strangers.StrangerAnswer.{StrangerAnswer}
 use Rattle.dccp_server.specs.declared.strangers.Strangers.{Strangers}
 
 -- no answer has gone out yet
@@ -30,26 +30,26 @@ is_no_connection (Some (Stepped (Some (Received (SentReset code detail))))) = co
 is_no_connection _ = false
 
 -- with what is left of the limit on all answers
-abbrev pub answers_spared : Strangers → Taking → Spared
+abbrev pub answers_spared : Strangers → Taking → StrangerAnswer
 answers_spared it taking = record { goes = taking.granted; strangers = record it { answers = taking.bucket } }
 
 -- an answer takes one token
-abbrev pub answer_spared : ℕ → Rules → Strangers → Spared
+abbrev pub answer_spared : ℕ → Rules → Strangers → StrangerAnswer
 answer_spared now rules it = answers_spared it (taken_if rules.answers it.answers now)
 
 -- a Reset without a connection takes one of its own first, and where there is none does not go out
-abbrev pub reset_spared : ℕ → Rules → Strangers → Taking → Spared
+abbrev pub reset_spared : ℕ → Rules → Strangers → Taking → StrangerAnswer
 reset_spared now rules it taking =
     if taking.granted then answer_spared now rules (record it { resets = taking.bucket })
     else record { goes = false; strangers = record it { resets = taking.bucket } }
 
 -- whether an answer to a stranger goes out, by what was told
-abbrev pub spared : ℕ → Rules → Strangers → Bool → Spared
+abbrev pub spared : ℕ → Rules → Strangers → Bool → StrangerAnswer
 spared now rules it true = reset_spared now rules it (taken_if rules.resets it.resets now)
 spared now rules it false = answer_spared now rules it
 
 -- whether a frame goes out, and what is left of the limits: those to peers with a flow do
-abbrev pub spared_if : ℕ → Rules → Strangers → Bool → Option CallTold → Spared
+abbrev pub spared_if : ℕ → Rules → Strangers → Bool → Option CallTold → StrangerAnswer
 spared_if now rules it true told = spared now rules it (is_no_connection told)
 spared_if now rules it false told = record { goes = true; strangers = it }
 

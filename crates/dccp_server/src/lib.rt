@@ -53,6 +53,6 @@ pub use crate::room::ArrivalResult;
 pub use crate::rules::{Rules, answers_to_strangers};
 pub use crate::server::Server;
 pub use crate::stage::Stage;
-pub use crate::strangers::{Spared, Strangers};
+pub use crate::strangers::{StrangerAnswer, Strangers};
 pub use crate::timed_listener::TimedListener;
 pub use crate::upkeep::Upkeep;

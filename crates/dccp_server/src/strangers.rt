@@ -19,7 +19,7 @@ pub struct Strangers {
 
 /// Whether an answer goes out, and what is left of the limits then.
 #[derive(Clone, Copy, Debug, PartialEq, Eq)]
-pub struct Spared {
+pub struct StrangerAnswer {
     /// It goes out.
     pub goes: bool,
     /// What is left.
@@ -76,19 +76,19 @@ fn is_no_connection(heard: &Result<Option<Heard>, NoMemory>) -> bool
 }
 
 /// Whether an answer to a stranger goes out, and what is left of the limit then.
-pub(crate) fn answer_spared(rules: &Rules, strangers: &Strangers, now: u64) -> Spared
+pub(crate) fn answer_spared(rules: &Rules, strangers: &Strangers, now: u64) -> StrangerAnswer
     ensures { result ≡ answer_spared now rules.now strangers.now }
 {
     let taking = taken_if(rules.answers, &strangers.answers, now);
     let mut strangers = *strangers;
     strangers.answers = taking.bucket;
-    Spared {
+    StrangerAnswer {
         goes: taking.granted,
         strangers,
     }
 }
 
-fn reset_spared(rules: &Rules, strangers: &Strangers, now: u64) -> Spared
+fn reset_spared(rules: &Rules, strangers: &Strangers, now: u64) -> StrangerAnswer
     ensures { result ≡ reset_spared now rules.now strangers.now (taken_if rules.now.resets strangers.now.resets now) }
 {
     let taking = taken_if(rules.resets, &strangers.resets, now);
@@ -97,13 +97,13 @@ fn reset_spared(rules: &Rules, strangers: &Strangers, now: u64) -> Spared
     if taking.granted {
         return answer_spared(rules, &strangers, now);
     }
-    Spared {
+    StrangerAnswer {
         goes: false,
         strangers,
     }
 }
 
-fn spare_by(rules: &Rules, strangers: &Strangers, without: bool, now: u64) -> Spared
+fn spare_by(rules: &Rules, strangers: &Strangers, without: bool, now: u64) -> StrangerAnswer
     ensures { result ≡ spared now rules.now strangers.now without }
 {
     if without {
@@ -118,13 +118,13 @@ fn spared_if(
     is_to_stranger: bool,
     heard: &Result<Option<Heard>, NoMemory>,
     now: u64,
-) -> Spared
+) -> StrangerAnswer
     ensures { result ≡ spared_if now rules.now strangers.now is_to_stranger (told_of_arrival heard.now) }
 {
     if is_to_stranger {
         return spare_by(rules, strangers, is_no_connection(heard), now);
     }
-    Spared {
+    StrangerAnswer {
         goes: true,
         strangers: *strangers,
     }
