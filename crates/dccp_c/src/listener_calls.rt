@@ -42,7 +42,7 @@ use crate::{FlowLife, FlowRules, Key, ListenerHandle, PeerAddress, Settings, Vie
 use dccp_endpoint::{MOST_FRAME_BYTES, NoMemory, Outbox, Refusal, Seen, Seq48, UserCall};
 use dccp_listener::{Heard, NoFlow, Peer};
 use dccp_server::{
-    Duty, EventServer, FlowDropRecord, FlowInboxes, Meeting, Rules, Server, Shut, Way,
+    Duty, EventServer, FlowDropRecord, FlowInboxes, Meeting, NoNewFlows, Rules, Server, Way,
 };
 use dccp_uses::{Restraint, Rule};
 use std::alloc::Global;
@@ -223,7 +223,7 @@ fn hear(
     iss: Seq48,
     datagram: &[u8],
     now: u64,
-) -> Result<Meeting, Shut>
+) -> Result<Meeting, NoNewFlows>
     requires { length datagram.now ≤ 2044 }
     ensures taken { OnOk result (is_shut_out serving.old.server peer datagram.now ≡ false) }
     ensures shut { OnErr result ((is_shut_out serving.old.server peer datagram.now ≡ true) × (serving.new.server ≡ shut_out now serving.old.server peer datagram.now)
@@ -340,7 +340,7 @@ fn serve(
                 told,
             )
         }
-        Err(Shut) => {
+        Err(NoNewFlows) => {
             frame.fill(&serving.out);
             REFUSED
         }

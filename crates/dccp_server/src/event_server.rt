@@ -99,7 +99,7 @@ fn evicted_event(life: Option<Life>, evicted: Option<Peer>) -> Option<FlowEvent>
 
 /// The server takes no new flows, and the datagram would have opened one (own).
 #[derive(Clone, Copy, Debug, PartialEq, Eq)]
-pub struct Shut;
+pub struct NoNewFlows;
 
 /// A [`Server`] that lists what its calls have done to its flows (own). The calls are those of the server. After each,
 /// ask `next_event` until it has nothing more: events that were not taken before the next call are lost.
@@ -171,7 +171,7 @@ impl EventServer {
         next
     }
 
-    /// `Server::meet`, of which the owner is told. Shut comes exactly where no new flow is taken and the datagram would open
+    /// `Server::meet`, of which the owner is told. NoNewFlows comes exactly where no new flow is taken and the datagram would open
     /// one: it is refused by a Reset with the code Connection Refused (RFC 4340, section 5.6). Where no new flow is taken no
     /// cookie is given, and none opens a flow.
     pub fn arrive(
@@ -181,7 +181,7 @@ impl EventServer {
         bytes: &[u8],
         now: u64,
         out: &mut Outbox,
-    ) -> Result<Meeting, Shut>
+    ) -> Result<Meeting, NoNewFlows>
         requires { length bytes.now ≤ 2044 }
         ensures open { OnOk result (is_shut_out self.old peer bytes.now ≡ false) }
         ensures shut { OnErr result ((is_shut_out self.old peer bytes.now ≡ true) × (self.new ≡ shut_out now self.old peer bytes.now)
@@ -193,7 +193,7 @@ impl EventServer {
         let code = ResetCode::ConnectionRefused.number();
         if self.is_shut && self.server.refuse(peer, bytes, code, now, out) {
             self.events = FlowEvents::none();
-            return Err(Shut);
+            return Err(NoNewFlows);
         }
         Ok(self.hear(peer, iss, bytes, now, out))
     }

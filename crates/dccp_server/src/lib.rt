@@ -33,7 +33,7 @@ mod upkeep;
 
 pub use crate::asking::{Asking, asking_of, opening_of};
 pub use crate::duty::Duty;
-pub use crate::event_server::{EventServer, Shut};
+pub use crate::event_server::{EventServer, NoNewFlows};
 pub use crate::first_number::keyed_number;
 pub use crate::flow_drops::{FlowDrop, FlowDropRecord};
 pub use crate::flow_event::{EndCause, EndReason, EventKind, FlowEvent, FlowEvents, FlowState};
