@@ -30,7 +30,7 @@ pub struct ArrivalResult {
 
 // What came of a datagram that was heard.
 #[derive(Clone, Copy, Debug, PartialEq, Eq)]
-pub(crate) struct Judged {
+pub(crate) struct HearingResult {
     pub(crate) heard: Result<Heard, NoMemory>,
     pub(crate) evicted: Option<Peer>,
     pub(crate) anew: bool,
@@ -206,7 +206,7 @@ fn judge(
     bytes: &[u8],
     now: u64,
     out: &mut Outbox,
-) -> Judged
+) -> HearingResult
     requires short { length bytes.now ≤ 2044 }
     requires living { IsLiving (as_room timed.old lives.old) }
     ensures living { IsLiving (as_room timed.new lives.new) }
@@ -214,12 +214,12 @@ fn judge(
 {
     match heard {
         Heard::Busy => match who_leaves(timed, lives, rules, now) {
-            Some(leaving) => Judged {
+            Some(leaving) => HearingResult {
                 heard: make_room(timed, lives, leaving, peer, iss, bytes, now, out),
                 evicted: Some(leaving),
                 anew: false,
             },
-            None => Judged {
+            None => HearingResult {
                 heard: Ok(Heard::Busy),
                 evicted: None,
                 anew: false,
@@ -228,7 +228,7 @@ fn judge(
         Heard::Flow(outcome) => {
             let anew = begins_anew(rules, life, bytes, signs_in(&outcome));
             begin_anew(timed, lives, anew, peer, now, out);
-            Judged {
+            HearingResult {
                 heard: Ok(Heard::Flow(outcome)),
                 evicted: None,
                 anew,
@@ -248,7 +248,7 @@ fn hear_by(
     bytes: &[u8],
     now: u64,
     out: &mut Outbox,
-) -> Judged
+) -> HearingResult
     requires short { length bytes.now ≤ 2044 }
     requires living { IsLiving (as_room timed.old lives.old) }
     requires known { life.now ≡ life_of lives.old peer }
@@ -257,7 +257,7 @@ fn hear_by(
 {
     match hear(timed, lives, life, peer, iss, bytes, now, out) {
         Ok(heard) => judge(timed, lives, rules, life, heard, peer, iss, bytes, now, out),
-        Err(fault) => Judged {
+        Err(fault) => HearingResult {
             heard: Err(fault),
             evicted: None,
             anew: false,
@@ -288,7 +288,7 @@ fn count(
 }
 
 // What came of a datagram that was heard, where it might have been left out. Nothing goes out where there was no memory.
-fn as_arrival(judged: &Judged, out: &mut Outbox) -> ArrivalResult
+fn as_arrival(judged: &HearingResult, out: &mut Outbox) -> ArrivalResult
     ensures heard { result.heard ≡ heard_or_fault judged.now.heard }
     ensures evicted { result.evicted ≡ judged.now.evicted }
     ensures anew { result.anew ≡ judged.now.anew }
