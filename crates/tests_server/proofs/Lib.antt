@@ -1,2 +1,3 @@
 pub mod RowsFlowInboxes
 pub mod RowsMeetings
+pub mod RowsServing
