@@ -53,10 +53,10 @@ quiet-so (outcome.Synced number) same = cc same
 quiet-so (outcome.WasReset code) same = cc same
 quiet-so (outcome.SentReset code detail) same = cc same
 
-pub delivered-so : (o : Outcome) (place : ℕ × ℕ) → without_place o ≡ outcome.Took (Some place) → (other : ℕ × ℕ) × (o ≡ outcome.Took (Some other))
-delivered-so (outcome.Took (Some other)) place same = (other, refl)
-delivered-so (outcome.Took None) place same = cc same
-delivered-so (outcome.Dropped why) place same = cc same
-delivered-so (outcome.Synced number) place same = cc same
-delivered-so (outcome.WasReset code) place same = cc same
-delivered-so (outcome.SentReset code detail) place same = cc same
+pub delivered-so : (o : Outcome) → without_place o ≡ outcome.Took (Some (0, 0)) → (other : ℕ × ℕ) × (o ≡ outcome.Took (Some other))
+delivered-so (outcome.Took (Some other)) same = (other, refl)
+delivered-so (outcome.Took None) same = cc same
+delivered-so (outcome.Dropped why) same = cc same
+delivered-so (outcome.Synced number) same = cc same
+delivered-so (outcome.WasReset code) same = cc same
+delivered-so (outcome.SentReset code detail) same = cc same

@@ -20,4 +20,4 @@ returns-clause-quiet c = λ e held own frame tells is.
 
 pub returns-clause-delivered : goal.returns-clause-delivered
 returns-clause-delivered c = λ e held own frame place tells is.
-    delivered-so (receives e frame.bytes).answer place ((c.longer_frames_are_taken_alike.ensures e held own frame tells).same_outcome ∙ ap without_place is)
+    delivered-so (receives e frame.bytes).answer ((c.longer_frames_are_taken_alike.ensures e held own frame tells).same_outcome ∙ ap without_place is)
