@@ -226,17 +226,26 @@ impl Listener {
         datagram: &[u8],
         now: Instant,
     ) -> Result<(), ArriveError> {
-        let (was, time) = (self.stand(peer), self.time(now));
+        let time = self.time(now);
+        let counts = self.counts.get_mut(&peer);
+        // A connection that is not over has counts, so there is no need to ask the library.
+        let was = match counts {
+            Some(_) => Stand::Connection,
+            None => Stand::at(&mut self.flows, peer),
+        };
         let (status, frame, told) = self.flows.arrive(peer, first_number, datagram, time);
         let is_answer = matches!(status, sys::BUSY | sys::REFUSED)
             || matches!(told.kind, sys::TOLD_SYNCED | sys::TOLD_SENT_RESET);
         queue(&mut self.frames, peer, frame, is_answer);
-        let is = self.stand_after(was, &told, peer);
+        let is = was.after(&told, &mut self.flows, peer);
         if was == Stand::Nothing && is != Stand::Nothing {
             self.accepted.push_back(peer);
         }
         if is == Stand::Connection {
-            let counts = self.counts.entry(peer).or_default();
+            let counts = match counts {
+                Some(counts) => counts,
+                None => self.counts.entry(peer).or_default(),
+            };
             counts.counted.heard(&told, datagram);
             counts.settle(&mut self.flows, peer);
         }
@@ -624,7 +633,7 @@ impl Listener {
 
     /// The phase of the connection to a peer; None if there is none.
     pub fn phase(&mut self, peer: SocketAddr) -> Option<Phase> {
-        self.flows.look(peer).map(|it| Phase::of(it.phase))
+        phase_at(&mut self.flows, peer)
     }
 
     /// The peers that have a connection, in the order of their addresses and ports.
@@ -739,24 +748,6 @@ impl Listener {
         }
     }
 
-    /// What a peer has here. A connection that is not over has counts, so there is no need to ask the library.
-    fn stand(&mut self, peer: SocketAddr) -> Stand {
-        if self.counts.contains_key(&peer) {
-            Stand::Connection
-        } else {
-            Stand::of(self.phase(peer))
-        }
-    }
-
-    /// What a peer has after a datagram, which ends a connection only if a Reset is sent or received.
-    fn stand_after(&mut self, was: Stand, told: &sys::Told, peer: SocketAddr) -> Stand {
-        match told.kind {
-            sys::TOLD_WAS_RESET | sys::TOLD_SENT_RESET => Stand::of(self.phase(peer)),
-            _ if was == Stand::Connection => was,
-            _ => Stand::of(self.phase(peer)),
-        }
-    }
-
     /// Removes the packets of data to a peer that are not in flight any more, and counts those that are lost.
     fn settle(&mut self, peer: SocketAddr) {
         if let Some(counts) = self.counts.get_mut(&peer) {
@@ -795,9 +786,23 @@ enum Stand {
     TimeWait,
 }
 
+fn phase_at(flows: &mut Flows, peer: SocketAddr) -> Option<Phase> {
+    flows.look(peer).map(|it| Phase::of(it.phase))
+}
+
 impl Stand {
-    fn of(phase: Option<Phase>) -> Stand {
-        match phase {
+    /// What a peer has after a datagram, which ends a connection only if a Reset is sent or received.
+    fn after(self, told: &sys::Told, flows: &mut Flows, peer: SocketAddr) -> Stand {
+        match told.kind {
+            sys::TOLD_WAS_RESET | sys::TOLD_SENT_RESET => Stand::at(flows, peer),
+            _ if self == Stand::Connection => self,
+            _ => Stand::at(flows, peer),
+        }
+    }
+
+    /// What a peer has by the library.
+    fn at(flows: &mut Flows, peer: SocketAddr) -> Stand {
+        match phase_at(flows, peer) {
             None | Some(Phase::Closed | Phase::Listen) => Stand::Nothing,
             Some(Phase::TimeWait) => Stand::TimeWait,
             Some(
