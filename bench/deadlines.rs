@@ -1,6 +1,6 @@
 //! What deadlines cost a server of 1,024 flows in OPEN, beside 1,024 ends in OPEN in a list: the timers of all due at one time, and
-//! the first deadline asked for after each of a million datagrams. It prints figures of processor time, each the least of some runs, and ends
-//! with 1 where the server's is over twice the ends'.
+//! the first deadline asked for after each of a million datagrams, of which each brings data. It prints figures of processor time, each the
+//! least of some runs, and ends with 1 where the server's is over twice the ends'.
 
 use dccp::{Config, Connection, Listener, Phase};
 use std::error::Error;
@@ -13,8 +13,10 @@ use std::time::{Duration, Instant};
 
 const FLOWS: u16 = 1_024;
 const SERVICE: u32 = 42;
-/// In each of the runs.
-const DATAGRAMS: usize = 100_000;
+/// The rounds of each run: in one, a datagram of each client arrives. All runs have a million of them.
+const DATAGRAM_ROUNDS: usize = 98;
+/// From one round to the next, as in a call of voice.
+const GAP: Duration = Duration::from_millis(20);
 /// Once data have come, each end owes an Ack, whose timer has run out by then.
 const WAIT: Duration = Duration::from_secs(1);
 const ROUNDS: usize = 16;
@@ -226,22 +228,40 @@ fn telling(server: &mut impl Server, clients: &mut [Connection], now: &mut Insta
     Ok(took.as_secs_f64() * 1e9 / f64::from(FLOWS))
 }
 
-/// What a datagram takes with the first deadline asked for after it. Each is the same packet of its client again, which is taken once.
-fn asking(server: &mut impl Server, clients: &mut [Connection], now: Instant) -> Result<f64, Box<dyn Error>> {
-    let packets = data(clients, now)?;
-    let mut took = Duration::MAX;
-    for _ in 0..RUNS {
-        let begun = processor_time()?;
-        for (at, place) in (0..DATAGRAMS).zip((0..FLOWS).cycle()) {
-            // Places that lie apart, one after the other.
-            let place = (place * 387 + (at >> 10) as u16) % FLOWS;
-            server.hear(place, &packets[usize::from(place)], now);
-            black_box(server.first_deadline(place));
-        }
-        took = took.min(processor_time()? - begun);
-        while server.frame().is_some() {}
+/// Places that lie apart, one after the other.
+fn apart(turn: u16) -> u16 {
+    turn.wrapping_mul(387) % FLOWS
+}
+
+/// A datagram of each client arrives, and the first deadline is asked for after each: the time of that alone.
+fn round(server: &mut impl Server, clients: &mut [Connection], now: &mut Instant) -> Result<Duration, Box<dyn Error>> {
+    let packets = data(clients, *now)?;
+    let begun = processor_time()?;
+    for place in (0..FLOWS).map(apart) {
+        server.hear(place, &packets[usize::from(place)], *now);
+        black_box(server.first_deadline(place));
     }
-    Ok(took.as_secs_f64() * 1e9 / DATAGRAMS as f64)
+    let took = processor_time()? - begun;
+    *now += GAP;
+    server.tell(*now);
+    for client in &mut *clients {
+        client.handle_timeout(*now);
+    }
+    carry(server, clients, *now);
+    Ok(took)
+}
+
+/// What a datagram of data takes with the first deadline asked for after it.
+fn asking(server: &mut impl Server, clients: &mut [Connection], now: &mut Instant) -> Result<f64, Box<dyn Error>> {
+    let mut least = Duration::MAX;
+    for _ in 0..RUNS {
+        let mut took = Duration::ZERO;
+        for _ in 0..DATAGRAM_ROUNDS {
+            took += round(server, clients, now)?;
+        }
+        least = least.min(took);
+    }
+    Ok(least.as_secs_f64() * 1e9 / (DATAGRAM_ROUNDS as f64 * f64::from(FLOWS)))
 }
 
 /// What both take at a server, each with its own clients.
@@ -249,7 +269,7 @@ fn figures(server: &mut impl Server) -> Result<[f64; 2], Box<dyn Error>> {
     let mut clients = clients()?;
     let mut now = Instant::now();
     opened(server, &mut clients, &mut now)?;
-    Ok([telling(server, &mut clients, &mut now)?, asking(server, &mut clients, now)?])
+    Ok([telling(server, &mut clients, &mut now)?, asking(server, &mut clients, &mut now)?])
 }
 
 fn main() -> Result<ExitCode, Box<dyn Error>> {
