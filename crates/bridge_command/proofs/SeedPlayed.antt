@@ -107,7 +107,7 @@ event-goes play number given event rest run last more here few ok brief room fol
     go step is =
         let ran = played-ok run event step is in
         let next = next_play play step in
-         let after = following next (ap (λ (r : RunState). Some r.world) (sym ran)) refl in
+        let after = following next (ap (λ (r : RunState). Some r.world) (sym ran)) refl in
         let later = gone_from run_job next (number + 1) (given + (length (event_text event) + 1)) (lines_of rest) in
         let short = brief.short in
         let whole : gone_from run_job play number given (lines_of (event_line event ++ rest))
