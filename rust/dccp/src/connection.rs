@@ -355,14 +355,15 @@ impl Connection {
     /// # Ok::<(), Box<dyn std::error::Error>>(())
     /// ```
     pub fn send(&mut self, data: &[u8], now: Instant) -> Result<u64, SendError> {
-        let number = self.send_unseen(data, now);
+        let time = self.time(now);
+        let number = self.send_unseen(data, time);
         self.called(now);
         number
     }
 
-    /// As [`send`](Connection::send), but the end is looked at by [`called`](Connection::called) alone: once for many packets.
-    pub(crate) fn send_unseen(&mut self, data: &[u8], now: Instant) -> Result<u64, SendError> {
-        let time = self.time(now);
+    /// As [`send`](Connection::send), at a time as the end counts it, but the end is looked at by [`called`](Connection::called) alone: once
+    /// for many packets.
+    pub(crate) fn send_unseen(&mut self, data: &[u8], time: u64) -> Result<u64, SendError> {
         let status = queue(&mut self.outgoing, self.end.send(data, time), false);
         let number = self.end.number();
         if status == sys::DONE {
@@ -772,7 +773,7 @@ impl Connection {
     }
 
     /// The time as the end counts it.
-    fn time(&mut self, now: Instant) -> u64 {
+    pub(crate) fn time(&mut self, now: Instant) -> u64 {
         let begun = *self.begun.get_or_insert(now);
         now.saturating_duration_since(begun).as_millis() as u64
     }

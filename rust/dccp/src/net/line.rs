@@ -553,7 +553,8 @@ impl Line {
             if let Some((end, _)) = state.end {
                 return Err(Error::Ended(end));
             }
-            let sent = doing(&mut |data| state.connection.send_unseen(data, now));
+            let time = state.connection.time(now);
+            let sent = doing(&mut |data| state.connection.send_unseen(data, time));
             state.connection.called(now);
             match sent {
                 Ok(done) => {
