@@ -146,10 +146,10 @@ fn at_ten_thousand() -> Answer<Option<f64>> {
             (begun + Duration::from_millis(10) * turn).saturating_duration_since(Instant::now()),
         );
     }
-    let took = begun.elapsed().as_secs_f64();
+    // These are the packets of three seconds, even where the machine was late.
     let share = processor()
         .zip(before)
-        .map(|(after, before)| (after - before) / took);
+        .map(|(after, before)| (after - before) / 3.0);
     client.close(Duration::from_secs(10))?;
     receiver.join().map_err(|_| "the receiver panicked")?;
     Ok(share)
