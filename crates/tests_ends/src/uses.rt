@@ -1,6 +1,5 @@
 //! Two sessions whose frames get lost.
 mod bursts;
-mod cookie;
 mod heeding;
 mod holding;
 mod pair;
