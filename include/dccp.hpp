@@ -96,8 +96,12 @@ class connection {
         if (status == DCCP_TOO_LONG) throw error(status);
         return status;
     }
-    // Closes in order, or ends at once. Neither does anything to a connection that has ended.
-    void close() const { (void)dccp_connection_close(it_); }
+    // Closes in order, or ends at once, as a close does too before DCCP_EVENT_OPENED. Neither does anything to a connection that has ended.
+    void close() const {
+        if (dccp_connection_close(it_) != DCCP_NOT_OPEN) return;
+        const uint32_t phase = look().phase;
+        if (phase == DCCP_PHASE_REQUEST || phase == DCCP_PHASE_RESPOND) abort();
+    }
     void abort() const { (void)dccp_connection_abort(it_); }
 
     void prefer(dccp_feature_kind feature, const std::vector<uint64_t> &values, bool at_peer = false) const {

@@ -493,6 +493,16 @@ static void a_silent_client() {
     ::close(silent);
 }
 
+// A client that closes before its server, which is not there, has answered: it ends at once. A second close does nothing.
+static void a_client_that_closes_early() {
+    auto client = dccp::socket::connect("127.0.0.1", "9", 42);
+    client.connection()->close();
+    client.connection()->close();
+    const auto told = client.poll(100ms);
+    same("its end", DCCP_EVENT_ENDED, told->kind);
+    same("by itself", DCCP_END_ABORTED, told->cause);
+}
+
 // Two ends without sockets, one of which is moved.
 static void ends() {
     dccp_settings here DCCP_SETTINGS_INIT, there DCCP_SETTINGS_INIT;
@@ -552,6 +562,7 @@ int main() {
     losses();
     refusals();
     a_silent_client();
+    a_client_that_closes_early();
     ends();
     a_listener();
     return wrong;

@@ -1,4 +1,5 @@
-//! A file over packets that may be lost: the sender numbers its blocks, and sends lost ones again. The ends agree on names for a relay.
+//! A file over packets that may be lost: the sender numbers its blocks, and sends lost ones again. The first block says how many bytes the
+//! others have, since a connection may end in order before all was sent. The ends agree on names for a relay.
 //!
 //!     cargo run --example file -- receive ADDRESS:PORT FILE, or send ADDRESS:PORT FILE
 
@@ -6,13 +7,18 @@ use dccp::Fate;
 use dccp::net::{Error, Options, Socket};
 use std::collections::{BTreeMap, VecDeque};
 use std::time::Duration;
-use std::{fs, thread};
+use std::{fs, iter, thread};
 
 /// A packet is the number of a block, and the block.
 const BLOCK: usize = 1_020;
 
+/// How many packets wait at the receiver, which drops more and reports that.
+const HELD: usize = 256;
+
 fn send(socket: Socket, content: &[u8]) -> Result<(), Error> {
-    let mut waiting: VecDeque<(u32, &[u8])> = (0..).zip(content.chunks(BLOCK)).collect();
+    let length = (content.len() as u64).to_be_bytes();
+    let blocks = iter::once(&length[..]).chain(content.chunks(BLOCK));
+    let mut waiting: VecDeque<(u32, &[u8])> = (0..).zip(blocks).collect();
     let mut under_way = VecDeque::new();
     while !(waiting.is_empty() && under_way.is_empty()) {
         if let Some(it) = waiting.pop_front() {
@@ -35,14 +41,17 @@ fn send(socket: Socket, content: &[u8]) -> Result<(), Error> {
     Ok(())
 }
 
-fn receive(socket: &Socket) -> Vec<u8> {
+/// The file, if all of it has come; None if the connection has ended before.
+fn receive(socket: &Socket) -> Option<Vec<u8>> {
     let mut blocks = BTreeMap::new();
     while let Ok(packet) = socket.recv() {
         if let Some((number, block)) = packet.split_first_chunk() {
             blocks.insert(u32::from_be_bytes(*number), block.to_vec());
         }
     }
-    blocks.into_values().flatten().collect()
+    let length = u64::from_be_bytes(blocks.remove(&0)?.try_into().ok()?);
+    let content: Vec<u8> = blocks.into_values().flatten().collect();
+    (content.len() as u64 == length).then_some(content)
 }
 
 fn main() -> Result<(), Box<dyn std::error::Error>> {
@@ -52,7 +61,10 @@ fn main() -> Result<(), Box<dyn std::error::Error>> {
     };
     let options = Options::new().names("192.0.2.1:1".parse()?, "192.0.2.2:2".parse()?);
     match side.as_str() {
-        "receive" => fs::write(file, receive(&options.bind(address, &[42])?.accept()?))?,
+        "receive" => {
+            let socket = options.holding(HELD).bind(address, &[42])?.accept()?;
+            fs::write(file, receive(&socket).ok_or("the file is not whole")?)?;
+        }
         _ => send(options.connect(address, 42)?, &fs::read(file)?)?,
     }
     Ok(())
