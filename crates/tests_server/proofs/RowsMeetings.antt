@@ -1,11 +1,14 @@
 -- Rows of how a server meets what may need no flow, computed from the definitions; the values were worked out by hand.
-use Rattle.std.proofs.Common.{◌≡◌, refl, ℕ, true, false, [], ◌∷◌, replicate, Some, None, Less, Equal, Greater}
+use Rattle.std.proofs.Common.{◌≡◌, refl, ℕ, Option, true, false, [], ◌∷◌, replicate, Some, None, Less, Equal, Greater}
 use Rattle.dccp_listener.specs.declared.peer.Peer.{Peer}
 use Rattle.dccp_packets.specs.declared.header.Kind.TheVariants as kind
 use Rattle.dccp_packets.specs.declared.header.Number.TheVariants.{Long, Short}
 use Rattle.dccp_states.specs.declared.phase.Phase.TheVariants as phases
 use Rattle.init_cookies.specs.Openings.{OpeningState}
-use Rattle.dccp_uses.specs.ClientCookies.{cookie_kept}
+use Rattle.dccp_packets.specs.Outgoing.{Outgoing}
+use Rattle.dccp_sum.specs.declared.pseudo_header.Pseudo.{Pseudo}
+use Rattle.init_cookies.specs.Appending.{appended}
+use Rattle.dccp_uses.specs.ClientCookies.{cookie_kept, returning}
 use Rattle.dccp_server.specs.Due.{never}
 use Rattle.dccp_server.specs.FirstNumbers.{named_ends}
 use Rattle.dccp_server.specs.Meeting.{asking_by, asking_this, entry_by, entry_or, hurried, is_ever_in_use, is_half_open, is_in_use, may_meet, rekeyed}
@@ -73,6 +76,13 @@ what_a_client_keeps :
     (cookie_kept phases.Request phases.PartOpen (1 ∷ []) (7 ∷ []) ≡ []) × (cookie_kept phases.Request phases.Request (1 ∷ []) (7 ∷ []) ≡ 7 ∷ [])
     × (cookie_kept phases.PartOpen phases.PartOpen (1 ∷ []) (7 ∷ []) ≡ 7 ∷ []) × (cookie_kept phases.PartOpen phases.Open (1 ∷ []) (7 ∷ []) ≡ 7 ∷ [])
 what_a_client_keeps = (refl, refl, refl, refl)
+
+-- In PARTOPEN a frame returns the cookie, if there is one; in every other phase it goes out as it is.
+what_a_client_returns : (pseudo : Pseudo) (frame : Option Outgoing) →
+    (returning phases.PartOpen pseudo (7 ∷ []) frame ≡ appended pseudo (7 ∷ []) frame) × (returning phases.PartOpen pseudo [] frame ≡ frame)
+    × (returning phases.Request pseudo (7 ∷ []) frame ≡ frame) × (returning phases.Open pseudo (7 ∷ []) frame ≡ frame)
+    × (returning phases.Closing pseudo (7 ∷ []) frame ≡ frame)
+what_a_client_returns pseudo frame = (refl, refl, refl, refl, refl)
 
 -- The ends that a first number is drawn from: 10.0.0.2 with port 5001, and 10.0.0.1 with port 40000.
 the_ends_of_a_first_number :
