@@ -16,7 +16,7 @@ abbrev pub from_to : ℕ → ℕ → ℕ → Bool
 from_to least greatest value = nat_le least value && nat_le value greatest
 
 -- a line of the table
-pub record Described : Type 0 where
+pub record FeatureRow : Type 0 where
   pub number : ℕ
   -- the rule: server-priority over lists, or else non-negotiable (RFC 4340, sections 6.3.1 and 6.3.2)
   pub is_server_priority : Bool
@@ -31,7 +31,7 @@ pub record Described : Type 0 where
   pub is_required : Bool
 
 -- a feature whose value is the reconciliation of two lists
-abbrev pub server_priority : ℕ → ℕ → (ℕ → Bool) → (ℕ → Bool) → List ℕ → List ℕ → Bool → Described
+abbrev pub server_priority : ℕ → ℕ → (ℕ → Bool) → (ℕ → Bool) → List ℕ → List ℕ → Bool → FeatureRow
 server_priority number initial permitted_here permitted_there list_here list_there is_required =
     record {
       number = number;
@@ -46,7 +46,7 @@ server_priority number initial permitted_here permitted_there list_here list_the
     }
 
 -- a feature whose value its location tells; a value that is asked for at the peer is judged by the same range
-abbrev pub non_negotiable : ℕ → ℕ → ℕ → (ℕ → Bool) → ℕ → Bool → Described
+abbrev pub non_negotiable : ℕ → ℕ → ℕ → (ℕ → Bool) → ℕ → Bool → FeatureRow
 non_negotiable number width initial permitted usual is_required =
     record {
       number = number;
@@ -61,7 +61,7 @@ non_negotiable number width initial permitted usual is_required =
     }
 
 -- number, initial value, permitted here and there, list here and there, required; with a width for the non-negotiable
-abbrev pub described : Feature → Described
+abbrev pub described : Feature → FeatureRow
 described f.Ccid =
     server_priority 1 2 (one_of (2 ∷ 248 ∷ [])) (one_of (2 ∷ 248 ∷ [])) (2 ∷ 248 ∷ []) (2 ∷ 248 ∷ []) true
 described f.ShortSeqnos = server_priority 2 0 (from_to 0 1) (from_to 0 1) (0 ∷ []) (0 ∷ []) true
