@@ -7,7 +7,7 @@ use Rattle.dccp_options.specs.declared.option.OptFault.{OptFault}
 use Rattle.dccp_packets.specs.declared.reset_code.ResetCode.TheVariants as codes
 use Rattle.feature_lists.specs.Features.{feature_numbered}
 use Rattle.feature_lists.specs.declared.features.Feature.{Feature}
-use Rattle.feature_machine.specs.Answers.{Answered, Confirming, Ignoring, Failing, answered, settling_of}
+use Rattle.feature_machine.specs.Answers.{ChangeAnswer, Confirming, Ignoring, Failing, answered, settling_of}
 use Rattle.feature_machine.specs.Negotiating.{changes, changes_known, confirmed, confirms_known, place_of}
 use Rattle.feature_machine.specs.Rows.{Change, Confirm}
 use Rattle.feature_machine.specs.Turns.{Turn, turned}
@@ -25,7 +25,7 @@ abbrev Follows : List Row → List Turn → Result Heeding Fault → Type 0
 Follows rows turns (Ok h) = h.rows ≡ turned rows turns
 Follows rows turns (Err fault) = Unit {0}
 
-answered-follows : (h : Heeding) (place : ℕ) (rows : List Row) (entry : Entry) (turns : List Turn) (x : Answered) → rows ≡ turned h.rows turns
+answered-follows : (h : Heeding) (place : ℕ) (rows : List Row) (entry : Entry) (turns : List Turn) (x : ChangeAnswer) → rows ≡ turned h.rows turns
     → Follows h.rows turns (by_answered h place rows entry x)
 answered-follows h place rows entry turns (Confirming left number body) is = is
 answered-follows h place rows entry turns Ignoring is = is

@@ -13,7 +13,7 @@ use Rattle.dccp_packets.specs.declared.reset_code.ResetCode.{ResetCode}
 use Rattle.dccp_packets.specs.declared.reset_code.ResetCode.TheVariants as codes
 use Rattle.feature_lists.specs.Features.{feature_numbered}
 use Rattle.feature_lists.specs.declared.features.Feature.{Feature}
-use Rattle.feature_machine.specs.Answers.{Answered, Confirming, Ignoring, Failing, answered, settling_of}
+use Rattle.feature_machine.specs.Answers.{ChangeAnswer, Confirming, Ignoring, Failing, answered, settling_of}
 use Rattle.feature_machine.specs.Negotiating.{changes, confirmed, place_of}
 use Rattle.feature_machine.specs.Rows.{RowEvent, Change, Confirm}
 use Rattle.feature_machine.specs.Turns.{Turn}
@@ -79,7 +79,7 @@ met h place change rows confirms =
     record { rows = rows; used = slice_set h.used place true; changes = counted h.changes change; confirms = confirms }
 
 -- a Change, by what its row answers
-abbrev pub by_answered : Heeding → ℕ → List Row → Entry → Answered → Result Heeding Fault
+abbrev pub by_answered : Heeding → ℕ → List Row → Entry → ChangeAnswer → Result Heeding Fault
 by_answered h place rows entry (Confirming left number body) =
     Ok (met h place true rows (h.confirms ++ record { left = left; number = number; body = body } ∷ []))
 by_answered h place rows entry Ignoring = Ok (met h place true rows h.confirms)

@@ -17,18 +17,18 @@ reply_of reply.Ignored = Ignored
 reply_of reply.Fatal = Fatal 6
 
 -- what a Change leads to
-pub data Answered : Type 0 where
-  Confirming : (left : Bool) (feature : ℕ) (body : List ℕ) → Answered
-  Ignoring Failing : Answered
+pub data ChangeAnswer : Type 0 where
+  Confirming : (left : Bool) (feature : ℕ) (body : List ℕ) → ChangeAnswer
+  Ignoring Failing : ChangeAnswer
 
 -- the answer of the call as plain data: the Confirm letter by letter, or why none goes out
-abbrev pub shown : Answer → Answered
+abbrev pub shown : Answer → ChangeAnswer
 shown (answer.Confirm out) = Confirming out.left out.feature out.body.items
 shown answer.Ignored = Ignoring
 shown answer.Fatal = Failing
 
 -- a Change is answered by a Confirm with its feature number and the other letter (RFC 4340, section 6.2)
-abbrev pub answered : Bool → ℕ → RowAnswer → Answered
+abbrev pub answered : Bool → ℕ → RowAnswer → ChangeAnswer
 answered left feature (Confirms body) = Confirming (not left) feature body
 answered left feature (Fatal _) = Failing
 answered left feature _ = Ignoring

@@ -11,7 +11,7 @@ use Rattle.feature_lists.specs.declared.wishes.PreferFault.{PreferFault}
 use Rattle.feature_lists.specs.declared.wishes.PreferFault.TheVariants as refused
 use Rattle.feature_lists.specs.declared.wishes.Wanted.{Wanted}
 use Rattle.feature_lists.specs.declared.wishes.Wanted.TheVariants as wanted
-use Rattle.feature_machine.specs.Answers.{Answered, Confirming, Ignoring, Failing, answered, is_opening, opening_of, settling_of}
+use Rattle.feature_machine.specs.Answers.{ChangeAnswer, Confirming, Ignoring, Failing, answered, is_opening, opening_of, settling_of}
 use Rattle.feature_machine.specs.Lists.{listed_at, usual_lists, with_offer, with_wish, without_offers}
 use Rattle.feature_machine.specs.Negotiating.{changes, confirmed, due_keys, first_rows, is_due, is_next_mandatory, row_at, stepped}
 use Rattle.feature_machine.specs.Rows.{Offers, Prefers, Sends, is_there}
@@ -49,7 +49,7 @@ data Told : Type 0 where
   Done Opens Stays Unfit : Told
   Refused : (fault : PreferFault) → Told
   Asks : (opening : Opening) → Told
-  Answers : (answer : Answered) → Told
+  Answers : (answer : ChangeAnswer) → Told
   Settles : (settling : Settling) → Told
   Carrying : (mandatory : Bool) → Told
   Held : (value : ℕ) (stand : Stand) → Told

@@ -20,7 +20,7 @@ use Rattle.dccp_endpoint.specs.Turns.{Key}
 use Rattle.dccp_states.specs.declared.outcome.Fault.{Fault}
 use Rattle.feature_lists.specs.declared.features.Place.{Place}
 use Rattle.feature_lists.specs.declared.features.Place.TheVariants.{Here, There}
-use Rattle.feature_machine.specs.Answers.{Answered, Confirming, Ignoring, Failing, answered, settling_of}
+use Rattle.feature_machine.specs.Answers.{ChangeAnswer, Confirming, Ignoring, Failing, answered, settling_of}
 use Rattle.feature_machine.specs.Negotiating.{IsNegotiation, changes, confirmed, due_keys, row_at}
 use Rattle.feature_machine.specs.declared.answers.Settling.{Settling}
 use Rattle.feature_machine.specs.declared.answers.Settling.TheVariants as settling
@@ -52,7 +52,7 @@ abbrev AddsUpTo : ℕ → Heeding → Result Heeding Fault → Type 0
 AddsUpTo more h (Ok next) = length next.confirms ≤ length h.confirms + more
 AddsUpTo more h (Err fault) = Unit {0}
 
-answer-adds : (h : Heeding) (place : ℕ) (rows : List Row) (entry : Entry) (a : Answered) → AddsUpTo 1 h (by_answered h place rows entry a)
+answer-adds : (h : Heeding) (place : ℕ) (rows : List Row) (entry : Entry) (a : ChangeAnswer) → AddsUpTo 1 h (by_answered h place rows entry a)
 answer-adds h place rows entry (Confirming left number body) =
     omega (arith, length-append h.confirms (record { left = left; number = number; body = body } ∷ []))
 answer-adds h place rows entry Ignoring = omega arith
