@@ -8,7 +8,7 @@ use Rattle.congestion_trait.specs.Flight.{States, sent, after_report}
 use Rattle.congestion_trait.specs.Control.{Control, IsLawful, KeepsWindow}
 
 -- a flight list, and what a kind keeps beside it
-pub record Flying (R : Type 0) : Type 0 where
+pub record KindState (R : Type 0) : Type 0 where
   pub flight : List FlightEntry
   pub rest : R
 
@@ -23,7 +23,7 @@ pub record KindRules (R : Type 0) : Type 0 where
   pub timed_out : R → R
 
 -- the congestion control of these rules, with a flight list beside what they keep
-abbrev pub control_by_rules : {R : Type 0} → KindRules R → Control (Flying R)
+abbrev pub control_by_rules : {R : Type 0} → KindRules R → Control (KindState R)
 control_by_rules rules = record {
   flight = λ state. state.flight;
   window = λ state. rules.window state.rest;

@@ -22,9 +22,9 @@ pub struct AdditiveWindow {
 
 impl Model for AdditiveWindow {
     ghost use Rattle.std.specs.Prelude.{ℕ, ◌≤◌};
-    ghost use Rattle.congestion_trait.specs.Kind.{Flying};
+    ghost use Rattle.congestion_trait.specs.Kind.{KindState};
 
-    ghost Value = { Flying ℕ };
+    ghost Value = { KindState ℕ };
 
     ghost view = { λ w. record { flight = w.flight; rest = w.window } };
 

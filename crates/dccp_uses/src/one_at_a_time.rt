@@ -19,9 +19,9 @@ pub struct OneAtATime {
 }
 
 impl Model for OneAtATime {
-    ghost use Rattle.congestion_trait.specs.Kind.{Flying};
+    ghost use Rattle.congestion_trait.specs.Kind.{KindState};
 
-    ghost Value = { Flying (Unit {0}) };
+    ghost Value = { KindState (Unit {0}) };
 
     ghost view = { λ w. record { flight = w.flight; rest = tt } };
 }

@@ -3,12 +3,12 @@ use Rattle.std.proofs.Common.{◌≡◌, refl, ℕ, true, false, List, [], ◌�
 use Rattle.congestion_trait.specs.Calls.{Call, Reports, Sends, Starts, TimesOut, after_call}
 use Rattle.congestion_trait.specs.Control.{Control}
 use Rattle.congestion_trait.specs.Flight.{pipe_of}
-use Rattle.congestion_trait.specs.Kind.{Flying, control_by_rules}
+use Rattle.congestion_trait.specs.Kind.{KindState, control_by_rules}
 use Rattle.dccp_options.specs.Grammar.{options_of}
 use Rattle.dccp_options.specs.Vectors.{reported}
 use Rattle.dccp_uses.specs.Additive.{additive}
 
-abbrev control : Control (Flying ℕ)
+abbrev control : Control (KindState ℕ)
 control = control_by_rules additive
 
 -- a report at a number, of the runs of one byte
@@ -16,7 +16,7 @@ abbrev Report : ℕ → ℕ → Call
 Report ack byte = Reports (reported ack (options_of (38 ∷ 3 ∷ byte ∷ []) false)) 2
 
 -- the window and what is in flight after each call
-abbrev told : Flying ℕ → List Call → List (ℕ × ℕ)
+abbrev told : KindState ℕ → List Call → List (ℕ × ℕ)
 told state [] = []
 told state (call ∷ rest) =
     let next = after_call control state call in

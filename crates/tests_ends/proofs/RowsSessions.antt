@@ -3,7 +3,7 @@
 use Rattle.std.proofs.Common.{◌≡◌, refl, ℕ, true, false, List, [], ◌∷◌, replicate, Some, None, Ok, Err}
 use Rattle.ccid_two.specs.Kinds.{Both, at_first, kinds_control}
 use Rattle.congestion_trait.specs.Control.{Control}
-use Rattle.congestion_trait.specs.Kind.{Flying, control_by_rules}
+use Rattle.congestion_trait.specs.Kind.{KindState, control_by_rules}
 use Rattle.dccp_endpoint.specs.Calling.{closes, fires, opens, prefers, sends_payload}
 use Rattle.dccp_endpoint.specs.Drafts.{framed}
 use Rattle.dccp_endpoint.specs.Early.{sends_early}
@@ -109,10 +109,10 @@ unfolding receives opens closes prefers fires sends_payload sends_early framed u
 the_client_speaks_first = refl
 
 -- An own congestion control: a client whose window is one packet. The second has to wait for the report of the first.
-abbrev by_ones : Control (Flying (Unit {0}))
+abbrev by_ones : Control (KindState (Unit {0}))
 by_ones = control_by_rules one_at_a_time
 
-abbrev asked_by_ones : Pair (Flying (Unit {0}))
+abbrev asked_by_ones : Pair (KindState (Unit {0}))
 asked_by_ones = asking by_ones (record { flight = []; rest = tt }) 42
 
 one_packet_at_a_time :
