@@ -28,7 +28,7 @@ use Rattle.feature_machine.proofs.Turning.{turned-joined}
 use Rattle.dccp_endpoint.specs.Causes.{is_code_without_connection, is_waiting, IsLooking, Looks, LooksNowhere, AreHeard, AreTurns, Arrived, BecomesOpen, CallsFor, Came, FitsPassing, Greatest, Heeds, InResponse, IsAcknowledging, IsCaused, AreOptionsRead, IsHearing, IsOpening, NotNow, StaysSo, counts_in, turns_in}
 use Rattle.dccp_endpoint.specs.Congesting.{calls_for}
 use Rattle.dccp_endpoint.specs.Drafts.{alone}
-use Rattle.dccp_endpoint.specs.Effects.{Effect, HeardNumber, Heard, Next, Passing, Refused, Sending, Shut, Silent, Taken, effect_of, end_after, frame_by, greatest_or, is_acking_sent, raising}
+use Rattle.dccp_endpoint.specs.Effects.{Effect, HeardNumber, Heard, Next, PacketFate, Refused, Sending, Shut, Silent, Taken, effect_of, end_after, frame_by, greatest_or, is_acking_sent, raising}
 use Rattle.dccp_endpoint.specs.End.{EndState, IsProper, is_begun, is_connected, is_live, is_open, is_phase_of, phase_entered, with_rows}
 use Rattle.dccp_endpoint.specs.Faults.{counts}
 use Rattle.dccp_endpoint.specs.Heeding.{DueConfirm, Heeding, heeds, unheeded}
@@ -82,7 +82,7 @@ pub record Entry (e : EndState) (bytes : List ℕ) (a : Incoming) : Type 0 where
   pub first_so : first ≡ hears_first e
   pub valid : IsValid e a (entered_as e first ph a.number (raising a.kind a.ack))
   pub entered : ph ≡ phase_entered e.phase
-  pub hears : (to : Phase) (how : Passing) → how ≢ Refused → FitsPassing to a.kind how → IsHearing e (Arrives bytes) to (Heard first a.number how)
+  pub hears : (to : Phase) (how : PacketFate) → how ≢ Refused → FitsPassing to a.kind how → IsHearing e (Arrives bytes) to (Heard first a.number how)
   pub acks : IsAcknowledging e (Arrives bytes) (raising a.kind a.ack)
   pub its_role : is_phase_of ph e.config.role ≡ true
   pub live : (is_live e.phase ≡ true) ⊎ (first ≡ true)
@@ -110,7 +110,7 @@ module _ (o : EndState) (bytes : List ℕ) (proper : IsProper (wide o)) where
     valid-packet = record { came = entry.came; is_valid = entry.valid }
 
     -- with its number heard as the first or not
-    closing-form : (how : Passing) (fault : Fault)
+    closing-form : (how : PacketFate) (fault : Fault)
         → effect_of e (Heard entry.first a.number how) (raising a.kind a.ack) false phase.Closed false (Next (reset_of end.marks.gsr fault))
         ≡ effect_of_closing e a how fault
     closing-form how fault =

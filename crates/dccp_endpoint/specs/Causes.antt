@@ -29,7 +29,7 @@ use Rattle.feature_machine.specs.Turns.{Turn, turned}
 use Rattle.dccp_endpoint.specs.Calling.{is_asking_now}
 use Rattle.dccp_endpoint.specs.Congesting.{calls_for}
 use Rattle.dccp_endpoint.specs.Drafts.{Draft, IsSendable, alone}
-use Rattle.dccp_endpoint.specs.Effects.{Effect, Passing, Refused, Shut, Taken, HeardNumber, Unheard, Heard, Sending, Silent, Next, WithoutConnection, greatest_by, end_after, frame_by, rows_by, told_by}
+use Rattle.dccp_endpoint.specs.Effects.{Effect, PacketFate, Refused, Shut, Taken, HeardNumber, Unheard, Heard, Sending, Silent, Next, WithoutConnection, greatest_by, end_after, frame_by, rows_by, told_by}
 use Rattle.dccp_endpoint.specs.End.{EndState, IsProper, is_phase_of, is_live, is_begun, is_connected, phase_entered}
 use Rattle.dccp_endpoint.specs.Faults.{counts}
 use Rattle.dccp_endpoint.specs.Heeding.{DueConfirm, Heeding, heard_turns, heeds, unheeded}
@@ -67,7 +67,7 @@ abbrev pub verdict_of : EndState → Incoming → Verdict
 verdict_of e a = verdict e.marks a.kind a.number a.ack
 
 -- Step 7 refuses no Ack and no DataAck. Who answered with a Reset that closes is CLOSED.
-abbrev pub FitsPassing : Phase → PacketType → Passing → Type 0
+abbrev pub FitsPassing : Phase → PacketType → PacketFate → Type 0
 FitsPassing phase type Refused = is_acking type ≡ false
 FitsPassing phase type Shut = phase ≡ phases.Closed
 FitsPassing phase type Taken = Unit {0}
@@ -76,11 +76,11 @@ FitsPassing phase type Taken = Unit {0}
 pub data IsHearing (e : EndState) (given : Input) (phase : Phase) : HeardNumber → Type 0 where
   Keeps : (is_live phase ≡ true → is_live e.phase ≡ true) → IsHearing e given phase Unheard
   -- the Request that opens, in LISTEN, and the Response to the Request, in REQUEST
-  Starts : (a : Incoming) (how : Passing) → Came e given a → a.kind ≢ types.Reset
+  Starts : (a : Incoming) (how : PacketFate) → Came e given a → a.kind ≢ types.Reset
       → (entrance_of e a ≡ entrance.Accept) ⊎ (entrance_of e a ≡ entrance.InRequest) → how ≢ Refused → FitsPassing phase a.kind how
       → IsHearing e given phase (Heard true a.number how)
   -- a packet in the windows
-  Raises : (a : Incoming) (how : Passing) → Came e given a → a.kind ≢ types.Reset → entrance_of e a ≡ entrance.Check
+  Raises : (a : Incoming) (how : PacketFate) → Came e given a → a.kind ≢ types.Reset → entrance_of e a ≡ entrance.Check
       → verdict_of e a ≡ verdicts.Valid → FitsPassing phase a.kind how → IsHearing e given phase (Heard false a.number how)
 
 -- why what is known acknowledged changes: by the Response to the Request, and by a packet in the windows

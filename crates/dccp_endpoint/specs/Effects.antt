@@ -25,15 +25,15 @@ use Rattle.run_list.specs.MarkedSet.{answer_to}
 
 -- What became of a valid packet, other than a Reset: step 7 refused it, it was answered with a Reset 5, 6 or 8 that
 -- closed the end, or it was taken.
-pub data Passing : Type 0 where
-  Refused Shut Taken : Passing
+pub data PacketFate : Type 0 where
+  Refused Shut Taken : PacketFate
 
 -- What was heard: nothing new, or a valid packet's number, as the first of the connection or not. That is a Bool of one
 -- constructor, so that each part of the end is computed while the case is still open. Whether OSR changes is a Bool
 -- too, since its new value can only be the number heard.
 pub data HeardNumber : Type 0 where
   Unheard : HeardNumber
-  Heard : (first : Bool) (number : ℕ) (how : Passing) → HeardNumber
+  Heard : (first : Bool) (number : ℕ) (how : PacketFate) → HeardNumber
 
 -- what goes out: nothing, a packet under the next number, or a Reset without a connection under another
 pub data Sending : Type 0 where
@@ -65,7 +65,7 @@ pub record Effect : Type 0 where
 
 -- An acknowledgement is owed once a packet was taken. What is owed after a step is computed from what was heard and
 -- what goes out, so a Close that is marked and answered with a Reset is no case of its own.
-abbrev pub owed_as : Passing → Bool → Bool
+abbrev pub owed_as : PacketFate → Bool → Bool
 owed_as Taken old = true
 owed_as Refused old = old
 owed_as Shut old = old
@@ -154,7 +154,7 @@ begun_or true number old = kept.fresh number
 begun_or false number old = old
 
 -- the number of a packet that was taken is marked
-abbrev pub marked_as : Passing → ReceivedState → ℕ → ReceivedState
+abbrev pub marked_as : PacketFate → ReceivedState → ℕ → ReceivedState
 marked_as Taken old number = marked_by old number
 marked_as Refused old number = old
 marked_as Shut old number = old
@@ -165,7 +165,7 @@ heard_by old Unheard = old
 heard_by old (Heard first number how) = marked_as how (begun_or first number old) number
 
 -- how many numbers were taken, by what the mark answers
-abbrev pub count_as : Passing → ℕ → ReceivedState → ℕ → ℕ
+abbrev pub count_as : PacketFate → ℕ → ReceivedState → ℕ → ℕ
 count_as Taken count old number = one_more_taken count (is_new (answer_to old.set number))
 count_as Refused count old number = count
 count_as Shut count old number = count
@@ -176,7 +176,7 @@ count_by count old Unheard = count
 count_by count old (Heard first number how) = count_as how count (begun_or first number old) number
 
 -- the number that was taken last, by what became of a valid packet
-abbrev pub last_as : Passing → ℕ → ℕ → ℕ
+abbrev pub last_as : PacketFate → ℕ → ℕ → ℕ
 last_as Taken old number = number
 last_as Refused old number = old
 last_as Shut old number = old

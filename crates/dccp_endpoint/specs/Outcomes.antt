@@ -30,7 +30,7 @@ use Rattle.validity_windows.specs.declared.verdict.Verdict.TheVariants as verdic
 use Rattle.dccp_endpoint.specs.Causes.{AreTurns, Came, IsCaused, entrance_of, turns_in, verdict_of}
 use Rattle.dccp_endpoint.specs.Congesting.{calls_for}
 use Rattle.dccp_endpoint.specs.Drafts.{alone}
-use Rattle.dccp_endpoint.specs.Effects.{Effect, Passing, Sending, Silent, Next, WithoutConnection, Heard, Refused, Shut, Taken, effect_of, effect_of_sending, end_after, frame_by, greatest_or, is_acking_sent, raising, rows_by}
+use Rattle.dccp_endpoint.specs.Effects.{Effect, PacketFate, Sending, Silent, Next, WithoutConnection, Heard, Refused, Shut, Taken, effect_of, effect_of_sending, end_after, frame_by, greatest_or, is_acking_sent, raising, rows_by}
 use Rattle.dccp_endpoint.specs.End.{EndState, is_live, phase_entered}
 use Rattle.dccp_endpoint.specs.Heeding.{DueConfirm, Heeding}
 use Rattle.dccp_endpoint.specs.Incoming.{Incoming}
@@ -199,11 +199,11 @@ greatest_with e a = greatest_or (hears_first e) a.number e.marks.gsr
 
 -- The effect of a valid packet that moves no row: its number and what it acknowledges are heard, the phase is this
 -- then, and this goes out.
-abbrev pub effect_of_packet : EndState → Incoming → Passing → Phase → Sending → Effect
+abbrev pub effect_of_packet : EndState → Incoming → PacketFate → Phase → Sending → Effect
 effect_of_packet e a how phase sending = effect_of e (Heard (hears_first e) a.number how) (raising a.kind a.ack) false phase false sending
 
 -- The end closes, and its Reset tells of this fault and acknowledges GSR, the packet's number included.
-abbrev pub effect_of_closing : EndState → Incoming → Passing → Fault → Effect
+abbrev pub effect_of_closing : EndState → Incoming → PacketFate → Fault → Effect
 effect_of_closing e a how fault = effect_of_packet e a how phases.Closed (Next (reset_of (greatest_with e a) fault))
 
 -- The effect of a Sync, by its cause. Where the packet's numbers are not valid only GSS changes; where it is unexpected

@@ -7,7 +7,7 @@ use Rattle.dccp_states.specs.declared.phase.Phase.TheVariants as phases
 use Rattle.dccp_states.specs.declared.phase.Role.{Role}
 use Rattle.dccp_states.specs.declared.phase.Role.TheVariants as role
 use Rattle.dccp_endpoint.specs.Causes.{Came, IsHearing, Keeps as KeepsHeard, Starts, Raises, IsOpened, NotNow, ByCall, entrance_of, is_waiting}
-use Rattle.dccp_endpoint.specs.Effects.{Effect, HeardNumber, Unheard, Heard, Passing, end_after, greatest_by, greatest_or, opened_by}
+use Rattle.dccp_endpoint.specs.Effects.{Effect, HeardNumber, Unheard, Heard, PacketFate, end_after, greatest_by, greatest_or, opened_by}
 use Rattle.dccp_endpoint.specs.End.{EndState, first_phase, is_live, new_end}
 use Rattle.dccp_endpoint.specs.Incoming.{Incoming, is_newest}
 use Rattle.dccp_endpoint.specs.Inputs.{Input, Arrives, Opens}
@@ -30,10 +30,10 @@ pub record IsHeardTo (iss count greatest : ℕ) (e : EndState) : Type 0 where
 -- How the count goes on with what is heard: it stays, or a newest packet has a greater one.
 pub data HeardSo (act : Act) (greatest later : ℕ) : HeardNumber → Type 0 where
   NothingNew : later ≡ greatest → HeardSo act greatest later Unheard
-  Old : (a : Incoming) (first : Bool) (how : Passing) → Came (end_of act.side) act.given a → later ≡ greatest → a.newest ≡ false
+  Old : (a : Incoming) (first : Bool) (how : PacketFate) → Came (end_of act.side) act.given a → later ≡ greatest → a.newest ≡ false
       → (from : IsFromLog (config_of act.peer).iss act.peer.log a)
       → HeardSo act greatest later (Heard first a.number how)
-  Newest : (a : Incoming) (first : Bool) (how : Passing) → Came (end_of act.side) act.given a → greatest < later
+  Newest : (a : Incoming) (first : Bool) (how : PacketFate) → Came (end_of act.side) act.given a → greatest < later
       → (from : IsFromLog (config_of act.peer).iss act.peer.log a) → later ≡ from.place + 1 → HeardSo act greatest later (Heard first a.number how)
 
 pub record HearsOn (act : Act) (greatest : ℕ) : Type 0 where
@@ -99,7 +99,7 @@ module _ (act : Act) (peer : IsOrdered act.peer) (greatest : ℕ) (h : IsHeardTo
       cc (live, dead)
 
   -- a packet was heard, and the count is `later` then
-  pub heard-on : (a : Incoming) (first : Bool) (how : Passing) (later : ℕ) → Heard first a.number how ≡ f.hearing → Came e act.given a
+  pub heard-on : (a : Incoming) (first : Bool) (how : PacketFate) (later : ℕ) → Heard first a.number how ≡ f.hearing → Came e act.given a
       → (entrance_of e a ≡ entrance.Accept) ⊎ (entrance_of e a ≡ entrance.InRequest) ⊎ (entrance_of e a ≡ entrance.Check)
       → later ≤ length act.peer.log → 1 ≤ later → greatest_or first a.number e.marks.gsr ≡ number_of iss later
       → IsHeardTo iss (length act.peer.log) later (end_after e f)

@@ -7,7 +7,7 @@ use Rattle.std.specs.List.{All, Contains}
 use Rattle.ack_vectors.specs.Kept.{ReceivedState as KeptNumbers}
 use Rattle.ack_vectors.specs.declared.received.VectorRecord.{VectorRecord}
 use Rattle.dccp_endpoint.specs.Causes.{Came, IsHearing, Keeps as KeepsHeard, Starts, Raises, entrance_of, is_waiting}
-use Rattle.dccp_endpoint.specs.Effects.{Effect, HeardNumber, Unheard, Heard, Passing, Refused, Shut, Taken, count_by, end_after, first_by, heard_by}
+use Rattle.dccp_endpoint.specs.Effects.{Effect, HeardNumber, Unheard, Heard, PacketFate, Refused, Shut, Taken, count_by, end_after, first_by, heard_by}
 use Rattle.dccp_endpoint.specs.End.{EndState, is_live}
 use Rattle.dccp_endpoint.specs.Incoming.{Incoming}
 use Rattle.dccp_endpoint.specs.Reporting.{is_acking, is_new, one_more_taken}
@@ -51,7 +51,7 @@ pub record IsTaking (act : Act) (view peer : MarkSide) (received : KeptNumbers) 
   pub marked : count_by (end_of act.side).marked (end_of act.side).received act.effect.hearing ≡ (end_of act.side).marked + length numbers
   pub packets : All (IsPacketOf (config_of act.peer).iss act.peer.log) numbers
   pub records : (r : VectorRecord) → Contains received.records r → Contains (end_of act.side).received.records r
-  pub some : (is_first : Bool) (number : ℕ) (how : Passing) → act.effect.hearing ≡ Heard is_first number how → 1 ≤ after.first
+  pub some : (is_first : Bool) (number : ℕ) (how : PacketFate) → act.effect.hearing ≡ Heard is_first number how → 1 ≤ after.first
 
 closed-not : (b : Bool) → (b ≡ true → ⊥) → b ≡ false
 closed-not true none = absurd (none refl)
@@ -211,7 +211,7 @@ module _ (act : Act) (peer_ordered : IsOrdered act.peer) (view peer : MarkSide) 
     unheard : view.first ≡ 0
     unheard = omega (arith, here.heard.waits waiting, kept.here.sound.first_taken)
 
-    first-heard : (how : Passing) → Heard true a.number how ≡ f.hearing → IsHeardTo iss (length act.peer.log) count (end_after e f)
+    first-heard : (how : PacketFate) → Heard true a.number how ≡ f.hearing → IsHeardTo iss (length act.peer.log) count (end_after e f)
     first-heard how is =
         heard-on act peer_ordered view.greatest here.heard a true how count is came
         (elim entered [ inl accepts ↦ inl accepts | inr asked ↦ inr (inl asked) ]) (omega (arith, c.below)) (omega arith) c.number
@@ -305,7 +305,7 @@ module _ (act : Act) (peer_ordered : IsOrdered act.peer) (view peer : MarkSide) 
     at-there : at ≤ length peer.frames
     at-there = omega (arith, peer-frames, later.below)
 
-    later-heard : (how : Passing) → Heard false a.number how ≡ f.hearing → IsHeardTo iss (length act.peer.log) (max view.greatest at) (end_after e f)
+    later-heard : (how : PacketFate) → Heard false a.number how ≡ f.hearing → IsHeardTo iss (length act.peer.log) (max view.greatest at) (end_after e f)
     later-heard how is =
         heard-on act peer_ordered view.greatest here.heard a false how (max view.greatest at) is came (inr (inr checked))
         (omega (arith, here.heard.within, later.below)) (omega arith)
@@ -315,14 +315,14 @@ module _ (act : Act) (peer_ordered : IsOrdered act.peer) (view peer : MarkSide) 
     not-closed : view.closed ≡ false
     not-closed = open-so (inl live)
 
-    set-at : (how : Passing) (s : MarkedSet) (after : MarkSide) → Heard false a.number how ≡ f.hearing
+    set-at : (how : PacketFate) (s : MarkedSet) (after : MarkSide) → Heard false a.number how ≡ f.hearing
         → (heard_by e.received (Heard false a.number how)).set ≡ s
         → IsMarked iss s after → IsMarked iss (heard_by e.received f.hearing).set after
     set-at how s after is same are =
         subst (λ (h : HeardNumber). IsMarked iss (heard_by e.received h).set after) is
         (subst (λ (x : MarkedSet). IsMarked iss x after) (sym same) are)
 
-    records-at : (how : Passing) → Heard false a.number how ≡ f.hearing → (r : VectorRecord) → Contains (heard_by e.received f.hearing).records r
+    records-at : (how : PacketFate) → Heard false a.number how ≡ f.hearing → (r : VectorRecord) → Contains (heard_by e.received f.hearing).records r
         → Contains e.received.records r
     records-at Taken is r = subst (λ (h : HeardNumber). Contains (heard_by e.received h).records r → Contains e.received.records r) is (λ there. there)
     records-at Refused is r = subst (λ (h : HeardNumber). Contains (heard_by e.received h).records r → Contains e.received.records r) is (λ there. there)
@@ -356,7 +356,7 @@ module _ (act : Act) (peer_ordered : IsOrdered act.peer) (view peer : MarkSide) 
         }
 
     -- a packet that is not marked, or was before
-    taking-passed : (how : Passing) → Heard false a.number how ≡ f.hearing → MarkMove peer.frames view (passed view at)
+    taking-passed : (how : PacketFate) → Heard false a.number how ≡ f.hearing → MarkMove peer.frames view (passed view at)
         → (heard_by e.received (Heard false a.number how)).set ≡ e.received.set → count_by e.marked e.received (Heard false a.number how) ≡ e.marked
         → Taking
     taking-passed how is move unmarked uncounted =

@@ -10,7 +10,7 @@ use Rattle.dccp_endpoint.proofs.Deriving.{Told}
 use Rattle.dccp_endpoint.proofs.Walking.{told_of_step}
 use Rattle.dccp_endpoint.specs.Causes.{AreTurns, Came, IsHearing, Keeps, Starts, Raises}
 use Rattle.dccp_endpoint.specs.Drafts.{alone}
-use Rattle.dccp_endpoint.specs.Effects.{Effect, HeardNumber, Unheard, Heard, Passing, Refused, Shut, Taken, Sending, Silent, Next, effect_of_sending, end_after, is_acking_sent}
+use Rattle.dccp_endpoint.specs.Effects.{Effect, HeardNumber, Unheard, Heard, PacketFate, Refused, Shut, Taken, Sending, Silent, Next, effect_of_sending, end_after, is_acking_sent}
 use Rattle.dccp_endpoint.specs.End.{EndState, IsProper}
 use Rattle.dccp_endpoint.specs.Incoming.{Incoming}
 use Rattle.dccp_endpoint.specs.Inputs.{Arrives, Input}
@@ -68,7 +68,7 @@ module _ (e : EndState) where
   as-sent : (f : Effect) (s : Sending) → is_acking_sent s ≡ false → f ≡ effect_of_sending e s → IsQuiet f
   as-sent f s plain form none = subst (λ (g : Effect). KeepsReceived e (end_after e g)) (sym form) (still e.phase s plain)
 
-  as-heard : (f g : Effect) (first : Bool) (number : ℕ) (how : Passing) → g.hearing ≡ Heard first number how → f ≡ g → IsQuiet f
+  as-heard : (f g : Effect) (first : Bool) (number : ℕ) (how : PacketFate) → g.hearing ≡ Heard first number how → f ≡ g → IsQuiet f
   as-heard f g first number how heard form none =
       let both : HeardNumber.Unheard ≡ Heard first number how = sym none ∙ ap (λ (x : Effect). x.hearing) form ∙ heard in
       cc both

@@ -10,7 +10,7 @@ use Rattle.dccp_endpoint.proofs.Deriving.{Told}
 use Rattle.dccp_endpoint.proofs.Phases.{check-live}
 use Rattle.dccp_endpoint.proofs.Walking.{told_of_step}
 use Rattle.dccp_endpoint.specs.Causes.{AreTurns, Came, EveryStepHasOneEffect, IsCaused, IsHearing, Keeps as KeepsHeard, Starts, Raises, entrance_of}
-use Rattle.dccp_endpoint.specs.Effects.{Effect, HeardNumber, Unheard, Heard, Passing, Refused, Shut, Taken, count_by, end_after, frame_by, greatest_by}
+use Rattle.dccp_endpoint.specs.Effects.{Effect, HeardNumber, Unheard, Heard, PacketFate, Refused, Shut, Taken, count_by, end_after, frame_by, greatest_by}
 use Rattle.dccp_endpoint.specs.End.{EndState, first_phase, is_live}
 use Rattle.dccp_endpoint.specs.Incoming.{Incoming}
 use Rattle.dccp_endpoint.specs.Inputs.{Input, Arrives, end_stepped}
@@ -202,7 +202,7 @@ module _ (act : Act) (own : SideInvariant act.side act.peer) (peers : SideInvari
       unmarked true is =
           absurd (omega (arith, above, m.kept.here.sound.processed_taken count (m.kept.here.sound.marks_processed count is)))
 
-  by-order : (a : Incoming) (how : Passing) → Came e act.given a → a.kind ≢ types.Reset → entrance_of e a ≡ entrance.Check
+  by-order : (a : Incoming) (how : PacketFate) → Came e act.given a → a.kind ≢ types.Reset → entrance_of e a ≡ entrance.Check
       → Heard false a.number how ≡ f.hearing → (how ≡ Shut → f.phase ≡ phases.Closed) → (after : Bool) → is_before e.marks.gsr a.number ≡ after → Meets act
   by-order a how came other checked is shuts false order =
       let live = check-live e.phase a.kind checked in
