@@ -24,7 +24,7 @@ use Rattle.dccp_sum.specs.declared.pseudo_header.Pseudo.{Pseudo}
 use Rattle.run_list.specs.MarkedSet.{MarkedSet}
 use Rattle.dccp_endpoint.specs.Causes.{HasEffect, HasFrame, Says, SaysNothing, SaysAll, SaysApart, vector_of}
 use Rattle.dccp_endpoint.specs.Drafts.{Draft, IsSendable, ReadsAs, alone, own_header, sent_of}
-use Rattle.dccp_endpoint.specs.Effects.{Effect, Sending, end_after, frame_by, greatest_by, rows_by, told_by}
+use Rattle.dccp_endpoint.specs.Effects.{Effect, Transmission, end_after, frame_by, greatest_by, rows_by, told_by}
 use Rattle.dccp_endpoint.specs.End.{EndState, IsProper}
 use Rattle.dccp_endpoint.specs.Heeding.{DueConfirm}
 use Rattle.dccp_endpoint.specs.Inputs.{Input, end_stepped}
@@ -219,7 +219,7 @@ never : (draft : Draft) → false ≡ true → may_be_short (packet_type draft.k
 never draft is = absurd cc
 
 -- what is sent
-sending-tells : (held : InboxState) {e : EndState} {f : Effect} {confirms : List DueConfirm} {keys : List Key} {sending : Sending}
+sending-tells : (held : InboxState) {e : EndState} {f : Effect} {confirms : List DueConfirm} {keys : List Key} {sending : Transmission}
     → Says e f confirms keys sending → HasFrame sending → (own : Outgoing) → frame_by e f sending ≡ Some own
     → TellsItsDrops e.config.pseudo_out held own (buffered_sent e.config.pseudo_out held own)
 sending-tells held (SaysNothing no_confirms no_keys) framed sent is = absurd cc

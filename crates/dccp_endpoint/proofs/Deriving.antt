@@ -22,7 +22,7 @@ use Rattle.feature_machine.specs.Negotiating.{due_keys, every_place}
 use Rattle.feature_machine.specs.Turns.{Turn, turned}
 use Rattle.dccp_endpoint.specs.Causes.{HasEffect, Acknowledges, AcknowledgesHeard, AreHeard, AreTurns, CallsNothing, Deaf, HasFrame, HasNext, IsAcknowledging, IsCalling, IsCaused, IsFirst, IsHearing, IsOffering, IsOpened, IsOpening, IsSending, Keeps, LeavesIt, NotNow, Offering, Others, Plain, Refuses, Rests, Says, SaysAll, SaysApart, SaysNothing, StaysSo, Acks, IsLooking, LooksNowhere, is_waiting, vector_of, is_without_connection}
 use Rattle.dccp_endpoint.specs.Drafts.{Draft, IsSendable, alone}
-use Rattle.dccp_endpoint.specs.Effects.{Effect, frame_by, HeardNumber, Unheard, Sending, Silent, Next, effect_of, end_after, greatest_by, heard_by, owed_by, rows_by, told_by}
+use Rattle.dccp_endpoint.specs.Effects.{Effect, frame_by, HeardNumber, Unheard, Transmission, Silent, Next, effect_of, end_after, greatest_by, heard_by, owed_by, rows_by, told_by}
 use Rattle.dccp_endpoint.specs.End.{EndState, IsProper, is_begun, is_connected, is_live, is_phase_of, with_rows, with_widths}
 use Rattle.dccp_endpoint.specs.Heeding.{DueConfirm}
 use Rattle.dccp_endpoint.specs.Inputs.{Input, Arrives}
@@ -155,7 +155,7 @@ offering {e = e} {heard = heard} {confirms = confirms} hears =
     }
 
 -- An effect, part by part, with nothing that is due to the congestion control.
-abbrev pub effect_with : List Turn → HeardNumber → Option ℕ → Bool → Phase → Bool → Option ℕ → Bool → ℕ → Sending → Effect
+abbrev pub effect_with : List Turn → HeardNumber → Option ℕ → Bool → Phase → Bool → Option ℕ → Bool → ℕ → Transmission → Effect
 effect_with turns h ack opens ph called looked owed unacked s =
     record {
       hearing = h;
@@ -179,7 +179,7 @@ no-vector e f k other =
 
 module _ {e : EndState} {given : Input} {h : HeardNumber} {ack : Option ℕ} {opens : Bool} {ph : Phase} {called : Bool} {looked : Option ℕ}
     (ready : Ready e given h ack opens ph called looked) where
-  abbrev pub caused : {turns : List Turn} (owed : Bool) (unacked : ℕ) (at : AreTurns e given h turns) (s : Sending)
+  abbrev pub caused : {turns : List Turn} (owed : Bool) (unacked : ℕ) (at : AreTurns e given h turns) (s : Transmission)
       → (is_begun ph ≡ true → (is_begun e.phase ≡ true) ⊎ HasNext s)
       → Says e (effect_with turns h ack opens ph called looked owed unacked s) at.confirms at.keys s → HasFrame s
       → IsSending e given (effect_with turns h ack opens ph called looked owed unacked s) s → (at.offered ≡ []) ⊎ IsOffering given h s
@@ -268,14 +268,14 @@ abbrev pub calling : List Call → Effect → Effect
 calling calls f = record f { calls = calls }
 
 -- what is said is the same whatever is called
-pub says-calling : {e : EndState} {f : Effect} {confirms : List DueConfirm} {keys : List Key} {s : Sending} (calls : List Call) → Says e f confirms keys s
+pub says-calling : {e : EndState} {f : Effect} {confirms : List DueConfirm} {keys : List Key} {s : Transmission} (calls : List Call) → Says e f confirms keys s
     → Says e (calling calls f) confirms keys s
 says-calling calls (SaysNothing none unasked) = SaysNothing none unasked
 says-calling calls (SaysAll packet says answers) = SaysAll packet says answers
 says-calling calls (SaysApart number packet none unasked) = SaysApart number packet none unasked
 
 -- so is what is sent
-pub sends-calling : {e : EndState} {given : Input} {f : Effect} {s : Sending} (calls : List Call) → IsSending e given f s
+pub sends-calling : {e : EndState} {given : Input} {f : Effect} {s : Transmission} (calls : List Call) → IsSending e given f s
     → IsSending e given (calling calls f) s
 sends-calling calls Rests = Rests
 sends-calling calls (Acks packet is acks connected owes counts) = Acks packet is acks connected owes counts

@@ -28,7 +28,7 @@ use Rattle.feature_machine.proofs.Turning.{turned-joined}
 use Rattle.dccp_endpoint.specs.Causes.{is_code_without_connection, is_waiting, IsLooking, Looks, LooksNowhere, AreHeard, AreTurns, Arrived, BecomesOpen, CallsFor, Came, FitsPassing, Greatest, Heeds, InResponse, IsAcknowledging, IsCaused, AreOptionsRead, IsHearing, IsOpening, NotNow, StaysSo, counts_in, turns_in}
 use Rattle.dccp_endpoint.specs.Congesting.{calls_for}
 use Rattle.dccp_endpoint.specs.Drafts.{alone}
-use Rattle.dccp_endpoint.specs.Effects.{Effect, HeardNumber, Heard, Next, PacketFate, Refused, Sending, Shut, Silent, Taken, effect_of, end_after, frame_by, greatest_or, is_acking_sent, raising}
+use Rattle.dccp_endpoint.specs.Effects.{Effect, HeardNumber, Heard, Next, PacketFate, Refused, Transmission, Shut, Silent, Taken, effect_of, end_after, frame_by, greatest_or, is_acking_sent, raising}
 use Rattle.dccp_endpoint.specs.End.{EndState, IsProper, is_begun, is_connected, is_live, is_open, is_phase_of, phase_entered, with_rows}
 use Rattle.dccp_endpoint.specs.Faults.{counts}
 use Rattle.dccp_endpoint.specs.Heeding.{DueConfirm, Heeding, heeds, unheeded}
@@ -258,7 +258,7 @@ module _ (o : EndState) (bytes : List ℕ) (proper : IsProper (wide o)) where
           }
 
       taking : (to : Phase) (r : Reply) (new : Bool) (turns : List Turn) (at : AreTurns e (Arrives bytes) heard_so turns) (owed : Bool) (unacked : ℕ)
-          (s : Sending)
+          (s : Transmission)
           (row : IsRow to r) (delivery : IsDelivery to new) (no_reset : r ≢ reply.ResetClosed) → at.heard ≡ heard → at.confirms ≡ h.confirms
           → at.offered ≡ offered_with r at.confirms → owed ≡ not (is_acking_sent s) → unacked ≡ unacked_by e.unacked new s
           → kind_sent s
@@ -291,7 +291,7 @@ module _ (o : EndState) (bytes : List ℕ) (proper : IsProper (wide o)) where
           }
 
       -- a reply without offers
-      listening : (to : Phase) (r : Reply) (new : Bool) (owed : Bool) (unacked : ℕ) (s : Sending) (row : IsRow to r) (delivery : IsDelivery to new)
+      listening : (to : Phase) (r : Reply) (new : Bool) (owed : Bool) (unacked : ℕ) (s : Transmission) (row : IsRow to r) (delivery : IsDelivery to new)
           (no_reset : r ≢ reply.ResetClosed) → [] ≡ offered_with r h.confirms → owed ≡ not (is_acking_sent s) → unacked ≡ unacked_by e.unacked new s
           → kind_sent s
           ≡ replying e (needs_ack to h.confirms (turned e.rows heard) (unacked_so new)) (greatest_or entry.first a.number e.marks.gsr) a.number r

@@ -14,7 +14,7 @@ use Rattle.dccp_packets.specs.declared.header.Number.TheVariants.{Long, Short}
 use Rattle.dccp_options.specs.Written.{written}
 use Rattle.dccp_endpoint.specs.Causes.{HasFrame, IsSending, Refuses}
 use Rattle.dccp_endpoint.specs.Drafts.{Draft, IsSendable, alone, frame_of, own_header, sent_of}
-use Rattle.dccp_endpoint.specs.Effects.{Effect, Sending, Silent, Next, WithoutConnection, end_after, frame_by}
+use Rattle.dccp_endpoint.specs.Effects.{Effect, Transmission, Silent, Next, WithoutConnection, end_after, frame_by}
 use Rattle.dccp_endpoint.specs.End.{EndState}
 use Rattle.dccp_endpoint.specs.Inputs.{Input}
 use Rattle.dccp_endpoint.specs.Receiving.{number_without_connection}
@@ -88,7 +88,7 @@ pub next-kept : (e : EndState) → next_number e ≡ next_number e % 2 ^ 48
 next-kept e = omega arith
 
 -- by what goes out
-sending-spelled : (e : EndState) (given : Input) (f : Effect) (s : Sending) (sent : Outgoing) → IsSending e given f s → HasFrame s
+sending-spelled : (e : EndState) (given : Input) (f : Effect) (s : Transmission) (sent : Outgoing) → IsSending e given f s → HasFrame s
     → frame_by e f s ≡ Some sent → IsSpelled sent
 sending-spelled e given f Silent sent sends framed is = cc is
 sending-spelled e given f (Next draft) sent sends framed is =

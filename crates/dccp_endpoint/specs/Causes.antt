@@ -29,7 +29,7 @@ use Rattle.feature_machine.specs.Turns.{Turn, turned}
 use Rattle.dccp_endpoint.specs.Calling.{is_asking_now}
 use Rattle.dccp_endpoint.specs.Congesting.{calls_for}
 use Rattle.dccp_endpoint.specs.Drafts.{Draft, IsSendable, alone}
-use Rattle.dccp_endpoint.specs.Effects.{Effect, PacketFate, Refused, Shut, Taken, HeardNumber, Unheard, Heard, Sending, Silent, Next, WithoutConnection, greatest_by, end_after, frame_by, rows_by, told_by}
+use Rattle.dccp_endpoint.specs.Effects.{Effect, PacketFate, Refused, Shut, Taken, HeardNumber, Unheard, Heard, Transmission, Silent, Next, WithoutConnection, greatest_by, end_after, frame_by, rows_by, told_by}
 use Rattle.dccp_endpoint.specs.End.{EndState, IsProper, is_phase_of, is_live, is_begun, is_connected, phase_entered}
 use Rattle.dccp_endpoint.specs.Faults.{counts}
 use Rattle.dccp_endpoint.specs.Heeding.{DueConfirm, Heeding, heard_turns, heeds, unheeded}
@@ -92,7 +92,7 @@ pub data IsAcknowledging (e : EndState) (given : Input) : Option ℕ → Type 0 
       → verdict_of e a ≡ verdicts.Valid → IsAcknowledging e given (Some ack)
 
 -- a packet goes out under the next number
-abbrev pub HasNext : Sending → Type 0
+abbrev pub HasNext : Transmission → Type 0
 HasNext Silent = ⊥
 HasNext (Next packet) = Unit {0}
 HasNext (WithoutConnection number packet) = ⊥
@@ -116,7 +116,7 @@ is_waiting phases.TimeWait = false
 
 -- Where the phase may go. An end waits for a first packet as long as it heard nothing, or from `open` on; and it leaves
 -- CLOSED by `open` alone.
-pub record IsMoving (e : EndState) (hearing : HeardNumber) (opens : Bool) (sending : Sending) (phase : Phase) : Type 0 where
+pub record IsMoving (e : EndState) (hearing : HeardNumber) (opens : Bool) (sending : Transmission) (phase : Phase) : Type 0 where
   pub its_role : is_phase_of phase e.config.role ≡ true
   pub live : is_live phase ≡ true → (is_live e.phase ≡ true) ⊎ IsFirst hearing
   pub begun : is_begun phase ≡ true → (is_begun e.phase ≡ true) ⊎ HasNext sending
@@ -150,7 +150,7 @@ is_without_connection who (kind.Reset ack code detail) = is_code_without_connect
 is_without_connection who _ = false
 
 -- why a packet goes out
-pub data IsSending (e : EndState) (given : Input) (f : Effect) : Sending → Type 0 where
+pub data IsSending (e : EndState) (given : Input) (f : Effect) : Transmission → Type 0 where
   Rests : IsSending e given f Silent
   Acks : (packet : Draft) → is_acking (packet_type packet.kind) ≡ true → ack_of packet.kind ≡ Some (greatest_by e.marks.gsr f.hearing)
       → is_connected f.phase ≡ true → f.owed ≡ false → f.unacked ≡ 0 → IsSending e given f (Next packet)
@@ -161,7 +161,7 @@ pub data IsSending (e : EndState) (given : Input) (f : Effect) : Sending → Typ
       → IsSending e given f (WithoutConnection (number_without_connection a.ack) (kind.Reset a.number code (detail_of (without_detail code))))
 
 -- what goes out has a frame
-abbrev pub HasFrame : Sending → Type 0
+abbrev pub HasFrame : Transmission → Type 0
 HasFrame Silent = Unit {0}
 HasFrame (Next packet) = IsSendable packet
 HasFrame (WithoutConnection number packet) = IsSendable (alone packet)
@@ -243,7 +243,7 @@ asks_for_request (input.Fires timers.TimeWait in_flight) = false
 
 -- With what offers come up: the Request, as the client opens and again, and the Response to a packet that was taken
 -- (own).
-pub data IsOffering (given : Input) (hearing : HeardNumber) : Sending → Type 0 where
+pub data IsOffering (given : Input) (hearing : HeardNumber) : Transmission → Type 0 where
   InRequest : (packet : Draft) → asks_for_request given ≡ true → packet_type packet.kind ≡ types.Request → IsOffering given hearing (Next packet)
   InResponse : (packet : Draft) (first : Bool) (number : ℕ) → hearing ≡ Heard first number Taken → packet_type packet.kind ≡ types.Response
       → IsOffering given hearing (Next packet)
@@ -260,21 +260,21 @@ vector_of e f k =
 
 -- What goes out says all that is due: the Ack Vector, the Confirms, on a packet that acknowledges the one that they
 -- answer, then the Changes of the rows as they are after the step.
-pub data Says (e : EndState) (f : Effect) (confirms : List DueConfirm) (keys : List Key) : Sending → Type 0 where
+pub data Says (e : EndState) (f : Effect) (confirms : List DueConfirm) (keys : List Key) : Transmission → Type 0 where
   SaysNothing : confirms ≡ [] → keys ≡ [] → Says e f confirms keys Silent
   SaysAll : (packet : Draft) → packet.options ≡ vector_of e f packet.kind ++ (confirm_items confirms ++ change_items (rows_by e.rows f) keys)
       → (confirms ≡ []) ⊎ AcknowledgesHeard f.hearing (ack_of packet.kind) → Says e f confirms keys (Next packet)
   SaysApart : (number : ℕ) (packet : Kind) → confirms ≡ [] → keys ≡ [] → Says e f confirms keys (WithoutConnection number packet)
 
 -- a packet with data goes out
-abbrev pub HasData : Sending → Type 0
+abbrev pub HasData : Transmission → Type 0
 HasData Silent = ⊥
 HasData (Next packet) = carries_data (packet_type packet.kind) ≡ true
 HasData (WithoutConnection number packet) = ⊥
 
 -- Why the congestion control is called: for the report of a packet that was taken, and where the value of CCID changes;
 -- for data that go out; and for its timer, while something is in flight.
-pub data IsCalling (e : EndState) (given : Input) (hearing : HeardNumber) (sending : Sending) : List Call → Type 0 where
+pub data IsCalling (e : EndState) (given : Input) (hearing : HeardNumber) (sending : Transmission) : List Call → Type 0 where
   CallsNothing : IsCalling e given hearing sending []
   CallsFor : (a : Incoming) (h : Heeding) → WasTaken e given hearing a → AreOptionsRead e a h → IsCalling e given hearing sending (calls_for a e.rows h.rows)
   CallsSent : (payload : List ℕ) → given ≡ input.Sends payload true → e.phase ≡ phases.Open → HasData sending

@@ -36,10 +36,10 @@ pub data HeardNumber : Type 0 where
   Heard : (first : Bool) (number : ℕ) (how : PacketFate) → HeardNumber
 
 -- what goes out: nothing, a packet under the next number, or a Reset without a connection under another
-pub data Sending : Type 0 where
-  Silent : Sending
-  Next : (packet : Draft) → Sending
-  WithoutConnection : (number : ℕ) (packet : Kind) → Sending
+pub data Transmission : Type 0 where
+  Silent : Transmission
+  Next : (packet : Draft) → Transmission
+  WithoutConnection : (number : ℕ) (packet : Kind) → Transmission
 
 -- all that a step changes, sends and owes
 pub record Effect : Type 0 where
@@ -58,7 +58,7 @@ pub record Effect : Type 0 where
   pub turns : List Turn
   -- what is due to the congestion control, in order
   pub calls : List Call
-  pub sending : Sending
+  pub sending : Transmission
   -- whether an acknowledgement is owed, and how many data packets are not acknowledged, as they are afterwards
   pub owed : Bool
   pub unacked : ℕ
@@ -77,7 +77,7 @@ owed_by old (Heard first number how) = owed_as how old
 
 -- The effect of a step in which no row has a turn, nothing is looked up, nothing is due to a congestion control, and
 -- neither data are delivered nor an Ack or a DataAck goes out.
-abbrev pub effect_of : EndState → HeardNumber → Option ℕ → Bool → Phase → Bool → Sending → Effect
+abbrev pub effect_of : EndState → HeardNumber → Option ℕ → Bool → Phase → Bool → Transmission → Effect
 effect_of e hearing acknowledged opening phase opens sending =
     record {
       hearing = hearing;
@@ -94,7 +94,7 @@ effect_of e hearing acknowledged opening phase opens sending =
     }
 
 -- nothing is heard, and the phase stays: only this goes out
-abbrev pub effect_of_sending : EndState → Sending → Effect
+abbrev pub effect_of_sending : EndState → Transmission → Effect
 effect_of_sending e sending = effect_of e Unheard None false e.phase false sending
 
 -- What each part makes of the old value. A first number takes the place of the old one; any other leaves ISR and raises
@@ -134,7 +134,7 @@ gar_by old None = old
 gar_by old (Some ack) = later_of old ack
 
 -- GSS by what goes out
-abbrev pub gss_by : EndState → Sending → ℕ
+abbrev pub gss_by : EndState → Transmission → ℕ
 gss_by e Silent = e.marks.gss
 gss_by e (Next packet) = next_number e
 gss_by e (WithoutConnection number packet) = e.marks.gss
@@ -191,7 +191,7 @@ abbrev pub told_by : ReceivedState → Effect → ReceivedState
 told_by old f = looked_by (heard_by old f.hearing) f.looked_up
 
 -- an Ack or a DataAck goes out
-abbrev pub is_acking_sent : Sending → Bool
+abbrev pub is_acking_sent : Transmission → Bool
 is_acking_sent Silent = false
 is_acking_sent (Next packet) = is_acking (packet_type packet.kind)
 is_acking_sent (WithoutConnection number packet) = false
@@ -231,7 +231,7 @@ end_after e f =
 
 -- The frame of a step, in the form in which the end as the step leaves it sends the packet; a Reset without a
 -- connection is long.
-abbrev pub frame_by : EndState → Effect → Sending → Option Outgoing
+abbrev pub frame_by : EndState → Effect → Transmission → Option Outgoing
 frame_by e f Silent = None
 frame_by e f (Next packet) = Some (sent_of e.config (goes_short (end_after e f) packet) (next_number e) packet)
 frame_by e f (WithoutConnection number packet) = Some (sent_of e.config false number (alone packet))

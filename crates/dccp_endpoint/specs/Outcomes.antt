@@ -30,7 +30,7 @@ use Rattle.validity_windows.specs.declared.verdict.Verdict.TheVariants as verdic
 use Rattle.dccp_endpoint.specs.Causes.{AreTurns, Came, IsCaused, entrance_of, turns_in, verdict_of}
 use Rattle.dccp_endpoint.specs.Congesting.{calls_for}
 use Rattle.dccp_endpoint.specs.Drafts.{alone}
-use Rattle.dccp_endpoint.specs.Effects.{Effect, PacketFate, Sending, Silent, Next, WithoutConnection, Heard, Refused, Shut, Taken, effect_of, effect_of_sending, end_after, frame_by, greatest_or, is_acking_sent, raising, rows_by}
+use Rattle.dccp_endpoint.specs.Effects.{Effect, PacketFate, Transmission, Silent, Next, WithoutConnection, Heard, Refused, Shut, Taken, effect_of, effect_of_sending, end_after, frame_by, greatest_or, is_acking_sent, raising, rows_by}
 use Rattle.dccp_endpoint.specs.End.{EndState, is_live, phase_entered}
 use Rattle.dccp_endpoint.specs.Heeding.{DueConfirm, Heeding}
 use Rattle.dccp_endpoint.specs.Incoming.{Incoming}
@@ -199,7 +199,7 @@ greatest_with e a = greatest_or (hears_first e) a.number e.marks.gsr
 
 -- The effect of a valid packet that moves no row: its number and what it acknowledges are heard, the phase is this
 -- then, and this goes out.
-abbrev pub effect_of_packet : EndState → Incoming → PacketFate → Phase → Sending → Effect
+abbrev pub effect_of_packet : EndState → Incoming → PacketFate → Phase → Transmission → Effect
 effect_of_packet e a how phase sending = effect_of e (Heard (hears_first e) a.number how) (raising a.kind a.ack) false phase false sending
 
 -- The end closes, and its Reset tells of this fault and acknowledges GSR, the packet's number included.
@@ -241,17 +241,17 @@ replying e needed greatest number reply.SyncAck = Some (kind.SyncAck number)
 replying e needed greatest number reply.Torn = None
 
 -- what goes out under the next number
-abbrev pub kind_sent : Sending → Option Kind
+abbrev pub kind_sent : Transmission → Option Kind
 kind_sent Silent = None
 kind_sent (Next packet) = Some packet.kind
 kind_sent (WithoutConnection number packet) = None
 
 -- how many data packets are not acknowledged, with the one that was delivered, if any, and what goes out
-abbrev pub unacked_by : ℕ → Bool → Sending → ℕ
+abbrev pub unacked_by : ℕ → Bool → Transmission → ℕ
 unacked_by unacked delivered sending = if is_acking_sent sending then 0 else unacked_after unacked delivered
 
 -- the data that go out
-abbrev pub data_sent : Sending → List ℕ
+abbrev pub data_sent : Transmission → List ℕ
 data_sent Silent = []
 data_sent (Next packet) = packet.payload
 data_sent (WithoutConnection number packet) = []

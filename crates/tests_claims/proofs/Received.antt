@@ -2,7 +2,7 @@
 use Rattle.std.proofs.Common.{◌≡◌, ◌∙◌, ◌⊎◌, inl, inr, refl, ap, sym, subst, ℕ, not, Bool, true, List, [], Option, Some}
 use Rattle.congestion_trait.specs.Calls.{Call}
 use Rattle.dccp_endpoint.specs.Causes.{AreTurns}
-use Rattle.dccp_endpoint.specs.Effects.{Effect, Sending, Silent, Next, WithoutConnection, frame_by, is_acking_sent}
+use Rattle.dccp_endpoint.specs.Effects.{Effect, Transmission, Silent, Next, WithoutConnection, frame_by, is_acking_sent}
 use Rattle.dccp_endpoint.specs.End.{EndState}
 use Rattle.dccp_endpoint.specs.Inputs.{Arrives}
 use Rattle.dccp_endpoint.specs.Outcomes.{HasCause, HasEffectOf, HasForm, IsReset, OutOfWindow, Unexpected, NoConnection, OtherService, NoAnswer, WrongService, Faulted, AnswersClose, effect_of_reset}
@@ -13,12 +13,12 @@ use Rattle.dccp_states.specs.declared.outcome.Outcome.TheVariants.{Took, Dropped
 use Rattle.feature_machine.specs.Turns.{Turn, turned}
 
 -- something goes out
-abbrev IsSaid : Sending → Type 0
+abbrev IsSaid : Transmission → Type 0
 IsSaid Silent = ⊥
 IsSaid (Next packet) = Unit {0}
 IsSaid (WithoutConnection number packet) = Unit {0}
 
-said-some : (e : EndState) (f : Effect) (sending : Sending) → IsSaid sending → (frame : Outgoing) × (frame_by e f sending ≡ Some frame)
+said-some : (e : EndState) (f : Effect) (sending : Transmission) → IsSaid sending → (frame : Outgoing) × (frame_by e f sending ≡ Some frame)
 said-some e f Silent said = absurd said
 said-some e f (Next packet) said = (_, refl)
 said-some e f (WithoutConnection number packet) said = (_, refl)
@@ -66,7 +66,7 @@ resetting e bytes (WasReset old) cause f turns form code detail is = cc is
 resetting e bytes (Took delivered) cause f turns form code detail is = cc is
 
 -- an acknowledgement is owed where nothing goes out
-owed-or-said : (owed : Bool) (sending : Sending) → owed ≡ not (is_acking_sent sending) → (owed ≡ true) ⊎ IsSaid sending
+owed-or-said : (owed : Bool) (sending : Transmission) → owed ≡ not (is_acking_sent sending) → (owed ≡ true) ⊎ IsSaid sending
 owed-or-said owed Silent is = inl is
 owed-or-said owed (Next packet) is = inr tt
 owed-or-said owed (WithoutConnection number packet) is = inr tt

@@ -11,7 +11,7 @@ use Rattle.validity_windows.specs.declared.verdict.Verdict.TheVariants as verdic
 use Rattle.dccp_packets.specs.declared.header.PacketType.{PacketType}
 use Rattle.dccp_packets.specs.declared.header.PacketType.TheVariants as types
 use Rattle.dccp_endpoint.specs.Causes.{Came, IsAcknowledging, LeavesIt, ByWindow, ByVerdict, HasNext}
-use Rattle.dccp_endpoint.specs.Effects.{Sending, Next, end_after, gar_by}
+use Rattle.dccp_endpoint.specs.Effects.{Transmission, Next, end_after, gar_by}
 use Rattle.dccp_endpoint.specs.End.{floor_of, is_begun}
 use Rattle.dccp_endpoint.specs.Incoming.{Incoming}
 use Rattle.dccp_endpoint.proofs.Phases.{answer-so, begins, check-live, live-begun}
@@ -87,7 +87,7 @@ module _ (x : Party) (o : IsOrdered x) (k : KnowsAcknowledged x) (some : 1 ≤ l
   later-sent ack false s = k.gar
 
 -- where a packet goes out, the log has it
-begun-by : (s : Sending) (processed floor : ℕ) → HasNext s → 1 ≤ length (logged_by processed floor s)
+begun-by : (s : Transmission) (processed floor : ℕ) → HasNext s → 1 ≤ length (logged_by processed floor s)
 begun-by (Next draft) processed floor next = omega arith
 begun-by _ processed floor next = absurd next
 

@@ -4,7 +4,7 @@
 -- before. `run-held` carries it through every schedule. Nothing here or there knows what an end does but its effect.
 use Rattle.std.proofs.Common.{◌≡◌, refl, ap, sym, ◌∙◌, subst, ◌-◌, ◌^◌, ◌<◌, ℕ, List, [], ◌∷◌, ◌++◌, Option, Some, None, true, false, Bool, if◌then◌else◌, Result, Ok, Err, slice_get, length, length-append, ◌≤◌, arith}
 use Rattle.dccp_endpoint.specs.Causes.{EveryStepHasOneEffect, IsCaused}
-use Rattle.dccp_endpoint.specs.Effects.{Effect, Sending, Silent, Next, WithoutConnection, end_after, frame_by}
+use Rattle.dccp_endpoint.specs.Effects.{Effect, Transmission, Silent, Next, WithoutConnection, end_after, frame_by}
 use Rattle.dccp_endpoint.specs.End.{EndState, IsProper, floor_of}
 use Rattle.dccp_endpoint.specs.Inputs.{Arrives, Input, end_stepped}
 use Rattle.dccp_endpoint.specs.Steps.{Step}
@@ -34,7 +34,7 @@ abbrev pub config_of : Party → Config
 config_of x = x.half.end.config
 
 -- what comes to the log
-abbrev pub logged_by : ℕ → ℕ → Sending → List Logged
+abbrev pub logged_by : ℕ → ℕ → Transmission → List Logged
 logged_by processed floor Silent = []
 logged_by processed floor (Next draft) = record { draft = draft; processed = processed; floor = floor } ∷ []
 logged_by processed floor (WithoutConnection number kind) = []

@@ -13,7 +13,7 @@ use Rattle.feature_lists.specs.declared.features.Place.TheVariants.{Here}
 use Rattle.feature_machine.specs.declared.row.Row.{Row}
 use Rattle.dccp_endpoint.specs.Causes.{IsCalling, CallsNothing, CallsEarly, CallsFor, CallsSent, CallsTimeout, WasTaken}
 use Rattle.dccp_endpoint.specs.Congesting.{calls_for, handing, report_calls, reported_from, start_calls}
-use Rattle.dccp_endpoint.specs.Effects.{HeardNumber, Sending}
+use Rattle.dccp_endpoint.specs.Effects.{HeardNumber, Transmission}
 use Rattle.dccp_endpoint.specs.End.{EndState, value_in}
 use Rattle.dccp_endpoint.specs.Incoming.{Incoming}
 use Rattle.dccp_endpoint.specs.Inputs.{Input}
@@ -125,7 +125,7 @@ next-sent e n is =
     let same : n ≡ next_number e = equal n (next_number e) (or-first (n == next_number e) false refl is) in
     omega (arith, same, next-fits e)
 
-module _ (e : EndState) (given : Input) (hearing : HeardNumber) (sending : Sending) where
+module _ (e : EndState) (given : Input) (hearing : HeardNumber) (sending : Transmission) where
   -- What was told received, a packet told that was taken.
   pub record IsHeardOf (n : ℕ) : Type 0 where
     pub packet : Incoming

@@ -5,7 +5,7 @@ use Rattle.std.proofs.lemmas.List.{append-nil, length-map, map-append}
 use Rattle.dccp_packets.specs.Kinds.{ack_of}
 use Rattle.dccp_endpoint.proofs.Keys.{apart-so, confirmed-some}
 use Rattle.dccp_endpoint.specs.Causes.{Says, SaysNothing, SaysAll, SaysApart}
-use Rattle.dccp_endpoint.specs.Effects.{Effect, Sending, Silent, Next, WithoutConnection, rows_by}
+use Rattle.dccp_endpoint.specs.Effects.{Effect, Transmission, Silent, Next, WithoutConnection, rows_by}
 use Rattle.dccp_endpoint.specs.End.{EndState}
 use Rattle.dccp_endpoint.specs.Heeding.{DueConfirm}
 use Rattle.dccp_endpoint.specs.Saying.{confirm_for, has_key, said_of}
@@ -33,7 +33,7 @@ use Rattle.two_ends.proofs.Viewing.{carried_by, carried_of, view_of}
 offer-dropped : (row : Row) (s : Stand) (o : Offer) → (row_line row s (Offered true o)).answer ≢ Opens
 offer-dropped row s o opens = grind arith
 
-abbrev is_next : Sending → Bool
+abbrev is_next : Transmission → Bool
 is_next Silent = false
 is_next (Next packet) = true
 is_next (WithoutConnection number packet) = false
@@ -107,7 +107,7 @@ module _ (s : KnownStep) where
   one-frame k l = map-append (carried_of peer_iss k) act.side.log (l ∷ [])
 
   -- what the frames are then, where no Confirm is due for the row
-  plain-frames : (k : Key) → confirm_for k due ≡ None → (what : Sending) (processed floor : ℕ) → Says e f due keys what
+  plain-frames : (k : Key) → confirm_for k due ≡ None → (what : Transmission) (processed floor : ℕ) → Says e f due keys what
       → map (carried_of peer_iss k) (act.side.log ++ logged_by processed floor what) ≡ frames_after (row-after k) (frames k) (has_key k keys) (is_next what)
   plain-frames k none _ processed floor (SaysNothing no_due no_keys) =
       no-frame k ∙ sym (ap (λ (ks : List Key). frames_after (row-after k) (frames k) (has_key k ks) false) no_keys)
@@ -128,7 +128,7 @@ module _ (s : KnownStep) where
       by false is = refl
 
   -- and where one is
-  confirm-frames : (k : Key) (body : List ℕ) → confirm_for k due ≡ Some body → (what : Sending) (processed floor : ℕ) → Says e f due keys what
+  confirm-frames : (k : Key) (body : List ℕ) → confirm_for k due ≡ Some body → (what : Transmission) (processed floor : ℕ) → Says e f due keys what
       → map (carried_of peer_iss k) (act.side.log ++ logged_by processed floor what) ≡ with_frame (frames k) (confirm_in (row k).feature later body)
   confirm-frames k body some _ processed floor (SaysNothing no_due no_keys) =
       let none : confirm_for k due ≡ None = ap (confirm_for k) no_due in

@@ -13,7 +13,7 @@ use Rattle.dccp_endpoint.proofs.OneConfirm.{confirms_are_single}
 use Rattle.dccp_endpoint.proofs.OwnPackets.{own_packets_say, own_packets_speak}
 use Rattle.dccp_endpoint.specs.Causes.{AcknowledgesHeard, AreHeard, Deaf, Heeds, HasFrame, Occasion, Plain, Offering, Repeating, PrefersNow as OccasionNow, PrefersLater as OccasionLater, Says, SaysNothing, SaysAll, SaysApart, counts_in, vector_of}
 use Rattle.dccp_endpoint.specs.Drafts.{Draft}
-use Rattle.dccp_endpoint.specs.Effects.{Effect, HeardNumber, Heard, Taken, Sending, end_after, greatest_by, rows_by, told_by}
+use Rattle.dccp_endpoint.specs.Effects.{Effect, HeardNumber, Heard, Taken, Transmission, end_after, greatest_by, rows_by, told_by}
 use Rattle.dccp_endpoint.specs.End.{EndState, IsProper, floor_of}
 use Rattle.dccp_endpoint.specs.Heeding.{DueConfirm, unheeded}
 use Rattle.dccp_endpoint.specs.Incoming.{Incoming}
@@ -36,7 +36,7 @@ use Rattle.feature_lists.specs.declared.wishes.Wanted.{Wanted}
 use Rattle.feature_lists.specs.declared.wishes.Wanted.TheVariants as wanted
 use Rattle.feature_machine.proofs.Turning.{turned-row}
 use Rattle.feature_machine.specs.Negotiating.{IsNegotiation, row_at, opposite}
-use Rattle.feature_machine.specs.Rows.{Change, Confirm, Confirmed, Confirms, Offered, Offers, Opens, Preferred, Prefers, RowAnswer, RowEvent, Sending as RowSending, Sends, row_line, row_step}
+use Rattle.feature_machine.specs.Rows.{Change, Confirm, Confirmed, Confirms, Offered, Offers, Opens, Preferred, Prefers, RowAnswer, RowEvent, Sending, Sends, row_line, row_step}
 use Rattle.feature_machine.specs.Sound.{IsRowOf, IsSoundRow, is_active}
 use Rattle.feature_machine.specs.Turns.{Turn, events_of, row_turned, confirm_of, reply_due}
 use Rattle.feature_machine.specs.declared.judging.Confirmation.{Confirmation}
@@ -108,7 +108,7 @@ hears-its iss greatest row there later events _ feature place its (HearsNewest _
 
 -- A row whose Change goes out is busy then.
 sends-busy : (row : Row) (s : Stand) (number : ℕ) (opened : Option ℕ) → row.stand ≡ s → s ≢ Stable
-    → (row_line row s (RowSending number opened)).row.stand ≢ Stable
+    → (row_line row s (Sending number opened)).row.stand ≢ Stable
 sends-busy row s number opened is busy stable = grind arith
 
 offer-busy : (row : Row) (s : Stand) (confirmed : Bool) (o : Offer) → (row_line row s (Offered confirmed o)).answer ≡ Opens
@@ -366,7 +366,7 @@ module _ (s : KnownStep) where
       (keys-distinct e act.given rows heard due rows-heard act.because.turns.offered act.because.turns.preferred keys act.because.turns.occasion)
       (λ asks. apart-so due keys k act.because.turns.apart asks)
 
-  sent-well : (what : Sending) (processed floor : ℕ) → Says e f due keys what → HasFrame what → All (IsWell peer_iss) (logged_by processed floor what)
+  sent-well : (what : Transmission) (processed floor : ℕ) → Says e f due keys what → HasFrame what → All (IsWell peer_iss) (logged_by processed floor what)
   sent-well _ processed floor (SaysNothing none no_keys) framed = All-nil (IsWell peer_iss)
   sent-well _ processed floor (SaysApart number packet none no_keys) framed = All-nil (IsWell peer_iss)
   sent-well _ processed floor (SaysAll packet is answers) framed =

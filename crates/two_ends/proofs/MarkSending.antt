@@ -12,7 +12,7 @@ use Rattle.ack_vectors.specs.declared.room.Vectors.{Vectors}
 use Rattle.dccp_endpoint.proofs.OwnPackets.{vector_parts}
 use Rattle.dccp_endpoint.specs.Causes.{HasFrame, IsLooking, LooksNowhere, Looks, IsSending, Rests, Acks, Others, Refuses, Says, SaysAll, WasTaken, vector_of}
 use Rattle.dccp_endpoint.specs.Drafts.{Draft}
-use Rattle.dccp_endpoint.specs.Effects.{Effect, Sending, Silent, Next, end_after, greatest_by, heard_by, is_acking_sent, received_by, rows_by, told_by}
+use Rattle.dccp_endpoint.specs.Effects.{Effect, Transmission, Silent, Next, end_after, greatest_by, heard_by, is_acking_sent, received_by, rows_by, told_by}
 use Rattle.dccp_endpoint.specs.End.{EndState, floor_of, is_connected, is_live}
 use Rattle.dccp_endpoint.specs.Heeding.{DueConfirm}
 use Rattle.dccp_endpoint.specs.Incoming.{Incoming}
@@ -202,7 +202,7 @@ module _ (act : Act) (own : IsOrdered act.side) (peer_ordered : IsOrdered act.pe
         ap (λ (s : MarkedSet). s.floor) (recorded-set (is_acking_sent f.sending && has-vector) setting kept-numbers (next_number e) greatest)
 
     -- the frames then, and the records
-    pub record IsSent (s : Sending) : Type 0 where
+    pub record IsSent (s : Transmission) : Type 0 where
       pub frames : List MarkFrame
       pub moves : MarkMoves peer.frames t.after (record t.after { frames = frames })
       are : AreFrames iss setting (act.side.log ++ logged_by (length (processed_by act.side.half act.arrived f)) (floor_of (end_after e f)) s) frames
@@ -215,7 +215,7 @@ module _ (act : Act) (own : IsOrdered act.side) (peer_ordered : IsOrdered act.pe
     frames-now : AreFrames iss setting act.side.log t.after.frames
     frames-now = subst (λ (fs : List MarkFrame). AreFrames iss setting act.side.log fs) (sym t.frames) here.frames
 
-    none-sent : (s : Sending) → logged_by (length (processed_by act.side.half act.arrived f)) (floor_of (end_after e f)) s ≡ [] → is_acking_sent s ≡ false
+    none-sent : (s : Transmission) → logged_by (length (processed_by act.side.half act.arrived f)) (floor_of (end_after e f)) s ≡ [] → is_acking_sent s ≡ false
         → IsSent s
     none-sent s none quiet =
         record {
@@ -367,7 +367,7 @@ module _ (act : Act) (own : IsOrdered act.side) (peer_ordered : IsOrdered act.pe
                   (subst (λ (b : Bool). Contains (recorded_by (b && has-vector) setting kept-numbers (next_number e) greatest).records r) acking has_it);
             }
 
-    pub sends-by : (s : Sending) → IsSending e act.given f s → Says e f due keys s → HasFrame s → IsSent s
+    pub sends-by : (s : Transmission) → IsSending e act.given f s → Says e f due keys s → HasFrame s → IsSent s
     sends-by _ Rests says framed = none-sent Silent refl refl
     sends-by _ (Refuses a code came is unheard turns unmoved) says framed = none-sent _ refl refl
     sends-by _ (Acks packet acking ack connected owed unacked) (SaysAll _ options answers) framed = ack-sent packet framed options acking ack connected

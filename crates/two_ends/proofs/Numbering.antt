@@ -13,7 +13,7 @@ use Rattle.dccp_states.specs.declared.phase.Role.{Role}
 use Rattle.dccp_endpoint.specs.Causes.{Came, HasFrame, IsHearing, IsSending, Keeps as KeepsHeard, Starts, Raises, Rests, Acks, Others, Refuses, is_without_connection}
 use Rattle.dccp_endpoint.specs.Reporting.{is_acking}
 use Rattle.dccp_endpoint.specs.Drafts.{Draft, Fits, IsSendable, alone}
-use Rattle.dccp_endpoint.specs.Effects.{Effect, HeardNumber, Sending, Silent, Next, WithoutConnection, end_after, frame_by, greatest_by, gss_by}
+use Rattle.dccp_endpoint.specs.Effects.{Effect, HeardNumber, Transmission, Silent, Next, WithoutConnection, end_after, frame_by, greatest_by, gss_by}
 use Rattle.dccp_endpoint.specs.End.{EndState, IsProper, floor_of}
 use Rattle.dccp_endpoint.specs.Incoming.{Incoming}
 use Rattle.dccp_endpoint.specs.ShortForm.{goes_short}
@@ -92,7 +92,7 @@ module _ (e : EndState) (f : Effect) (processed floor first : ℕ) where
       (record { sendable = sendable; of_connection = connected; short = short; form = goes-may (end_after e f) draft; same = refl }) NoFrames)
 
   -- what goes out is logged under the next number, or not at all
-  sent-logged : (given : Input) (s : Sending) → next_number e ≡ residue first → IsSending e given f s → HasFrame s
+  sent-logged : (given : Input) (s : Transmission) → next_number e ≡ residue first → IsSending e given f s → HasFrame s
       → AreLogged e.config first (as_sent processed floor (frame_by e f s)) (logged_by processed floor s)
   sent-logged given Silent same Rests framed = NoFrames
   sent-logged given (Next draft) same (Acks _ acking ack connected owed unacked) framed =
@@ -103,7 +103,7 @@ module _ (e : EndState) (f : Effect) (processed floor first : ℕ) where
       (sym (kept-frame e.config false number (alone k) processed floor (without-kept a.ack)))
       (Unnumbered (record { number = number; kind = k; sendable = framed; without_connection = without; same = refl; numbered = refl; acks = refl }) NoFrames)
 
-sent-greatest : (e : EndState) (s : Sending) (processed floor count : ℕ) → e.marks.gss ≡ residue (e.config.iss + count + (2 ^ 48 - 1))
+sent-greatest : (e : EndState) (s : Transmission) (processed floor count : ℕ) → e.marks.gss ≡ residue (e.config.iss + count + (2 ^ 48 - 1))
     → gss_by e s ≡ residue (e.config.iss + (count + length (logged_by processed floor s)) + (2 ^ 48 - 1))
 sent-greatest e Silent processed floor count is = omega (arith, is)
 sent-greatest e (Next draft) processed floor count is = omega (arith, is)

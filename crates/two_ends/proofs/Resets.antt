@@ -10,7 +10,7 @@ use Rattle.dccp_endpoint.proofs.Deriving.{Told}
 use Rattle.dccp_endpoint.proofs.Walking.{told_of_step}
 use Rattle.dccp_endpoint.specs.Causes.{AreTurns, Came, IsHearing, Keeps, Starts, Raises}
 use Rattle.dccp_endpoint.specs.Drafts.{alone}
-use Rattle.dccp_endpoint.specs.Effects.{Effect, HeardNumber, Unheard, Heard, PacketFate, Refused, Shut, Taken, Sending, Silent, Next, effect_of_sending, end_after, is_acking_sent}
+use Rattle.dccp_endpoint.specs.Effects.{Effect, HeardNumber, Unheard, Heard, PacketFate, Refused, Shut, Taken, Transmission, Silent, Next, effect_of_sending, end_after, is_acking_sent}
 use Rattle.dccp_endpoint.specs.End.{EndState, IsProper}
 use Rattle.dccp_endpoint.specs.Incoming.{Incoming}
 use Rattle.dccp_endpoint.specs.Inputs.{Arrives, Input}
@@ -48,7 +48,7 @@ unheard e given phase reset (Heard false _ how) (Raises a _ came other entrance 
 
 module _ (e : EndState) where
   -- an effect that only sends, and no Ack
-  still : (phase : Phase) (s : Sending) → is_acking_sent s ≡ false
+  still : (phase : Phase) (s : Transmission) → is_acking_sent s ≡ false
       → KeepsReceived e (end_after e (record (effect_of_sending e s) { phase = phase }))
   still phase s plain =
       record {
@@ -65,7 +65,7 @@ module _ (e : EndState) where
   IsQuiet f = f.hearing ≡ Unheard → KeepsReceived e (end_after e f)
 
   -- Whatever comes of a packet of which nothing is heard, leaves what was received.
-  as-sent : (f : Effect) (s : Sending) → is_acking_sent s ≡ false → f ≡ effect_of_sending e s → IsQuiet f
+  as-sent : (f : Effect) (s : Transmission) → is_acking_sent s ≡ false → f ≡ effect_of_sending e s → IsQuiet f
   as-sent f s plain form none = subst (λ (g : Effect). KeepsReceived e (end_after e g)) (sym form) (still e.phase s plain)
 
   as-heard : (f g : Effect) (first : Bool) (number : ℕ) (how : PacketFate) → g.hearing ≡ Heard first number how → f ≡ g → IsQuiet f
