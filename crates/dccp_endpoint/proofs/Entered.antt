@@ -31,7 +31,7 @@ use Rattle.dccp_endpoint.specs.Drafts.{alone}
 use Rattle.dccp_endpoint.specs.Effects.{Effect, HeardNumber, Heard, Next, PacketFate, Refused, Transmission, Shut, Silent, Taken, effect_of, end_after, frame_by, greatest_or, is_acking_sent, raising}
 use Rattle.dccp_endpoint.specs.End.{EndState, IsProper, is_begun, is_connected, is_live, is_open, is_phase_of, phase_entered, with_rows}
 use Rattle.dccp_endpoint.specs.Faults.{counts}
-use Rattle.dccp_endpoint.specs.Heeding.{DueConfirm, Heeding, heeds, unheeded}
+use Rattle.dccp_endpoint.specs.Heeding.{DueConfirm, ReadingState, heeds, unheeded}
 use Rattle.dccp_endpoint.specs.Incoming.{Incoming}
 use Rattle.dccp_endpoint.specs.Inputs.{Arrives}
 use Rattle.dccp_endpoint.specs.Outcomes.{HasCause, HasForm, data_sent, effect_of_closing, effect_of_reset, hears_first, offered_with, replying, IsAdmitted, IsReset, IsValid, IsValidPacket, WrongService, Faulted, AnswersClose, is_for_another, IsTaken, IsTaking, kind_sent, unacked_by}
@@ -181,7 +181,7 @@ module _ (o : EndState) (bytes : List ℕ) (proper : IsProper (wide o)) where
     silent-begun to r row other = elim entry.begun [ inl is ↦ is | inr is ↦ absurd (other (ap (λ (p : Phase × Reply). p.1) (sym row ∙ is))) ]
 
     -- its options are read whole
-    module _ (admitted : IsAdmitted e bytes a end) (h : Heeding) (read : reads_options end a ≡ Ok h) where
+    module _ (admitted : IsAdmitted e bytes a end) (h : ReadingState) (read : reads_options end a ≡ Ok h) where
       heeded-so : AreOptionsRead e a h
       heeded-so = ap (λ (ph : Phase). heeds (a.newest && counts ph a.kind) a.ack (unheeded e.rows) a.options) (sym entry.entered) ∙ read
 
@@ -228,7 +228,7 @@ module _ (o : EndState) (bytes : List ℕ) (proper : IsProper (wide o)) where
       answers-so = by (counts_in e a) refl where
         by : (on : Bool) → counts_in e a ≡ on → (h.confirms ≡ []) ⊎ (Some (greatest_or entry.first a.number e.marks.gsr) ≡ Some a.number)
         by true on = inr (ap Some (newest-so on))
-        by false off = inl (ap (λ (x : Heeding). x.confirms) (deaf off))
+        by false off = inl (ap (λ (x : ReadingState). x.confirms) (deaf off))
 
       -- a reply that may say nothing leaves nothing unsaid
       mute : (to : Phase) (r : Reply) → IsRow to r → (MaySay to r → ⊥) → h ≡ unheeded e.rows
@@ -238,7 +238,7 @@ module _ (o : EndState) (bytes : List ℕ) (proper : IsProper (wide o)) where
         by false off = deaf off
 
       mute-none : (to : Phase) (r : Reply) → IsRow to r → (MaySay to r → ⊥) → h.confirms ≡ []
-      mute-none to r row never = ap (λ (x : Heeding). x.confirms) (mute to r row never)
+      mute-none to r row never = ap (λ (x : ReadingState). x.confirms) (mute to r row never)
 
       -- what it is told to be
       abbrev was-taken : (to : Phase) (r : Reply) (new : Bool) → IsRow to r → IsDelivery to new → r ≢ reply.ResetClosed
@@ -335,7 +335,7 @@ module _ (o : EndState) (bytes : List ℕ) (proper : IsProper (wide o)) where
           refl (was-taken to reply.Nothing new row delivery (λ same. cc same))
           (listening to reply.Nothing new true (unacked_so new) Silent row delivery (λ same. cc same) refl refl refl (rw is refl) refl) where
             by : (on : Bool) → counts_in e a ≡ on → h.confirms ≡ []
-            by false off = ap (λ (x : Heeding). x.confirms) (deaf off)
+            by false off = ap (λ (x : ReadingState). x.confirms) (deaf off)
             by true on =
                 let enough : Bool = is_open to && is_enough (turned e.rows heard) (unacked_so new) in
                 let connected : is_connected to ≡ true = may-so to reply.Nothing row on in
@@ -431,14 +431,14 @@ module _ (o : EndState) (bytes : List ℕ) (proper : IsProper (wide o)) where
       replied-told to reply.ResetClosed new row delivery =
           let close : a.kind ≡ types.Close = answers-close entry.ph a.kind to row in
           closed-so to h.rows looked new (fits-reply entry.ph a.kind to reply.ResetClosed row)
-          (ap (λ (x : Heeding). x.rows) (mute to reply.ResetClosed row (λ may. may))) (ap (λ (t : PacketType). looked_up t a.ack) close)
+          (ap (λ (x : ReadingState). x.rows) (mute to reply.ResetClosed row (λ may. may))) (ap (λ (t : PacketType). looked_up t a.ack) close)
           (delivery ∙ ap (λ (t : PacketType). delivers t to (answer_to end.received.set a.number)) close) row
       replied-told to r new row delivery =
           subst (λ (rows : List Row). Takes (replies (moved to rows new) a h.confirms (took new) r)) (sym rows-so)
           (reply-told to r new row delivery (λ is. cc is))
 
     -- step 8
-    heeding-told : IsAdmitted e bytes a end → (r : Result Heeding Fault) → reads_options end a ≡ r → IsBoundedReading r → Told e bytes (heeded end a r)
+    heeding-told : IsAdmitted e bytes a end → (r : Result ReadingState Fault) → reads_options end a ≡ r → IsBoundedReading r → Told e bytes (heeded end a r)
     heeding-told admitted (Err fault) is numbered = shut-told fault (numbered-code e.config.role fault.code numbered) (Faulted a end fault admitted is) refl
     heeding-told admitted (Ok h) is bounded = replied-told admitted h is (after entry.ph a.kind).0 (after entry.ph a.kind).1 _ refl refl
 

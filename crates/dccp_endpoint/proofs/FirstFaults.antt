@@ -17,7 +17,7 @@ use Rattle.feature_machine.specs.Rows.{RowAnswer, Confirms, Ignored, Settled, Fa
 use Rattle.feature_machine.specs.declared.row.Row.{Row}
 use Rattle.dccp_endpoint.specs.Faults.{mandatory_fault}
 use Rattle.dccp_endpoint.specs.FirstFault.{BeginsWithByte, ChangeFails, ConfirmFails, GoesWrong, HasFirstFault, IsFirstFor, ItemFits, MandatoryMisplaced, NotUnderstood, ReadingGoesThrough, ReadingStopsAtTheFirstFault, is_same_letter, speaks_for}
-use Rattle.dccp_endpoint.specs.Heeding.{DueConfirm, Heeding, by_answered, by_settling, counted, fault_of, heeds, heeds_body, heeds_change, heeds_entry, heeds_feature, heeds_first, heeds_item, heeds_then, is_change, is_left, is_of_negotiation, met, misunderstood, place_in_used, unheeded}
+use Rattle.dccp_endpoint.specs.Heeding.{DueConfirm, ReadingState, by_answered, by_settling, counted, fault_of, heeds, heeds_body, heeds_change, heeds_entry, heeds_feature, heeds_first, heeds_item, heeds_then, is_change, is_left, is_of_negotiation, met, misunderstood, place_in_used, unheeded}
 use Rattle.dccp_endpoint.specs.Saying.{begins_with_number, changes_among, has_feature_number, is_change_item, negotiates_by, once_if}
 use Rattle.dccp_states.specs.declared.outcome.Fault.{Fault}
 
@@ -32,11 +32,11 @@ record Spoken (count : Bool) (entry : Entry) (number : ℕ) (list : List ℕ) : 
   body : entry.body ≡ number ∷ list
 
 -- whether one for the feature, by the letter, was met
-abbrev was_met : Heeding → Entry → ℕ → Bool
+abbrev was_met : ReadingState → Entry → ℕ → Bool
 was_met h entry number = slice_index_or h.used (place_in_used (is_left entry.kind) number) false
 
 -- The ways of one item.
-data Way (count : Bool) (ack : Option ℕ) (h : Heeding) : ListItem → Result Heeding Fault → Type 0 where
+data Way (count : Bool) (ack : Option ℕ) (h : ReadingState) : ListItem → Result ReadingState Fault → Type 0 where
   Misplaced : (fault : OptFault) → Way count ack h (Err fault) (Err mandatory_fault)
   Unknown : (entry : Entry) → is_understood entry.kind (length entry.body) ≡ false → entry.mandatory ≡ true
       → Way count ack h (Ok entry) (Err (fault_of codes.MandatoryError entry))
@@ -53,12 +53,12 @@ data Way (count : Bool) (ack : Option ℕ) (h : Heeding) : ListItem → Result H
       → was_met h entry number ≡ false → (confirmed h.rows (is_left entry.kind) number list ack).answer ≡ Fatal code
       → Way count ack h (Ok entry) (Err (fault_of codes.OptionError entry))
 
-module _ (count : Bool) (ack : Option ℕ) (h : Heeding) where
+module _ (count : Bool) (ack : Option ℕ) (h : ReadingState) where
   module _ (entry : Entry) (number : ℕ) (list : List ℕ) (spoken : Spoken count entry number list) where
     abbrev place : ℕ
     place = place_in_used (is_left entry.kind) number
 
-    abbrev Goes : Result Heeding Fault → Type 0
+    abbrev Goes : Result ReadingState Fault → Type 0
     Goes r = Way count ack h (Ok entry) r
 
     change-way : is_change entry.kind ≡ true → was_met h entry number ≡ false → nat_lt h.changes 64 ≡ true → (rows : List Row) (x : RowAnswer)
@@ -138,7 +138,7 @@ module _ (count : Bool) (ack : Option ℕ) (h : Heeding) where
   item-way (Err fault) = Misplaced fault
 
 -- How an item goes that has a fault.
-unknown-goes : (count : Bool) (ack : Option ℕ) (h : Heeding) (entry : Entry) → is_understood entry.kind (length entry.body) ≡ false → entry.mandatory ≡ true
+unknown-goes : (count : Bool) (ack : Option ℕ) (h : ReadingState) (entry : Entry) → is_understood entry.kind (length entry.body) ≡ false → entry.mandatory ≡ true
     → heeds_entry count ack h entry ≡ Err (fault_of codes.MandatoryError entry)
 unknown-goes count ack h entry unknown mandatory =
     ap (λ (b : Bool).
@@ -146,7 +146,7 @@ unknown-goes count ack h entry unknown mandatory =
     unknown
     ∙ ap (λ (b : Bool). if b then Err (fault_of codes.MandatoryError entry) else Ok h) mandatory
 
-module _ (count : Bool) (ack : Option ℕ) (h : Heeding) (entry : Entry) (number : ℕ) (list : List ℕ) (spoken : Spoken count entry number list) where
+module _ (count : Bool) (ack : Option ℕ) (h : ReadingState) (entry : Entry) (number : ℕ) (list : List ℕ) (spoken : Spoken count entry number list) where
   abbrev letter : Bool
   letter = is_left entry.kind
 
@@ -213,10 +213,10 @@ spoken-change : (count : Bool) (entry : Entry) (number : ℕ) (list : List ℕ) 
 spoken-change count entry number list spoken = ap (λ (b : Bool). b && is_change entry.kind) (spoken-whole count entry number list spoken)
 
 -- An option adds one to the Changes that were met, at most, and that where it is a Change.
-pub item-counts : (count : Bool) (ack : Option ℕ) (h next : Heeding) (entry : Entry) → heeds_entry count ack h entry ≡ Ok next
+pub item-counts : (count : Bool) (ack : Option ℕ) (h next : ReadingState) (entry : Entry) → heeds_entry count ack h entry ≡ Ok next
     → next.changes ≤ h.changes + once_if (is_change_item (Ok entry))
 item-counts count ack h next entry step = by next (subst (Way count ack h (Ok entry)) step (entry-way count ack h entry)) where
-  by : (next : Heeding) → Way count ack h (Ok entry) (Ok next) → next.changes ≤ h.changes + once_if (is_change_item (Ok entry))
+  by : (next : ReadingState) → Way count ack h (Ok entry) (Ok next) → next.changes ≤ h.changes + once_if (is_change_item (Ok entry))
   by _ (Says _ none) = omega arith
   by _ (Again _ number list spoken was) =
       subst (λ (b : Bool). counted h.changes (is_change entry.kind) ≤ h.changes + once_if b) (sym (spoken-change count entry number list spoken))
@@ -234,7 +234,7 @@ changes-few (item ∷ rest) = by (is_change_item item) (changes-few rest) where
   by true few = omega (arith, few)
   by false few = omega (arith, few)
 
-record Sums (count : Bool) (done : List ListItem) (h : Heeding) : Type 0 where
+record Sums (count : Bool) (done : List ListItem) (h : ReadingState) : Type 0 where
   size : length h.used ≡ 512
   used : count ≡ true → (left : Bool) (number : ℕ) → number < 256
       → slice_index_or h.used (place_in_used left number) false ≡ list_any (speaks_for left number) done
@@ -310,8 +310,8 @@ on-so : (count b : Bool) → (count && b) ≡ false → count ≡ true → b ≡
 on-so true b is on = is
 on-so false b is on = cc on
 
-module _ (count : Bool) (ack : Option ℕ) (done : List ListItem) (h : Heeding) (sums : Sums count done h) where
-  sums-more : (next : Heeding) (item : ListItem) → ItemFits item → Way count ack h item (Ok next) → Sums count (done ++ item ∷ []) next
+module _ (count : Bool) (ack : Option ℕ) (done : List ListItem) (h : ReadingState) (sums : Sums count done h) where
+  sums-more : (next : ReadingState) (item : ListItem) → ItemFits item → Way count ack h item (Ok next) → Sums count (done ++ item ∷ []) next
   sums-more _ _ fits (Says entry none) =
       record {
         size = sums.size;
@@ -437,17 +437,17 @@ module _ (count : Bool) (ack : Option ℕ) (done : List ListItem) (h : Heeding) 
       confirm-goes count ack h entry number list spoken other (first-back entry number list fits spoken first) code is
 
 -- reading on after what was read
-heeds-append : (count : Bool) (ack : Option ℕ) (h : Heeding) (before items : List ListItem) (read : Heeding) → heeds count ack h before ≡ Ok read
+heeds-append : (count : Bool) (ack : Option ℕ) (h : ReadingState) (before items : List ListItem) (read : ReadingState) → heeds count ack h before ≡ Ok read
     → heeds count ack h (before ++ items) ≡ heeds count ack read items
-heeds-append count ack h [] items read is = let same : h ≡ read = cc is in ap (λ (x : Heeding). heeds count ack x items) same
+heeds-append count ack h [] items read is = let same : h ≡ read = cc is in ap (λ (x : ReadingState). heeds count ack x items) same
 heeds-append count ack h (item ∷ rest) items read is = joined (heeds_item count ack h item) (λ next so. heeds-append count ack next rest items read so) is where
-  joined : (r : Result Heeding Fault)
-      → ((next : Heeding) → heeds count ack next rest ≡ Ok read → heeds count ack next (rest ++ items) ≡ heeds count ack read items)
+  joined : (r : Result ReadingState Fault)
+      → ((next : ReadingState) → heeds count ack next rest ≡ Ok read → heeds count ack next (rest ++ items) ≡ heeds count ack read items)
       → heeds_then r (λ next. heeds count ack next rest) ≡ Ok read → heeds_then r (λ next. heeds count ack next (rest ++ items)) ≡ heeds count ack read items
   joined (Ok next) more so = more next so
   joined (Err fault) more so = cc so
 
-sums-heeded : (count : Bool) (ack : Option ℕ) (done : List ListItem) (h : Heeding) (items : List ListItem) (read : Heeding) → Sums count done h
+sums-heeded : (count : Bool) (ack : Option ℕ) (done : List ListItem) (h : ReadingState) (items : List ListItem) (read : ReadingState) → Sums count done h
     → All ItemFits items → heeds count ack h items ≡ Ok read → Sums count (done ++ items) read
 sums-heeded count ack done h [] read sums fits is =
     let same : h ≡ read = cc is in
@@ -455,8 +455,8 @@ sums-heeded count ack done h [] read sums fits is =
 sums-heeded count ack done h (item ∷ rest) read sums fits is =
     joined (heeds_item count ack h item) (item-way count ack h item)
     (λ next more so. sums-heeded count ack (done ++ item ∷ []) next rest read more (All-tail ItemFits item rest fits) so) is where
-      joined : (r : Result Heeding Fault) → Way count ack h item r
-          → ((next : Heeding) → Sums count (done ++ item ∷ []) next → heeds count ack next rest ≡ Ok read → Sums count ((done ++ item ∷ []) ++ rest) read)
+      joined : (r : Result ReadingState Fault) → Way count ack h item r
+          → ((next : ReadingState) → Sums count (done ++ item ∷ []) next → heeds count ack next rest ≡ Ok read → Sums count ((done ++ item ∷ []) ++ rest) read)
           → heeds_then r (λ next. heeds count ack next rest) ≡ Ok read → Sums count (done ++ item ∷ rest) read
       joined (Ok next) way onward so =
           subst (λ (xs : List ListItem). Sums count xs read) (append_assoc done (item ∷ []) rest)
@@ -479,22 +479,22 @@ fits-back : (xs ys : List ListItem) → All ItemFits (xs ++ ys) → All ItemFits
 fits-back [] ys all = all
 fits-back (x ∷ xs) ys all = fits-back xs ys (All-tail ItemFits x (xs ++ ys) all)
 
-found : (count : Bool) (ack : Option ℕ) (rows : List Row) (fault : Fault) (done : List ListItem) (h : Heeding) (items : List ListItem) → Sums count done h
+found : (count : Bool) (ack : Option ℕ) (rows : List Row) (fault : Fault) (done : List ListItem) (h : ReadingState) (items : List ListItem) → Sums count done h
     → All ItemFits items → heeds count ack (unheeded rows) done ≡ Ok h → heeds count ack h items ≡ Err fault
     → HasFirstFault count ack rows (done ++ items) fault
 found count ack rows fault done h [] sums fits read is = cc is
 found count ack rows fault done h (item ∷ rest) sums fits read is =
     joined (heeds_item count ack h item) refl (item-way count ack h item)
     (λ next more so here. found count ack rows fault (done ++ item ∷ []) next rest more (All-tail ItemFits item rest fits) so here) is where
-      joined : (r : Result Heeding Fault) → heeds_item count ack h item ≡ r → Way count ack h item r
-          → ((next : Heeding) → Sums count (done ++ item ∷ []) next → heeds count ack (unheeded rows) (done ++ item ∷ []) ≡ Ok next
+      joined : (r : Result ReadingState Fault) → heeds_item count ack h item ≡ r → Way count ack h item r
+          → ((next : ReadingState) → Sums count (done ++ item ∷ []) next → heeds count ack (unheeded rows) (done ++ item ∷ []) ≡ Ok next
           → heeds count ack next rest ≡ Err fault → HasFirstFault count ack rows ((done ++ item ∷ []) ++ rest) fault)
           → heeds_then r (λ next. heeds count ack next rest) ≡ Err fault → HasFirstFault count ack rows (done ++ item ∷ rest) fault
       joined (Ok next) same way onward so =
           subst (λ (xs : List ListItem). HasFirstFault count ack rows xs fault) (append_assoc done (item ∷ []) rest)
           (onward next (sums-more count ack done h sums next item (All-head ItemFits item rest fits) way)
           (heeds-append count ack (unheeded rows) done (item ∷ []) h read
-          ∙ ap (λ (r : Result Heeding Fault). heeds_then r (λ (x : Heeding). heeds count ack x [])) same) so)
+          ∙ ap (λ (r : Result ReadingState Fault). heeds_then r (λ (x : ReadingState). heeds count ack x [])) same) so)
       joined (Err its) same way onward so =
           let one : its ≡ fault = cc so in
           record {
@@ -516,7 +516,7 @@ answered-so count ack rows options fault fits first =
     (fits-front first.before (first.item ∷ first.following) all) first.no_fault in
     ap (heeds count ack (unheeded rows)) first.in_order
     ∙ heeds-append count ack (unheeded rows) first.before (first.item ∷ first.following) first.read first.no_fault
-    ∙ ap (λ (r : Result Heeding Fault). heeds_then r (λ (x : Heeding). heeds count ack x first.following))
+    ∙ ap (λ (r : Result ReadingState Fault). heeds_then r (λ (x : ReadingState). heeds count ack x first.following))
     (wrong-back count ack first.before first.read sums first.item fault
     (All-head ItemFits first.item first.following (fits-back first.before (first.item ∷ first.following) all)) first.goes_wrong)
 
@@ -532,12 +532,12 @@ stops_at_the_first_fault count ack rows options fault fits =
 -- and where no item goes wrong, all are read
 pub goes_through : ReadingGoesThrough
 goes_through count ack rows options fits = (whole (heeds count ack (unheeded rows) options) refl, faultless) where
-  whole : (r : Result Heeding Fault) → heeds count ack (unheeded rows) options ≡ r → ((fault : Fault) → HasFirstFault count ack rows options fault → ⊥)
-      → (h : Heeding) × (heeds count ack (unheeded rows) options ≡ Ok h)
+  whole : (r : Result ReadingState Fault) → heeds count ack (unheeded rows) options ≡ r → ((fault : Fault) → HasFirstFault count ack rows options fault → ⊥)
+      → (h : ReadingState) × (heeds count ack (unheeded rows) options ≡ Ok h)
   whole (Ok h) is none = (h, is)
   whole (Err fault) is none = absurd (none fault (fault-found count ack rows options fault fits is))
 
-  faultless : (h : Heeding) × (heeds count ack (unheeded rows) options ≡ Ok h) → (fault : Fault) → HasFirstFault count ack rows options fault → ⊥
+  faultless : (h : ReadingState) × (heeds count ack (unheeded rows) options ≡ Ok h) → (fault : Fault) → HasFirstFault count ack rows options fault → ⊥
   faultless read fault first =
       let stops = answered-so count ack rows options fault fits first in
       let goes = read.1 in

@@ -10,7 +10,7 @@ use Rattle.dccp_states.specs.declared.phase.Phase.TheVariants as phases
 use Rattle.dccp_states.specs.declared.phase.Role.{Role}
 use Rattle.dccp_states.specs.declared.phase.Role.TheVariants as roles
 use Rattle.dccp_endpoint.specs.End.{EndState, new_end}
-use Rattle.dccp_endpoint.specs.Heeding.{Heeding}
+use Rattle.dccp_endpoint.specs.Heeding.{ReadingState}
 use Rattle.dccp_endpoint.specs.Incoming.{Incoming, incoming}
 use Rattle.dccp_endpoint.specs.Receiving.{checks_numbers, checks_type, ends_as, ends_by_reset, fault_if, heeded, opens_connection, reads_request, started, takes, takes_answer, through}
 use Rattle.dccp_endpoint.specs.Steps.{Step}
@@ -30,12 +30,12 @@ abbrev asked : Config → List ℕ → Parts → ℕ → ℕ → Incoming
 asked config bytes p service number = incoming (server config) bytes (asking p service) number
 
 -- its options are read in RESPOND
-abbrev heard : Config → List ℕ → Parts → ℕ → ℕ → Result Heeding Fault → Step Outcome
+abbrev heard : Config → List ℕ → Parts → ℕ → ℕ → Result ReadingState Fault → Step Outcome
 heard config bytes p service number read =
     heeded (started (server config) phases.Respond (asked config bytes p service number)) (asked config bytes p service number) read
 
 -- by what they come to
-answered-by : (config : Config) (bytes : List ℕ) (p : Parts) (service number : ℕ) (read : Result Heeding Fault) (frame : Option Outgoing) (told : Option Outcome)
+answered-by : (config : Config) (bytes : List ℕ) (p : Parts) (service number : ℕ) (read : Result ReadingState Fault) (frame : Option Outgoing) (told : Option Outcome)
     → IsRequestAnswered (record config { role = roles.Server }) number (fault_if read) frame told → IsStrangerAnswered (heard config bytes p service number read) frame told
 answered-by config bytes p service number (Ok h) frame told so =
     subst (λ (t : Option Outcome). IsStrangerAnswered (heard config bytes p service number (Ok h)) frame t) (sym so.1) (so.0, refl)

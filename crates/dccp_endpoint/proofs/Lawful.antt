@@ -19,7 +19,7 @@ use Rattle.feature_machine.proofs.Turning.{turned-role, turned-sound}
 use Rattle.dccp_endpoint.specs.Causes.{AreHeard, Deaf, Heeds, AreTurns, Occasion, Plain, Offering, Repeating, PrefersNow, PrefersLater, counts_in}
 use Rattle.dccp_endpoint.specs.Effects.{HeardNumber}
 use Rattle.dccp_endpoint.specs.End.{EndState, IsProper, end_of}
-use Rattle.dccp_endpoint.specs.Heeding.{DueConfirm, Heeding, body_turns, entry_turns, event_of, heard_turns, heeds, heeds_item, is_change, is_left, is_of_negotiation, is_too_many, item_turns, place_in_used, turn_known, turns_then, unheeded}
+use Rattle.dccp_endpoint.specs.Heeding.{DueConfirm, ReadingState, body_turns, entry_turns, event_of, heard_turns, heeds, heeds_item, is_change, is_left, is_of_negotiation, is_too_many, item_turns, place_in_used, turn_known, turns_then, unheeded}
 use Rattle.dccp_endpoint.specs.Inputs.{Input}
 use Rattle.dccp_endpoint.specs.Speaking.{is_confirmed}
 use Rattle.dccp_endpoint.specs.Steps.{next_number}
@@ -40,7 +40,7 @@ known-lawful None left ack entry change body = All-nil Fit
 known-lawful (Some known) left ack entry true body = one-lawful _ tt
 known-lawful (Some known) left ack entry false body = one-lawful _ tt
 
-entry-lawful : (count : Bool) (ack : Option ℕ) (h : Heeding) (entry : Entry) → AreLawful (entry_turns count ack h entry)
+entry-lawful : (count : Bool) (ack : Option ℕ) (h : ReadingState) (entry : Entry) → AreLawful (entry_turns count ack h entry)
 entry-lawful count ack h entry = by (is_understood entry.kind (length entry.body)) (count && is_of_negotiation entry.kind) where
   spoken : (number : ℕ) (body : List ℕ) (used many : Bool)
       → AreLawful (if used then [] else if many then []
@@ -58,23 +58,23 @@ entry-lawful count ack h entry = by (is_understood entry.kind (length entry.body
   by true true = told entry.body
   by true false = All-nil Fit
 
-item-lawful : (count : Bool) (ack : Option ℕ) (h : Heeding) (item : Result Entry OptFault) → AreLawful (item_turns count ack h item)
+item-lawful : (count : Bool) (ack : Option ℕ) (h : ReadingState) (item : Result Entry OptFault) → AreLawful (item_turns count ack h item)
 item-lawful count ack h (Ok entry) = entry-lawful count ack h entry
 item-lawful count ack h (Err _) = All-nil Fit
 
 -- what is heard
-pub heard-lawful : (count : Bool) (ack : Option ℕ) (h : Heeding) (items : List (Result Entry OptFault)) → AreLawful (heard_turns count ack h items)
+pub heard-lawful : (count : Bool) (ack : Option ℕ) (h : ReadingState) (items : List (Result Entry OptFault)) → AreLawful (heard_turns count ack h items)
 heard-lawful count ack h [] = All-nil Fit
 heard-lawful count ack h (item ∷ rest) =
     All-append Fit (item_turns count ack h item) (turns_then (heeds_item count ack h item) (λ next. heard_turns count ack next rest))
     (item-lawful count ack h item) (later (heeds_item count ack h item) (λ next. heard-lawful count ack next rest)) where
-      later : (r : Result Heeding Fault) → ((next : Heeding) → AreLawful (heard_turns count ack next rest))
+      later : (r : Result ReadingState Fault) → ((next : ReadingState) → AreLawful (heard_turns count ack next rest))
           → AreLawful (turns_then r (λ next. heard_turns count ack next rest))
       later (Ok next) more = more next
       later (Err fault) more = All-nil Fit
 
 -- so the rows of an end stay its rows when it hears a packet
-pub heard_rows : (r : Role2) (count : Bool) (ack : Option ℕ) (rows : List Row) (items : List (Result Entry OptFault)) (h : Heeding) → AreRowsOf r rows
+pub heard_rows : (r : Role2) (count : Bool) (ack : Option ℕ) (rows : List Row) (items : List (Result Entry OptFault)) (h : ReadingState) → AreRowsOf r rows
     → heeds count ack (unheeded rows) items ≡ Ok h → AreRowsOf r h.rows
 heard_rows r count ack rows items h its is =
     subst (AreRowsOf r) (sym (heeds-turns count ack (unheeded rows) items h is))

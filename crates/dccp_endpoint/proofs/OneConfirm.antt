@@ -20,7 +20,7 @@ use Rattle.feature_machine.specs.Turns.{Turn, events_of, confirm_of, reply_due}
 use Rattle.feature_machine.specs.declared.row.Row.{Row}
 use Rattle.feature_machine.proofs.Places.{numbered}
 use Rattle.dccp_endpoint.proofs.FirstFaults.{item-counts}
-use Rattle.dccp_endpoint.specs.Heeding.{DueConfirm, Heeding, body_turns, by_answered, by_settling, counted, entry_turns, event_of, fault_of, feature_turns, heard_turns, heeds, heeds_body, heeds_entry, heeds_feature, heeds_first, heeds_then, is_change, is_left, is_of_negotiation, is_too_many, met, misunderstood, place_in_used, turn_known, turns_then, unheeded}
+use Rattle.dccp_endpoint.specs.Heeding.{DueConfirm, ReadingState, body_turns, by_answered, by_settling, counted, entry_turns, event_of, fault_of, feature_turns, heard_turns, heeds, heeds_body, heeds_entry, heeds_feature, heeds_first, heeds_then, is_change, is_left, is_of_negotiation, is_too_many, met, misunderstood, place_in_used, turn_known, turns_then, unheeded}
 use Rattle.dccp_endpoint.specs.Saying.{ConfirmsAreSingle, RowsHearThePacket, begins_with_number, changes_among, has_feature_number, is_change_item, negotiates_by, body_if, confirm_for, event_in, once_if, said_to, speaks_to, times_confirmed}
 use Rattle.dccp_endpoint.specs.Speaking.{is_for, is_of_place}
 use Rattle.dccp_endpoint.specs.Turns.{Key}
@@ -47,16 +47,16 @@ times-more k due [] = omega arith
 times-more k due (first ∷ rest) = let later = times-more k due rest in omega (arith, later)
 
 -- whether the row was spoken to before
-abbrev pub is_used : Key → Heeding → Bool
+abbrev pub is_used : Key → ReadingState → Bool
 is_used k h = slice_index_or h.used (spot k) false
 
 -- What each option keeps.
-record Keeps (h next : Heeding) : Type 0 where
+record Keeps (h next : ReadingState) : Type 0 where
   rows : length next.rows ≡ length h.rows
   used : length next.used ≡ length h.used
 
 -- What an option that does not speak to the row leaves, or one that was spoken to before.
-record Passes (k : Key) (h next : Heeding) (turns : List Turn) : Type 0 where
+record Passes (k : Key) (h next : ReadingState) (turns : List Turn) : Type 0 where
   keeps : Keeps h next
   events : events_of k.0 k.1 turns ≡ []
   row : row_at next.rows k.0 k.1 ≡ row_at h.rows k.0 k.1
@@ -65,7 +65,7 @@ record Passes (k : Key) (h next : Heeding) (turns : List Turn) : Type 0 where
   times : times_confirmed k next.confirms ≡ times_confirmed k h.confirms
 
 -- What the first one that speaks to it does.
-record Tells (k : Key) (h next : Heeding) (event : RowEvent) (turns : List Turn) : Type 0 where
+record Tells (k : Key) (h next : ReadingState) (event : RowEvent) (turns : List Turn) : Type 0 where
   keeps : Keeps h next
   events : events_of k.0 k.1 turns ≡ event ∷ []
   used : is_used k next ≡ true
@@ -74,14 +74,14 @@ record Tells (k : Key) (h next : Heeding) (event : RowEvent) (turns : List Turn)
   lives : (code : ℕ) → (row_step (row_at h.rows k.0 k.1) event).answer ≢ Fatal code
 
 -- reading went on with this
-abbrev fine : Heeding → Result Heeding Fault
+abbrev fine : ReadingState → Result ReadingState Fault
 fine h = Ok h
 
 -- an option that was passed over
-abbrev again : Heeding → Bool → Heeding
+abbrev again : ReadingState → Bool → ReadingState
 again h change = record h { changes = counted h.changes change }
 
-again-passes : (k : Key) (h : Heeding) (change : Bool) → Passes k h (again h change) []
+again-passes : (k : Key) (h : ReadingState) (change : Bool) → Passes k h (again h change) []
 again-passes k h change = record {
   keeps = record { rows = refl; used = refl };
   events = refl;
@@ -91,7 +91,7 @@ again-passes k h change = record {
   times = refl;
 }
 
-still-passes : (k : Key) (h : Heeding) → Passes k h h []
+still-passes : (k : Key) (h : ReadingState) → Passes k h h []
 still-passes k h = record {
   keeps = record { rows = refl; used = refl };
   events = refl;
@@ -101,11 +101,11 @@ still-passes k h = record {
   times = refl;
 }
 
-met-keeps : (h : Heeding) (place : ℕ) (change : Bool) (rows : List Row) (confirms : List DueConfirm) → length rows ≡ length h.rows
+met-keeps : (h : ReadingState) (place : ℕ) (change : Bool) (rows : List Row) (confirms : List DueConfirm) → length rows ≡ length h.rows
     → Keeps h (met h place change rows confirms)
 met-keeps h place change rows confirms size = record { rows = size; used = length-set h.used place true }
 
-not_many : (h : Heeding) (change : Bool) → (change ≡ true → h.changes < 64) → is_too_many h change ≡ false
+not_many : (h : ReadingState) (change : Bool) → (change ≡ true → h.changes < 64) → is_too_many h change ≡ false
 not_many h true few = let less : nat_lt h.changes 64 ≡ true = lt-ltb h.changes 64 (few refl) in rw less refl
 not_many h false few = refl
 
@@ -114,7 +114,7 @@ less-so true is = refl
 less-so false is = cc is
 
 -- an option for another row
-module _ (k : Key) (ack : Option ℕ) (h next : Heeding) (entry : Entry) (left : Bool) (number : ℕ) (body : List ℕ) (beside : IsBeside k left number) where
+module _ (k : Key) (ack : Option ℕ) (h next : ReadingState) (entry : Entry) (left : Bool) (number : ℕ) (body : List ℕ) (beside : IsBeside k left number) where
   abbrev place : ℕ
   place = place_in_used left number
 
@@ -211,7 +211,7 @@ confirmed-own : (k : Key) (rows : List Row) (body : List ℕ) (ack : Option ℕ)
     → confirmed rows (letter_to k.1) (feature_number k.0) body ack ≡ stepped rows k.0 k.1 (Confirm body ack)
 confirmed-own k rows body ack = rw (numbered k.0, letter-place k.1) refl
 
-module _ (k : Key) (ack : Option ℕ) (h next : Heeding) (entry : Entry) (body : List ℕ) (size : length h.used ≡ 512) where
+module _ (k : Key) (ack : Option ℕ) (h next : ReadingState) (entry : Entry) (body : List ℕ) (size : length h.used ≡ 512) where
   abbrev event : Bool → RowEvent
   event change = event_of ack entry change body
 
@@ -330,7 +330,7 @@ and-nested true two three = refl
 and-nested false two three = refl
 
 -- what an option is to the row: it does not speak to it, or the row was spoken to before, or it is the first that speaks to it
-data Way (k : Key) (count : Bool) (ack : Option ℕ) (h next : Heeding) (entry : Entry) (turns : List Turn) : Type 0 where
+data Way (k : Key) (count : Bool) (ack : Option ℕ) (h next : ReadingState) (entry : Entry) (turns : List Turn) : Type 0 where
   Passing : (count && speaks_to k entry) ≡ false → Passes k h next turns → Way k count ack h next entry turns
   Repeating : is_used k h ≡ true → Passes k h next turns → Way k count ack h next entry turns
   Telling : is_used k h ≡ false → (count && speaks_to k entry) ≡ true → Tells k h next (event_in ack entry) turns
@@ -349,7 +349,7 @@ mute-so k entry is = by entry.body is where
       and_left (is_of_negotiation entry.kind) (number == feature_number k.0 && its_place)
       (false_from_ne_true (is_of_negotiation entry.kind) (λ its. false≢true (sym is ∙ understood-so entry.kind (length body) its)))
 
-module _ (k : Key) (count : Bool) (ack : Option ℕ) (h next : Heeding) (entry : Entry) (few : is_change_item (Ok entry) ≡ true → h.changes < 64)
+module _ (k : Key) (count : Bool) (ack : Option ℕ) (h next : ReadingState) (entry : Entry) (few : is_change_item (Ok entry) ≡ true → h.changes < 64)
     (size : length h.used ≡ 512) where
   abbrev Its : List Turn → Type 0
   Its turns = Way k count ack h next entry turns
@@ -431,12 +431,12 @@ module _ (k : Key) (count : Bool) (ack : Option ℕ) (h next : Heeding) (entry :
     by false is so = nothing-way (and_right count (speaks_to k entry) (mute-so k entry is)) (missed entry.mandatory so)
 
 -- what the options do that come after one that spoke to the row
-record Stays (k : Key) (h end : Heeding) (turns : List Turn) : Type 0 where
+record Stays (k : Key) (h end : ReadingState) (turns : List Turn) : Type 0 where
   events : events_of k.0 k.1 turns ≡ []
   confirm : confirm_for k end.confirms ≡ confirm_for k h.confirms
   times : times_confirmed k end.confirms ≡ times_confirmed k h.confirms
 
-passes-on : (k : Key) (h next end : Heeding) (turns later : List Turn) → Passes k h next turns → Stays k next end later → Stays k h end (turns ++ later)
+passes-on : (k : Key) (h next end : ReadingState) (turns later : List Turn) → Passes k h next turns → Stays k next end later → Stays k h end (turns ++ later)
 passes-on k h next end turns later passes stays = record {
   events = events-append k turns later ∙ ap (λ (events : List RowEvent). events ++ events_of k.0 k.1 later) passes.events ∙ stays.events;
   confirm = stays.confirm ∙ passes.confirm;
@@ -444,7 +444,7 @@ passes-on k h next end turns later passes stays = record {
 }
 
 -- there is room for the Changes that are left, and each row has its place
-record HasRoom (h : Heeding) (items : List (Result Entry OptFault)) : Type 0 where
+record HasRoom (h : ReadingState) (items : List (Result Entry OptFault)) : Type 0 where
   few : h.changes + changes_among items ≤ 64
   size : length h.used ≡ 512
 
@@ -455,7 +455,7 @@ changes-first item rest = by (is_change_item item) where
   by true = omega arith
   by false = omega arith
 
-room-next : (count : Bool) (ack : Option ℕ) (h next : Heeding) (entry : Entry) (rest : List (Result Entry OptFault)) → Keeps h next
+room-next : (count : Bool) (ack : Option ℕ) (h next : ReadingState) (entry : Entry) (rest : List (Result Entry OptFault)) → Keeps h next
     → heeds_entry count ack h entry ≡ Ok next → HasRoom h (Ok entry ∷ rest) → HasRoom next rest
 room-next count ack h next entry rest keeps step room = record {
   few =
@@ -466,7 +466,7 @@ room-next count ack h next entry rest keeps step room = record {
   size = keeps.used ∙ room.size;
 }
 
-room-now : (h : Heeding) (entry : Entry) (rest : List (Result Entry OptFault)) → HasRoom h (Ok entry ∷ rest) → is_change_item (Ok entry) ≡ true → h.changes < 64
+room-now : (h : ReadingState) (entry : Entry) (rest : List (Result Entry OptFault)) → HasRoom h (Ok entry ∷ rest) → is_change_item (Ok entry) ≡ true → h.changes < 64
 room-now h entry rest room is =
     let one : once_if (is_change_item (Ok entry)) ≡ 1 = ap once_if is in
     let all = changes-first (Ok entry) rest in
@@ -474,14 +474,14 @@ room-now h entry rest room is =
     omega (arith, one, all, few)
 
 module _ (k : Key) (count : Bool) (ack : Option ℕ) where
-  stays-so : (items : List (Result Entry OptFault)) (h end : Heeding) → is_used k h ≡ true → HasRoom h items → heeds count ack h items ≡ Ok end
+  stays-so : (items : List (Result Entry OptFault)) (h end : ReadingState) → is_used k h ≡ true → HasRoom h items → heeds count ack h items ≡ Ok end
       → Stays k h end (heard_turns count ack h items)
   stays-so [] h end used room is =
       let same : h ≡ end = cc is in subst (λ last. Stays k h last []) same (record { events = refl; confirm = refl; times = refl })
   stays-so (Err fault ∷ rest) h end used room is = cc is
   stays-so (Ok entry ∷ rest) h end used room is = by (heeds_entry count ack h entry) refl is (λ next its. stays-so rest next end its) where
-    by : (step : Result Heeding Fault) → heeds_entry count ack h entry ≡ step → heeds_then step (λ next. heeds count ack next rest) ≡ Ok end
-        → ((next : Heeding) → is_used k next ≡ true → HasRoom next rest → heeds count ack next rest ≡ Ok end
+    by : (step : Result ReadingState Fault) → heeds_entry count ack h entry ≡ step → heeds_then step (λ next. heeds count ack next rest) ≡ Ok end
+        → ((next : ReadingState) → is_used k next ≡ true → HasRoom next rest → heeds count ack next rest ≡ Ok end
         → Stays k next end (heard_turns count ack next rest))
         → Stays k h end (entry_turns count ack h entry ++ turns_then step (λ next. heard_turns count ack next rest))
     by (Err fault) step is later = cc is
@@ -496,27 +496,27 @@ module _ (k : Key) (count : Bool) (ack : Option ℕ) where
       way (Telling unused speaks tells) = absurd (false≢true (sym unused ∙ used))
 
 -- what the row hears of all, and the Confirm that is due for it
-pub record Hears (k : Key) (count : Bool) (ack : Option ℕ) (h end : Heeding) (items : List (Result Entry OptFault)) : Type 0 where
+pub record Hears (k : Key) (count : Bool) (ack : Option ℕ) (h end : ReadingState) (items : List (Result Entry OptFault)) : Type 0 where
   pub events : events_of k.0 k.1 (heard_turns count ack h items) ≡ said_to count ack k items
   pub confirm : confirm_for k end.confirms ≡ reply_due (row_at h.rows k.0 k.1) (said_to count ack k items)
   pub times : times_confirmed k end.confirms ≤ 1
   pub lives : (event : RowEvent) → said_to count ack k items ≡ event ∷ [] → (code : ℕ) → (row_step (row_at h.rows k.0 k.1) event).answer ≢ Fatal code
 
 -- nothing spoke to the row yet
-record IsFresh (k : Key) (h : Heeding) : Type 0 where
+record IsFresh (k : Key) (h : ReadingState) : Type 0 where
   unused : is_used k h ≡ false
   none : confirm_for k h.confirms ≡ None
   times : times_confirmed k h.confirms ≡ 0
 
 module _ (k : Key) (count : Bool) (ack : Option ℕ) where
-  hears-later : (entry : Entry) (rest : List (Result Entry OptFault)) (h next end : Heeding) → heeds_entry count ack h entry ≡ Ok next
+  hears-later : (entry : Entry) (rest : List (Result Entry OptFault)) (h next end : ReadingState) → heeds_entry count ack h entry ≡ Ok next
       → (count && speaks_to k entry) ≡ false → Passes k h next (entry_turns count ack h entry) → Hears k count ack next end rest
       → Hears k count ack h end (Ok entry ∷ rest)
   hears-later entry rest h next end step silent passes later =
       let said : said_to count ack k (Ok entry ∷ rest) ≡ said_to count ack k rest =
       cond-false (count && speaks_to k entry) (event_in ack entry ∷ []) (said_to count ack k rest) silent in
       let turns : heard_turns count ack h (Ok entry ∷ rest) ≡ entry_turns count ack h entry ++ heard_turns count ack next rest =
-      ap (λ (step : Result Heeding Fault). entry_turns count ack h entry ++ turns_then step (λ next. heard_turns count ack next rest)) step in
+      ap (λ (step : Result ReadingState Fault). entry_turns count ack h entry ++ turns_then step (λ next. heard_turns count ack next rest)) step in
       record {
         events =
             ap (λ (turns : List Turn). events_of k.0 k.1 turns) turns
@@ -532,14 +532,14 @@ module _ (k : Key) (count : Bool) (ack : Option ℕ) where
             later.lives event (sym said ∙ is) code (ap (λ (row : Row). (row_step row event).answer) passes.row ∙ fatal);
       }
 
-  hears-now : (entry : Entry) (rest : List (Result Entry OptFault)) (h next end : Heeding) → IsFresh k h → heeds_entry count ack h entry ≡ Ok next
+  hears-now : (entry : Entry) (rest : List (Result Entry OptFault)) (h next end : ReadingState) → IsFresh k h → heeds_entry count ack h entry ≡ Ok next
       → (count && speaks_to k entry) ≡ true → Tells k h next (event_in ack entry) (entry_turns count ack h entry)
       → Stays k next end (heard_turns count ack next rest) → Hears k count ack h end (Ok entry ∷ rest)
   hears-now entry rest h next end fresh step speaks tells stays =
       let said : said_to count ack k (Ok entry ∷ rest) ≡ event_in ack entry ∷ [] =
       cond-true (count && speaks_to k entry) (event_in ack entry ∷ []) (said_to count ack k rest) speaks in
       let turns : heard_turns count ack h (Ok entry ∷ rest) ≡ entry_turns count ack h entry ++ heard_turns count ack next rest =
-      ap (λ (step : Result Heeding Fault). entry_turns count ack h entry ++ turns_then step (λ next. heard_turns count ack next rest)) step in
+      ap (λ (step : Result ReadingState Fault). entry_turns count ack h entry ++ turns_then step (λ next. heard_turns count ack next rest)) step in
       record {
         events =
             ap (λ (turns : List Turn). events_of k.0 k.1 turns) turns
@@ -557,7 +557,7 @@ module _ (k : Key) (count : Bool) (ack : Option ℕ) where
             tells.lives code (ap (λ (one : RowEvent). (row_step (row_at h.rows k.0 k.1) one).answer) its ∙ fatal);
       }
 
-  hears-so : (items : List (Result Entry OptFault)) (h end : Heeding) → IsFresh k h → HasRoom h items → heeds count ack h items ≡ Ok end
+  hears-so : (items : List (Result Entry OptFault)) (h end : ReadingState) → IsFresh k h → HasRoom h items → heeds count ack h items ≡ Ok end
       → Hears k count ack h end items
   hears-so [] h end fresh room is =
       let same : h ≡ end = cc is in
@@ -565,8 +565,8 @@ module _ (k : Key) (count : Bool) (ack : Option ℕ) where
       (record { events = refl; confirm = fresh.none; times = let none = fresh.times in omega (arith, none); lives = λ event is. cc is })
   hears-so (Err fault ∷ rest) h end fresh room is = cc is
   hears-so (Ok entry ∷ rest) h end fresh room is = by (heeds_entry count ack h entry) refl is (λ next its. hears-so rest next end its) where
-    by : (step : Result Heeding Fault) → heeds_entry count ack h entry ≡ step → heeds_then step (λ next. heeds count ack next rest) ≡ Ok end
-        → ((next : Heeding) → IsFresh k next → HasRoom next rest → heeds count ack next rest ≡ Ok end → Hears k count ack next end rest)
+    by : (step : Result ReadingState Fault) → heeds_entry count ack h entry ≡ step → heeds_then step (λ next. heeds count ack next rest) ≡ Ok end
+        → ((next : ReadingState) → IsFresh k next → HasRoom next rest → heeds count ack next rest ≡ Ok end → Hears k count ack next end rest)
         → Hears k count ack h end (Ok entry ∷ rest)
     by (Err fault) step is later = cc is
     by (Ok next) step is later = way (entry-way k count ack h next entry (room-now h entry rest room) room.size step) where
@@ -582,7 +582,7 @@ module _ (k : Key) (count : Bool) (ack : Option ℕ) where
           hears-now entry rest h next end fresh step speaks tells
           (stays-so k count ack rest next end tells.used (room-next count ack h next entry rest tells.keeps step room) is)
 
-  pub whole-heard : (rows : List Row) (items : List (Result Entry OptFault)) (end : Heeding) → changes_among items ≤ 64
+  pub whole-heard : (rows : List Row) (items : List (Result Entry OptFault)) (end : ReadingState) → changes_among items ≤ 64
       → heeds count ack (unheeded rows) items ≡ Ok end → Hears k count ack (unheeded rows) end items
   whole-heard rows items end few is =
       hears-so items (unheeded rows) end

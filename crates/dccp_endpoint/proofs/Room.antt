@@ -42,7 +42,7 @@ use Rattle.feature_machine.specs.declared.stands.Stand.TheVariants as stand
 use Rattle.feature_machine.proofs.Steps.{stepped_negotiation}
 use Rattle.dccp_endpoint.specs.Causes.{is_code_without_connection}
 use Rattle.dccp_endpoint.specs.Drafts.{IsSendable}
-use Rattle.dccp_endpoint.specs.Heeding.{DueConfirm, Heeding, by_answered, by_settling, counted, fault_of, heeds, heeds_body, heeds_change, heeds_confirm, heeds_feature, heeds_item, heeds_then, is_change, is_left, is_of_negotiation, met, misunderstood, place_in_used, unheeded}
+use Rattle.dccp_endpoint.specs.Heeding.{DueConfirm, ReadingState, by_answered, by_settling, counted, fault_of, heeds, heeds_body, heeds_change, heeds_confirm, heeds_feature, heeds_item, heeds_then, is_change, is_left, is_of_negotiation, met, misunderstood, place_in_used, unheeded}
 use Rattle.dccp_endpoint.specs.Reporting.{vector_item, vector_items}
 use Rattle.dccp_endpoint.specs.Saying.{ConfirmsHaveRoom, once_if}
 use Rattle.dccp_endpoint.specs.Speaking.{HaveRoom, asking, change_item, change_items, change_type, confirm_item, confirm_items, confirm_type, confirming, is_confirmed, saying, wish_bytes}
@@ -222,7 +222,7 @@ feature-used used left number (Some feature) is size free =
     (ap (λ (place : ℕ). has_spot place every_place) (sym at) ∙ has-row feature (place_of left))
 
 -- Of each reading: rows are sound, Confirms few and short, and shorter where no row answers; a fault has code 5 or 6.
-pub record IsBounded (h : Heeding) : Type 0 where
+pub record IsBounded (h : ReadingState) : Type 0 where
   pub rows : IsNegotiation h.rows
   pub size : length h.used ≡ 512
   pub few : length h.confirms ≤ h.changes
@@ -230,7 +230,7 @@ pub record IsBounded (h : Heeding) : Type 0 where
   pub short : All (λ due. length due.body ≤ 9) h.confirms
   pub room : length (written (confirm_items h.confirms)) ≤ 3 * h.changes + 9 * rows_used h.used every_place
 
-abbrev pub IsBoundedReading : Result Heeding Fault → Type 0
+abbrev pub IsBoundedReading : Result ReadingState Fault → Type 0
 IsBoundedReading (Ok h) = IsBounded h
 IsBoundedReading (Err fault) = is_code_without_connection role.Server fault.code ≡ false
 
@@ -241,7 +241,7 @@ counted-more n true most = by (nat_lt n 64) refl where
   by true is = (omega arith, grind arith)
   by false is = (omega arith, most)
 
-met-bounded : (h : Heeding) (place : ℕ) (change : Bool) (rows : List Row) → IsBounded h → IsNegotiation rows → IsBounded (met h place change rows h.confirms)
+met-bounded : (h : ReadingState) (place : ℕ) (change : Bool) (rows : List Row) → IsBounded h → IsNegotiation rows → IsBounded (met h place change rows h.confirms)
 met-bounded h place change rows b sound =
     let more = counted-more h.changes change b.most in
     let used = more-used h.used place every_place in
@@ -278,7 +278,7 @@ length-confirms confirms due =
     omega (arith, all, parts, one)
 
 -- a Change, by what its row answers, where there is one
-answered-bounded : (h : Heeding) (place : ℕ) (rows : List Row) (entry : Entry) (left : Bool) (number : ℕ) (answer : RowAnswer) (its : ℕ) → its ≤ 1
+answered-bounded : (h : ReadingState) (place : ℕ) (rows : List Row) (entry : Entry) (left : Bool) (number : ℕ) (answer : RowAnswer) (its : ℕ) → its ≤ 1
     → rows_used h.used every_place + its ≤ rows_used (slice_set h.used place true) every_place → IsBounded h → nat_lt h.changes 64 ≡ true → IsNegotiation rows
     → IsShort (9 * its) answer → IsBoundedReading (by_answered h place rows entry (answered left number answer))
 answered-bounded h place rows entry left number (Confirms body) its one used b few sound short =
@@ -300,13 +300,13 @@ answered-bounded h place rows entry left number Opens its one used b few sound s
 answered-bounded h place rows entry left number Waits its one used b few sound short = met-bounded h place true rows b sound
 answered-bounded h place rows entry left number Quiet its one used b few sound short = met-bounded h place true rows b sound
 
-settling-bounded : (h : Heeding) (place : ℕ) (rows : List Row) (entry : Entry) (x : Settling) → IsBounded h → IsNegotiation rows
+settling-bounded : (h : ReadingState) (place : ℕ) (rows : List Row) (entry : Entry) (x : Settling) → IsBounded h → IsNegotiation rows
     → IsBoundedReading (by_settling h place rows entry x)
 settling-bounded h place rows entry settling.Settled b sound = met-bounded h place false rows b sound
 settling-bounded h place rows entry settling.Ignored b sound = met-bounded h place false rows b sound
 settling-bounded h place rows entry settling.Fatal b sound = refl
 
-used-bounded : (h : Heeding) (change : Bool) → IsBounded h → IsBounded (record h { changes = counted h.changes change })
+used-bounded : (h : ReadingState) (change : Bool) → IsBounded h → IsBounded (record h { changes = counted h.changes change })
 used-bounded h change b =
     let more = counted-more h.changes change b.most in
     record {
@@ -318,7 +318,7 @@ used-bounded h change b =
       room = (let room = b.room in omega (arith, room, more.0));
     }
 
-feature-bounded : (ack : Option ℕ) (h : Heeding) (entry : Entry) (change left : Bool) (number : ℕ) (body : List ℕ) → IsBounded h
+feature-bounded : (ack : Option ℕ) (h : ReadingState) (entry : Entry) (change left : Bool) (number : ℕ) (body : List ℕ) → IsBounded h
     → IsBoundedReading (heeds_feature ack h entry change left number body)
 feature-bounded ack h entry true left number body b = by (slice_index_or h.used (place_in_used left number) false) (nat_lt h.changes 64) refl refl where
   by : (used few : Bool) → slice_index_or h.used (place_in_used left number) false ≡ used → nat_lt h.changes 64 ≡ few
@@ -339,11 +339,11 @@ feature-bounded ack h entry false left number body b = by (slice_index_or h.used
       settling-bounded h (place_in_used left number) (confirmed h.rows left number body ack).rows entry (settling_of (confirmed h.rows left number body ack).answer) b
       (confirm-sound h.rows (feature_numbered number) left body ack b.rows)
 
-body-bounded : (ack : Option ℕ) (h : Heeding) (entry : Entry) (body : List ℕ) → IsBounded h → IsBoundedReading (heeds_body ack h entry body)
+body-bounded : (ack : Option ℕ) (h : ReadingState) (entry : Entry) (body : List ℕ) → IsBounded h → IsBoundedReading (heeds_body ack h entry body)
 body-bounded ack h entry [] b = b
 body-bounded ack h entry (number ∷ body) b = feature-bounded ack h entry (is_change entry.kind) (is_left entry.kind) number body b
 
-item-bounded : (count : Bool) (ack : Option ℕ) (h : Heeding) (item : Result Entry OptFault) → IsBounded h → IsBoundedReading (heeds_item count ack h item)
+item-bounded : (count : Bool) (ack : Option ℕ) (h : ReadingState) (item : Result Entry OptFault) → IsBounded h → IsBoundedReading (heeds_item count ack h item)
 item-bounded count ack h (Err _) b = refl
 item-bounded count ack h (Ok entry) b = by (is_understood entry.kind (length entry.body)) (count && is_of_negotiation entry.kind) where
   wrong : (mandatory : Bool) → IsBoundedReading (if mandatory then Err (fault_of codes.MandatoryError entry) else Ok h)
@@ -355,11 +355,11 @@ item-bounded count ack h (Ok entry) b = by (is_understood entry.kind (length ent
   by true true = body-bounded ack h entry entry.body b
   by true false = b
 
-heeds-bounded : (count : Bool) (ack : Option ℕ) (h : Heeding) (items : List (Result Entry OptFault)) → IsBounded h → IsBoundedReading (heeds count ack h items)
+heeds-bounded : (count : Bool) (ack : Option ℕ) (h : ReadingState) (items : List (Result Entry OptFault)) → IsBounded h → IsBoundedReading (heeds count ack h items)
 heeds-bounded count ack h [] b = b
 heeds-bounded count ack h (item ∷ rest) b =
     joined (heeds_item count ack h item) (item-bounded count ack h item b) (λ next more. heeds-bounded count ack next rest more) where
-      joined : (r : Result Heeding Fault) → IsBoundedReading r → ((next : Heeding) → IsBounded next → IsBoundedReading (heeds count ack next rest))
+      joined : (r : Result ReadingState Fault) → IsBoundedReading r → ((next : ReadingState) → IsBounded next → IsBoundedReading (heeds count ack next rest))
           → IsBoundedReading (heeds_then r (λ next. heeds count ack next rest))
       joined (Ok next) bounded more = more next bounded
       joined (Err fault) numbered more = numbered
@@ -386,7 +386,7 @@ pub record AreShort (confirms : List DueConfirm) : Type 0 where
 pub no-confirms : AreShort []
 no-confirms = record { few = omega arith; short = All-nil (λ (due : DueConfirm). length due.body ≤ 9); room = omega arith }
 
-pub confirms-short : (count : Bool) (ack : Option ℕ) (rows : List Row) (items : List (Result Entry OptFault)) (read : Heeding) → IsNegotiation rows
+pub confirms-short : (count : Bool) (ack : Option ℕ) (rows : List Row) (items : List (Result Entry OptFault)) (read : ReadingState) → IsNegotiation rows
     → heeds count ack (unheeded rows) items ≡ Ok read → AreShort read.confirms
 confirms-short count ack rows items read sound is =
     let bounded : IsBounded read = subst IsBoundedReading is (reading-bounded count ack rows items sound) in

@@ -32,7 +32,7 @@ use Rattle.dccp_endpoint.specs.Drafts.{Draft, IsSendable, alone}
 use Rattle.dccp_endpoint.specs.Effects.{Effect, PacketFate, Refused, Shut, Taken, HeardNumber, Unheard, Heard, Transmission, Silent, Next, WithoutConnection, greatest_by, end_after, frame_by, rows_by, told_by}
 use Rattle.dccp_endpoint.specs.End.{EndState, IsProper, is_phase_of, is_live, is_begun, is_connected, phase_entered}
 use Rattle.dccp_endpoint.specs.Faults.{counts}
-use Rattle.dccp_endpoint.specs.Heeding.{DueConfirm, Heeding, heard_turns, heeds, unheeded}
+use Rattle.dccp_endpoint.specs.Heeding.{DueConfirm, ReadingState, heard_turns, heeds, unheeded}
 use Rattle.dccp_packets.specs.Kinds.{ack_of}
 use Rattle.dccp_endpoint.specs.Incoming.{Incoming, incoming}
 use Rattle.dccp_endpoint.specs.Inputs.{Input, Arrives, Opens, end_stepped}
@@ -171,7 +171,7 @@ abbrev pub counts_in : EndState → Incoming → Bool
 counts_in e a = a.newest && counts (phase_entered e.phase) a.kind
 
 -- The packet's options are read whole, and this is what they come to.
-abbrev pub AreOptionsRead : EndState → Incoming → Heeding → Type 0
+abbrev pub AreOptionsRead : EndState → Incoming → ReadingState → Type 0
 AreOptionsRead e a h = heeds (counts_in e a) a.ack (unheeded e.rows) a.options ≡ Ok h
 
 -- what the rows then hear
@@ -192,7 +192,7 @@ pub data IsLooking (e : EndState) (given : Input) (hearing : HeardNumber) : Opti
 -- What the rows heard of a packet that was taken, and the Confirms that are due for it.
 pub data AreHeard (e : EndState) (given : Input) (hearing : HeardNumber) : List Turn → List DueConfirm → Type 0 where
   Deaf : AreHeard e given hearing [] []
-  Heeds : (a : Incoming) (h : Heeding) → WasTaken e given hearing a → AreOptionsRead e a h → AreHeard e given hearing (turns_in e a) h.confirms
+  Heeds : (a : Incoming) (h : ReadingState) → WasTaken e given hearing a → AreOptionsRead e a h → AreHeard e given hearing (turns_in e a) h.confirms
 
 -- What else happens to rows in the step, and whose Changes go out.
 pub data Occasion (e : EndState) (given : Input) (heard : List Turn) (confirms : List DueConfirm) : List Turn → List Turn → List Key → Type 0 where
@@ -276,7 +276,7 @@ HasData (WithoutConnection number packet) = ⊥
 -- for data that go out; and for its timer, while something is in flight.
 pub data IsCalling (e : EndState) (given : Input) (hearing : HeardNumber) (sending : Transmission) : List Call → Type 0 where
   CallsNothing : IsCalling e given hearing sending []
-  CallsFor : (a : Incoming) (h : Heeding) → WasTaken e given hearing a → AreOptionsRead e a h → IsCalling e given hearing sending (calls_for a e.rows h.rows)
+  CallsFor : (a : Incoming) (h : ReadingState) → WasTaken e given hearing a → AreOptionsRead e a h → IsCalling e given hearing sending (calls_for a e.rows h.rows)
   CallsSent : (payload : List ℕ) → given ≡ input.Sends payload true → e.phase ≡ phases.Open → HasData sending
       → IsCalling e given hearing sending (call.Sends (next_number e) ∷ [])
   CallsEarly : (payload : List ℕ) → given ≡ input.SendsEarly payload true → e.phase ≡ phases.PartOpen → HasData sending

@@ -1,7 +1,7 @@
 -- At which option of a packet the reading stops, and for which fault (RFC 4340, sections 5.8.2 and 8.5, step 8; which
 -- options count is own).
 --
--- It is above the fold of Heeding: the fold is asked what the options before that one left in the rows, and whether
+-- It is above the fold of `specs/Heeding`: the fold is asked what the options before that one left in the rows, and whether
 -- they were read; what counts is said of the list of them. That feature numbers are below 256, as bytes are, is a
 -- premise.
 use Rattle.std.specs.Prelude.{◌≡◌, ◌↔◌, ◌<◌, ◌&&◌, not, ℕ, Bool, true, false, List, [], ◌∷◌, ◌++◌, length, Option, Result, Ok, Err}
@@ -14,7 +14,7 @@ use Rattle.feature_machine.specs.Negotiating.{changes, confirmed}
 use Rattle.feature_machine.specs.Rows.{Fatal}
 use Rattle.feature_machine.specs.declared.row.Row.{Row}
 use Rattle.dccp_endpoint.specs.Faults.{mandatory_fault}
-use Rattle.dccp_endpoint.specs.Heeding.{Heeding, fault_of, heeds, is_change, is_left, is_of_negotiation, unheeded}
+use Rattle.dccp_endpoint.specs.Heeding.{ReadingState, fault_of, heeds, is_change, is_left, is_of_negotiation, unheeded}
 use Rattle.dccp_endpoint.specs.Saying.{begins_with_number, changes_among, negotiates_by}
 use Rattle.dccp_states.specs.declared.outcome.Fault.{Fault}
 
@@ -55,7 +55,7 @@ pub record HasFirstFault (count : Bool) (ack : Option ℕ) (rows : List Row) (op
   pub item : Result Entry OptFault
   pub following : List (Result Entry OptFault)
   pub in_order : options ≡ before ++ item ∷ following
-  pub read : Heeding
+  pub read : ReadingState
   pub no_fault : heeds count ack (unheeded rows) before ≡ Ok read
   pub goes_wrong : GoesWrong count ack before read.rows item fault
 
@@ -79,4 +79,4 @@ ReadingStopsAtTheFirstFault =
 abbrev pub ReadingGoesThrough : Type 0
 ReadingGoesThrough =
     (count : Bool) (ack : Option ℕ) (rows : List Row) (options : List (Result Entry OptFault)) → All ItemFits options
-    → ((fault : Fault) → HasFirstFault count ack rows options fault → ⊥) ↔ ((h : Heeding) × (heeds count ack (unheeded rows) options ≡ Ok h))
+    → ((fault : Fault) → HasFirstFault count ack rows options fault → ⊥) ↔ ((h : ReadingState) × (heeds count ack (unheeded rows) options ≡ Ok h))

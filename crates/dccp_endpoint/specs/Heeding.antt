@@ -37,14 +37,14 @@ due_of out = record { left = out.left; number = out.feature; body = out.body.ite
 
 -- What reading has come to: the rows; which features were spoken of by L and by R; how many Changes were met, up to 64;
 -- and the Confirms that are due, in order.
-pub record Heeding : Type 0 where
+pub record ReadingState : Type 0 where
   pub rows : List Row
   pub used : List Bool
   pub changes : ℕ
   pub confirms : List DueConfirm
 
 -- nothing was read yet
-abbrev pub unheeded : List Row → Heeding
+abbrev pub unheeded : List Row → ReadingState
 unheeded rows = record { rows = rows; used = replicate 512 false; changes = 0; confirms = [] }
 
 -- the place of a feature number and L or R among 512
@@ -74,83 +74,83 @@ counted changes true = if nat_lt changes 64 then changes + 1 else changes
 counted changes false = changes
 
 -- The option was met: no other one speaks of its feature by its letter.
-abbrev pub met : Heeding → ℕ → Bool → List Row → List DueConfirm → Heeding
+abbrev pub met : ReadingState → ℕ → Bool → List Row → List DueConfirm → ReadingState
 met h place change rows confirms =
     record { rows = rows; used = slice_set h.used place true; changes = counted h.changes change; confirms = confirms }
 
 -- a Change, by what its row answers
-abbrev pub by_answered : Heeding → ℕ → List Row → Entry → ChangeAnswer → Result Heeding Fault
+abbrev pub by_answered : ReadingState → ℕ → List Row → Entry → ChangeAnswer → Result ReadingState Fault
 by_answered h place rows entry (Confirming left number body) =
     Ok (met h place true rows (h.confirms ++ record { left = left; number = number; body = body } ∷ []))
 by_answered h place rows entry Ignoring = Ok (met h place true rows h.confirms)
 by_answered h place rows entry Failing = Err (fault_of codes.MandatoryError entry)
 
 -- a Change that is heeded: what its row answers makes a Confirm that is due, nothing, or the fault Mandatory Error
-abbrev pub heeds_change : Heeding → Entry → Bool → ℕ → List ℕ → Result Heeding Fault
+abbrev pub heeds_change : ReadingState → Entry → Bool → ℕ → List ℕ → Result ReadingState Fault
 heeds_change h entry left number body =
     by_answered h (place_in_used left number) (changes h.rows left number body entry.mandatory).rows entry
     (answered left number (changes h.rows left number body entry.mandatory).answer)
 
 -- a Confirm, by what its row answers
-abbrev pub by_settling : Heeding → ℕ → List Row → Entry → Settling → Result Heeding Fault
+abbrev pub by_settling : ReadingState → ℕ → List Row → Entry → Settling → Result ReadingState Fault
 by_settling h place rows entry settling.Settled = Ok (met h place false rows h.confirms)
 by_settling h place rows entry settling.Ignored = Ok (met h place false rows h.confirms)
 by_settling h place rows entry settling.Fatal = Err (fault_of codes.OptionError entry)
 
 -- a Confirm that is heeded, for the packet's acknowledgement number: what its row cannot accept is the fault Option
 -- Error
-abbrev pub heeds_confirm : Option ℕ → Heeding → Entry → Bool → ℕ → List ℕ → Result Heeding Fault
+abbrev pub heeds_confirm : Option ℕ → ReadingState → Entry → Bool → ℕ → List ℕ → Result ReadingState Fault
 heeds_confirm ack h entry left number body =
     by_settling h (place_in_used left number) (confirmed h.rows left number body ack).rows entry
     (settling_of (confirmed h.rows left number body ack).answer)
 
 -- the first option for a feature by a letter; of Changes, one of the first 64 of the packet
-abbrev pub heeds_first : Option ℕ → Heeding → Entry → Bool → Bool → ℕ → List ℕ → Result Heeding Fault
+abbrev pub heeds_first : Option ℕ → ReadingState → Entry → Bool → Bool → ℕ → List ℕ → Result ReadingState Fault
 heeds_first ack h entry true left number body =
     if nat_lt h.changes 64 then heeds_change h entry left number body else Ok (met h (place_in_used left number) true h.rows h.confirms)
 heeds_first ack h entry false left number body = heeds_confirm ack h entry left number body
 
 -- a later one for the same feature by the same letter is passed over
-abbrev pub heeds_feature : Option ℕ → Heeding → Entry → Bool → Bool → ℕ → List ℕ → Result Heeding Fault
+abbrev pub heeds_feature : Option ℕ → ReadingState → Entry → Bool → Bool → ℕ → List ℕ → Result ReadingState Fault
 heeds_feature ack h entry change left number body =
     if slice_index_or h.used (place_in_used left number) false then Ok (record h { changes = counted h.changes change })
     else heeds_first ack h entry change left number body
 
 -- the data are the feature number and what follows it
-abbrev pub heeds_body : Option ℕ → Heeding → Entry → List ℕ → Result Heeding Fault
+abbrev pub heeds_body : Option ℕ → ReadingState → Entry → List ℕ → Result ReadingState Fault
 heeds_body ack h entry [] = Ok h
 heeds_body ack h entry (number ∷ body) = heeds_feature ack h entry (is_change entry.kind) (is_left entry.kind) number body
 
 -- an option that is not understood is a fault after Mandatory alone (section 5.8.2)
-abbrev pub misunderstood : Heeding → Entry → Result Heeding Fault
+abbrev pub misunderstood : ReadingState → Entry → Result ReadingState Fault
 misunderstood h entry = if entry.mandatory then Err (fault_of codes.MandatoryError entry) else Ok h
 
 -- what reading has come to, or the fault, as a method leaves and answers it
-abbrev pub heeding_or : Heeding → Result (Unit {0}) Fault → Result Heeding Fault
+abbrev pub heeding_or : ReadingState → Result (Unit {0}) Fault → Result ReadingState Fault
 heeding_or h (Ok _) = Ok h
 heeding_or h (Err fault) = Err fault
 
 -- One of the negotiation is heeded where such options count, and elsewhere passed over with its Mandatory. All others
 -- say nothing to the rows.
-abbrev pub heeds_entry : Bool → Option ℕ → Heeding → Entry → Result Heeding Fault
+abbrev pub heeds_entry : Bool → Option ℕ → ReadingState → Entry → Result ReadingState Fault
 heeds_entry count ack h entry =
     if not (is_understood entry.kind (length entry.body)) then misunderstood h entry
     else if count && is_of_negotiation entry.kind then heeds_body ack h entry entry.body
     else Ok h
 
 -- a fault of Mandatory itself ends the reading with Option Error
-abbrev pub heeds_item : Bool → Option ℕ → Heeding → Result Entry OptFault → Result Heeding Fault
+abbrev pub heeds_item : Bool → Option ℕ → ReadingState → Result Entry OptFault → Result ReadingState Fault
 heeds_item count ack h (Ok entry) = heeds_entry count ack h entry
 heeds_item count ack h (Err _) = Err mandatory_fault
 
 -- the options after a fault are not heeded
-abbrev pub heeds_then : Result Heeding Fault → (Heeding → Result Heeding Fault) → Result Heeding Fault
+abbrev pub heeds_then : Result ReadingState Fault → (ReadingState → Result ReadingState Fault) → Result ReadingState Fault
 heeds_then (Ok h) rest = rest h
 heeds_then (Err fault) rest = Err fault
 
 -- The options in order, up to the first fault; `count` tells whether those of the negotiation count, and `ack` is the
 -- packet's acknowledgement number.
-abbrev pub heeds : Bool → Option ℕ → Heeding → List (Result Entry OptFault) → Result Heeding Fault
+abbrev pub heeds : Bool → Option ℕ → ReadingState → List (Result Entry OptFault) → Result ReadingState Fault
 heeds count ack h [] = Ok h
 heeds count ack h (item ∷ rest) = heeds_then (heeds_item count ack h item) (λ next. heeds count ack next rest)
 
@@ -165,40 +165,40 @@ turn_known None left event = []
 turn_known (Some feature) left event = turn_of (feature, place_of left) event ∷ []
 
 -- a Change that is one too many turns no row
-abbrev pub is_too_many : Heeding → Bool → Bool
+abbrev pub is_too_many : ReadingState → Bool → Bool
 is_too_many h change = change && not (nat_lt h.changes 64)
 
 -- neither a repeated option nor a Change beyond the first 64 turns a row, and a feature number that is not known has
 -- none
-abbrev pub feature_turns : Option ℕ → Heeding → Entry → Bool → Bool → ℕ → List ℕ → List Turn
+abbrev pub feature_turns : Option ℕ → ReadingState → Entry → Bool → Bool → ℕ → List ℕ → List Turn
 feature_turns ack h entry change left number body =
     if slice_index_or h.used (place_in_used left number) false then []
     else if is_too_many h change then []
     else turn_known (feature_numbered number) left (event_of ack entry change body)
 
 -- an option of the negotiation without a feature number turns no row
-abbrev pub body_turns : Option ℕ → Heeding → Entry → List ℕ → List Turn
+abbrev pub body_turns : Option ℕ → ReadingState → Entry → List ℕ → List Turn
 body_turns ack h entry [] = []
 body_turns ack h entry (number ∷ body) = feature_turns ack h entry (is_change entry.kind) (is_left entry.kind) number body
 
 -- only an understood option of the negotiation turns a row, and only where such options count
-abbrev pub entry_turns : Bool → Option ℕ → Heeding → Entry → List Turn
+abbrev pub entry_turns : Bool → Option ℕ → ReadingState → Entry → List Turn
 entry_turns count ack h entry =
     if not (is_understood entry.kind (length entry.body)) then []
     else if count && is_of_negotiation entry.kind then body_turns ack h entry entry.body
     else []
 
 -- a fault of Mandatory itself turns no row
-abbrev pub item_turns : Bool → Option ℕ → Heeding → Result Entry OptFault → List Turn
+abbrev pub item_turns : Bool → Option ℕ → ReadingState → Result Entry OptFault → List Turn
 item_turns count ack h (Ok entry) = entry_turns count ack h entry
 item_turns count ack h (Err _) = []
 
 -- no row has a turn after a fault
-abbrev pub turns_then : Result Heeding Fault → (Heeding → List Turn) → List Turn
+abbrev pub turns_then : Result ReadingState Fault → (ReadingState → List Turn) → List Turn
 turns_then (Ok h) rest = rest h
 turns_then (Err fault) rest = []
 
 -- what the rows hear of the options, in order
-abbrev pub heard_turns : Bool → Option ℕ → Heeding → List (Result Entry OptFault) → List Turn
+abbrev pub heard_turns : Bool → Option ℕ → ReadingState → List (Result Entry OptFault) → List Turn
 heard_turns count ack h [] = []
 heard_turns count ack h (item ∷ rest) = item_turns count ack h item ++ turns_then (heeds_item count ack h item) (λ next. heard_turns count ack next rest)

@@ -32,7 +32,7 @@ use Rattle.dccp_endpoint.specs.Congesting.{calls_for}
 use Rattle.dccp_endpoint.specs.Drafts.{alone}
 use Rattle.dccp_endpoint.specs.Effects.{Effect, PacketFate, Transmission, Silent, Next, WithoutConnection, Heard, Refused, Shut, Taken, effect_of, effect_of_sending, end_after, frame_by, greatest_or, is_acking_sent, raising, rows_by}
 use Rattle.dccp_endpoint.specs.End.{EndState, is_live, phase_entered}
-use Rattle.dccp_endpoint.specs.Heeding.{DueConfirm, Heeding}
+use Rattle.dccp_endpoint.specs.Heeding.{DueConfirm, ReadingState}
 use Rattle.dccp_endpoint.specs.Incoming.{Incoming}
 use Rattle.dccp_endpoint.specs.Inputs.{Arrives}
 use Rattle.dccp_endpoint.specs.Receiving.{acknowledges_in_window, becomes_open, is_of_connection, is_other_service, is_own_service, is_unexpected, needs_ack, number_without_connection, packet_fault, reads_options, started, with_raised_marks, takes_short}
@@ -148,7 +148,7 @@ pub data IsReset (e : EndState) (bytes : List ℕ) : Fault → Type 0 where
   -- step 8: the first fault of the options
   Faulted : (a : Incoming) (entered : EndState) (fault : Fault) → IsAdmitted e bytes a entered → reads_options entered a ≡ Err fault → IsReset e bytes fault
   -- step 14: Closed, the answer to a Close
-  AnswersClose : (a : Incoming) (entered : EndState) (h : Heeding) (to : Phase) → IsAdmitted e bytes a entered → reads_options entered a ≡ Ok h
+  AnswersClose : (a : Incoming) (entered : EndState) (h : ReadingState) (to : Phase) → IsAdmitted e bytes a entered → reads_options entered a ≡ Ok h
       → after entered.phase a.kind ≡ (to, reply.ResetClosed) → IsReset e bytes (without_detail (number_of_code codes.Closed))
 
 -- it tells of this fault
@@ -164,7 +164,7 @@ pub record IsTaken (e : EndState) (bytes : List ℕ) (delivered : Option (ℕ ×
   pub packet : Incoming
   pub entered : EndState
   pub admitted : IsAdmitted e bytes packet entered
-  pub heeding : Heeding
+  pub heeding : ReadingState
   pub no_fault : reads_options entered packet ≡ Ok heeding
   pub to : Phase
   pub answer : Reply

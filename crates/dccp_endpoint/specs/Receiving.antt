@@ -45,7 +45,7 @@ use Rattle.validity_windows.specs.declared.verdict.Verdict.TheVariants as verdic
 use Rattle.dccp_endpoint.specs.Drafts.{alone, sent_of}
 use Rattle.dccp_endpoint.specs.End.{EndState, is_connected, is_live, is_open, value_in, with_rows}
 use Rattle.dccp_endpoint.specs.Faults.{counts}
-use Rattle.dccp_endpoint.specs.Heeding.{DueConfirm, Heeding, heeds, unheeded}
+use Rattle.dccp_endpoint.specs.Heeding.{DueConfirm, ReadingState, heeds, unheeded}
 use Rattle.dccp_endpoint.specs.Incoming.{Incoming, incoming}
 use Rattle.dccp_packets.specs.ResetCodes.{number_of_code}
 use Rattle.dccp_packets.specs.declared.reset_code.ResetCode.TheVariants as codes
@@ -336,22 +336,22 @@ leaves e a (exits.TimeWait code) = idle (in_phase e phases.TimeWait) (WasReset c
 
 -- Step 8: what the options come to, or their first fault. Options of the negotiation are heeded on the newest packets
 -- alone.
-abbrev pub reads_options : EndState → Incoming → Result Heeding Fault
+abbrev pub reads_options : EndState → Incoming → Result ReadingState Fault
 reads_options x a = heeds (a.newest && counts x.phase a.kind) a.ack (unheeded x.rows) a.options
 
 -- The same of a Request for its service that reaches a server's end in LISTEN: what it makes of the option area depends
 -- on its lists alone. The end has left LISTEN by then (step 3).
-abbrev pub reads_request : List RowSetup → List ℕ → Result Heeding Fault
+abbrev pub reads_request : List RowSetup → List ℕ → Result ReadingState Fault
 reads_request lists area = heeds true None (unheeded (first_rows end.Server lists)) (options_of area false)
 
 -- the fault, if there is one
-abbrev pub fault_if : Result Heeding Fault → Result (Unit {0}) Fault
+abbrev pub fault_if : Result ReadingState Fault → Result (Unit {0}) Fault
 fault_if (Ok h) = Ok tt
 fault_if (Err fault) = Err fault
 
 -- The rows are stored once the options are read to their end, and the congestion control hears of them. A fault ends
 -- the connection, leaves the rows as they were and the packet unmarked, and hands nothing over.
-abbrev pub heeded : EndState → Incoming → Result Heeding Fault → Step Outcome
+abbrev pub heeded : EndState → Incoming → Result ReadingState Fault → Step Outcome
 heeded x a (Ok h) = with_calls (calls_for a x.rows h.rows) (processes (with_rows x h.rows) a h.confirms)
 heeded x a (Err fault) = leaves x a (exits.Shut fault)
 

@@ -12,7 +12,7 @@ use Rattle.feature_machine.specs.Rows.{RowEvent, Change, Confirm}
 use Rattle.feature_machine.specs.Turns.{events_of, reply_due}
 use Rattle.feature_machine.specs.declared.row.Row.{Row}
 use Rattle.run_list.specs.MarkedSet.{MarkedSet}
-use Rattle.dccp_endpoint.specs.Heeding.{DueConfirm, Heeding, event_of, heard_turns, heeds, is_change, is_left, is_of_negotiation, unheeded}
+use Rattle.dccp_endpoint.specs.Heeding.{DueConfirm, ReadingState, event_of, heard_turns, heeds, is_change, is_left, is_of_negotiation, unheeded}
 use Rattle.ack_vectors.specs.declared.room.Vectors.{Vectors}
 use Rattle.dccp_endpoint.specs.Reporting.{vector_items}
 use Rattle.dccp_endpoint.specs.Speaking.{HaveRoom, change_items, confirm_items, is_confirmed, is_for, is_of_place, wish_bytes}
@@ -71,7 +71,7 @@ changes_among options = length (filter is_change_item options)
 -- due for it is the row's answer. The packet has at most 64 Changes, for all of which count.
 abbrev pub RowsHearThePacket : Type 0
 RowsHearThePacket =
-    (count : Bool) (ack : Option ℕ) (rows : List Row) (options : List (Result Entry OptFault)) (h : Heeding) (k : Key) → IsNegotiation rows
+    (count : Bool) (ack : Option ℕ) (rows : List Row) (options : List (Result Entry OptFault)) (h : ReadingState) (k : Key) → IsNegotiation rows
     → changes_among options ≤ 64 → heeds count ack (unheeded rows) options ≡ Ok h
     → (events_of k.0 k.1 (heard_turns count ack (unheeded rows) options) ≡ said_to count ack k options)
     × (confirm_for k h.confirms ≡ reply_due (row_at rows k.0 k.1) (said_to count ack k options))
@@ -79,7 +79,7 @@ RowsHearThePacket =
 -- The Confirms that are due for a packet that was read whole leave room for the rest.
 abbrev pub ConfirmsHaveRoom : Type 0
 ConfirmsHaveRoom =
-    (count : Bool) (ack : Option ℕ) (rows : List Row) (options : List (Result Entry OptFault)) (h : Heeding) → IsNegotiation rows
+    (count : Bool) (ack : Option ℕ) (rows : List Row) (options : List (Result Entry OptFault)) (h : ReadingState) → IsNegotiation rows
     → heeds count ack (unheeded rows) options ≡ Ok h → HaveRoom h.confirms
 
 -- whether a row is one of these
@@ -131,7 +131,7 @@ times_said_to k (Ok entry ∷ rest) = once_if (speaks_to k entry) + times_said_t
 -- Of a packet of at most 64 Changes that was read whole no row has two Confirms that are due.
 abbrev pub ConfirmsAreSingle : Type 0
 ConfirmsAreSingle =
-    (count : Bool) (ack : Option ℕ) (rows : List Row) (options : List (Result Entry OptFault)) (h : Heeding) (k : Key) → IsNegotiation rows
+    (count : Bool) (ack : Option ℕ) (rows : List Row) (options : List (Result Entry OptFault)) (h : ReadingState) (k : Key) → IsNegotiation rows
     → changes_among options ≤ 64 → heeds count ack (unheeded rows) options ≡ Ok h → times_confirmed k h.confirms ≤ 1
 
 -- So an end's own packet speaks to a row of the peer once at most: no row's Change goes out twice, nor beside a Confirm

@@ -3,7 +3,7 @@ ghost use Rattle.std.specs.Prelude.{◌≡◌, ◌<◌, ◌≤◌, ◌++◌, ◌
 ghost use Rattle.dccp_options.specs.Grammar.{options_of};
 ghost use Rattle.dccp_options.specs.Left.{entry_of_option, item_of};
 ghost use Rattle.dccp_endpoint.specs.Receiving.{fault_if, reads_request};
-ghost use Rattle.dccp_endpoint.specs.Heeding.{Heeding, counted, due_of, heeding_or, heeds, heeds_body, heeds_change, heeds_confirm, heeds_entry};
+ghost use Rattle.dccp_endpoint.specs.Heeding.{ReadingState, counted, due_of, heeding_or, heeds, heeds_body, heeds_change, heeds_confirm, heeds_entry};
 ghost use Rattle.dccp_endpoint.specs.Heeding.{heeds_feature, heeds_first, heeds_item, is_change, is_left, is_of_negotiation, met, misunderstood, place_in_used, unheeded};
 
 use crate::faults::{fault_of, mandatory_fault};
@@ -31,9 +31,9 @@ pub(crate) struct Reading {
 
 impl Model for Reading {
     ghost use Rattle.std.specs.Prelude.{◌≤◌, length, map};
-    ghost use Rattle.dccp_endpoint.specs.Heeding.{Heeding, due_of};
+    ghost use Rattle.dccp_endpoint.specs.Heeding.{ReadingState, due_of};
 
-    ghost Value = { Heeding };
+    ghost Value = { ReadingState };
 
     ghost view = { λ r. record { rows = r.rows; used = r.used; changes = r.changes; confirms = map due_of r.confirms.items } };
 
@@ -293,7 +293,7 @@ pub(crate) fn heed(
 
 // An option that has no fault and says nothing to the rows.
 fn is_silent(item: &Result<Opt<'_>, OptFault>, count: bool) -> bool
-    ensures { result ≡ true → (ack : Option ℕ) (heeding : Heeding)
+    ensures { result ≡ true → (ack : Option ℕ) (heeding : ReadingState)
         → heeds_item count ack heeding (item_of item.now) ≡ Ok heeding }
 {
     match item {
@@ -306,7 +306,7 @@ fn is_silent(item: &Result<Opt<'_>, OptFault>, count: bool) -> bool
 /// read.
 pub(crate) fn are_silent(area: &[u8], on_data: bool, count: bool) -> bool
     requires { length area.now ≤ 1008 }
-    ensures { result ≡ true → (ack : Option ℕ) (heeding : Heeding)
+    ensures { result ≡ true → (ack : Option ℕ) (heeding : ReadingState)
         → heeds count ack heeding (options_of area.now on_data) ≡ Ok heeding }
 {
     for item in options(area, on_data) {

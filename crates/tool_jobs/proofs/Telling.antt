@@ -13,7 +13,7 @@ use Rattle.run_list.specs.MarkedSet.{answer_to}
 use Rattle.run_list.specs.declared.answers.Marked.{Marked}
 use Rattle.dccp_endpoint.specs.Controlled.{End, EndStep, with_control}
 use Rattle.dccp_endpoint.specs.End.{EndState, with_rows}
-use Rattle.dccp_endpoint.specs.Heeding.{DueConfirm, Heeding}
+use Rattle.dccp_endpoint.specs.Heeding.{DueConfirm, ReadingState}
 use Rattle.dccp_endpoint.specs.Incoming.{Incoming}
 use Rattle.dccp_endpoint.specs.Receiving.{Course, Goes, Leaves, accounted, acknowledges, arrives, checks_header, delivering, ends_as, heeded, leaves, moved_to, moves, needs_ack, reads_options, received, receives, replies, the_steps, through, with_own_number, with_packet}
 use Rattle.dccp_endpoint.specs.Reporting.{counts_data, delivered_if, delivers}
@@ -76,7 +76,7 @@ moved-in : (bytes : List ℕ) (e : EndState) (a : Incoming) (confirms : List Due
 moved-in bytes e a confirms mark to inside =
     delivering-in bytes (moved_to e to.0 a.number) a confirms (delivers a.kind to.0 mark) to.1 inside
 
-heeded-in : (bytes : List ℕ) (x : EndState) (a : Incoming) (heeding : Result Heeding Fault) → IsPlaceIn bytes (Some a.data_place)
+heeded-in : (bytes : List ℕ) (x : EndState) (a : Incoming) (heeding : Result ReadingState Fault) → IsPlaceIn bytes (Some a.data_place)
     → HasItsData bytes (heeded x a heeding).answer
 heeded-in bytes x a (Ok h) inside =
     let e = with_rows x h.rows in

@@ -13,7 +13,7 @@ use Rattle.dccp_options.specs.declared.option.OptFault.{OptFault}
 use Rattle.dccp_packets.specs.declared.reset_code.ResetCode.TheVariants as codes
 use Rattle.dccp_endpoint.proofs.Keys.{due-few, unconfirmed-few}
 use Rattle.dccp_endpoint.proofs.OwnPackets.{parts-are, vector_parts}
-use Rattle.dccp_endpoint.specs.Heeding.{DueConfirm, Heeding, by_answered, by_settling, counted, fault_of, heeds, heeds_body, heeds_change, heeds_entry, heeds_feature, heeds_first, heeds_then, is_change, is_left, is_of_negotiation, met, misunderstood, place_in_used}
+use Rattle.dccp_endpoint.specs.Heeding.{DueConfirm, ReadingState, by_answered, by_settling, counted, fault_of, heeds, heeds_body, heeds_change, heeds_entry, heeds_feature, heeds_first, heeds_then, is_change, is_left, is_of_negotiation, met, misunderstood, place_in_used}
 use Rattle.dccp_endpoint.specs.Reporting.{vector_item, vector_items}
 use Rattle.dccp_endpoint.specs.Speaking.{asking, change_item, change_items, change_type, confirm_item, confirm_items, confirm_type}
 use Rattle.dccp_endpoint.specs.Turns.{Key}
@@ -48,22 +48,22 @@ changes-as-read place (item ∷ items) =
     ap (λ (n : ℕ). one_for (is_change item.kind) + n) (changes-as-read (place + length (spelled item.mandatory item.kind item.body)) items)
 
 -- no more Confirms than before, and so many
-abbrev AddsUpTo : ℕ → Heeding → Result Heeding Fault → Type 0
+abbrev AddsUpTo : ℕ → ReadingState → Result ReadingState Fault → Type 0
 AddsUpTo more h (Ok next) = length next.confirms ≤ length h.confirms + more
 AddsUpTo more h (Err fault) = Unit {0}
 
-answer-adds : (h : Heeding) (place : ℕ) (rows : List Row) (entry : Entry) (a : ChangeAnswer) → AddsUpTo 1 h (by_answered h place rows entry a)
+answer-adds : (h : ReadingState) (place : ℕ) (rows : List Row) (entry : Entry) (a : ChangeAnswer) → AddsUpTo 1 h (by_answered h place rows entry a)
 answer-adds h place rows entry (Confirming left number body) =
     omega (arith, length-append h.confirms (record { left = left; number = number; body = body } ∷ []))
 answer-adds h place rows entry Ignoring = omega arith
 answer-adds h place rows entry Failing = tt
 
-settling-adds : (more : ℕ) (h : Heeding) (place : ℕ) (rows : List Row) (entry : Entry) (s : Settling) → AddsUpTo more h (by_settling h place rows entry s)
+settling-adds : (more : ℕ) (h : ReadingState) (place : ℕ) (rows : List Row) (entry : Entry) (s : Settling) → AddsUpTo more h (by_settling h place rows entry s)
 settling-adds more h place rows entry settling.Settled = omega arith
 settling-adds more h place rows entry settling.Ignored = omega arith
 settling-adds more h place rows entry settling.Fatal = tt
 
-first-adds : (ack : Option ℕ) (h : Heeding) (entry : Entry) (change left : Bool) (number : ℕ) (body : List ℕ)
+first-adds : (ack : Option ℕ) (h : ReadingState) (entry : Entry) (change left : Bool) (number : ℕ) (body : List ℕ)
     → AddsUpTo (one_for change) h (heeds_first ack h entry change left number body)
 first-adds ack h entry true left number body = by (nat_lt h.changes 64) where
   by : (few : Bool) → AddsUpTo 1 h (if few then heeds_change h entry left number body else Ok (met h (place_in_used left number) true h.rows h.confirms))
@@ -75,7 +75,7 @@ first-adds ack h entry false left number body =
     settling-adds 0 h (place_in_used left number) (confirmed h.rows left number body ack).rows entry
     (settling_of (confirmed h.rows left number body ack).answer)
 
-feature-adds : (ack : Option ℕ) (h : Heeding) (entry : Entry) (change left : Bool) (number : ℕ) (body : List ℕ)
+feature-adds : (ack : Option ℕ) (h : ReadingState) (entry : Entry) (change left : Bool) (number : ℕ) (body : List ℕ)
     → AddsUpTo (one_for change) h (heeds_feature ack h entry change left number body)
 feature-adds ack h entry change left number body = by (slice_index_or h.used (place_in_used left number) false) where
   by : (used : Bool)
@@ -83,16 +83,16 @@ feature-adds ack h entry change left number body = by (slice_index_or h.used (pl
   by true = omega arith
   by false = first-adds ack h entry change left number body
 
-body-adds : (ack : Option ℕ) (h : Heeding) (entry : Entry) (body : List ℕ) → AddsUpTo (one_for (is_change entry.kind)) h (heeds_body ack h entry body)
+body-adds : (ack : Option ℕ) (h : ReadingState) (entry : Entry) (body : List ℕ) → AddsUpTo (one_for (is_change entry.kind)) h (heeds_body ack h entry body)
 body-adds ack h entry [] = omega arith
 body-adds ack h entry (number ∷ body) = feature-adds ack h entry (is_change entry.kind) (is_left entry.kind) number body
 
-misread-adds : (more : ℕ) (h : Heeding) (entry : Entry) (mandatory : Bool)
+misread-adds : (more : ℕ) (h : ReadingState) (entry : Entry) (mandatory : Bool)
     → AddsUpTo more h (if mandatory then Err (fault_of codes.MandatoryError entry) else Ok h)
 misread-adds more h entry true = tt
 misread-adds more h entry false = omega arith
 
-entry-adds : (count : Bool) (ack : Option ℕ) (h : Heeding) (entry : Entry) → AddsUpTo (one_for (is_change entry.kind)) h (heeds_entry count ack h entry)
+entry-adds : (count : Bool) (ack : Option ℕ) (h : ReadingState) (entry : Entry) → AddsUpTo (one_for (is_change entry.kind)) h (heeds_entry count ack h entry)
 entry-adds count ack h entry = by (not (is_understood entry.kind (length entry.body))) (count && is_of_negotiation entry.kind) where
   by : (odd counts : Bool)
       → AddsUpTo (one_for (is_change entry.kind)) h (if odd then misunderstood h entry else if counts then heeds_body ack h entry entry.body else Ok h)
@@ -101,22 +101,22 @@ entry-adds count ack h entry = by (not (is_understood entry.kind (length entry.b
   by false false = omega arith
 
 -- The Confirms that are due are no more than the Changes.
-pub heeds-adds : (count : Bool) (ack : Option ℕ) (h : Heeding) (items : List (Result Entry OptFault))
+pub heeds-adds : (count : Bool) (ack : Option ℕ) (h : ReadingState) (items : List (Result Entry OptFault))
     → AddsUpTo (changes_read items) h (heeds count ack h items)
 heeds-adds count ack h [] = omega arith
 heeds-adds count ack h (Err _ ∷ rest) = tt
 heeds-adds count ack h (Ok entry ∷ rest) = by (heeds_entry count ack h entry) (entry-adds count ack h entry) (λ next. heeds-adds count ack next rest) where
-  by : (read : Result Heeding Fault) → AddsUpTo (one_for (is_change entry.kind)) h read
-      → ((next : Heeding) → AddsUpTo (changes_read rest) next (heeds count ack next rest))
+  by : (read : Result ReadingState Fault) → AddsUpTo (one_for (is_change entry.kind)) h read
+      → ((next : ReadingState) → AddsUpTo (changes_read rest) next (heeds count ack next rest))
       → AddsUpTo (one_for (is_change entry.kind) + changes_read rest) h (heeds_then read (λ next. heeds count ack next rest))
   by (Err fault) one again = tt
   by (Ok next) one again = joined (heeds count ack next rest) (again next) where
-    joined : (end : Result Heeding Fault) → AddsUpTo (changes_read rest) next end → AddsUpTo (one_for (is_change entry.kind) + changes_read rest) h end
+    joined : (end : Result ReadingState Fault) → AddsUpTo (changes_read rest) next end → AddsUpTo (one_for (is_change entry.kind) + changes_read rest) h end
     joined (Err fault) more = tt
     joined (Ok last) more = omega (arith, one, more)
 
 -- each Change that is heeded adds one Confirm at most
-pub heeded-few : (count : Bool) (ack : Option ℕ) (h end : Heeding) (items : List (Result Entry OptFault)) → heeds count ack h items ≡ Ok end
+pub heeded-few : (count : Bool) (ack : Option ℕ) (h end : ReadingState) (items : List (Result Entry OptFault)) → heeds count ack h items ≡ Ok end
     → length end.confirms ≤ length h.confirms + changes_read items
 heeded-few count ack h end items is = subst (AddsUpTo (changes_read items) h) is (heeds-adds count ack h items)
 

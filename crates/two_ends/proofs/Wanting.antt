@@ -1,7 +1,7 @@
 -- What a row wants, by its wishes: a preference says it, and no other event changes it, nor do the options of a packet.
 use Rattle.std.proofs.Common.{◌≡◌, refl, ap, sym, ◌∙◌, ℕ, Bool, true, false, not, ◌&&◌, if◌then◌else◌, List, [], ◌∷◌, ◌++◌, length, cond, map, Option, Some, None, Result, Ok, Err, arith}
 use Rattle.std.specs.Prelude.{slice_index, slice_index_or}
-use Rattle.dccp_endpoint.specs.Heeding.{Heeding, body_turns, entry_turns, event_of, heard_turns, heeds_item, is_change, is_left, is_of_negotiation, is_too_many, item_turns, place_in_used, turn_known, turns_then}
+use Rattle.dccp_endpoint.specs.Heeding.{ReadingState, body_turns, entry_turns, event_of, heard_turns, heeds_item, is_change, is_left, is_of_negotiation, is_too_many, item_turns, place_in_used, turn_known, turns_then}
 use Rattle.dccp_endpoint.specs.Turns.{Key, offerings, sendings}
 use Rattle.dccp_options.specs.Grammar.{Entry}
 use Rattle.dccp_options.specs.Kinds.{is_understood}
@@ -198,7 +198,7 @@ known-calm None left ack entry change body = tt
 known-calm (Some known) left ack entry true body = (tt, tt)
 known-calm (Some known) left ack entry false body = (tt, tt)
 
-entry-calm : (count : Bool) (ack : Option ℕ) (h : Heeding) (entry : Entry) → AreCalm (entry_turns count ack h entry)
+entry-calm : (count : Bool) (ack : Option ℕ) (h : ReadingState) (entry : Entry) → AreCalm (entry_turns count ack h entry)
 entry-calm count ack h entry = by (is_understood entry.kind (length entry.body)) (count && is_of_negotiation entry.kind) where
   spoken : (number : ℕ) (body : List ℕ) (used many : Bool)
       → AreCalm (if used then [] else if many then []
@@ -216,17 +216,17 @@ entry-calm count ack h entry = by (is_understood entry.kind (length entry.body))
   by true true = told entry.body
   by true false = tt
 
-item-calm : (count : Bool) (ack : Option ℕ) (h : Heeding) (item : Result Entry OptFault) → AreCalm (item_turns count ack h item)
+item-calm : (count : Bool) (ack : Option ℕ) (h : ReadingState) (item : Result Entry OptFault) → AreCalm (item_turns count ack h item)
 item-calm count ack h (Ok entry) = entry-calm count ack h entry
 item-calm count ack h (Err _) = tt
 
 -- what is heard is calm
-pub heard-calm : (count : Bool) (ack : Option ℕ) (h : Heeding) (items : List (Result Entry OptFault)) → AreCalm (heard_turns count ack h items)
+pub heard-calm : (count : Bool) (ack : Option ℕ) (h : ReadingState) (items : List (Result Entry OptFault)) → AreCalm (heard_turns count ack h items)
 heard-calm count ack h [] = tt
 heard-calm count ack h (item ∷ rest) =
     calm-append (item_turns count ack h item) (turns_then (heeds_item count ack h item) (λ next. heard_turns count ack next rest))
     (item-calm count ack h item) (later (heeds_item count ack h item) (λ next. heard-calm count ack next rest)) where
-      later : (r : Result Heeding Fault) → ((next : Heeding) → AreCalm (heard_turns count ack next rest))
+      later : (r : Result ReadingState Fault) → ((next : ReadingState) → AreCalm (heard_turns count ack next rest))
           → AreCalm (turns_then r (λ next. heard_turns count ack next rest))
       later (Ok next) more = more next
       later (Err fault) more = tt

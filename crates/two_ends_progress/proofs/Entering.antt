@@ -27,7 +27,7 @@ use Rattle.dccp_endpoint.specs.Congesting.{calls_for}
 use Rattle.dccp_endpoint.specs.Drafts.{Draft, IsSendable, alone, sent_of}
 use Rattle.dccp_endpoint.specs.End.{EndState, IsProper, end_of, is_open, with_rows}
 use Rattle.dccp_endpoint.specs.Faults.{counts}
-use Rattle.dccp_endpoint.specs.Heeding.{DueConfirm, Heeding}
+use Rattle.dccp_endpoint.specs.Heeding.{DueConfirm, ReadingState}
 use Rattle.dccp_endpoint.specs.Incoming.{Incoming}
 use Rattle.dccp_endpoint.specs.Receiving.{is_unexpected, accounted, heeded, moved_to, moves, reads_options, replies}
 use Rattle.dccp_endpoint.specs.Reporting.{counts_data, delivered_if, delivers, reporting, sends_ack, sends_vectors, vector_items}
@@ -150,7 +150,7 @@ module _ (y : EndState) (a : Incoming) (its : AreRowsOf (end_of y.config.role) y
   abbrev Ends : Step Outcome → Phase → Kind → Type 0
   Ends s to k = Shuts y s ⊎ Tells y s to k
 
-  module _ (h : Heeding) (to : Phase) where
+  module _ (h : ReadingState) (to : Phase) where
     abbrev mark : Marked
     mark = answer_to y.received.set a.number
 
@@ -221,14 +221,14 @@ module _ (y : EndState) (a : Incoming) (its : AreRowsOf (end_of y.config.role) y
   pub response-ends : (to : Phase) → after y.phase a.kind ≡ (to, reply.Response)
       → Ends (heeded y a (reads_options y a)) to (kind.Response y.marks.gsr y.config.service)
   response-ends to row = by (reads_options y a) refl where
-    by : (read : Result Heeding Fault) → reads_options y a ≡ read → Ends (heeded y a read) to (kind.Response y.marks.gsr y.config.service)
+    by : (read : Result ReadingState Fault) → reads_options y a ≡ read → Ends (heeded y a read) to (kind.Response y.marks.gsr y.config.service)
     by (Ok h) is = inr (responds-so h to is row)
     by (Err fault) is = inl (shut-so fault)
 
   pub ack-ends : after y.phase a.kind ≡ (phases.PartOpen, reply.Ack)
       → Ends (heeded y a (reads_options y a)) phases.PartOpen (kind.Ack (Long y.marks.gsr))
   ack-ends row = by (reads_options y a) refl where
-    by : (read : Result Heeding Fault) → reads_options y a ≡ read → Ends (heeded y a read) phases.PartOpen (kind.Ack (Long y.marks.gsr))
+    by : (read : Result ReadingState Fault) → reads_options y a ≡ read → Ends (heeded y a read) phases.PartOpen (kind.Ack (Long y.marks.gsr))
     by (Ok h) is = inr (acks-so h phases.PartOpen is row refl)
     by (Err fault) is = inl (shut-so fault)
 
@@ -240,7 +240,7 @@ module _ (y : EndState) (a : Incoming) (its : AreRowsOf (end_of y.config.role) y
   pub open-ends : after y.phase a.kind ≡ (phases.Open, reply.Ack)
       → Shuts y (heeded y a (reads_options y a)) ⊎ Opens (heeded y a (reads_options y a))
   open-ends row = by (reads_options y a) where
-    by : (read : Result Heeding Fault) → Shuts y (heeded y a read) ⊎ Opens (heeded y a read)
+    by : (read : Result ReadingState Fault) → Shuts y (heeded y a read) ⊎ Opens (heeded y a read)
     by (Ok h) = inr (record { config = opens-config h phases.Open row; phase = opens-so h phases.Open row })
     by (Err fault) = inl (shut-so fault)
 

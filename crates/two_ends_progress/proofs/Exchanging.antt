@@ -18,7 +18,7 @@ use Rattle.dccp_endpoint.specs.Congesting.{calls_for}
 use Rattle.dccp_endpoint.specs.Drafts.{Draft, sent_of}
 use Rattle.dccp_endpoint.specs.End.{EndState, IsProper, end_of, with_rows}
 use Rattle.dccp_endpoint.specs.Faults.{counts}
-use Rattle.dccp_endpoint.specs.Heeding.{DueConfirm, Heeding}
+use Rattle.dccp_endpoint.specs.Heeding.{DueConfirm, ReadingState}
 use Rattle.dccp_endpoint.specs.Incoming.{Incoming}
 use Rattle.dccp_endpoint.specs.Receiving.{accounted, acknowledges, heeded, moved_to, moves, needs_ack, reads_options}
 use Rattle.dccp_options.specs.Written.{Item}
@@ -97,14 +97,14 @@ negotiate-rows e in_flight p asks_then k keys is_phase due = ap (λ (s : Step Bo
 
 -- An Ack that was read whole in OPEN.
 module _ (y : EndState) (a : Incoming) (its : AreRowsOf (end_of y.config.role) y.rows) (row : after y.phase a.kind ≡ (phases.Open, reply.Nothing)) where
-  pub record IsHeeded (s : Step Outcome) (h : Heeding) : Type 0 where
+  pub record IsHeeded (s : Step Outcome) (h : ReadingState) : Type 0 where
     pub config : s.after.config ≡ y.config
     pub phase : s.after.phase ≡ phases.Open
     pub gsr_is : s.after.marks.gsr ≡ y.marks.gsr
     pub rows_are : s.after.rows ≡ h.rows
     pub gss_is : (s.after.marks.gss ≡ y.marks.gss) ⊎ (s.after.marks.gss ≡ next_number y)
 
-  module _ (h : Heeding) (read : reads_options y a ≡ Ok h) where
+  module _ (h : ReadingState) (read : reads_options y a ≡ Ok h) where
     abbrev mark : Marked
     mark = answer_to y.received.set a.number
 

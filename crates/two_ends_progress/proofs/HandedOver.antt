@@ -15,7 +15,7 @@ use Rattle.dccp_options.specs.declared.option.OptFault.{OptFault}
 use Rattle.dccp_endpoint.specs.Causes.{Came, verdict_of}
 use Rattle.dccp_endpoint.specs.End.{EndState, is_live, with_rows}
 use Rattle.dccp_endpoint.specs.Faults.{counts}
-use Rattle.dccp_endpoint.specs.Heeding.{Heeding, heeds, unheeded}
+use Rattle.dccp_endpoint.specs.Heeding.{ReadingState, heeds, unheeded}
 use Rattle.dccp_endpoint.specs.Incoming.{Incoming}
 use Rattle.dccp_endpoint.specs.Inputs.{Arrives}
 use Rattle.dccp_endpoint.specs.Receiving.{accounted, acknowledges, heeded, moved_to, moves, needs_ack, reads_options, receives, with_raised_marks}
@@ -110,7 +110,7 @@ module _ (more : ℕ) (w : WorldState) (u : IsUnderWay more w) {x y : Side} (two
       (near-in-window (half_of w y).end.marks (half_of w x).end.marks.gss (half_of w x).end.marks.gss (heard-so more w u (turned two) live) near) refl
 
 -- A packet without options that is read in OPEN is taken, with its data where its number is new.
-took-so : (z : EndState) (a : Incoming) (h : Heeding) → after z.phase a.kind ≡ (phases.Open, reply.Nothing)
+took-so : (z : EndState) (a : Incoming) (h : ReadingState) → after z.phase a.kind ≡ (phases.Open, reply.Nothing)
     → (heeded z a (Ok h)).answer ≡ Took (delivered_if (delivers a.kind phases.Open (answer_to z.received.set a.number)) a.data_place)
 took-so z a h row =
     ap (λ (to : Phase × Reply). (moves (accounted (with_rows z h.rows) a) a h.confirms (answer_to z.received.set a.number) to).answer) row

@@ -23,7 +23,7 @@ use Rattle.dccp_endpoint.specs.Controlled.{has_in_flight}
 use Rattle.dccp_endpoint.specs.Drafts.{Draft, IsSendable}
 use Rattle.dccp_endpoint.specs.End.{EndState, is_live, value_in}
 use Rattle.dccp_endpoint.specs.Faults.{counts}
-use Rattle.dccp_endpoint.specs.Heeding.{Heeding, heeds, unheeded}
+use Rattle.dccp_endpoint.specs.Heeding.{ReadingState, heeds, unheeded}
 use Rattle.dccp_endpoint.specs.Incoming.{Incoming}
 use Rattle.dccp_endpoint.specs.Receiving.{heeded, reads_options, receives, with_raised_marks}
 use Rattle.dccp_endpoint.specs.Reporting.{vector_item}
@@ -149,7 +149,7 @@ module _ {C : Type 0} (control : Control C) (effects : EveryStepHasOneEffect) (o
         let next_is =
         next-so e c.frame.bytes a c.here.came e.config.role phases.Open phases.Open types.Ack reply.Nothing row refl a1.opened.there type_is fits in
         let count : Bool = a.newest && counts z.phase a.kind in
-        let h : Heeding = unheeded z.rows in
+        let h : ReadingState = unheeded z.rows in
         let read : reads_options z a ≡ Ok h =
         ap (λ (all : List (Result Entry OptFault)). heeds count a.ack h all)
         (c.here.listed ∙ ap (λ (items : List Item). map Ok (entries_at 0 items)) a1.options_are)

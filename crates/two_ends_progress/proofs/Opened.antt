@@ -25,7 +25,7 @@ use Rattle.dccp_endpoint.specs.Controlled.{has_in_flight}
 use Rattle.dccp_endpoint.specs.Drafts.{Draft, Fits, IsSendable}
 use Rattle.dccp_endpoint.specs.End.{EndState, held_of, is_begun, is_live, value_in}
 use Rattle.dccp_endpoint.specs.Faults.{counts}
-use Rattle.dccp_endpoint.specs.Heeding.{Heeding}
+use Rattle.dccp_endpoint.specs.Heeding.{ReadingState}
 use Rattle.dccp_endpoint.specs.Incoming.{Incoming}
 use Rattle.dccp_endpoint.specs.Inputs.{Arrives}
 use Rattle.dccp_endpoint.specs.Receiving.{heeded, reads_options, receives, takes_short, with_raised_marks}
@@ -180,7 +180,7 @@ module _ {C : Type 0} (control : Control C) (effects : EveryStepHasOneEffect) wh
         next_is : after z.phase a.kind ≡ (phases.Open, reply.Nothing)
         next_is = next-so e frame.bytes a came role.Client phases.PartOpen phases.Open types.Ack reply.Nothing part-ack u.roles.is_client half.0 type_is fits
 
-        by : (r : Result Heeding Fault) → reads_options z a ≡ r → HasEnded v.world ⊎ AreOpen v.world
+        by : (r : Result ReadingState Fault) → reads_options z a ≡ r → HasEnded v.world ⊎ AreOpen v.world
         by (Ok h) read =
             inr (both-open v.world
             (ap (λ (t : Half). t.end.phase) acts.acting ∙ ap (λ (t : Step Outcome). t.after.phase) (goes ∙ ap (heeded z a) read)
@@ -364,7 +364,7 @@ module _ {C : Type 0} (control : Control C) (effects : EveryStepHasOneEffect) wh
     newest : heard-packet.newest ≡ true
     newest = coming-there.here.newest_is ∙ newest-so w.world.server.end w.world.client.end.marks.gss later
 
-    confirms : (h : Heeding) → reads_options taken heard-packet ≡ Ok h → has_confirms h.confirms ≡ true
+    confirms : (h : ReadingState) → reads_options taken heard-packet ≡ Ok h → has_confirms h.confirms ≡ true
     confirms h read = by-confirms (no-confirms-or h.confirms) where
       its : (some : List ℕ) × (confirm_for (over short-there) h.confirms ≡ Some some)
       its =
@@ -378,7 +378,7 @@ module _ {C : Type 0} (control : Control C) (effects : EveryStepHasOneEffect) wh
       by-confirms (inr some) = some
       by-confirms (inl none) = let no : None ≡ Some its.0 = sym (ap (confirm_for (over short-there)) none) ∙ its.1 in cc no
 
-    read-by : (r : Result Heeding Fault) → reads_options taken heard-packet ≡ r → Leads 3 heard-world
+    read-by : (r : Result ReadingState Fault) → reads_options taken heard-packet ≡ r → Leads 3 heard-world
     read-by (Err fault) read =
         leads-within control 0 3 heard-world _ (omega arith)
         (leads-here control heard-world _

@@ -28,7 +28,7 @@ use Rattle.dccp_endpoint.specs.Controlled.{has_in_flight}
 use Rattle.dccp_endpoint.specs.Drafts.{Draft, IsSendable}
 use Rattle.dccp_endpoint.specs.End.{EndState, is_begun, is_live}
 use Rattle.dccp_endpoint.specs.Faults.{counts}
-use Rattle.dccp_endpoint.specs.Heeding.{DueConfirm, Heeding, heeds, unheeded}
+use Rattle.dccp_endpoint.specs.Heeding.{DueConfirm, ReadingState, heeds, unheeded}
 use Rattle.dccp_endpoint.specs.Incoming.{Incoming, is_newest}
 use Rattle.dccp_endpoint.specs.Receiving.{heeded, reads_options, receives, with_raised_marks}
 use Rattle.dccp_endpoint.specs.Saying.{own_options}
@@ -173,7 +173,7 @@ pub record HasHeard (more : ℕ) (v : WorldState) (x y : Side) (rows theirs : Li
   pub greatest : ℕ
   pub options : List (Result Entry OptFault)
   pub are : options ≡ map Ok (entries_at 0 (own_options has_vector vectors set greatest [] (asked rows n) (due_keys rows)))
-  pub h : Heeding
+  pub h : ReadingState
   pub read : heeds true ack (unheeded theirs) options ≡ Ok h
   pub their_rows : (half_of v y).end.rows ≡ h.rows
   pub heard : (half_of v y).end.marks.gsr ≡ n
@@ -204,7 +204,7 @@ newest-so e n later = by (not (is_live e.phase)) where
   by false = later
 
 -- what came of an Ack that is read in an end that has let it in
-pub same-read : (count : Bool) (ack other : Option ℕ) (rows : List Row) (options given : List (Result Entry OptFault)) (h : Heeding) → count ≡ true → ack ≡ other
+pub same-read : (count : Bool) (ack other : Option ℕ) (rows : List Row) (options given : List (Result Entry OptFault)) (h : ReadingState) → count ≡ true → ack ≡ other
     → options ≡ given → heeds count ack (unheeded rows) options ≡ Ok h → heeds true other (unheeded rows) given ≡ Ok h
 same-read count ack other rows options given h counts acks same read =
     ap (λ (all : List (Result Entry OptFault)). heeds true other (unheeded rows) all) (sym same)
@@ -306,7 +306,7 @@ module _ {C : Type 0} (control : Control C) (effects : EveryStepHasOneEffect) wh
         next-so e c.frame.bytes a c.here.came (role-of w.world y) phases.Open phases.Open types.Ack reply.Nothing (open-ack (role-of w.world y)) refl a1.there kind_is fits
 
     -- read whole
-    heard : (fits : verdict_of e a ≡ verdicts.Valid) (h : Heeding) → reads_options z a ≡ Ok h → HasHeard more v.world x y rows theirs n ack e.marks.gss
+    heard : (fits : verdict_of e a ≡ verdicts.Valid) (h : ReadingState) → reads_options z a ≡ Ok h → HasHeard more v.world x y rows theirs n ack e.marks.gss
     heard fits h read =
         let s : Step Outcome = heeded z a (Ok h) in
         let same : receives e c.frame.bytes ≡ s = goes fits ∙ ap (heeded z a) read in
@@ -388,7 +388,7 @@ module _ {C : Type 0} (control : Control C) (effects : EveryStepHasOneEffect) wh
         fits : verdict_of e a ≡ verdicts.Valid
         fits = verdict-as verdicts.Valid valid
 
-        by : (r : Result Heeding Fault) → reads_options z a ≡ r → HasWay control rest v goal
+        by : (r : Result ReadingState Fault) → reads_options z a ≡ r → HasWay control rest v goal
         by (Ok h) read = go v (heard fits h read)
         by (Err fault) read = leads-within control 0 rest v _ (omega arith) (leads-here control v _ (ended v (faulted fits fault read)))
 
@@ -459,7 +459,7 @@ module _ {C : Type 0} (control : Control C) (effects : EveryStepHasOneEffect) wh
           next-so me back.frame.bytes b back.here.came (role-of w.world x) phases.Open phases.Open types.Ack reply.Nothing (open-ack (role-of w.world x)) refl s2.here
           back-kind fits
 
-      full-round : is_before me.marks.gsr last ≡ true → (fits : verdict_of me b ≡ verdicts.Valid) (g : Heeding) → reads_options q b ≡ Ok g
+      full-round : is_before me.marks.gsr last ≡ true → (fits : verdict_of me b ≡ verdicts.Valid) (g : ReadingState) → reads_options q b ≡ Ok g
           → IsRound more w0 r.world x y
       full-round later fits g read =
           let s : Step Outcome = heeded q b (Ok g) in
@@ -510,6 +510,6 @@ module _ {C : Type 0} (control : Control C) (effects : EveryStepHasOneEffect) wh
           fits : verdict_of me b ≡ verdicts.Valid
           fits = back-verdict verdicts.Valid valid
 
-          by : (o : Result Heeding Fault) → reads_options q b ≡ o → HasWay control rest r goal
+          by : (o : Result ReadingState Fault) → reads_options q b ≡ o → HasWay control rest r goal
           by (Ok g) read = go r (full-round later fits g read)
           by (Err fault) read = leads-within control 0 rest r _ (omega arith) (leads-here control r _ (ended r (back-faulted fits fault read)))

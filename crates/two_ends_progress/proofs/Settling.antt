@@ -20,7 +20,7 @@ use Rattle.dccp_endpoint.proofs.FirstFaults.{changes-few}
 use Rattle.dccp_endpoint.proofs.Heard.{heeds-turns}
 use Rattle.dccp_endpoint.proofs.Keys.{due-distinct, due-few, events-sendings, has-due}
 use Rattle.dccp_endpoint.proofs.OwnPackets.{own_packets_say}
-use Rattle.dccp_endpoint.specs.Heeding.{DueConfirm, Heeding, heard_turns, heeds, unheeded}
+use Rattle.dccp_endpoint.specs.Heeding.{DueConfirm, ReadingState, heard_turns, heeds, unheeded}
 use Rattle.dccp_endpoint.specs.Saying.{change_if, changes_among, confirm_for, own_options, said_of, said_to}
 use Rattle.dccp_endpoint.specs.Speaking.{change_items, confirm_items, wish_bytes}
 use Rattle.dccp_endpoint.specs.Turns.{Key, sendings}
@@ -64,7 +64,7 @@ quiet-stable row quiet = by row.stand refl where
   by stand.Unstable is = cc (quiet, is)
 
 -- What a row hears of a packet that was read whole.
-module _ (rows : List Row) (sound : IsNegotiation rows) (ack : Option ℕ) (options : List (Result Entry OptFault)) (h : Heeding)
+module _ (rows : List Row) (sound : IsNegotiation rows) (ack : Option ℕ) (options : List (Result Entry OptFault)) (h : ReadingState)
     (few : changes_among options ≤ 64) (read : heeds true ack (unheeded rows) options ≡ Ok h) (k : Key) where
   heard-row : (events : List RowEvent) → said_to true ack k options ≡ events → row_at h.rows k.0 k.1 ≡ row_turned (row_at rows k.0 k.1) events
   heard-row events said =
@@ -124,7 +124,7 @@ module _ (rows : List Row) (sound : IsNegotiation rows) (n : ℕ) where
   module _ (theirs : List Row) (their_sound : IsNegotiation theirs) (ack : Option ℕ) (has_vector : Bool) (vectors : Vectors) (set : MarkedSet) (greatest : ℕ)
       (options : List (Result Entry OptFault))
       (are : options ≡ map Ok (entries_at 0 (own_options has_vector vectors set greatest [] (asked rows n) (due_keys rows))))
-      (h : Heeding) (read : heeds true ack (unheeded theirs) options ≡ Ok h) where
+      (h : ReadingState) (read : heeds true ack (unheeded theirs) options ≡ Ok h) where
     few : changes_among options ≤ 64
     few =
         subst (λ (all : List (Result Entry OptFault)). changes_among all ≤ 64) (sym are)
@@ -181,7 +181,7 @@ module _ (rows : List Row) (sound : IsNegotiation rows) (n : ℕ) where
     module _ (answer_vector : Bool) (answer_vectors : Vectors) (answer_set : MarkedSet) (answer_greatest : ℕ) (their_rows : List Row)
         (asked_sound : IsNegotiation (asked rows n)) (answers : List (Result Entry OptFault))
         (answers_are : answers ≡ map Ok (entries_at 0 (own_options answer_vector answer_vectors answer_set answer_greatest h.confirms their_rows [])))
-        (g : Heeding) (heard : heeds true (Some n) (unheeded (asked rows n)) answers ≡ Ok g)
+        (g : ReadingState) (heard : heeds true (Some n) (unheeded (asked rows n)) answers ≡ Ok g)
         (early : (k : Key) → is_due (row_at rows k.0 k.1) ≡ true → answers_opening (row_at (asked rows n) k.0 k.1).opened (Some n) ≡ true) where
       answer-few : changes_among answers ≤ 64
       answer-few =

@@ -15,7 +15,7 @@ use Rattle.dccp_states.specs.declared.phase.Phase.TheVariants as phases
 use Rattle.dccp_endpoint.specs.Calling.{fires}
 use Rattle.dccp_endpoint.specs.Drafts.{Draft, IsSendable, alone, sent_of}
 use Rattle.dccp_endpoint.specs.End.{EndState, held_of, is_open}
-use Rattle.dccp_endpoint.specs.Heeding.{Heeding, heeds, heeds_entry}
+use Rattle.dccp_endpoint.specs.Heeding.{ReadingState, heeds, heeds_entry}
 use Rattle.dccp_endpoint.specs.Reporting.{reporting, sends_ack, sends_vectors, vector_item, vector_items}
 use Rattle.dccp_endpoint.specs.ShortForm.{allows_short, goes_short, is_settled_on_one}
 use Rattle.dccp_endpoint.specs.Steps.{Step, next_number}
@@ -29,12 +29,12 @@ use Rattle.ack_vectors.specs.declared.room.Vectors.{Vectors}
 vector-understood : (size : ℕ) → is_understood options.ack_vector_0 size ≡ true
 vector-understood size = grind arith
 
-vector-passed : (count understood : Bool) (ack : Option ℕ) (h : Heeding) (place : ℕ) (body : List ℕ) → is_understood options.ack_vector_0 (length body) ≡ true
+vector-passed : (count understood : Bool) (ack : Option ℕ) (h : ReadingState) (place : ℕ) (body : List ℕ) → is_understood options.ack_vector_0 (length body) ≡ true
     → heeds_entry count ack h (record { place = place; mandatory = false; kind = options.ack_vector_0; body = body }) ≡ Ok h
 vector-passed true understood ack h place body is = rw is refl
 vector-passed false understood ack h place body is = rw is refl
 
-pub vectors-passed : (count : Bool) (ack : Option ℕ) (h : Heeding) (bodies : List (List ℕ)) (place : ℕ)
+pub vectors-passed : (count : Bool) (ack : Option ℕ) (h : ReadingState) (bodies : List (List ℕ)) (place : ℕ)
     → heeds count ack h (map Ok (entries_at place (map vector_item bodies))) ≡ Ok h
 vectors-passed count ack h [] place = refl
 vectors-passed count ack h (body ∷ rest) place =

@@ -7,7 +7,7 @@ use Rattle.data_dropped.specs.Telling.{IsPassedOver, TellsItsDrops, options_in_p
 use Rattle.dccp_endpoint.specs.Congesting.{calls_for, handing, report_calls, reported_from, start_calls}
 use Rattle.dccp_endpoint.specs.End.{EndState, value_in, with_rows}
 use Rattle.dccp_endpoint.specs.Faults.{counts}
-use Rattle.dccp_endpoint.specs.Heeding.{DueConfirm, Heeding, heeds, heeds_entry, heeds_item, heeds_then, is_of_negotiation, unheeded}
+use Rattle.dccp_endpoint.specs.Heeding.{DueConfirm, ReadingState, heeds, heeds_entry, heeds_item, heeds_then, is_of_negotiation, unheeded}
 use Rattle.dccp_endpoint.specs.Incoming.{Incoming, incoming, is_newest}
 use Rattle.dccp_endpoint.specs.Receiving.{Course, Goes, Leaves, accepts_request, accounted, acknowledges, answers, arrives, by_ports, by_sum, by_verdict, checks_numbers, ends_as, ends_by_reset, expects, heeded, is_other_service, is_own_service, is_unexpected, acknowledges_in_window, leaves, moved_to, moves, needs_ack, opens_connection, processes, raises, reads_options, is_of_connection, received, receives, replies, serves, takes, takes_answer, the_steps, through, with_own_number, with_packet}
 use Rattle.dccp_endpoint.specs.Reporting.{counts_data, delivered_if, delivers}
@@ -59,12 +59,12 @@ fits-drops size = grind arith
 drops-understood : (size : ℕ) → is_understood data_dropped size ≡ true
 drops-understood size = rw (fits-drops size) refl
 
-silent-entry : (count : Bool) (ack : Option ℕ) (h : Heeding) (entry : Entry) → is_understood entry.kind (length entry.body) ≡ true
+silent-entry : (count : Bool) (ack : Option ℕ) (h : ReadingState) (entry : Entry) → is_understood entry.kind (length entry.body) ≡ true
     → is_of_negotiation entry.kind ≡ false → heeds_entry count ack h entry ≡ Ok h
 silent-entry true ack h entry understood others = rw understood (rw others refl)
 silent-entry false ack h entry understood others = rw understood refl
 
-passed-by : (count : Bool) (ack : Option ℕ) (h : Heeding) (item : Result Entry OptFault) → IsPassedOver item → heeds_item count ack h item ≡ Ok h
+passed-by : (count : Bool) (ack : Option ℕ) (h : ReadingState) (item : Result Entry OptFault) → IsPassedOver item → heeds_item count ack h item ≡ Ok h
 passed-by count ack h (Ok entry) (inl dropped) =
     silent-entry count ack h entry (ap (λ (kind : ℕ). is_understood kind (length entry.body)) dropped ∙ drops-understood (length entry.body))
     (ap is_of_negotiation dropped)
@@ -74,20 +74,20 @@ passed-by count ack h (Ok entry) (inr slow) =
     (ap is_of_negotiation slow.0)
 passed-by count ack h (Err fault) none = absurd none
 
-all-passed : (count : Bool) (ack : Option ℕ) (h : Heeding) (more : Listed) → All IsPassedOver more → heeds count ack h more ≡ Ok h
+all-passed : (count : Bool) (ack : Option ℕ) (h : ReadingState) (more : Listed) → All IsPassedOver more → heeds count ack h more ≡ Ok h
 all-passed count ack h [] passed = refl
 all-passed count ack h (item ∷ more) passed =
-    ap (λ (r : Result Heeding Fault). heeds_then r (λ next. heeds count ack next more)) (passed-by count ack h item (All-head IsPassedOver item more passed))
+    ap (λ (r : Result ReadingState Fault). heeds_then r (λ next. heeds count ack next more)) (passed-by count ack h item (All-head IsPassedOver item more passed))
     ∙ all-passed count ack h more (All-tail IsPassedOver item more passed)
 
 module _ (count : Bool) (ack : Option ℕ) (more : Listed) (passed : All IsPassedOver more) where
-  heeds-then : (rest : Listed) (r : Result Heeding Fault)
-      → ((h : Heeding) → heeds count ack h (rest ++ more) ≡ heeds count ack h rest)
+  heeds-then : (rest : Listed) (r : Result ReadingState Fault)
+      → ((h : ReadingState) → heeds count ack h (rest ++ more) ≡ heeds count ack h rest)
       → heeds_then r (λ next. heeds count ack next (rest ++ more)) ≡ heeds_then r (λ next. heeds count ack next rest)
   heeds-then rest (Ok h) same = same h
   heeds-then rest (Err fault) same = refl
 
-  heeds-after : (h : Heeding) (front : Listed) → heeds count ack h (front ++ more) ≡ heeds count ack h front
+  heeds-after : (h : ReadingState) (front : Listed) → heeds count ack h (front ++ more) ≡ heeds count ack h front
   heeds-after h [] = all-passed count ack h more passed
   heeds-after h (item ∷ rest) = heeds-then rest (heeds_item count ack h item) (λ next. heeds-after next rest)
 
@@ -274,7 +274,7 @@ module _ (a : Incoming) (more : Listed) (passed : All IsPassedOver more) (place 
   abbrev longer : Incoming
   longer = record a { options = a.options ++ more; data_place = place }
 
-  heeded-same : (x : EndState) (r : Result Heeding Fault) → IsSameStep (heeded x longer r) (heeded x a r)
+  heeded-same : (x : EndState) (r : Result ReadingState Fault) → IsSameStep (heeded x longer r) (heeded x a r)
   heeded-same x (Ok h) =
       let calls : calls_for longer x.rows h.rows ≡ calls_for a x.rows h.rows =
       ap (λ (reports : List Call). reports ++ start_calls (value_in x.rows Ccid Here) (value_in h.rows Ccid Here))
@@ -290,7 +290,7 @@ module _ (a : Incoming) (more : Listed) (passed : All IsPassedOver more) (place 
   reads-same x = heeds-after (a.newest && counts x.phase a.kind) a.ack more passed (unheeded x.rows) a.options
 
   course-same : (c : Course) → IsSameStep (ends_as longer c) (ends_as a c)
-  course-same (Goes x) = subst (λ (r : Result Heeding Fault). IsSameStep (heeded x longer r) (heeded x a (reads_options x a))) (sym (reads-same x)) (heeded-same x (reads_options x a))
+  course-same (Goes x) = subst (λ (r : Result ReadingState Fault). IsSameStep (heeded x longer r) (heeded x a (reads_options x a))) (sym (reads-same x)) (heeded-same x (reads_options x a))
   course-same (Leaves x exit) = same-step a (a.options ++ more) place (leaves x longer exit) (leaves x a exit) (leaves-same a (a.options ++ more) place x exit)
 
   pub taken-same : (e : EndState) → IsSameStep (takes e longer) (takes e a)
