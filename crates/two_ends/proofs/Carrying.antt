@@ -22,13 +22,13 @@ use Rattle.feature_machine.specs.Rows.{RowEvent}
 use Rattle.two_ends.specs.Frames.{options_in}
 use Rattle.two_ends.specs.Lists.{last_some, some_or}
 use Rattle.two_ends.specs.declared.frames.SentFrame.{SentFrame}
-use Rattle.two_ends.specs.Pairs.{Saying, Nothing, Change, Confirm, change_or_confirm, change_option, confirm_option, said_in, said_then, values_for}
+use Rattle.two_ends.specs.Pairs.{PairStatement, Nothing, Change, Confirm, change_or_confirm, change_option, confirm_option, said_in, said_then, values_for}
 use Rattle.two_ends.proofs.Logged.{Logged, IsLogged, IsUnlogged, AreLogged, NoFrames, Numbered, Unnumbered}
 use Rattle.two_ends.proofs.ReadBack.{logged-options, unlogged-options}
 use Rattle.two_ends.proofs.Viewing.{said_by}
 
 -- what an option says, as a reader of frames tells it
-abbrev pub saying_of : List RowEvent → Saying
+abbrev pub saying_of : List RowEvent → PairStatement
 saying_of [] = Nothing
 saying_of (row.Change body mandatory ∷ rest) = Change body
 saying_of (row.Confirm body ack ∷ rest) = Confirm body
@@ -53,7 +53,7 @@ said-event ack entry true false values same = cc same
 said-event ack entry false true values same = cc same
 
 -- the first option of the pair is what is said, for both readers
-picked : (ack : Option ℕ) (entry : Entry) (typed named placed change is_change : Bool) (values : List ℕ) (later : Saying) (rest : List RowEvent)
+picked : (ack : Option ℕ) (entry : Entry) (typed named placed change is_change : Bool) (values : List ℕ) (later : PairStatement) (rest : List RowEvent)
     → ((typed && placed) ≡ true → change ≡ is_change) → later ≡ saying_of rest
     → (if typed && placed then said_then (if named then Some values else None) is_change later else later)
     ≡ saying_of (if typed && (named && placed) then event_of ack entry change values ∷ [] else rest)
@@ -76,7 +76,7 @@ said-as feature place ack [] = refl
 said-as feature place ack (Err fault ∷ rest) = said-as feature place ack rest
 said-as feature place ack (Ok entry ∷ rest) =
     let number : ℕ = feature_number feature in
-    let later : Saying = said_in number place rest in
+    let later : PairStatement = said_in number place rest in
     let change : Bool = entry.kind == change_option place in
     ap (λ of_pair. if of_pair then said_then (values_for number entry.body) change later else later) (sym (types-placed place entry.kind))
     ∙ ap (λ values. if is_of_negotiation entry.kind && is_of_place (is_left entry.kind) (opposite (opposite place)) then said_then values change later
@@ -86,7 +86,7 @@ said-as feature place ack (Ok entry ∷ rest) =
     (heeding.is_change entry.kind) change (drop 1 entry.body) later _ (types-change place entry.kind) (said-as feature place ack rest)
 
 -- what a logged packet says of its sender's row
-abbrev pub says : Key → Logged → Saying
+abbrev pub says : Key → Logged → PairStatement
 says k l = saying_of (said_by k l)
 
 -- A frame's bytes say of a pair what its packet says of the row, and an unlogged frame says nothing.
@@ -106,7 +106,7 @@ some-or-none (Some b) = refl
 
 module _ (config : Config) (k : Key) where
   -- what the last frame shows that shows something, the last logged packet shows
-  pub last-logged : {B : Type 0} (shows : Saying → Option B) → shows Nothing ≡ None → {first : ℕ} {frames : List SentFrame} {log : List Logged}
+  pub last-logged : {B : Type 0} (shows : PairStatement → Option B) → shows Nothing ≡ None → {first : ℕ} {frames : List SentFrame} {log : List Logged}
       → AreLogged config first frames log
       → last_some (λ (frame : SentFrame). shows (said_in (feature_number k.0) k.1 (options_in frame.bytes))) frames ≡ last_some (λ l. shows (says k l)) log
   last-logged shows none NoFrames = refl
@@ -119,7 +119,7 @@ module _ (config : Config) (k : Key) where
       ∙ some-or-none _
 
   -- some frame passes a test if some logged packet does
-  pub any-logged : (test : Saying → Bool) → test Nothing ≡ false → {first : ℕ} {frames : List SentFrame} {log : List Logged}
+  pub any-logged : (test : PairStatement → Bool) → test Nothing ≡ false → {first : ℕ} {frames : List SentFrame} {log : List Logged}
       → AreLogged config first frames log
       → list_any (λ (frame : SentFrame). test (said_in (feature_number k.0) k.1 (options_in frame.bytes))) frames ≡ list_any (λ l. test (says k l)) log
   any-logged test none NoFrames = refl

@@ -11,10 +11,10 @@ use Rattle.world_events.specs.declared.event.Side.{Side}
 use Rattle.world_events.specs.declared.event.Side.TheVariants.{Client, Server}
 use Rattle.two_ends.specs.Lists.{last_some}
 use Rattle.two_ends.specs.World.{WorldState, half_of}
-use Rattle.two_ends.specs.Pairs.{FeatureAt, Saying, Nothing, Change, Confirm, held_at, said_by}
+use Rattle.two_ends.specs.Pairs.{FeatureAt, PairStatement, Nothing, Change, Confirm, held_at, said_by}
 
 -- a Change for the pair, not a Confirm or nothing
-abbrev pub says_change : Saying → Bool
+abbrev pub says_change : PairStatement → Bool
 says_change Nothing = false
 says_change (Change values) = true
 says_change (Confirm values) = false
@@ -34,7 +34,7 @@ confirmed_list (value ∷ []) = None
 confirmed_list (value ∷ (first ∷ rest)) = Some (first ∷ rest)
 
 -- the preference list of a Change is all of its values
-abbrev pub list_said : Saying → Option (List ℕ)
+abbrev pub list_said : PairStatement → Option (List ℕ)
 list_said Nothing = None
 list_said (Change values) = Some values
 list_said (Confirm values) = confirmed_list values
@@ -44,7 +44,7 @@ abbrev pub last_list_sent : WorldState → FeatureAt → Side → Option (List �
 last_list_sent w pair side = last_some (λ (frame : SentFrame). list_said (said_by pair side frame.bytes)) (half_of w side).frames
 
 -- the value of a feature that is not negotiable, in as many bytes as its Change carries
-abbrev pub value_said : Saying → Option ℕ
+abbrev pub value_said : PairStatement → Option ℕ
 value_said Nothing = None
 value_said (Change values) = Some (big_number (length values) values)
 value_said (Confirm values) = None

@@ -30,10 +30,10 @@ abbrev pub held_at : WorldState → FeatureAt → Side → Held
 held_at w pair side = held_of (half_of w side).end pair.feature (place_at side pair.location)
 
 -- what a packet says of a pair
-pub data Saying : Type 0 where
-  Nothing : Saying
-  Change : (values : List ℕ) → Saying
-  Confirm : (values : List ℕ) → Saying
+pub data PairStatement : Type 0 where
+  Nothing : PairStatement
+  Change : (values : List ℕ) → PairStatement
+  Confirm : (values : List ℕ) → PairStatement
 
 -- the option types by which a side speaks of a feature Here and There: Change L and Confirm L, Change R and Confirm R
 abbrev pub change_option : Place → ℕ
@@ -51,16 +51,16 @@ values_for number [] = None
 values_for number (first ∷ values) = if first == number then Some values else None
 
 -- the values that follow the feature number in a Change or a Confirm
-abbrev pub change_or_confirm : Bool → List ℕ → Saying
+abbrev pub change_or_confirm : Bool → List ℕ → PairStatement
 change_or_confirm is_change values = if is_change then Change values else Confirm values
 
 -- the first option for the pair is what the packet says of it (own)
-abbrev pub said_then : Option (List ℕ) → Bool → Saying → Saying
+abbrev pub said_then : Option (List ℕ) → Bool → PairStatement → PairStatement
 said_then None is_change later = later
 said_then (Some values) is_change later = change_or_confirm is_change values
 
 -- of several options for one feature the first counts; a list without one says nothing
-abbrev pub said_in : ℕ → Place → List (Result Entry OptFault) → Saying
+abbrev pub said_in : ℕ → Place → List (Result Entry OptFault) → PairStatement
 said_in number place [] = Nothing
 said_in number place (Err _ ∷ rest) = said_in number place rest
 said_in number place (Ok entry ∷ rest) =
@@ -69,7 +69,7 @@ said_in number place (Ok entry ∷ rest) =
     else said_in number place rest
 
 -- what a frame of a side says of a pair
-abbrev pub said_by : FeatureAt → Side → List ℕ → Saying
+abbrev pub said_by : FeatureAt → Side → List ℕ → PairStatement
 said_by pair side bytes = said_in (feature_number pair.feature) (place_at side pair.location) (options_in bytes)
 
 -- how many options of a packet speak of a pair
