@@ -14,7 +14,7 @@ use Rattle.two_ends.specs.FeatureMoves.{Reached}
 use Rattle.two_ends.specs.FeatureRows.{pair_of}
 use Rattle.two_ends.specs.FeatureView as view
 use Rattle.two_ends.specs.FeatureView.{carried_at, change_of, has_change, last_change, last_wish, wish_carried}
-use Rattle.two_ends.specs.FeatureView.Carried.{Change}
+use Rattle.two_ends.specs.FeatureView.FeatureNews.{Change}
 use Rattle.two_ends.proofs.ByFeature.{reached_agrees, reached_is_given}
 use Rattle.feature_lists.specs.Features.{described, initial_of}
 use Rattle.feature_lists.specs.Lists.{reconciled}

@@ -8,8 +8,8 @@ use Rattle.two_ends.specs.FeatureAgreement.{IsGiven}
 use Rattle.two_ends.specs.FeatureAgreement.IsGiven.{Initial, Ruled}
 use Rattle.two_ends.specs.FeatureMoves.{Pair, Reached, Rule}
 use Rattle.two_ends.specs.FeatureRows.{entries_of, pair_by, pair_of}
-use Rattle.two_ends.specs.FeatureView.{Carried, FeatureSide, carried_at, carries_change, has_change, wish_carried}
-use Rattle.two_ends.specs.FeatureView.Carried.{Nothing, Change, Confirm}
+use Rattle.two_ends.specs.FeatureView.{FeatureNews, FeatureSide, carried_at, carries_change, has_change, wish_carried}
+use Rattle.two_ends.specs.FeatureView.FeatureNews.{Nothing, Change, Confirm}
 use Rattle.feature_lists.specs.Features.{described, initial_of}
 use Rattle.feature_lists.specs.declared.features.Feature.{Feature}
 use Rattle.feature_lists.specs.declared.features.Place.{Place}
@@ -34,14 +34,14 @@ use Rattle.two_ends.proofs.Logged.{Logged}
 no-wish : (rule : Rule) (side peer : FeatureSide) → Kept rule side peer → has_change side.frames ≡ false → has_change peer.frames ≡ false → (count : ℕ)
     (wish : List ℕ) → wish_carried (carried_at side.frames count) ≡ Some wish → ⊥
 no-wish rule side peer kept none others count wish is = by (carried_at side.frames count) refl is where
-  seen : (frames : List Carried) (at : ℕ) → has_change frames ≡ false → carries_change (carried_at frames at) ≡ true → ⊥
+  seen : (frames : List FeatureNews) (at : ℕ) → has_change frames ≡ false → carries_change (carried_at frames at) ≡ true → ⊥
   seen frames at quiet carries =
       elim (change_seen frames at) [
         | inl silent ↦ cc (silent, carries)
         | inr some ↦ cc (quiet, some)
       ]
 
-  by : (c : Carried) → carried_at side.frames count ≡ c → wish_carried c ≡ Some wish → ⊥
+  by : (c : FeatureNews) → carried_at side.frames count ≡ c → wish_carried c ≡ Some wish → ⊥
   by Nothing at told = cc told
   by (Change own) at told = seen side.frames count none (ap carries_change at)
   by (Confirm acknowledged value list) at told =

@@ -11,7 +11,7 @@ use Rattle.feature_machine.specs.declared.judging.Confirmation.{Confirmation}
 use Rattle.feature_machine.specs.declared.row.Row.{Row}
 use Rattle.feature_machine.specs.Rows as machine
 use Rattle.feature_machine.specs.Rows.{row_step, row_line, Proposed, Confirmed, Preferred, Offered, Sending, Prefers, Offers, proposal, confirmation, sent_anew}
-use Rattle.two_ends.specs.FeatureView.{Carried}
+use Rattle.two_ends.specs.FeatureView.{FeatureNews}
 use Rattle.two_ends.specs.FeatureMoves.{new_side}
 use Rattle.seq_circle.specs.Counts.{number_of, count_of, IsNumber}
 use Rattle.two_ends.specs.FeatureRows.{side_of, entries_of, row_pair, IsBegun, sending_row}
@@ -87,13 +87,13 @@ some_same : {one other : ℕ} → Some one ≡ Some other → one ≡ other
 some_same is = cc
 
 -- the next frame's number is one of the side's
-next_number : (iss : ℕ) (frames : List Carried) → iss < 2 ^ 48 → length frames < 2 ^ 47 → IsNumber iss (number_of iss (length frames + 1))
+next_number : (iss : ℕ) (frames : List FeatureNews) → iss < 2 ^ 48 → length frames < 2 ^ 47 → IsNumber iss (number_of iss (length frames + 1))
 next_number iss frames fits few =
     let counted : count_of iss (number_of iss (length frames + 1)) ≡ length frames + 1 =
     count_of-number_of iss (length frames + 1) fits (omega arith) (omega arith) in
     record { iss_fits = fits; fits = omega arith; early = omega arith }
 
-module _ (iss : ℕ) (frames : List Carried) (fits : iss < 2 ^ 48) (few : length frames < 2 ^ 47) where
+module _ (iss : ℕ) (frames : List FeatureNews) (fits : iss < 2 ^ 48) (few : length frames < 2 ^ 47) where
   -- it stays a frame of this end where it is absent, or left
   early_or : (before after : Option ℕ) → (after ≡ None) ⊎ (after ≡ before) → ((number : ℕ) → before ≡ Some number → IsNumber iss number)
       → (number : ℕ) → after ≡ Some number → IsNumber iss number

@@ -9,7 +9,7 @@ use Rattle.feature_machine.specs.declared.row.Row.{Row}
 use Rattle.feature_machine.specs.declared.stands.Role2.{Role2}
 use Rattle.feature_machine.specs.declared.stands.Role2.TheVariants as end
 use Rattle.feature_machine.specs.Sound.{IsSameRow}
-use Rattle.two_ends.specs.FeatureView.{Carried, FeatureSide}
+use Rattle.two_ends.specs.FeatureView.{FeatureNews, FeatureSide}
 use Rattle.two_ends.specs.FeatureMoves.{Moves, Pair, Reached, IsReachable, new_side, swapped, negotiable}
 use Rattle.two_ends.specs.FeatureRows.{RowMoves, pair_by, pair_of, row_pair, rule_at, opens_at, location_of}
 use Rattle.feature_machine.specs.Negotiating.{opposite}
@@ -50,7 +50,7 @@ one_pair feature place.There = refl
 pub same_pair : (old new : Row) → IsSameRow old new → row_pair new ≡ row_pair old
 same_pair old new same = rw (same.role, same.feature, same.place)
 
-pub same_moves : (old new : Row) (there : List Carried) (before after : FeatureSide) → IsSameRow old new → RowMoves new there before after
+pub same_moves : (old new : Row) (there : List FeatureNews) (before after : FeatureSide) → IsSameRow old new → RowMoves new there before after
     → RowMoves old there before after
 same_moves old new there before after same moves = rw (same.role, same.feature, same.place) at moves
 
@@ -86,12 +86,12 @@ pub starts : (feature : Feature) (location : Role2) (servers clients : List ℕ)
 starts feature = starts_by (described feature).is_server_priority (initial_of feature)
 
 -- a row's moves are those of its end
-at_the_server : (role : Role2) (pair : Pair) (there : List Carried) (before after : FeatureSide) → role ≡ end.Server
+at_the_server : (role : Role2) (pair : Pair) (there : List FeatureNews) (before after : FeatureSide) → role ≡ end.Server
     → Moves (rule_at role pair) (opens_at role pair) there before after → Moves pair.rule pair.server_opens there before after
 at_the_server end.Server pair there before after is moves = moves
 at_the_server end.Client pair there before after is moves = absurd (cc is)
 
-at_the_client : (role : Role2) (pair : Pair) (there : List Carried) (before after : FeatureSide) → role ≡ end.Client
+at_the_client : (role : Role2) (pair : Pair) (there : List FeatureNews) (before after : FeatureSide) → role ≡ end.Client
     → Moves (rule_at role pair) (opens_at role pair) there before after → Moves (swapped pair.rule) pair.client_opens there before after
 at_the_client end.Client pair there before after is moves = moves
 at_the_client end.Server pair there before after is moves = absurd (cc is)

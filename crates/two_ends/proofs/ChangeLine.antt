@@ -10,8 +10,8 @@ use Rattle.feature_machine.specs.declared.judging.Proposal.TheVariants as p
 use Rattle.feature_machine.specs.declared.row.Row.{Row}
 use Rattle.feature_machine.specs.Rows.{row_line, Proposed, is_server_priority, width, entries, reconciled_by, confirm_body, holding, proposal, shared_or_not, list_proposal, tells_value}
 use Rattle.feature_machine.specs.Sound.{IsSoundRow}
-use Rattle.two_ends.specs.FeatureView.{Carried, carried_at, with_frame}
-use Rattle.two_ends.specs.FeatureView.Carried.{Change, Confirm}
+use Rattle.two_ends.specs.FeatureView.{FeatureNews, carried_at, with_frame}
+use Rattle.two_ends.specs.FeatureView.FeatureNews.{Change, Confirm}
 use Rattle.two_ends.specs.FeatureMoves.{answering_side}
 use Rattle.two_ends.specs.FeatureMoves.Move.{Passes, Answers}
 use Rattle.two_ends.specs.FeatureMoves.Moves.{Done, Next}
@@ -19,21 +19,21 @@ use Rattle.two_ends.specs.FeatureRows.{RowMoves, side_of, entries_of, row_pair, 
 use Rattle.two_ends.proofs.FeatureFrames.{frame_in}
 use Rattle.two_ends.proofs.RowFacts.{entries-entries_of, rule-reconciled_by, rule-remote_value, list_said, IsTold, told, told_said}
 
-pub change_in_range : (there : List Carried) (count : ℕ) (wish : List ℕ) → carried_at there count ≡ Change wish → count ≤ length there
+pub change_in_range : (there : List FeatureNews) (count : ℕ) (wish : List ℕ) → carried_at there count ≡ Change wish → count ≤ length there
 change_in_range there count wish carried = grind (arith, frame_in)
 
-pub confirm_there : (there : List Carried) (count : ℕ) (feature : Feature) (acknowledged : ℕ) (body : List ℕ)
+pub confirm_there : (there : List FeatureNews) (count : ℕ) (feature : Feature) (acknowledged : ℕ) (body : List ℕ)
     → carried_at there count ≡ confirm_in feature acknowledged body → count ≤ length there
 confirm_there there count feature acknowledged body carried = grind (arith, frame_in)
 
 -- what a side may do by one move, at the row's own rule
-module _ (iss greatest count : ℕ) (row : Row) (there frames : List Carried) (newer : greatest < count) where
+module _ (iss greatest count : ℕ) (row : Row) (there frames : List FeatureNews) (newer : greatest < count) where
   pub passes : count ≤ length there → RowMoves row there (side_of iss row greatest frames) (side_of iss row count frames)
   passes sent_there =
       let before = side_of iss row greatest frames in let after = side_of iss row count frames in
       Next before after after (Passes count newer sent_there) (Done after)
 
-  answers : (wish : List ℕ) (value : ℕ) (reply : Carried) → carried_at there count ≡ Change wish
+  answers : (wish : List ℕ) (value : ℕ) (reply : FeatureNews) → carried_at there count ≡ Change wish
       → value ≡ unwrap_or (rule_at row.role (row_pair row) (entries_of row.active) wish) row.value
       → reply ≡ Confirm count value (entries_of row.active)
       → RowMoves row there (side_of iss row greatest frames) (side_of iss (holding row value) count (with_frame frames reply))

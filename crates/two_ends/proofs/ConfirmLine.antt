@@ -11,8 +11,8 @@ use Rattle.feature_machine.specs.declared.row.Row.{Row}
 use Rattle.feature_machine.specs.Rows.{row_line, Confirmed, is_server_priority, width, entries, reconciled_by, confirmation, timely_confirmation, list_confirmation, agreed_confirmation, number_confirmation, answers_opening, is_number}
 use Rattle.feature_machine.specs.Sound.{IsSoundRow}
 use Rattle.seq_circle.specs.Circle.{is_before}
-use Rattle.two_ends.specs.FeatureView.{Carried, carried_at}
-use Rattle.two_ends.specs.FeatureView.Carried.{Confirm}
+use Rattle.two_ends.specs.FeatureView.{FeatureNews, carried_at}
+use Rattle.two_ends.specs.FeatureView.FeatureNews.{Confirm}
 use Rattle.two_ends.specs.FeatureMoves.{settled_side}
 use Rattle.two_ends.specs.FeatureMoves.Move.{Settles}
 use Rattle.two_ends.specs.FeatureMoves.Moves.{Done, Next}
@@ -25,7 +25,7 @@ use Rattle.two_ends.proofs.ChangeLine.{confirm_there, passes}
 same_numbers : (one other : ℕ) → (one == other) ≡ true → one ≡ other
 same_numbers one other same = grind arith
 
-module _ (iss greatest count : ℕ) (row : Row) (there frames : List Carried) (newer : greatest < count) where
+module _ (iss greatest count : ℕ) (row : Row) (there frames : List FeatureNews) (newer : greatest < count) where
   settles : (acknowledged value : ℕ) (wish : List ℕ) → carried_at there count ≡ Confirm acknowledged value wish → row.stand ≡ Changing
       → opened_count iss row.opened ≤ acknowledged
       → value ≡ unwrap_or (rule_at row.role (row_pair row) (entries_of row.active) wish) row.value

@@ -3,7 +3,7 @@ use Rattle.std.proofs.Common.{◌≡◌, ℕ, ◌<◌, ◌≤◌, inl, List, [],
 use Rattle.std.proofs.Math.Logic.{∥∥₁_elim}
 use Rattle.std.proofs.Props.{props}
 use Rattle.two_ends.specs.FeatureView.{FeatureSide, carried_at}
-use Rattle.two_ends.specs.FeatureView.Carried.{Change, Confirm}
+use Rattle.two_ends.specs.FeatureView.FeatureNews.{Change, Confirm}
 use Rattle.feature_machine.specs.declared.stands.Stand.TheVariants.{Stable}
 use Rattle.two_ends.specs.FeatureMoves.{IsReachable, own_value, at_server, at_client}
 use Rattle.two_ends.specs.FeatureFacts.{IsConfirmed}

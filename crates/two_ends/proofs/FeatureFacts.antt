@@ -1,13 +1,13 @@
 -- What holds of two sides after every move. No fact says that something exists, so that search alone proves most steps.
 use Rattle.std.proofs.Common.{◌≡◌, ℕ, ◌<◌, ◌≤◌, true, ◌⊎◌, List, [], length}
 use Rattle.std.specs.Prelude.{Some, is_some, unwrap_or}
-use Rattle.two_ends.specs.FeatureView.{Carried, FeatureSide, carried_at, has_change, last_wish}
+use Rattle.two_ends.specs.FeatureView.{FeatureNews, FeatureSide, carried_at, has_change, last_wish}
 use Rattle.feature_machine.specs.declared.stands.Stand.TheVariants.{Stable}
-use Rattle.two_ends.specs.FeatureView.Carried.{Nothing, Change, Confirm}
+use Rattle.two_ends.specs.FeatureView.FeatureNews.{Nothing, Change, Confirm}
 use Rattle.two_ends.specs.FeatureMoves.{Rule, swapped}
 
 -- the wish of a Change
-abbrev pub changed : Carried → List ℕ
+abbrev pub changed : FeatureNews → List ℕ
 changed Nothing = []
 changed (Change wish) = wish
 changed (Confirm acknowledged value wish) = []

@@ -4,24 +4,24 @@ use Rattle.std.specs.Prelude.{Option, Some, None, is_some}
 use Rattle.std.specs.Option.{option_or}
 use Rattle.std.proofs.lemmas.Grind.{common_steps}
 use Rattle.std.proofs.lemmas.List.Folds.{list_any-append}
-use Rattle.two_ends.specs.FeatureView.{Carried, carried_at, with_frame, wish_carried, change_of, carries_change, has_change, last_wish, last_change}
-use Rattle.two_ends.specs.FeatureView.Carried.{Nothing}
+use Rattle.two_ends.specs.FeatureView.{FeatureNews, carried_at, with_frame, wish_carried, change_of, carries_change, has_change, last_wish, last_change}
+use Rattle.two_ends.specs.FeatureView.FeatureNews.{Nothing}
 
 apart : (a b : ℕ) → (a < b) ⊎ (b ≤ a)
 apart a b = grind arith
 
 -- a count that names no frame carries nothing
-pub frame_in : (frames : List Carried) (count : ℕ) → (carried_at frames count ≡ Nothing) ⊎ ((1 ≤ count) × (count ≤ length frames))
+pub frame_in : (frames : List FeatureNews) (count : ℕ) → (carried_at frames count ≡ Nothing) ⊎ ((1 ≤ count) × (count ≤ length frames))
 frame_in frames count = grind (arith, common_steps, apart)
 
 -- the frames before, the new one, and none
-pub frame_cases : (frames : List Carried) (frame : Carried) (count : ℕ)
+pub frame_cases : (frames : List FeatureNews) (frame : FeatureNews) (count : ℕ)
     → ((carried_at (with_frame frames frame) count ≡ carried_at frames count) × (count ≤ length frames))
     ⊎ (((carried_at (with_frame frames frame) count ≡ frame) × (count ≡ suc (length frames)))
     ⊎ ((carried_at (with_frame frames frame) count ≡ Nothing) × (length frames < count)))
 frame_cases frames frame count = grind (arith, common_steps, apart)
 
-pub frame_new : (frames : List Carried) (frame : Carried) (count : ℕ) → count ≡ suc (length frames)
+pub frame_new : (frames : List FeatureNews) (frame : FeatureNews) (count : ℕ) → count ≡ suc (length frames)
     → carried_at (with_frame frames frame) count ≡ frame
 frame_new frames frame count is = grind (arith, common_steps)
 
@@ -34,26 +34,26 @@ option_or-option_or : (first second third : Option (List ℕ))
 option_or-option_or None second third = refl
 option_or-option_or (Some wish) second third = refl
 
-pub last_wish-with_frame : (frames : List Carried) (frame : Carried)
+pub last_wish-with_frame : (frames : List FeatureNews) (frame : FeatureNews)
     → last_wish (with_frame frames frame) ≡ option_or (wish_carried frame) (last_wish frames)
 last_wish-with_frame [] frame = sym (option_or_none (wish_carried frame))
 last_wish-with_frame (first ∷ frames) frame =
     ap (λ later. option_or later (wish_carried first)) (last_wish-with_frame frames frame)
     ∙ option_or-option_or (wish_carried frame) (last_wish frames) (wish_carried first)
 
-pub last_change-with_frame : (frames : List Carried) (frame : Carried)
+pub last_change-with_frame : (frames : List FeatureNews) (frame : FeatureNews)
     → last_change (with_frame frames frame) ≡ option_or (change_of frame) (last_change frames)
 last_change-with_frame [] frame = sym (option_or_none (change_of frame))
 last_change-with_frame (first ∷ frames) frame =
     ap (λ later. option_or later (change_of first)) (last_change-with_frame frames frame)
     ∙ option_or-option_or (change_of frame) (last_change frames) (change_of first)
 
-pub has_change-with_frame : (frames : List Carried) (frame : Carried)
+pub has_change-with_frame : (frames : List FeatureNews) (frame : FeatureNews)
     → has_change (with_frame frames frame) ≡ (has_change frames || carries_change frame)
 has_change-with_frame frames frame = grind (arith, list_any-append)
 
 -- a frame with a wish is seen in the last wish
-pub wish_seen : (frames : List Carried) (count : ℕ)
+pub wish_seen : (frames : List FeatureNews) (count : ℕ)
     → (wish_carried (carried_at frames count) ≡ None) ⊎ (is_some (last_wish frames) ≡ true)
 wish_seen [] zero = inl refl
 wish_seen [] (suc count) = inl refl
@@ -70,7 +70,7 @@ wish_seen (frame ∷ frames) (suc (suc count)) =
     there one later own seen = grind arith
 
 -- a frame with a Change is seen
-pub change_seen : (frames : List Carried) (count : ℕ)
+pub change_seen : (frames : List FeatureNews) (count : ℕ)
     → (carries_change (carried_at frames count) ≡ false) ⊎ (has_change frames ≡ true)
 change_seen [] zero = inl refl
 change_seen [] (suc count) = inl refl

@@ -1,7 +1,7 @@
 -- What the facts say of two sides that moves reach: they agree.
 use Rattle.std.proofs.Common.{◌≡◌, ℕ, ◌<◌, Bool, true, ◌⊎◌, List, arith}
 use Rattle.std.specs.Prelude.{Some, is_some, IsTrue}
-use Rattle.two_ends.specs.FeatureView.{Carried, FeatureSide, last_wish}
+use Rattle.two_ends.specs.FeatureView.{FeatureNews, FeatureSide, last_wish}
 use Rattle.feature_machine.specs.declared.stands.Stand.TheVariants.{Stable}
 use Rattle.two_ends.specs.FeatureMoves.{Rule, swapped, Moves, Pair, Reached}
 use Rattle.two_ends.specs.FeatureMoves.Moves.{Done, Next}
@@ -37,7 +37,7 @@ pub reached_agree : (pair : Pair) (server client : FeatureSide) → Reached pair
 reached_agree pair server client reached = kept_agree pair.rule server client (reached_keeps pair server client reached)
 
 -- moves after moves
-pub joined : (rule : Rule) (opens : List ℕ → Bool) (there : List Carried) (before middle after : FeatureSide) → Moves rule opens there before middle
+pub joined : (rule : Rule) (opens : List ℕ → Bool) (there : List FeatureNews) (before middle after : FeatureSide) → Moves rule opens there before middle
     → Moves rule opens there middle after → Moves rule opens there before after
 joined rule opens there _ _ after (Done _) rest = rest
 joined rule opens there before middle after (Next _ next _ move moves) rest =

@@ -3,7 +3,7 @@ use Rattle.std.proofs.Common.{◌≡◌, ℕ, suc, ◌<◌, ◌≤◌, Bool, Lis
 use Rattle.std.specs.Prelude.{Option, Some, None, unwrap_or}
 use Rattle.two_ends.specs.FeatureView.{FeatureSide, carried_at, with_frame}
 use Rattle.feature_machine.specs.declared.stands.Stand.TheVariants.{Stable, Changing}
-use Rattle.two_ends.specs.FeatureView.Carried.{Nothing, Change, Confirm}
+use Rattle.two_ends.specs.FeatureView.FeatureNews.{Nothing, Change, Confirm}
 use Rattle.two_ends.specs.FeatureMoves.{Rule, swapped, passing_side, settled_side, answering_side, waiting, opening, sending_side, new_side, Move, Pair, Reached}
 use Rattle.two_ends.specs.FeatureMoves.Move.{Passes, Settles, Answers, Waits, Opens, Sends, Sends_again}
 use Rattle.two_ends.specs.FeatureMoves.Reached.{Starts, Server_moves, Client_moves}

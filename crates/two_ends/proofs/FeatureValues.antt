@@ -1,9 +1,9 @@
 -- Each value was given to its row: the wishes that led to it are in frames, and frames never change.
 use Rattle.std.proofs.Common.{◌≡◌, ℕ, suc, Bool, List, length, refl, sym, subst, arith}
 use Rattle.std.specs.Prelude.{Option, Some, None, unwrap_or}
-use Rattle.two_ends.specs.FeatureView.{Carried, FeatureSide, carried_at, with_frame, wish_carried}
+use Rattle.two_ends.specs.FeatureView.{FeatureNews, FeatureSide, carried_at, with_frame, wish_carried}
 use Rattle.feature_machine.specs.declared.stands.Stand.TheVariants.{Changing}
-use Rattle.two_ends.specs.FeatureView.Carried.{Nothing, Change, Confirm}
+use Rattle.two_ends.specs.FeatureView.FeatureNews.{Nothing, Change, Confirm}
 use Rattle.two_ends.specs.FeatureMoves.{Rule, swapped, settled_side, answering_side, sending_side, Move, Pair, Reached}
 use Rattle.two_ends.specs.FeatureMoves.Move.{Passes, Settles, Answers, Waits, Opens, Sends, Sends_again}
 use Rattle.two_ends.specs.FeatureMoves.Reached.{Starts, Server_moves, Client_moves}
@@ -13,16 +13,16 @@ use Rattle.two_ends.proofs.FeatureFacts.{Kept}
 use Rattle.two_ends.proofs.FeatureFrames.{frame_in, frame_cases, frame_new}
 use Rattle.two_ends.proofs.FeatureSteps.{turned, reached_keeps}
 
-wish_kept : (frames : List Carried) (frame : Carried) (count : ℕ) (wish : List ℕ) → wish_carried (carried_at frames count) ≡ Some wish
+wish_kept : (frames : List FeatureNews) (frame : FeatureNews) (count : ℕ) (wish : List ℕ) → wish_carried (carried_at frames count) ≡ Some wish
     → wish_carried (carried_at (with_frame frames frame) count) ≡ Some wish
 wish_kept frames frame count wish carried = grind (arith, frame_in, frame_cases)
 
-module _ (initial : ℕ) (rule : Rule) (owns peers : List Carried) (value : ℕ) where
+module _ (initial : ℕ) (rule : Rule) (owns peers : List FeatureNews) (value : ℕ) where
   given_turned : IsGiven initial rule owns peers value → IsGiven initial (swapped rule) peers owns value
   given_turned (Initial is) = Initial is
   given_turned (Ruled count counterpart wish other here there is) = Ruled counterpart count other wish there here is
 
-  given-own_frame : (frame : Carried) → IsGiven initial rule owns peers value → IsGiven initial rule (with_frame owns frame) peers value
+  given-own_frame : (frame : FeatureNews) → IsGiven initial rule owns peers value → IsGiven initial rule (with_frame owns frame) peers value
   given-own_frame frame (Initial is) = Initial is
   given-own_frame frame (Ruled count counterpart wish other here there is) =
       Ruled count counterpart wish other (wish_kept owns frame count wish here) there is
@@ -39,7 +39,7 @@ both_turned initial rule side peer given = record {
   clients = given_turned initial rule side.frames peer.frames side.value given.servers;
 }
 
-send_given : (initial : ℕ) (rule : Rule) (side peer : FeatureSide) (frame : Carried) → SidesAreGiven initial rule side peer
+send_given : (initial : ℕ) (rule : Rule) (side peer : FeatureSide) (frame : FeatureNews) → SidesAreGiven initial rule side peer
     → SidesAreGiven initial rule (sending_side side frame) peer
 send_given initial rule side peer frame given = record {
   servers = given-own_frame initial rule side.frames peer.frames side.value frame given.servers;
@@ -62,13 +62,13 @@ settle_given initial rule side peer count acknowledged value wish carried changi
 }
 
 -- the Confirm that answers a Change
-abbrev answer : Rule → FeatureSide → ℕ → List ℕ → Carried
+abbrev answer : Rule → FeatureSide → ℕ → List ℕ → FeatureNews
 answer rule side count wish = Confirm count (unwrap_or (rule side.active wish) side.value) side.active
 
 answer_given : (initial : ℕ) (rule : Rule) (side peer : FeatureSide) (count : ℕ) (wish : List ℕ) → carried_at peer.frames count ≡ Change wish
     → SidesAreGiven initial rule side peer → SidesAreGiven initial rule (answering_side side count (unwrap_or (rule side.active wish) side.value)) peer
 answer_given initial rule side peer count wish carried given =
-    let frames : List Carried = with_frame side.frames (answer rule side count wish) in
+    let frames : List FeatureNews = with_frame side.frames (answer rule side count wish) in
     let stands = frame_new side.frames (answer rule side count wish) (suc (length side.frames)) refl in
     record {
       servers = ruled_or_held (IsGiven initial rule frames peer.frames) (rule side.active wish) side.value

@@ -25,8 +25,8 @@ use Rattle.dccp_endpoint.proofs.OneConfirm.{rows_hear_the_packet}
 use Rattle.dccp_endpoint.specs.Saying.{confirm_for, event_in, said_to, speaks_to, times_said_to}
 use Rattle.dccp_endpoint.specs.Turns.{Key}
 use Rattle.two_ends.specs.FeaturePackets.{IsHeardOf}
-use Rattle.two_ends.specs.FeatureView.{Carried, carried_at}
-use Rattle.two_ends.specs.FeatureView.Carried.{Nothing}
+use Rattle.two_ends.specs.FeatureView.{FeatureNews, carried_at}
+use Rattle.two_ends.specs.FeatureView.FeatureNews.{Nothing}
 use Rattle.feature_lists.specs.declared.features.Feature.{Feature}
 use Rattle.feature_lists.specs.declared.features.Place.{Place}
 use Rattle.feature_lists.specs.declared.features.Place.TheVariants.{Here, There}
@@ -88,7 +88,7 @@ said-uncounted ack k (Err _ ∷ rest) = said-uncounted ack k rest
 said-uncounted ack k (Ok entry ∷ rest) = said-uncounted ack k rest
 
 -- What is well said, is heard so.
-well-heard : (iss count : ℕ) (row : Row) (there : List Carried) (events : List RowEvent) → count ≤ length there
+well-heard : (iss count : ℕ) (row : Row) (there : List FeatureNews) (events : List RowEvent) → count ≤ length there
     → carried_at there count ≡ carried_by iss row.feature events → IsWellSaid iss (row.feature, opposite row.place) events
     → IsHeardOf iss row there count events
 well-heard iss count row there [] inside carries well = inside
@@ -133,7 +133,7 @@ pub record IsWell (peer_iss : ℕ) (l : Logged) : Type 0 where
   pub few : length l.draft.options ≤ 38
   pub long : has_forms true l.draft.kind ≡ true
 
-carried-next : (frames : List Carried) (place : ℕ) → carried_at frames (place + 1) ≡ slice_index_or frames place Nothing
+carried-next : (frames : List FeatureNews) (place : ℕ) → carried_at frames (place + 1) ≡ slice_index_or frames place Nothing
 carried-next frames place =
     let next : place + 1 ≡ suc place = omega arith in
     ap (carried_at frames) next
@@ -186,7 +186,7 @@ module _ (iss peer_iss : ℕ) (log : List Logged) (well : All (IsWell iss) log) 
   pub packet-heard : (k : Key) (row : Row) (count : Bool) → row.feature ≡ k.0 → row.place ≡ k.1
       → IsHeardOf iss row (map (carried_of iss (across k)) log) (from.place + 1) (said_to count a.ack k a.options)
   packet-heard k row count feature place = by count where
-    there : List Carried
+    there : List FeatureNews
     there = map (carried_of iss (across k)) log
 
     within : from.place + 1 ≤ length there
@@ -231,7 +231,7 @@ key-hears act greatest later so well rows k _ _ (Heeds a h was heeded) = by act.
   row : Row
   row = row_at e.rows k.0 k.1
 
-  there : List Carried
+  there : List FeatureNews
   there = map (carried_of (config_of act.side).iss (across k)) act.peer.log
 
   -- by what the packet says to the row

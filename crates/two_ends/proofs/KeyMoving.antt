@@ -13,7 +13,7 @@ use Rattle.dccp_endpoint.specs.Steps.{next_number}
 use Rattle.dccp_endpoint.specs.Turns.{Key}
 use Rattle.seq_circle.specs.Counts.{number_of}
 use Rattle.two_ends.specs.FeatureRows.{IsBegun, RowMoves, confirm_in}
-use Rattle.two_ends.specs.FeatureView.{Carried, with_frame}
+use Rattle.two_ends.specs.FeatureView.{FeatureNews, with_frame}
 use Rattle.feature_lists.specs.declared.features.Feature.{Feature}
 use Rattle.feature_machine.specs.Negotiating.{row_at}
 use Rattle.feature_machine.specs.Rows.{Confirm, Offered, Offers, Opens, RowEvent, row_line, row_step}
@@ -84,13 +84,13 @@ module _ (s : KnownStep) where
   abbrev more : Key → List RowEvent
   more k = events_of k.0 k.1 act.because.turns.offered ++ events_of k.0 k.1 act.because.turns.preferred
 
-  abbrev frames : Key → List Carried
+  abbrev frames : Key → List FeatureNews
   frames k = map (carried_of peer_iss k) act.side.log
 
-  abbrev frames-after : Key → List Carried
+  abbrev frames-after : Key → List FeatureNews
   frames-after k = map (carried_of peer_iss k) (acted act).log
 
-  abbrev there : Key → List Carried
+  abbrev there : Key → List FeatureNews
   there k = map (carried_of iss (across k)) act.peer.log
 
   frames-few : (k : Key) → length (frames k) + 1 < 2 ^ 47
@@ -147,7 +147,7 @@ module _ (s : KnownStep) where
       ∙ ap (λ (n : ℕ). with_frame (frames k) (confirm_in k.0 n body)) answer.counts
       ∙ ap (λ (feature : Feature). with_frame (frames k) (confirm_in feature later body)) (sym (s.own.proper.rows.sound.each k.0 k.1).feature_is)
 
-  abbrev MovedTo : Key → Row → List Carried → Type 0
+  abbrev MovedTo : Key → Row → List FeatureNews → Type 0
   MovedTo k to carried = Moved iss (there k) (row k) greatest (frames k) to later carried
 
   -- the row, where no Confirm is due for it
@@ -186,7 +186,7 @@ module _ (s : KnownStep) where
       (by first (key-confirmed e act.given s.own.proper.rows.sound act.because.turns.heard due (rows-heard s) k body
       act.because.turns.offered act.because.turns.preferred keys act.because.turns.occasion some))
     where
-      sent : List Carried
+      sent : List FeatureNews
       sent = with_frame (frames k) (confirm_in (row k).feature later body)
 
       asks-none : has_key k keys ≡ false

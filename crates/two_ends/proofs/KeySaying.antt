@@ -27,8 +27,8 @@ use Rattle.two_ends.proofs.Taking.{heard_same, heard_sound}
 use Rattle.seq_circle.specs.Counts.{IsNumber, count_of}
 use Rattle.two_ends.specs.FeaturePackets.{IsHeardOf}
 use Rattle.two_ends.specs.FeatureRows.{change_data, change_in, entries_of, is_valid_change, is_whole_confirm}
-use Rattle.two_ends.specs.FeatureView.{Carried}
-use Rattle.two_ends.specs.FeatureView.Carried.{Change as CarriedChange}
+use Rattle.two_ends.specs.FeatureView.{FeatureNews}
+use Rattle.two_ends.specs.FeatureView.FeatureNews.{Change as CarriedChange}
 use Rattle.feature_lists.specs.Wishes.{is_ours, is_wish}
 use Rattle.feature_lists.specs.declared.features.Feature.{Feature}
 use Rattle.feature_lists.specs.declared.features.Place.{Place}
@@ -66,7 +66,7 @@ confirm-is (Confirms other) body is = (let same : other ≡ body = cc is in ap C
 confirm-is _ body is = cc is
 
 -- The Confirm that is due is whole.
-reply-whole : (iss count : ℕ) (row : Row) (there : List Carried) (events : List RowEvent) (body : List ℕ) → IsSoundRow row
+reply-whole : (iss count : ℕ) (row : Row) (there : List FeatureNews) (events : List RowEvent) (body : List ℕ) → IsSoundRow row
     → IsHeardOf iss row there count events
     → reply_due row events ≡ Some body → is_whole_confirm row.feature body ≡ true
 reply-whole iss count row there [] body sound heard due = cc due
@@ -87,14 +87,14 @@ pub record IsReply (row : Row) (greatest later : ℕ) (body : List ℕ) : Type 0
   pub newer : greatest < later
   pub whole : is_whole_confirm row.feature body ≡ true
 
-hears-reply : (iss greatest : ℕ) (row : Row) (there : List Carried) (later : ℕ) (events : List RowEvent) (reply : Option (List ℕ)) (body : List ℕ)
+hears-reply : (iss greatest : ℕ) (row : Row) (there : List FeatureNews) (later : ℕ) (events : List RowEvent) (reply : Option (List ℕ)) (body : List ℕ)
     → IsSoundRow row → Hears iss greatest row there later events reply → reply ≡ Some body → IsReply row greatest later body
 hears-reply iss greatest row there later _ _ body sound (HearsNothing same) is = cc is
 hears-reply iss greatest row there later events _ body sound (HearsNewest _ newer heard) is =
     record { newer = newer; whole = reply-whole iss later row there events body sound heard is }
 
 -- what a row heard leaves it its own
-hears-its : (iss greatest : ℕ) (row : Row) (there : List Carried) (later : ℕ) (events : List RowEvent) (reply : Option (List ℕ)) (feature : Feature)
+hears-its : (iss greatest : ℕ) (row : Row) (there : List FeatureNews) (later : ℕ) (events : List RowEvent) (reply : Option (List ℕ)) (feature : Feature)
     (place : Place)
     → IsRowOf feature place row → Hears iss greatest row there later events reply → IsRowOf feature place (row_turned row events)
 hears-its iss greatest row there later _ _ feature place its (HearsNothing same) = its

@@ -5,17 +5,17 @@ use Rattle.std.specs.Option.{option_or}
 use Rattle.std.proofs.lemmas.Bool.{and_parts}
 use Rattle.feature_lists.specs.Features.{described}
 use Rattle.feature_lists.specs.declared.features.Feature.{Feature}
-use Rattle.two_ends.specs.FeatureView.{Carried, with_frame, wish_carried, last_wish, is_listed, are_listed, list_of, last_list}
-use Rattle.two_ends.specs.FeatureView.Carried.{Nothing, Change, Confirm}
+use Rattle.two_ends.specs.FeatureView.{FeatureNews, with_frame, wish_carried, last_wish, is_listed, are_listed, list_of, last_list}
+use Rattle.two_ends.specs.FeatureView.FeatureNews.{Nothing, Change, Confirm}
 use Rattle.two_ends.specs.FeatureRows.{is_whole_confirm, is_whole_by, confirm_in, confirmed_by}
 
-list_is_wish : (frame : Carried) → is_listed frame ≡ true → list_of frame ≡ wish_carried frame
+list_is_wish : (frame : FeatureNews) → is_listed frame ≡ true → list_of frame ≡ wish_carried frame
 list_is_wish Nothing listed = refl
 list_is_wish (Change wish) listed = refl
 list_is_wish (Confirm acknowledged value []) listed = absurd (cc listed)
 list_is_wish (Confirm acknowledged value (entry ∷ entries)) listed = refl
 
-pub lists_are_wishes : (frames : List Carried) → are_listed frames ≡ true → last_list frames ≡ last_wish frames
+pub lists_are_wishes : (frames : List FeatureNews) → are_listed frames ≡ true → last_list frames ≡ last_wish frames
 lists_are_wishes [] listed = refl
 lists_are_wishes (frame ∷ frames) listed =
     let parts = and_parts (is_listed frame) (are_listed frames) listed in
@@ -23,11 +23,11 @@ lists_are_wishes (frame ∷ frames) listed =
     ∙ ap (λ own. option_or (last_wish frames) own) (list_is_wish frame parts.0)
 
 -- one frame more
-listed_more : (frames : List Carried) (frame : Carried) → are_listed (with_frame frames frame) ≡ (are_listed frames && is_listed frame)
+listed_more : (frames : List FeatureNews) (frame : FeatureNews) → are_listed (with_frame frames frame) ≡ (are_listed frames && is_listed frame)
 listed_more [] frame = grind arith
 listed_more (first ∷ frames) frame = ap (λ rest. is_listed first && rest) (listed_more frames frame) ∙ grind arith
 
-pub listed_with_frame : (frames : List Carried) (frame : Carried)
+pub listed_with_frame : (frames : List FeatureNews) (frame : FeatureNews)
     → (are_listed (with_frame frames frame) ≡ true) ↔ ((are_listed frames ≡ true) × (is_listed frame ≡ true))
 listed_with_frame frames frame = (
   λ all. and_parts (are_listed frames) (is_listed frame) (sym (listed_more frames frame) ∙ all),

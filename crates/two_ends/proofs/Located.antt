@@ -2,9 +2,9 @@
 -- are single values.
 use Rattle.std.proofs.Common.{◌≡◌, ℕ, ◌<◌, true, inl, List, [], ◌∷◌, refl, ap, ◌∙◌, arith}
 use Rattle.std.specs.Prelude.{Some, unwrap_or, IsTrue}
-use Rattle.two_ends.specs.FeatureView.{Carried, FeatureSide, carried_at, last_wish, last_change, wish_carried}
+use Rattle.two_ends.specs.FeatureView.{FeatureNews, FeatureSide, carried_at, last_wish, last_change, wish_carried}
 use Rattle.feature_machine.specs.declared.stands.Stand.TheVariants.{Stable}
-use Rattle.two_ends.specs.FeatureView.Carried.{Nothing, Change, Confirm}
+use Rattle.two_ends.specs.FeatureView.FeatureNews.{Nothing, Change, Confirm}
 use Rattle.two_ends.specs.FeatureMoves.{Rule, swapped, passing_side, settled_side, answering_side, waiting, opening, sending_side, new_side, Move, Reached, own_value, one_value, no_wish, at_server, at_client}
 use Rattle.two_ends.specs.FeatureMoves.Move.{Passes, Settles, Answers, Waits, Opens, Sends, Sends_again}
 use Rattle.two_ends.specs.FeatureMoves.Reached.{Starts, Server_moves, Client_moves}
@@ -132,7 +132,7 @@ module _ (location remote : FeatureSide) (kept : Kept own_value location remote)
       → carried_at location.frames count ≡ Change wish
   wish_changes count wish carried = by_kind (carried_at location.frames count) refl carried
     where
-      by_kind : (frame : Carried) → carried_at location.frames count ≡ frame → wish_carried frame ≡ Some wish → frame ≡ Change wish
+      by_kind : (frame : FeatureNews) → carried_at location.frames count ≡ frame → wish_carried frame ≡ Some wish → frame ≡ Change wish
       by_kind Nothing is has = grind arith
       by_kind (Change own) is has = grind arith
       by_kind (Confirm acknowledged value own) is has =

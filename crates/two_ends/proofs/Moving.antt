@@ -9,8 +9,8 @@ use Rattle.seq_circle.specs.Counts.{number_of}
 use Rattle.two_ends.specs.FeaturePackets.{IsHeardOf, carried_reply}
 use Rattle.two_ends.specs.FeatureRows.{IsBegun, RowMoves, confirm_in, entries_of, opens_at, row_pair, rule_at, side_of}
 use Rattle.two_ends.specs.FeatureMoves.{Done}
-use Rattle.two_ends.specs.FeatureView.{Carried, FeatureSide, with_frame}
-use Rattle.two_ends.specs.FeatureView.Carried.{Nothing, Change}
+use Rattle.two_ends.specs.FeatureView.{FeatureNews, FeatureSide, with_frame}
+use Rattle.two_ends.specs.FeatureView.FeatureNews.{Nothing, Change}
 use Rattle.feature_lists.specs.Wishes.{is_wish}
 use Rattle.feature_lists.specs.declared.wishes.Wanted.{Wanted}
 use Rattle.feature_machine.proofs.Soundness.{step_sound}
@@ -22,14 +22,14 @@ use Rattle.feature_machine.specs.declared.row.Row.{Row}
 use Rattle.feature_machine.specs.declared.stands.Stand.TheVariants.{Stable}
 
 -- A row and its end's frames come to others, and the greatest count taken to another.
-pub record Moved (iss : ℕ) (there : List Carried) (row : Row) (greatest : ℕ) (frames : List Carried) (after : Row) (later : ℕ)
-    (more : List Carried) : Type 0 where
+pub record Moved (iss : ℕ) (there : List FeatureNews) (row : Row) (greatest : ℕ) (frames : List FeatureNews) (after : Row) (later : ℕ)
+    (more : List FeatureNews) : Type 0 where
   pub moves : RowMoves row there (side_of iss row greatest frames) (side_of iss after later more)
   pub same : IsSameRow row after
   pub begun : IsBegun iss after
 
 -- What a row hears of a packet, with the Confirm that is due and the greatest count then: nothing, or what a newest packet says.
-pub data Hears (iss greatest : ℕ) (row : Row) (there : List Carried) (later : ℕ) : List RowEvent → Option (List ℕ) → Type 0 where
+pub data Hears (iss greatest : ℕ) (row : Row) (there : List FeatureNews) (later : ℕ) : List RowEvent → Option (List ℕ) → Type 0 where
   HearsNothing : later ≡ greatest → Hears iss greatest row there later [] None
   HearsNewest : (events : List RowEvent) → greatest < later → IsHeardOf iss row there later events
       → Hears iss greatest row there later events (reply_due row events)
@@ -48,7 +48,7 @@ abbrev pub sends_if : Bool → ℕ → List RowEvent
 sends_if asks number = if asks then Sends number ∷ [] else []
 
 -- the frames after a step in which the row is not confirmed: whether its Change goes out, or another packet, or none
-abbrev pub frames_after : Row → List Carried → (asks packet : Bool) → List Carried
+abbrev pub frames_after : Row → List FeatureNews → (asks packet : Bool) → List FeatureNews
 frames_after after frames true packet = with_frame frames (Change (entries_of after.active))
 frames_after after frames false true = with_frame frames Nothing
 frames_after after frames false false = frames
@@ -63,7 +63,7 @@ same-then one two three first second =
     record { role = second.role ∙ first.role; feature = second.feature ∙ first.feature; place = second.place ∙ first.place }
 
 -- moves follow one another
-pub moved-then : (iss : ℕ) (there : List Carried) (one two three : Row) (first second third : ℕ) (begin middle last : List Carried)
+pub moved-then : (iss : ℕ) (there : List FeatureNews) (one two three : Row) (first second third : ℕ) (begin middle last : List FeatureNews)
     → Moved iss there one first begin two second middle → Moved iss there two second middle three third last
     → Moved iss there one first begin three third last
 moved-then iss there one two three first second third begin middle last m n =
@@ -76,7 +76,7 @@ moved-then iss there one two three first second third begin middle last m n =
       begun = n.begun;
     }
 
-module _ (iss greatest : ℕ) (row : Row) (there frames : List Carried) (fits : iss < 2 ^ 48) (few : length frames < 2 ^ 47) (sound : IsSoundRow row)
+module _ (iss greatest : ℕ) (row : Row) (there frames : List FeatureNews) (fits : iss < 2 ^ 48) (few : length frames < 2 ^ 47) (sound : IsSoundRow row)
     (begun : IsBegun iss row) where
   abbrev number : ℕ
   number = number_of iss (length frames + 1)
@@ -171,7 +171,7 @@ module _ (iss greatest : ℕ) (row : Row) (there frames : List Carried) (fits : 
       }
 
 -- What else happens to the row, with its Change or without.
-pub does : (iss greatest : ℕ) (row : Row) (there frames : List Carried) → iss < 2 ^ 48 → length frames < 2 ^ 47 → IsSoundRow row → IsBegun iss row
+pub does : (iss greatest : ℕ) (row : Row) (there frames : List FeatureNews) → iss < 2 ^ 48 → length frames < 2 ^ 47 → IsSoundRow row → IsBegun iss row
     → (events : List RowEvent) (asks packet : Bool) → Does row events asks
     → Moved iss there row greatest frames (row_turned row (events ++ sends_if asks (number_of iss (length frames + 1)))) greatest
     (frames_after (row_turned row (events ++ sends_if asks (number_of iss (length frames + 1)))) frames asks packet)

@@ -11,8 +11,8 @@ use Rattle.feature_machine.specs.declared.row.Row.{Row}
 use Rattle.feature_machine.specs.Rows as machine
 use Rattle.feature_machine.specs.Rows.{row_step, row_line, Preferred, Offered, Sending, Prefers, Offers, sent_anew}
 use Rattle.feature_machine.specs.Sound.{IsSoundRow}
-use Rattle.two_ends.specs.FeatureView.{Carried, with_frame}
-use Rattle.two_ends.specs.FeatureView.Carried.{Nothing, Change}
+use Rattle.two_ends.specs.FeatureView.{FeatureNews, with_frame}
+use Rattle.two_ends.specs.FeatureView.FeatureNews.{Nothing, Change}
 use Rattle.two_ends.specs.FeatureMoves.{waiting, opening, sending_side}
 use Rattle.two_ends.specs.FeatureMoves.Move.{Waits, Opens, Sends, Sends_again}
 use Rattle.two_ends.specs.FeatureMoves.Moves.{Done, Next}
@@ -33,7 +33,7 @@ offered_opens row sound offers = grind arith
 pending_opens : (row : Row) → IsSoundRow row → row.stand ≡ Unstable → opens_at row.role (row_pair row) (entries_of row.pending) ≡ true
 pending_opens row sound unstable = grind arith
 
-module _ (iss greatest : ℕ) (row : Row) (there frames : List Carried) where
+module _ (iss greatest : ℕ) (row : Row) (there frames : List FeatureNews) where
   -- the row after its first Change with a wish went out
   record IsOpened (after : Row) : Type 0 where
     stand : after.stand ≡ Changing

@@ -10,7 +10,7 @@ use Rattle.feature_lists.specs.declared.features.Place.TheVariants as place
 use Rattle.feature_machine.specs.declared.row.Row.{Row}
 use Rattle.feature_machine.specs.Rows.{is_server_priority, width, entries, reconciled_by, confirm_body, holding, tells_value, is_number}
 use Rattle.feature_machine.specs.Sound.{IsSoundRow}
-use Rattle.two_ends.specs.FeatureView.Carried.{Confirm}
+use Rattle.two_ends.specs.FeatureView.FeatureNews.{Confirm}
 use Rattle.two_ends.specs.FeatureMoves.{own_value}
 use Rattle.two_ends.specs.FeatureRows.{entries_of, row_pair, rule_at, confirm_in}
 

@@ -19,7 +19,7 @@ use Rattle.feature_machine.specs.declared.row.Row.{Row}
 use Rattle.feature_machine.specs.Rows as machine
 use Rattle.feature_machine.specs.Rows.{row_step, row_line, Proposed, is_server_priority, width, entries, reconciled_by, confirm_body, holding, proposal, shared_or_not, tells_value, is_there}
 use Rattle.feature_machine.specs.Sound.{IsSoundRow}
-use Rattle.two_ends.specs.FeatureView.Carried.{Change}
+use Rattle.two_ends.specs.FeatureView.FeatureNews.{Change}
 use Rattle.two_ends.specs.FeatureRows.{entries_of, change_in, is_whole_confirm, is_whole_by, is_valid_by, is_valid_change, change_data}
 use Rattle.feature_machine.specs.Negotiating.{opposite}
 use Rattle.two_ends.proofs.RowFacts.{permitted_fits, reads_back}

@@ -16,7 +16,7 @@ use Rattle.dccp_states.specs.declared.phase.Role.TheVariants as role
 use Rattle.two_ends.proofs.RowFacts.{entries-entries_of}
 use Rattle.two_ends.specs.FeaturePackets.{IsHeardOf}
 use Rattle.two_ends.specs.FeatureRows.{confirmed_by, entries_of, is_whole_by, proposed_by}
-use Rattle.two_ends.specs.FeatureView.{Carried, carried_at, wish_carried}
+use Rattle.two_ends.specs.FeatureView.{FeatureNews, carried_at, wish_carried}
 use Rattle.feature_lists.specs.Features.{described}
 use Rattle.feature_lists.specs.declared.features.Feature.{Feature}
 use Rattle.feature_lists.specs.declared.features.Place.{Place}
@@ -63,12 +63,12 @@ use Rattle.two_ends.proofs.Turning.{turned-size}
 use Rattle.two_ends.proofs.Viewing.{carried_of}
 
 -- The value is what the row's list shares first with the one that the frame with this count carries.
-record IsFirstShared (row : Row) (there : List Carried) (count value : ℕ) : Type 0 where
+record IsFirstShared (row : Row) (there : List FeatureNews) (count value : ℕ) : Type 0 where
   theirs : List ℕ
   carried : wish_carried (carried_at there count) ≡ Some theirs
   first : reconciled_by row.role (entries row.active) theirs ≡ Some value
 
-abbrev StaysOr : Row → List Carried → ℕ → ℕ → Type 0
+abbrev StaysOr : Row → List FeatureNews → ℕ → ℕ → Type 0
 StaysOr row there count value = (value ≡ row.value) ⊎ IsFirstShared row there count value
 
 -- A Change by the table.
@@ -136,7 +136,7 @@ list-confirmed row value rest priority =
     ap (λ (b : Bool). if b then list_confirmation row value rest else number_confirmation row (value ∷ rest)) priority
 
 -- What a row hears of a packet.
-heard-value : (iss : ℕ) (row : Row) (there : List Carried) (count : ℕ) (events : List RowEvent) → is_server_priority row ≡ true
+heard-value : (iss : ℕ) (row : Row) (there : List FeatureNews) (count : ℕ) (events : List RowEvent) → is_server_priority row ≡ true
     → IsHeardOf iss row there count events → StaysOr row there count (row_turned row events).value
 heard-value iss row there count [] priority heard = inl refl
 heard-value iss row there count (Change body mandatory ∷ []) priority heard =
@@ -251,7 +251,7 @@ module _ (s : KnownStep) (k : Key) (priority : (described k.0).is_server_priorit
   abbrev row : Row
   row = row_at e.rows k.0 k.1
 
-  abbrev there : List Carried
+  abbrev there : List FeatureNews
   there = map (carried_of (config_of act.side).iss (across k)) act.peer.log
 
   abbrev heard : List Turn
@@ -387,7 +387,7 @@ module _ (effects : EveryStepHasOneEffect) (w : WorldState) (h : IsHeld SideInva
           after = proper-after now.0.ordered.proper has.because;
         } in
         let k : Key = key_of pair side in
-        let there : List Carried = map (carried_of (config_of x).iss (across k)) y.log in
+        let there : List FeatureNews = map (carried_of (config_of x).iss (across k)) y.log in
         let value : StaysOr (row_for w pair side) there on.later (held_at new pair side).value =
         subst (StaysOr (row_for w pair side) there on.later)
         (sym (is ∙ ap (λ (e : EndState). (row_at e.rows k.0 k.1).value) has.after_is))

@@ -1,11 +1,11 @@
 -- Where nothing is shared, a move keeps the value.
 use Rattle.std.proofs.Common.{◌≡◌, refl, ap, ◌∙◌, ℕ, ◌<◌, Bool, List, Option, Some, None}
 use Rattle.std.specs.Prelude.{unwrap_or}
-use Rattle.two_ends.specs.FeatureView.{Carried, FeatureSide, carried_at, wish_carried}
+use Rattle.two_ends.specs.FeatureView.{FeatureNews, FeatureSide, carried_at, wish_carried}
 use Rattle.two_ends.specs.FeatureMoves.{Move, Rule}
 use Rattle.two_ends.specs.FeatureMoves.Move.{Passes, Settles, Answers, Waits, Opens, Sends, Sends_again}
 
-pub value_stays : (rule : Rule) (opens : List ℕ → Bool) (there : List Carried) (side after : FeatureSide) → Move rule opens there side after
+pub value_stays : (rule : Rule) (opens : List ℕ → Bool) (there : List FeatureNews) (side after : FeatureSide) → Move rule opens there side after
     → ((count : ℕ) (wish : List ℕ) → side.greatest < count → wish_carried (carried_at there count) ≡ Some wish → rule side.active wish ≡ None)
     → after.value ≡ side.value
 value_stays rule opens there side _ (Passes count newer sent_there) none = refl

@@ -12,8 +12,8 @@ use Rattle.feature_machine.specs.Sound.{IsSoundRow, IsSameRow}
 use Rattle.feature_machine.specs.Turns.{row_turned, confirm_of, reply_due}
 use Rattle.feature_machine.proofs.Soundness.{step_sound}
 use Rattle.feature_machine.proofs.Steps.{step_same}
-use Rattle.two_ends.specs.FeatureView.{Carried, FeatureSide, with_frame}
-use Rattle.two_ends.specs.FeatureView.Carried.{Nothing}
+use Rattle.two_ends.specs.FeatureView.{FeatureNews, FeatureSide, with_frame}
+use Rattle.two_ends.specs.FeatureView.FeatureNews.{Nothing}
 use Rattle.two_ends.specs.FeaturePackets.{IsHeardOf, carried_reply, with_reply}
 use Rattle.two_ends.specs.FeatureRows.{RowMoves, IsBegun, side_of, row_pair, rule_at, opens_at, with_answer, after_sending}
 use Rattle.two_ends.proofs.Beginning.{change_begun, confirm_begun}
@@ -25,13 +25,13 @@ use Rattle.two_ends.proofs.FeatureReaching.{joined}
 use Rattle.two_ends.proofs.Saying.{change_understood}
 
 -- what the row hears of a packet keeps it
-pub heard_same : (iss count : ℕ) (row : Row) (there : List Carried) (events : List RowEvent) → IsHeardOf iss row there count events
+pub heard_same : (iss count : ℕ) (row : Row) (there : List FeatureNews) (events : List RowEvent) → IsHeardOf iss row there count events
     → IsSameRow row (row_turned row events)
 heard_same iss count row there [] heard = record { role = refl; feature = refl; place = refl }
 heard_same iss count row there (event ∷ []) heard = step_same row event
 heard_same iss count row there (first ∷ (second ∷ rest)) heard = absurd heard
 
-pub heard_sound : (iss count : ℕ) (row : Row) (there : List Carried) (events : List RowEvent) → IsHeardOf iss row there count events
+pub heard_sound : (iss count : ℕ) (row : Row) (there : List FeatureNews) (events : List RowEvent) → IsHeardOf iss row there count events
     → IsSoundRow row → IsSoundRow (row_turned row events)
 heard_sound iss count row there [] heard sound = sound
 heard_sound iss count row there (machine.Change body mandatory ∷ []) heard sound = step_sound row (machine.Change body mandatory) sound tt
@@ -43,7 +43,7 @@ heard_sound iss count row there (machine.Offers confirmed ∷ []) heard sound = 
 heard_sound iss count row there (machine.Sends number ∷ []) heard sound = absurd heard
 heard_sound iss count row there (first ∷ (second ∷ rest)) heard sound = absurd heard
 
-pub heard_begun : (iss count : ℕ) (row : Row) (there : List Carried) (events : List RowEvent) → IsHeardOf iss row there count events
+pub heard_begun : (iss count : ℕ) (row : Row) (there : List FeatureNews) (events : List RowEvent) → IsHeardOf iss row there count events
     → IsBegun iss row → IsBegun iss (row_turned row events)
 heard_begun iss count row there [] heard begun = begun
 heard_begun iss count row there (machine.Change body mandatory ∷ []) heard begun = change_begun iss row body mandatory begun
@@ -55,7 +55,7 @@ heard_begun iss count row there (machine.Sends number ∷ []) heard begun = absu
 heard_begun iss count row there (first ∷ (second ∷ rest)) heard begun = absurd heard
 
 -- an answer's frames are those with the Confirm that it is
-answer_frames : (feature : Feature) (count : ℕ) (answer : RowAnswer) (frames : List Carried)
+answer_frames : (feature : Feature) (count : ℕ) (answer : RowAnswer) (frames : List FeatureNews)
     → with_answer feature count answer frames ≡ with_reply feature count (confirm_of answer) frames
 answer_frames feature count (Confirms body) frames = refl
 answer_frames feature count Ignored frames = refl
@@ -69,7 +69,7 @@ answer_frames feature count Quiet frames = refl
 confirm_quiet : (row : Row) (stand : Stand) (confirms : Confirmation) → confirm_of (row_line row stand (Confirmed confirms)).answer ≡ None
 confirm_quiet row stand confirms = grind arith
 
-module _ (iss greatest count : ℕ) (row : Row) (there frames : List Carried) (newer : greatest < count) (sound : IsSoundRow row)
+module _ (iss greatest count : ℕ) (row : Row) (there frames : List FeatureNews) (newer : greatest < count) (sound : IsSoundRow row)
     (begun : IsBegun iss row) where
   -- the packet, with the Confirm that is due
   heard_moves : (events : List RowEvent) → IsHeardOf iss row there count events

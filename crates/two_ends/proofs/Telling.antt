@@ -7,8 +7,8 @@ use Rattle.byteorder.specs.Endian.{big_number}
 use Rattle.dccp_endpoint.specs.Turns.{Key}
 use Rattle.two_ends.specs.FeatureRows.{confirmed_by, is_valid_by, is_whole_by, proposed_by}
 use Rattle.two_ends.specs.FeatureView as view
-use Rattle.two_ends.specs.FeatureView.{Carried, carried_at, change_of, has_change, last_change, last_wish, wish_carried}
-use Rattle.two_ends.specs.FeatureView.Carried.{Nothing, Change as Carries}
+use Rattle.two_ends.specs.FeatureView.{FeatureNews, carried_at, change_of, has_change, last_change, last_wish, wish_carried}
+use Rattle.two_ends.specs.FeatureView.FeatureNews.{Nothing, Change as Carries}
 use Rattle.feature_lists.specs.Features.{described, is_permitted}
 use Rattle.feature_lists.specs.declared.features.Feature.{Feature}
 use Rattle.feature_lists.specs.declared.features.Place.{Place}
@@ -124,18 +124,18 @@ module _ (iss : ℕ) (k : Key) where
       ∙ ap (λ own. own || has_change (map (carried_of iss k) log)) (sym (change-told iss k _ (well 0 l refl)))
 
 -- the logged packet that carries what a count shows
-pub record IsShown (carries : Logged → Carried) (shows : Carried → Option (List ℕ)) (log : List Logged) (wish : List ℕ) : Type 0 where
+pub record IsShown (carries : Logged → FeatureNews) (shows : FeatureNews → Option (List ℕ)) (log : List Logged) (wish : List ℕ) : Type 0 where
   pub place : ℕ
   pub logged : Logged
   pub is_there : slice_get log place ≡ Some logged
   pub is_shown : shows (carries logged) ≡ Some wish
 
-shown-later : (carries : Logged → Carried) (shows : Carried → Option (List ℕ)) (first : Logged) (log : List Logged) (wish : List ℕ)
+shown-later : (carries : Logged → FeatureNews) (shows : FeatureNews → Option (List ℕ)) (first : Logged) (log : List Logged) (wish : List ℕ)
     → IsShown carries shows log wish → IsShown carries shows (first ∷ log) wish
 shown-later carries shows first log wish s = record { place = suc s.place; logged = s.logged; is_there = s.is_there; is_shown = s.is_shown }
 
 -- what is carried at a count is shown
-pub shown-at : (carries : Logged → Carried) (shows : Carried → Option (List ℕ)) (log : List Logged) (count : ℕ) (wish : List ℕ) → shows Nothing ≡ None
+pub shown-at : (carries : Logged → FeatureNews) (shows : FeatureNews → Option (List ℕ)) (log : List Logged) (count : ℕ) (wish : List ℕ) → shows Nothing ≡ None
     → shows (carried_at (map carries log) count) ≡ Some wish → IsShown carries shows log wish
 shown-at carries shows log zero wish none shown = absurd (cc (sym none ∙ shown))
 shown-at carries shows [] (suc count) wish none shown = absurd (cc (sym none ∙ shown))

@@ -3,9 +3,9 @@ use Rattle.std.proofs.Common.{◌≡◌, ℕ, ◌<◌, ◌≤◌, Bool, true, Li
 use Rattle.std.specs.Prelude.{Some, unwrap_or, IsTrue}
 use Rattle.std.proofs.Math.Logic.{∥∥₁_elim}
 use Rattle.std.proofs.Props.{props}
-use Rattle.two_ends.specs.FeatureView.{Carried, FeatureSide, carried_at, with_frame, carries_change}
+use Rattle.two_ends.specs.FeatureView.{FeatureNews, FeatureSide, carried_at, with_frame, carries_change}
 use Rattle.feature_machine.specs.declared.stands.Stand.TheVariants.{Stable}
-use Rattle.two_ends.specs.FeatureView.Carried.{Nothing, Change, Confirm}
+use Rattle.two_ends.specs.FeatureView.FeatureNews.{Nothing, Change, Confirm}
 use Rattle.two_ends.specs.FeatureMoves.{Rule, swapped, Move, Pair, Reached, IsReachable}
 use Rattle.two_ends.specs.FeatureMoves.Move.{Passes, Settles, Answers, Waits, Opens, Sends, Sends_again}
 use Rattle.two_ends.specs.FeatureMoves.Reached.{Starts, Server_moves, Client_moves}
@@ -15,17 +15,17 @@ use Rattle.two_ends.proofs.FeatureFrames.{frame_in, frame_cases, change_seen}
 use Rattle.two_ends.proofs.FeatureSteps.{turned, reached_keeps}
 
 -- of two Confirms the later acknowledges the later frame
-record Rises (frames : List Carried) : Type 0 where
+record Rises (frames : List FeatureNews) : Type 0 where
   rises : (earlier later acknowledged other value held : ℕ) (wish list : List ℕ) → carried_at frames earlier ≡ Confirm acknowledged value wish
       → carried_at frames later ≡ Confirm other held list → earlier < later → acknowledged < other
 
 nothing_rises : Rises []
 nothing_rises = grind (arith, frame_in)
 
-plain_rises : (frames : List Carried) → Rises frames → Rises (with_frame frames Nothing)
+plain_rises : (frames : List FeatureNews) → Rises frames → Rises (with_frame frames Nothing)
 plain_rises frames facts = grind (arith, frame_in, frame_cases)
 
-change_rises : (frames : List Carried) (wish : List ℕ) → Rises frames → Rises (with_frame frames (Change wish))
+change_rises : (frames : List FeatureNews) (wish : List ℕ) → Rises frames → Rises (with_frame frames (Change wish))
 change_rises frames wish facts = grind (arith, frame_in, frame_cases)
 
 answer_rises : (rule : Rule) (side peer : FeatureSide) (count value : ℕ) → side.greatest < count → Kept rule side peer → Rises side.frames
@@ -65,7 +65,7 @@ module _ (rule : Rule) (side peer : FeatureSide) (kept : Kept rule side peer) wh
     is_one (carried_at peer.frames acknowledged) (kept.out.confirms_change count acknowledged value wish carried),
   )
     where
-      is_one : (frame : Carried) → frame ≡ Change (changed frame) → carries_change frame ≡ true
+      is_one : (frame : FeatureNews) → frame ≡ Change (changed frame) → carries_change frame ≡ true
       is_one Nothing is = absurd (cc is)
       is_one (Change other) is = refl
       is_one (Confirm other held list) is = absurd (cc is)

@@ -7,8 +7,8 @@ use Rattle.dccp_endpoint.specs.Saying.{said_to}
 use Rattle.dccp_endpoint.specs.Turns.{Key}
 use Rattle.seq_circle.specs.Counts.{IsNumber, count_of}
 use Rattle.two_ends.specs.FeatureRows.{change_in, confirm_in, is_valid_change, is_whole_confirm, side_of}
-use Rattle.two_ends.specs.FeatureView.{Carried, FeatureSide}
-use Rattle.two_ends.specs.FeatureView.Carried.{Nothing}
+use Rattle.two_ends.specs.FeatureView.{FeatureNews, FeatureSide}
+use Rattle.two_ends.specs.FeatureView.FeatureNews.{Nothing}
 use Rattle.feature_lists.specs.declared.features.Feature.{Feature}
 use Rattle.feature_machine.specs.Negotiating.{row_at, opposite}
 use Rattle.feature_machine.specs.Rows.{RowEvent, Change, Confirm, Prefers, Offers, Sends}
@@ -20,13 +20,13 @@ abbrev pub said_by : Key → Logged → List RowEvent
 said_by k l = said_to true (ack_of l.draft.kind) (k.0, opposite k.1) (map Ok (entries_at 0 l.draft.options))
 
 -- what a logged packet carries of a row of its sender
-abbrev pub carried_by : ℕ → Feature → List RowEvent → Carried
+abbrev pub carried_by : ℕ → Feature → List RowEvent → FeatureNews
 carried_by peer_iss feature [] = Nothing
 carried_by peer_iss feature (Change body mandatory ∷ rest) = change_in feature body
 carried_by peer_iss feature (Confirm body (Some ack) ∷ rest) = confirm_in feature (count_of peer_iss ack) body
 carried_by peer_iss feature (_ ∷ rest) = Nothing
 
-abbrev pub carried_of : ℕ → Key → Logged → Carried
+abbrev pub carried_of : ℕ → Key → Logged → FeatureNews
 carried_of peer_iss k l = carried_by peer_iss k.0 (said_by k l)
 
 -- the side of a row: k is the sender's own row

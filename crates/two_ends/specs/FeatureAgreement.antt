@@ -1,9 +1,9 @@
 -- What holds of two sides: they agree, and their values were given to them. Both are read from frames, stands and
 -- values alone (own).
 use Rattle.std.specs.Prelude.{◌≡◌, ℕ, Bool, Some, is_some, List, [], ◌∷◌, ◌||◌, IsTrue}
-use Rattle.two_ends.specs.FeatureView.{Carried, FeatureSide, carried_at, wish_carried, has_change, last_change, last_wish}
+use Rattle.two_ends.specs.FeatureView.{FeatureNews, FeatureSide, carried_at, wish_carried, has_change, last_change, last_wish}
 use Rattle.feature_machine.specs.declared.stands.Stand.TheVariants.{Stable}
-use Rattle.two_ends.specs.FeatureView.Carried.{Change}
+use Rattle.two_ends.specs.FeatureView.FeatureNews.{Change}
 use Rattle.two_ends.specs.FeatureMoves.{Rule}
 
 -- some frame of either side carries a Change
@@ -25,7 +25,7 @@ pub record SidesAgree (rule : Rule) (server client : FeatureSide) : Type 0 where
 
 -- A value is the initial one, or what the rule gives for a wish in some frame of the server and one in some frame of
 -- the client.
-pub data IsGiven (initial : ℕ) (rule : Rule) (servers clients : List Carried) (value : ℕ) : Type 0 where
+pub data IsGiven (initial : ℕ) (rule : Rule) (servers clients : List FeatureNews) (value : ℕ) : Type 0 where
   Initial : value ≡ initial → IsGiven initial rule servers clients value
   Ruled : (count counterpart : ℕ) (servers_wish clients_wish : List ℕ) → wish_carried (carried_at servers count) ≡ Some servers_wish
       → wish_carried (carried_at clients counterpart) ≡ Some clients_wish → rule servers_wish clients_wish ≡ Some value
@@ -44,7 +44,7 @@ pub record AgreeByLocation (location remote : FeatureSide) : Type 0 where
       → last_change location.frames ≡ Some (location.value ∷ [])
 
 -- A value is the initial one, or is in a Change of the location.
-pub data IsToldValue (initial : ℕ) (locations : List Carried) (value : ℕ) : Type 0 where
+pub data IsToldValue (initial : ℕ) (locations : List FeatureNews) (value : ℕ) : Type 0 where
   Untold : value ≡ initial → IsToldValue initial locations value
   Told : (count : ℕ) → carried_at locations count ≡ Change (value ∷ []) → IsToldValue initial locations value
 

@@ -3,7 +3,7 @@
 use Rattle.std.specs.Prelude.{ℕ, List, [], ◌∷◌, unwrap_or}
 use Rattle.two_ends.specs.FeatureView.{FeatureSide}
 use Rattle.feature_machine.specs.declared.stands.Stand.TheVariants.{Stable}
-use Rattle.two_ends.specs.FeatureView.Carried.{Change, Confirm}
+use Rattle.two_ends.specs.FeatureView.FeatureNews.{Change, Confirm}
 use Rattle.two_ends.specs.FeatureMoves.{Pair}
 
 -- the value that an exchange of the two wishes gives

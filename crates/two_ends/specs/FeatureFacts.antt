@@ -2,7 +2,7 @@
 use Rattle.std.specs.Prelude.{◌≡◌, ℕ, ◌<◌, ◌≤◌, List, [], ◌∷◌, Some, IsTrue}
 use Rattle.feature_machine.specs.declared.stands.Stand.TheVariants.{Stable}
 use Rattle.two_ends.specs.FeatureView.{FeatureSide, carried_at, carries_change}
-use Rattle.two_ends.specs.FeatureView.Carried.{Change, Confirm}
+use Rattle.two_ends.specs.FeatureView.FeatureNews.{Change, Confirm}
 use Rattle.two_ends.specs.FeatureMoves.{Rule}
 
 -- what the frames of a side say of its row, towards its peer

@@ -4,9 +4,9 @@
 -- An empty Confirm is no move: it could settle a row that nobody answered. Nor is a Confirm without a list where a
 -- feature is negotiated by lists. Between our ends they do not occur (`what_rows_say_is_whole`).
 use Rattle.std.specs.Prelude.{◌≡◌, ℕ, ◌+◌, ◌<◌, ◌≤◌, Bool, true, false, Option, None, Some, List, [], ◌∷◌, length, unwrap_or}
-use Rattle.two_ends.specs.FeatureView.{Carried, FeatureSide, carried_at, with_frame}
+use Rattle.two_ends.specs.FeatureView.{FeatureNews, FeatureSide, carried_at, with_frame}
 use Rattle.feature_machine.specs.declared.stands.Stand.TheVariants.{Stable, Changing, Unstable}
-use Rattle.two_ends.specs.FeatureView.Carried.{Nothing, Change, Confirm}
+use Rattle.two_ends.specs.FeatureView.FeatureNews.{Nothing, Change, Confirm}
 
 -- the value that two wishes lead to, if they lead to one; the acting side's wish comes first
 abbrev pub Rule : Type 0
@@ -44,12 +44,12 @@ opening side wish =
     }
 
 -- a frame is sent
-abbrev pub sending_side : FeatureSide → Carried → FeatureSide
+abbrev pub sending_side : FeatureSide → FeatureNews → FeatureSide
 sending_side side frame = record side { frames = with_frame side.frames frame }
 
 -- What a step of a side makes of it. Of its peer it sees the frames alone. `opens` tells the wishes that its row may
 -- open with.
-pub data Move (rule : Rule) (opens : List ℕ → Bool) (there : List Carried) (side : FeatureSide) : FeatureSide → Type 0 where
+pub data Move (rule : Rule) (opens : List ℕ → Bool) (there : List FeatureNews) (side : FeatureSide) : FeatureSide → Type 0 where
   Passes : (count : ℕ) → side.greatest < count → count ≤ length there → Move rule opens there side (passing_side side count)
   Settles : (count acknowledged value : ℕ) (wish : List ℕ) → side.greatest < count
       → carried_at there count ≡ Confirm acknowledged value wish → side.stand ≡ Changing → side.opened ≤ acknowledged
@@ -63,7 +63,7 @@ pub data Move (rule : Rule) (opens : List ℕ → Bool) (there : List Carried) (
 
 -- what one step of a side does to one feature: some moves after each other, since one step of an end may take a packet
 -- and open an offer
-pub data Moves (rule : Rule) (opens : List ℕ → Bool) (there : List Carried) : FeatureSide → FeatureSide → Type 0 where
+pub data Moves (rule : Rule) (opens : List ℕ → Bool) (there : List FeatureNews) : FeatureSide → FeatureSide → Type 0 where
   Done : (side : FeatureSide) → Moves rule opens there side side
   Next : (before middle after : FeatureSide) → Move rule opens there before middle → Moves rule opens there middle after
       → Moves rule opens there before after

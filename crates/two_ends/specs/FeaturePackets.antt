@@ -6,15 +6,15 @@ use Rattle.feature_machine.specs.Rows as machine
 use Rattle.feature_machine.specs.Sound.{IsSoundRow}
 use Rattle.feature_machine.specs.Turns.{row_turned}
 use Rattle.feature_machine.specs.Rows.{RowEvent}
-use Rattle.two_ends.specs.FeatureView.{Carried, FeatureSide, carried_at, with_frame}
-use Rattle.two_ends.specs.FeatureView.Carried.{Nothing}
+use Rattle.two_ends.specs.FeatureView.{FeatureNews, FeatureSide, carried_at, with_frame}
+use Rattle.two_ends.specs.FeatureView.FeatureNews.{Nothing}
 use Rattle.seq_circle.specs.Counts.{count_of, IsNumber}
 use Rattle.two_ends.specs.FeatureRows.{IsBegun, RowMoves, change_in, confirm_in, is_valid_change, is_whole_confirm, side_of}
 use Rattle.feature_machine.specs.Negotiating.{opposite}
 
 -- What the row hears of the peer's frame with this count: nothing, whatever the frame carries; or the frame's Change,
 -- which is valid; or its Confirm, which is whole and acknowledges a frame of this end.
-abbrev pub IsHeardOf : ℕ → Row → List Carried → ℕ → List RowEvent → Type 0
+abbrev pub IsHeardOf : ℕ → Row → List FeatureNews → ℕ → List RowEvent → Type 0
 IsHeardOf iss row there count [] = count ≤ length there
 IsHeardOf iss row there count (machine.Change body mandatory ∷ []) =
     (carried_at there count ≡ change_in row.feature body) × IsTrue (is_valid_change row.feature (opposite row.place) body)
@@ -27,12 +27,12 @@ IsHeardOf iss row there count (machine.Sends number ∷ []) = ⊥
 IsHeardOf iss row there count (first ∷ (second ∷ rest)) = ⊥
 
 -- what a frame carries for the feature that has the Confirm that is due, or else nothing of it
-abbrev pub carried_reply : Feature → ℕ → Option (List ℕ) → Carried
+abbrev pub carried_reply : Feature → ℕ → Option (List ℕ) → FeatureNews
 carried_reply feature count None = Nothing
 carried_reply feature count (Some body) = confirm_in feature count body
 
 -- the frames with one that has the Confirm that is due, or else no further one
-abbrev pub with_reply : Feature → ℕ → Option (List ℕ) → List Carried → List Carried
+abbrev pub with_reply : Feature → ℕ → Option (List ℕ) → List FeatureNews → List FeatureNews
 with_reply feature count None frames = frames
 with_reply feature count (Some body) frames = with_frame frames (confirm_in feature count body)
 
@@ -43,8 +43,8 @@ pub record RowPacket : Type 0 where
   pub greatest : ℕ
   pub count : ℕ
   pub row : Row
-  pub frames : List Carried
-  pub there : List Carried
+  pub frames : List FeatureNews
+  pub there : List FeatureNews
   pub events : List RowEvent
 
 -- the packet is newer than all before it, the row is sound and has begun, and hears of the packet

@@ -14,8 +14,8 @@ use Rattle.feature_machine.specs.declared.stands.Stand.TheVariants.{Changing}
 use Rattle.feature_machine.specs.declared.row.Row.{Row}
 use Rattle.feature_machine.specs.Rows as machine
 use Rattle.feature_machine.specs.Rows.{RowAnswer, Confirms, Ignored, Settled, Fatal, Opens, Waits, Quiet, row_step}
-use Rattle.two_ends.specs.FeatureView.{Carried, FeatureSide, with_frame}
-use Rattle.two_ends.specs.FeatureView.Carried.{Change, Confirm}
+use Rattle.two_ends.specs.FeatureView.{FeatureNews, FeatureSide, with_frame}
+use Rattle.two_ends.specs.FeatureView.FeatureNews.{Change, Confirm}
 use Rattle.two_ends.specs.FeatureMoves.{Rule, swapped, Pair, Moves, negotiable, at_server, at_client}
 use Rattle.seq_circle.specs.Counts.{number_of, count_of, IsNumber}
 
@@ -50,7 +50,7 @@ abbrev pub row_pair : Row → Pair
 row_pair row = pair_of row.feature (location_of row.role row.place)
 
 -- what a step may do to the side of a row
-abbrev pub RowMoves : Row → List Carried → FeatureSide → FeatureSide → Type 0
+abbrev pub RowMoves : Row → List FeatureNews → FeatureSide → FeatureSide → Type 0
 RowMoves row there before after = Moves (rule_at row.role (row_pair row)) (opens_at row.role (row_pair row)) there before after
 
 -- a wish as a list: a number is a list of one
@@ -65,7 +65,7 @@ opened_count iss None = 0
 opened_count iss (Some number) = count_of iss number
 
 -- the row as a side, with what else the side has: the first number of its end, the greatest count taken, and its frames
-abbrev pub side_of : ℕ → Row → ℕ → List Carried → FeatureSide
+abbrev pub side_of : ℕ → Row → ℕ → List FeatureNews → FeatureSide
 side_of iss row greatest frames =
     record {
       frames = frames;
@@ -82,17 +82,17 @@ proposed_by true width body = body
 proposed_by false width body = big_number width body ∷ []
 
 -- what a Change with these data after the feature number carries
-abbrev pub change_in : Feature → List ℕ → Carried
+abbrev pub change_in : Feature → List ℕ → FeatureNews
 change_in feature body = Change (proposed_by (described feature).is_server_priority (described feature).width body)
 
 -- the same of a Confirm: a value and a list, or a number alone
-abbrev pub confirmed_by : Bool → ℕ → ℕ → List ℕ → Carried
+abbrev pub confirmed_by : Bool → ℕ → ℕ → List ℕ → FeatureNews
 confirmed_by true width acknowledged [] = Confirm acknowledged 0 []
 confirmed_by true width acknowledged (value ∷ list) = Confirm acknowledged value list
 confirmed_by false width acknowledged body = Confirm acknowledged (big_number width body) []
 
 -- what a Confirm with these data carries, on a frame that acknowledges the one with this count
-abbrev pub confirm_in : Feature → ℕ → List ℕ → Carried
+abbrev pub confirm_in : Feature → ℕ → List ℕ → FeatureNews
 confirm_in feature acknowledged body =
     confirmed_by (described feature).is_server_priority (described feature).width acknowledged body
 
@@ -127,7 +127,7 @@ abbrev pub is_whole_confirm : Feature → List ℕ → Bool
 is_whole_confirm feature body = is_whole_by (described feature).is_server_priority body
 
 -- the frames of a side once a Change was answered: a Confirm is on a frame of the same step
-abbrev pub with_answer : Feature → ℕ → RowAnswer → List Carried → List Carried
+abbrev pub with_answer : Feature → ℕ → RowAnswer → List FeatureNews → List FeatureNews
 with_answer feature acknowledged (Confirms body) frames = with_frame frames (confirm_in feature acknowledged body)
 with_answer feature acknowledged Ignored frames = frames
 with_answer feature acknowledged Settled frames = frames
@@ -138,21 +138,21 @@ with_answer feature acknowledged Quiet frames = frames
 
 -- The side once a Change with these data was taken, from the peer's frame with this count: where a Confirm is due, it
 -- is on a frame of the same step.
-abbrev pub after_change : ℕ → Row → ℕ → List Carried → List ℕ → Bool → FeatureSide
+abbrev pub after_change : ℕ → Row → ℕ → List FeatureNews → List ℕ → Bool → FeatureSide
 after_change iss row count frames body mandatory =
     let step = row_step row (machine.Change body mandatory) in
     side_of iss step.row count (with_answer row.feature count step.answer frames)
 
 -- the side once a Confirm with these data was taken, from the frame with this count, that acknowledges this number
-abbrev pub after_confirm : ℕ → Row → ℕ → List Carried → List ℕ → ℕ → FeatureSide
+abbrev pub after_confirm : ℕ → Row → ℕ → List FeatureNews → List ℕ → ℕ → FeatureSide
 after_confirm iss row count frames body ack = side_of iss (row_step row (machine.Confirm body (Some ack))).row count frames
 
 -- the row once its next frame, with its Change, was sent
-abbrev pub sending_row : ℕ → Row → List Carried → Row
+abbrev pub sending_row : ℕ → Row → List FeatureNews → Row
 sending_row iss row frames = (row_step row (machine.Sends (number_of iss (length frames + 1)))).row
 
 -- and its side
-abbrev pub after_sending : ℕ → Row → ℕ → List Carried → FeatureSide
+abbrev pub after_sending : ℕ → Row → ℕ → List FeatureNews → FeatureSide
 after_sending iss row greatest frames =
     let after = sending_row iss row frames in
     side_of iss after greatest (with_frame frames (Change (entries_of after.active)))

@@ -7,7 +7,7 @@ ghost use Rattle.feature_machine.specs.declared.row.Row.{Row};
 ghost use Rattle.feature_machine.specs.declared.stands.Role2.{Role2};
 ghost use Rattle.feature_machine.specs.declared.stands.Role2.TheVariants.{Server, Client};
 ghost use Rattle.feature_machine.specs.Sound.{IsSameRow};
-ghost use Rattle.two_ends.specs.FeatureView.{Carried, FeatureSide};
+ghost use Rattle.two_ends.specs.FeatureView.{FeatureNews, FeatureSide};
 ghost use Rattle.two_ends.specs.FeatureMoves.{new_side, Reached, IsReachable};
 ghost use Rattle.two_ends.specs.FeatureRows.{RowMoves, pair_of, row_pair, location_of};
 ghost use Rattle.feature_machine.specs.Negotiating.{opposite};
@@ -33,7 +33,7 @@ pub fn row_steps_stay_reachable()
         → RowMoves row server.frames client after
         → IsReachable (row_pair row) server client → IsReachable (row_pair row) server after }
     ensures same_pair { (old new : Row) → IsSameRow old new → row_pair new ≡ row_pair old }
-    ensures same_moves { (old new : Row) (there : List Carried) (before after : FeatureSide) → IsSameRow old new
+    ensures same_moves { (old new : Row) (there : List FeatureNews) (before after : FeatureSide) → IsSameRow old new
         → RowMoves new there before after → RowMoves old there before after }
     ensures one_pair { (feature : Feature) (place : Place)
         → pair_of feature (location_of Server place) ≡ pair_of feature (location_of Client (opposite place)) }

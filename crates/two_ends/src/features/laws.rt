@@ -4,7 +4,7 @@
 //! comes out whole, and the origins of values truncated. With the moves themselves (`Reached`), the origins come out
 //! with their frames.
 ghost use Rattle.std.specs.Prelude.{◌≡◌, ℕ, ◌<◌, Bool, List, Some, None, IsTrue};
-ghost use Rattle.two_ends.specs.FeatureView.{Carried, FeatureSide, carried_at, wish_carried};
+ghost use Rattle.two_ends.specs.FeatureView.{FeatureNews, FeatureSide, carried_at, wish_carried};
 ghost use Rattle.two_ends.specs.FeatureMoves.{Rule, Pair, Move, Moves, swapped, new_side, IsReachable, at_server, at_client};
 ghost use Rattle.two_ends.specs.FeatureExchanges.{server_asked, client_asking, server_crossing, client_crossing};
 ghost use Rattle.two_ends.specs.FeatureFacts.{SpeaksForItsRow, IsConfirmed};
@@ -13,7 +13,7 @@ ghost use Rattle.two_ends.specs.FeatureAgreement.{SidesAgree, SidesAreGiven, Agr
 /// Two sides are reachable at the start, whatever was configured, and after each step of either that is a list of
 /// moves.
 pub fn negotiating_stays_reachable()
-    ensures joined { (rule : Rule) (opens : List ℕ → Bool) (there : List Carried) (before middle after : FeatureSide)
+    ensures joined { (rule : Rule) (opens : List ℕ → Bool) (there : List FeatureNews) (before middle after : FeatureSide)
         → Moves rule opens there before middle → Moves rule opens there middle after → Moves rule opens there before after }
     ensures start { (pair : Pair) (servers clients : List ℕ)
         → IsReachable pair (new_side pair.initial servers) (new_side pair.initial clients) }
@@ -37,7 +37,7 @@ pub fn reachable_sides_agree()
 /// Where nothing is shared the value is the one held before (own): if the rule gives no value for a side's active wish
 /// and any wish of the peer's that it has not yet taken, no move changes the side's value.
 pub fn where_nothing_is_shared_the_value_stays()
-    ensures { (rule : Rule) (opens : List ℕ → Bool) (there : List Carried) (side after : FeatureSide)
+    ensures { (rule : Rule) (opens : List ℕ → Bool) (there : List FeatureNews) (side after : FeatureSide)
         → Move rule opens there side after
         → ((count : ℕ) (wish : List ℕ) → side.greatest < count → wish_carried (carried_at there count) ≡ Some wish → rule side.active wish ≡ None)
         → after.value ≡ side.value }

@@ -11,8 +11,8 @@ ghost use Rattle.feature_machine.specs.declared.stands.Stand.TheVariants.{Stable
 ghost use Rattle.feature_machine.specs.Rows as machine;
 ghost use Rattle.feature_machine.specs.Rows.{row_step, proposal, Prefers, Offers, Opens, Confirms};
 ghost use Rattle.feature_machine.specs.Sound.{IsSoundRow};
-ghost use Rattle.two_ends.specs.FeatureView.{Carried, carried_at, with_frame, last_wish, is_listed, are_listed, last_list};
-ghost use Rattle.two_ends.specs.FeatureView.Carried.{Nothing, Change};
+ghost use Rattle.two_ends.specs.FeatureView.{FeatureNews, carried_at, with_frame, last_wish, is_listed, are_listed, last_list};
+ghost use Rattle.two_ends.specs.FeatureView.FeatureNews.{Nothing, Change};
 ghost use Rattle.two_ends.specs.FeatureMoves.{new_side};
 ghost use Rattle.seq_circle.specs.Counts.{count_of, IsNumber};
 ghost use Rattle.two_ends.specs.FeatureRows.{RowMoves, IsBegun, row_pair, entries_of, side_of, change_in, confirm_in, is_whole_confirm, is_valid_change, after_change, after_confirm, after_sending, sending_row, change_data};
@@ -21,10 +21,10 @@ ghost use Rattle.feature_machine.specs.Negotiating.{opposite};
 /// A Change of the feature is taken from a newest packet: a valid one is one move, whatever the row answers, and so is
 /// a frame of which nothing of the feature is taken.
 pub fn taking_a_change_is_a_move()
-    ensures change { (iss greatest count : ℕ) (row : Row) (there frames : List Carried) (body : List ℕ) (mandatory : Bool)
+    ensures change { (iss greatest count : ℕ) (row : Row) (there frames : List FeatureNews) (body : List ℕ) (mandatory : Bool)
         → greatest < count → IsSoundRow row → carried_at there count ≡ change_in row.feature body → proposal row body ≢ Invalid
         → RowMoves row there (side_of iss row greatest frames) (after_change iss row count frames body mandatory) }
-    ensures nothing { (iss greatest count : ℕ) (row : Row) (there frames : List Carried)
+    ensures nothing { (iss greatest count : ℕ) (row : Row) (there frames : List FeatureNews)
         → greatest < count → count ≤ length there
         → RowMoves row there (side_of iss row greatest frames) (side_of iss row count frames) }
 {}
@@ -32,7 +32,7 @@ pub fn taking_a_change_is_a_move()
 /// A whole Confirm of the feature is taken from a newest packet, which acknowledges one of this end's frames: one move,
 /// whatever the row makes of it.
 pub fn taking_a_confirm_is_a_move()
-    ensures { (iss last count : ℕ) (row : Row) (there frames : List Carried) (body : List ℕ) (ack : ℕ)
+    ensures { (iss last count : ℕ) (row : Row) (there frames : List FeatureNews) (body : List ℕ) (ack : ℕ)
         → last < count → IsSoundRow row → IsBegun iss row → IsNumber iss ack
         → carried_at there count ≡ confirm_in row.feature (count_of iss ack) body → IsTrue (is_whole_confirm row.feature body)
         → RowMoves row there (side_of iss row last frames) (after_confirm iss row count frames body ack) }
@@ -40,31 +40,31 @@ pub fn taking_a_confirm_is_a_move()
 
 /// What the end prefers is one move: in STABLE together with the frame that opens the row, else alone.
 pub fn preferring_is_a_move()
-    ensures opens { (iss greatest : ℕ) (row : Row) (there frames : List Carried) (wish : Wanted)
+    ensures opens { (iss greatest : ℕ) (row : Row) (there frames : List FeatureNews) (wish : Wanted)
         → iss < 2 ^ 48 → length frames < 2 ^ 47 → IsTrue (is_wish row.feature row.place wish) → row.stand ≡ Stable
         → RowMoves row there (side_of iss row greatest frames)
         (after_sending iss (row_step row (Prefers wish)).row greatest frames) }
-    ensures waits { (iss greatest : ℕ) (row : Row) (there frames : List Carried) (wish : Wanted) → row.stand ≢ Stable
+    ensures waits { (iss greatest : ℕ) (row : Row) (there frames : List FeatureNews) (wish : Wanted) → row.stand ≢ Stable
         → RowMoves row there (side_of iss row greatest frames) (side_of iss (row_step row (Prefers wish)).row greatest frames) }
 {}
 
 /// An offer that opens the row is one move together with its frame; one that does not changes nothing that is seen.
 pub fn offering_is_a_move()
-    ensures opens { (iss greatest : ℕ) (row : Row) (there frames : List Carried) (confirmed : Bool)
+    ensures opens { (iss greatest : ℕ) (row : Row) (there frames : List FeatureNews) (confirmed : Bool)
         → iss < 2 ^ 48 → length frames < 2 ^ 47 → IsSoundRow row → (row_step row (Offers confirmed)).answer ≡ Opens
         → RowMoves row there (side_of iss row greatest frames)
         (after_sending iss (row_step row (Offers confirmed)).row greatest frames) }
-    ensures drops { (iss greatest : ℕ) (row : Row) (frames : List Carried) (confirmed : Bool)
+    ensures drops { (iss greatest : ℕ) (row : Row) (frames : List FeatureNews) (confirmed : Bool)
         → (row_step row (Offers confirmed)).answer ≢ Opens
         → side_of iss (row_step row (Offers confirmed)).row greatest frames ≡ side_of iss row greatest frames }
 {}
 
 /// A frame with the row's Change, while the row is due, is one move; so is a frame that carries nothing of the feature.
 pub fn sending_is_a_move()
-    ensures due { (iss greatest : ℕ) (row : Row) (there frames : List Carried)
+    ensures due { (iss greatest : ℕ) (row : Row) (there frames : List FeatureNews)
         → iss < 2 ^ 48 → length frames < 2 ^ 47 → IsSoundRow row → IsBegun iss row → row.stand ≢ Stable
         → RowMoves row there (side_of iss row greatest frames) (after_sending iss row greatest frames) }
-    ensures nothing { (iss greatest : ℕ) (row : Row) (there frames : List Carried)
+    ensures nothing { (iss greatest : ℕ) (row : Row) (there frames : List FeatureNews)
         → RowMoves row there (side_of iss row greatest frames) (side_of iss row greatest (with_frame frames Nothing)) }
 {}
 
@@ -78,16 +78,16 @@ pub fn rows_stay_begun()
         → IsBegun iss row → IsBegun iss (row_step row (machine.Change body mandatory)).row }
     ensures confirm { (iss : ℕ) (row : Row) (body : List ℕ) (ack : Option ℕ)
         → IsBegun iss row → IsBegun iss (row_step row (machine.Confirm body ack)).row }
-    ensures preference { (iss : ℕ) (frames : List Carried) → iss < 2 ^ 48 → length frames < 2 ^ 47
+    ensures preference { (iss : ℕ) (frames : List FeatureNews) → iss < 2 ^ 48 → length frames < 2 ^ 47
         → (row : Row) (wish : Wanted) → IsBegun iss row → IsBegun iss (sending_row iss (row_step row (Prefers wish)).row frames) }
     ensures waiting { (iss : ℕ) (row : Row) (wish : Wanted) → row.stand ≢ Stable
         → IsBegun iss row → IsBegun iss (row_step row (Prefers wish)).row }
-    ensures offer { (iss : ℕ) (frames : List Carried) → iss < 2 ^ 48 → length frames < 2 ^ 47
+    ensures offer { (iss : ℕ) (frames : List FeatureNews) → iss < 2 ^ 48 → length frames < 2 ^ 47
         → (row : Row) (confirmed : Bool) → IsBegun iss row
         → IsBegun iss (sending_row iss (row_step row (Offers confirmed)).row frames) }
     ensures dropped { (iss : ℕ) (row : Row) (confirmed : Bool) → (row_step row (Offers confirmed)).answer ≢ Opens
         → IsBegun iss row → IsBegun iss (row_step row (Offers confirmed)).row }
-    ensures sending { (iss : ℕ) (frames : List Carried) → iss < 2 ^ 48 → length frames < 2 ^ 47
+    ensures sending { (iss : ℕ) (frames : List FeatureNews) → iss < 2 ^ 48 → length frames < 2 ^ 47
         → (row : Row) → IsBegun iss row → IsBegun iss (sending_row iss row frames) }
 {}
 
@@ -114,8 +114,8 @@ pub fn valid_changes_are_understood()
 /// Where every Confirm among frames has a list, the last wish sent is the list in the last frame with a Change, or with
 /// a Confirm that has a list. A whole Confirm of a server-priority feature has one.
 pub fn whole_confirms_have_lists()
-    ensures last { (frames : List Carried) → IsTrue (are_listed frames) → last_list frames ≡ last_wish frames }
-    ensures more { (frames : List Carried) (frame : Carried)
+    ensures last { (frames : List FeatureNews) → IsTrue (are_listed frames) → last_list frames ≡ last_wish frames }
+    ensures more { (frames : List FeatureNews) (frame : FeatureNews)
         → IsTrue (are_listed (with_frame frames frame)) ↔ (IsTrue (are_listed frames) × IsTrue (is_listed frame)) }
     ensures confirm { (feature : Feature) (count : ℕ) (body : List ℕ) → IsTrue (described feature).is_server_priority
         → IsTrue (is_whole_confirm feature body) → IsTrue (is_listed (confirm_in feature count body)) }

@@ -5,7 +5,7 @@ ghost use Rattle.feature_machine.specs.Sound.{IsSoundRow, IsSameRow};
 ghost use Rattle.feature_machine.specs.Turns.{row_turned, reply_due};
 ghost use Rattle.feature_machine.specs.declared.row.Row.{Row};
 ghost use Rattle.feature_machine.specs.declared.stands.Stand.TheVariants.{Stable};
-ghost use Rattle.two_ends.specs.FeatureView.{Carried, with_frame};
+ghost use Rattle.two_ends.specs.FeatureView.{FeatureNews, with_frame};
 ghost use Rattle.two_ends.specs.FeaturePackets.{IsHeardOf, IsRowPacket, LeadsTo, RowPacket, carried_reply, row_after};
 ghost use Rattle.two_ends.specs.FeatureRows.{IsBegun, side_of, after_sending};
 
@@ -32,10 +32,10 @@ pub fn taking_a_packet_is_moves()
 
 /// What the row hears of a packet leaves it the same row, sound, and its last opening one of its end's frames.
 pub fn hearing_keeps_a_row()
-    ensures same { (iss count : ℕ) (row : Row) (there : List Carried) (events : List RowEvent)
+    ensures same { (iss count : ℕ) (row : Row) (there : List FeatureNews) (events : List RowEvent)
         → IsHeardOf iss row there count events → IsSameRow row (row_turned row events) }
-    ensures sound { (iss count : ℕ) (row : Row) (there : List Carried) (events : List RowEvent)
+    ensures sound { (iss count : ℕ) (row : Row) (there : List FeatureNews) (events : List RowEvent)
         → IsHeardOf iss row there count events → IsSoundRow row → IsSoundRow (row_turned row events) }
-    ensures begun { (iss count : ℕ) (row : Row) (there : List Carried) (events : List RowEvent)
+    ensures begun { (iss count : ℕ) (row : Row) (there : List FeatureNews) (events : List RowEvent)
         → IsHeardOf iss row there count events → IsBegun iss row → IsBegun iss (row_turned row events) }
 {}
