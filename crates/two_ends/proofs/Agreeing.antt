@@ -10,7 +10,7 @@ use Rattle.two_ends.specs.FeatureAgreement.{IsGiven, IsToldValue}
 use Rattle.two_ends.specs.FeatureAgreement.IsGiven.{Initial as AsBefore, Ruled}
 use Rattle.two_ends.specs.FeatureAgreement.IsToldValue.{Untold, Told as ToldIn}
 use Rattle.two_ends.specs.EachFeature.{agree_by, given_by}
-use Rattle.two_ends.specs.FeatureMoves.{Reached}
+use Rattle.two_ends.specs.FeatureMoves.{HaveReached}
 use Rattle.two_ends.specs.FeatureRows.{pair_of}
 use Rattle.two_ends.specs.FeatureView as view
 use Rattle.two_ends.specs.FeatureView.{carried_at, change_of, has_change, last_change, last_wish, wish_carried}
@@ -54,7 +54,7 @@ view_at w logs greatest pair side = view_of (party_of w logs side) (config_of (p
 pub record AreReached (w : WorldState) (logs : Side → List Logged) (pair : FeatureAt) : Type 0 where
   pub servers : ℕ
   pub clients : ℕ
-  pub reached : Reached (pair_of pair.feature (end_at pair.location)) (view_at w logs servers pair Server) (view_at w logs clients pair Client)
+  pub reached : HaveReached (pair_of pair.feature (end_at pair.location)) (view_at w logs servers pair Server) (view_at w logs clients pair Client)
 
 only-is : (o : Option ℕ) (value : ℕ) → Some (only value) ≡ option_map only o → o ≡ Some value
 only-is None value is = cc is

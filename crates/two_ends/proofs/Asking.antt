@@ -6,7 +6,7 @@ use Rattle.two_ends.proofs.FeatureSteps.{reached_keeps}
 use Rattle.two_ends.proofs.FeatureValues.{reached_given}
 use Rattle.two_ends.specs.FeatureAgreement.{IsGiven}
 use Rattle.two_ends.specs.FeatureAgreement.IsGiven.{Initial, Ruled}
-use Rattle.two_ends.specs.FeatureMoves.{Pair, Reached, Rule}
+use Rattle.two_ends.specs.FeatureMoves.{Pair, HaveReached, Rule}
 use Rattle.two_ends.specs.FeatureRows.{entries_of, pair_by, pair_of}
 use Rattle.two_ends.specs.FeatureView.{FeatureNews, FeatureSide, carried_at, carries_change, has_change, wish_carried}
 use Rattle.two_ends.specs.FeatureView.FeatureNews.{Nothing, Change, Confirm}
@@ -47,7 +47,7 @@ no-wish rule side peer kept none others count wish is = by (carried_at side.fram
   by (Confirm acknowledged value list) at told =
       seen peer.frames acknowledged others (ap carries_change (kept.out.confirms_change count acknowledged value list at))
 
-untouched : (pair : Pair) (server client : FeatureSide) → Reached pair server client → has_change server.frames ≡ false → has_change client.frames ≡ false
+untouched : (pair : Pair) (server client : FeatureSide) → HaveReached pair server client → has_change server.frames ≡ false → has_change client.frames ≡ false
     → (server.value ≡ pair.initial) × (client.value ≡ pair.initial)
 untouched pair server client reached none others =
     let given = reached_given pair server client reached in

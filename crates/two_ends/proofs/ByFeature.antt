@@ -10,11 +10,11 @@ use Rattle.feature_machine.specs.declared.stands.Role2.{Role2}
 use Rattle.feature_machine.specs.declared.stands.Role2.TheVariants as end
 use Rattle.feature_machine.specs.Sound.{IsSameRow}
 use Rattle.two_ends.specs.FeatureView.{FeatureNews, FeatureSide}
-use Rattle.two_ends.specs.FeatureMoves.{Moves, Pair, Reached, IsReachable, new_side, swapped, negotiable}
+use Rattle.two_ends.specs.FeatureMoves.{Moves, Pair, HaveReached, IsReachable, new_side, swapped, negotiable}
 use Rattle.two_ends.specs.FeatureRows.{RowMoves, pair_by, pair_of, row_pair, rule_at, opens_at, location_of}
 use Rattle.feature_machine.specs.Negotiating.{opposite}
 use Rattle.two_ends.specs.EachFeature.{agree_by, given_by, AgreesOn, IsGivenFor}
-use Rattle.two_ends.specs.FeatureMoves.Reached.{Starts}
+use Rattle.two_ends.specs.FeatureMoves.HaveReached.{Starts}
 use Rattle.two_ends.proofs.FeatureValues.{reached_given}
 use Rattle.two_ends.proofs.FeatureReaching.{reached_agree, server_reaches, client_reaches}
 use Rattle.two_ends.proofs.Located.{server_agree, server_given, client_agree, client_given}
@@ -56,33 +56,33 @@ same_moves old new there before after same moves = rw (same.role, same.feature, 
 
 -- the same of what was reached by moves that are at hand
 agree_of_kind : (priority : Bool) (initial : ℕ) (location : Role2) (server client : FeatureSide)
-    → Reached (pair_by priority initial location) server client → agree_by priority location server client
+    → HaveReached (pair_by priority initial location) server client → agree_by priority location server client
 agree_of_kind true initial location server client = reached_agree (negotiable initial reconciled) server client
 agree_of_kind false initial end.Server server client = server_agree initial server client
 agree_of_kind false initial end.Client server client = client_agree initial server client
 
 given_of_kind : (priority : Bool) (initial : ℕ) (location : Role2) (server client : FeatureSide)
-    → Reached (pair_by priority initial location) server client → given_by priority initial location server client
+    → HaveReached (pair_by priority initial location) server client → given_by priority initial location server client
 given_of_kind true initial location server client = reached_given (negotiable initial reconciled) server client
 given_of_kind false initial end.Server server client = server_given initial server client
 given_of_kind false initial end.Client server client = client_given initial server client
 
-pub reached_agrees : (feature : Feature) (location : Role2) (server client : FeatureSide) → Reached (pair_of feature location) server client
+pub reached_agrees : (feature : Feature) (location : Role2) (server client : FeatureSide) → HaveReached (pair_of feature location) server client
     → AgreesOn feature location server client
 reached_agrees feature = agree_of_kind (described feature).is_server_priority (initial_of feature)
 
-pub reached_is_given : (feature : Feature) (location : Role2) (server client : FeatureSide) → Reached (pair_of feature location) server client
+pub reached_is_given : (feature : Feature) (location : Role2) (server client : FeatureSide) → HaveReached (pair_of feature location) server client
     → IsGivenFor feature location server client
 reached_is_given feature = given_of_kind (described feature).is_server_priority (initial_of feature)
 
 starts_by : (priority : Bool) (initial : ℕ) (location : Role2) (servers clients : List ℕ)
-    → Reached (pair_by priority initial location) (new_side initial servers) (new_side initial clients)
+    → HaveReached (pair_by priority initial location) (new_side initial servers) (new_side initial clients)
 starts_by true initial location servers clients = Starts servers clients
 starts_by false initial end.Server servers clients = Starts servers clients
 starts_by false initial end.Client servers clients = Starts servers clients
 
 pub starts : (feature : Feature) (location : Role2) (servers clients : List ℕ)
-    → Reached (pair_of feature location) (new_side (initial_of feature) servers) (new_side (initial_of feature) clients)
+    → HaveReached (pair_of feature location) (new_side (initial_of feature) servers) (new_side (initial_of feature) clients)
 starts feature = starts_by (described feature).is_server_priority (initial_of feature)
 
 -- a row's moves are those of its end
@@ -97,12 +97,12 @@ at_the_client end.Client pair there before after is moves = moves
 at_the_client end.Server pair there before after is moves = absurd (cc is)
 
 pub server_row_reaches : (row : Row) (server client after : FeatureSide) → row.role ≡ end.Server → RowMoves row client.frames server after
-    → Reached (row_pair row) server client → Reached (row_pair row) after client
+    → HaveReached (row_pair row) server client → HaveReached (row_pair row) after client
 server_row_reaches row server client after is moves =
     server_reaches (row_pair row) client server after (at_the_server row.role (row_pair row) client.frames server after is moves)
 
 pub client_row_reaches : (row : Row) (server client after : FeatureSide) → row.role ≡ end.Client → RowMoves row server.frames client after
-    → Reached (row_pair row) server client → Reached (row_pair row) server after
+    → HaveReached (row_pair row) server client → HaveReached (row_pair row) server after
 client_row_reaches row server client after is moves =
     client_reaches (row_pair row) server client after (at_the_client row.role (row_pair row) server.frames client after is moves)
 

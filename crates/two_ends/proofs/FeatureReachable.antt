@@ -4,7 +4,7 @@ use Rattle.std.proofs.Math.Logic.{∥∥₁_elim, ∥∥₁_map}
 use Rattle.std.proofs.Props.{props}
 use Rattle.two_ends.specs.FeatureView.{FeatureSide}
 use Rattle.two_ends.specs.FeatureMoves.{swapped, new_side, Moves, Pair, IsReachable, at_server, at_client}
-use Rattle.two_ends.specs.FeatureMoves.Reached.{Starts}
+use Rattle.two_ends.specs.FeatureMoves.HaveReached.{Starts}
 use Rattle.two_ends.specs.FeatureAgreement.{SidesAgree, SidesAreGiven, AgreeByLocation, GivenByLocation}
 use Rattle.two_ends.proofs.FeatureValues.{reached_given}
 use Rattle.two_ends.proofs.FeatureReaching.{reached_agree, server_reaches, client_reaches}

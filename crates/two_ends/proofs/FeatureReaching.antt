@@ -3,9 +3,9 @@ use Rattle.std.proofs.Common.{◌≡◌, ℕ, ◌<◌, Bool, true, ◌⊎◌, Li
 use Rattle.std.specs.Prelude.{Some, is_some, IsTrue}
 use Rattle.two_ends.specs.FeatureView.{FeatureNews, FeatureSide, last_wish}
 use Rattle.feature_machine.specs.declared.stands.Stand.TheVariants.{Stable}
-use Rattle.two_ends.specs.FeatureMoves.{Rule, swapped, Moves, Pair, Reached}
+use Rattle.two_ends.specs.FeatureMoves.{Rule, swapped, Moves, Pair, HaveReached}
 use Rattle.two_ends.specs.FeatureMoves.Moves.{Done, Next}
-use Rattle.two_ends.specs.FeatureMoves.Reached.{Server_moves, Client_moves}
+use Rattle.two_ends.specs.FeatureMoves.HaveReached.{Server_moves, Client_moves}
 use Rattle.two_ends.specs.FeatureAgreement.{was_negotiated, SidesAgree}
 use Rattle.two_ends.proofs.FeatureFacts.{Kept}
 use Rattle.two_ends.proofs.FeatureFrames.{wish_seen}
@@ -33,7 +33,7 @@ module _ (rule : Rule) (side peer : FeatureSide) (facts : Kept rule side peer) w
     reconciled = λ stable. last_ruled stable.0 stable.1;
   }
 
-pub reached_agree : (pair : Pair) (server client : FeatureSide) → Reached pair server client → SidesAgree pair.rule server client
+pub reached_agree : (pair : Pair) (server client : FeatureSide) → HaveReached pair server client → SidesAgree pair.rule server client
 reached_agree pair server client reached = kept_agree pair.rule server client (reached_keeps pair server client reached)
 
 -- moves after moves
@@ -44,13 +44,13 @@ joined rule opens there before middle after (Next _ next _ move moves) rest =
     Next before next after move (joined rule opens there next middle after moves rest)
 
 pub server_reaches : (pair : Pair) (client server after : FeatureSide) → Moves pair.rule pair.server_opens client.frames server after
-    → Reached pair server client → Reached pair after client
+    → HaveReached pair server client → HaveReached pair after client
 server_reaches pair client server _ (Done _) reached = reached
 server_reaches pair client server _ (Next _ middle after move moves) reached =
     server_reaches pair client middle after moves (Server_moves server client middle reached move)
 
 pub client_reaches : (pair : Pair) (server client after : FeatureSide) → Moves (swapped pair.rule) pair.client_opens server.frames client after
-    → Reached pair server client → Reached pair server after
+    → HaveReached pair server client → HaveReached pair server after
 client_reaches pair server client _ (Done _) reached = reached
 client_reaches pair server client _ (Next _ middle after move moves) reached =
     client_reaches pair server middle after moves (Client_moves server client middle reached move)

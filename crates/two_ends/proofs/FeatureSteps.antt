@@ -4,9 +4,9 @@ use Rattle.std.specs.Prelude.{Option, Some, None, unwrap_or}
 use Rattle.two_ends.specs.FeatureView.{FeatureSide, carried_at, with_frame}
 use Rattle.feature_machine.specs.declared.stands.Stand.TheVariants.{Stable, Changing}
 use Rattle.two_ends.specs.FeatureView.FeatureNews.{Nothing, Change, Confirm}
-use Rattle.two_ends.specs.FeatureMoves.{Rule, swapped, passing_side, settled_side, answering_side, waiting, opening, sending_side, new_side, Move, Pair, Reached}
+use Rattle.two_ends.specs.FeatureMoves.{Rule, swapped, passing_side, settled_side, answering_side, waiting, opening, sending_side, new_side, Move, Pair, HaveReached}
 use Rattle.two_ends.specs.FeatureMoves.Move.{Passes, Settles, Answers, Waits, Opens, Sends, Sends_again}
-use Rattle.two_ends.specs.FeatureMoves.Reached.{Starts, Server_moves, Client_moves}
+use Rattle.two_ends.specs.FeatureMoves.HaveReached.{Starts, Server_moves, Client_moves}
 use Rattle.two_ends.proofs.FeatureFacts.{Own, Towards, Settled, Kept}
 use Rattle.two_ends.proofs.FeatureFrames.{frame_in, frame_cases, frame_new, wish_seen, change_seen, last_wish-with_frame, has_change-with_frame}
 
@@ -104,7 +104,7 @@ move_keeps rule opens peer side _ (Opens wish may) facts = open_keeps rule side 
 move_keeps rule opens peer side _ Sends facts = send_keeps rule side peer facts
 move_keeps rule opens peer side _ (Sends_again busy) facts = again_keeps rule side peer busy facts
 
-pub reached_keeps : (pair : Pair) (server client : FeatureSide) → Reached pair server client → Kept pair.rule server client
+pub reached_keeps : (pair : Pair) (server client : FeatureSide) → HaveReached pair server client → Kept pair.rule server client
 reached_keeps pair _ _ (Starts servers clients) = start_keeps pair.rule pair.initial servers clients
 reached_keeps pair _ _ (Server_moves server client after reached move) =
     move_keeps pair.rule pair.server_opens client server after move (reached_keeps pair server client reached)

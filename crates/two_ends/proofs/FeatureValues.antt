@@ -4,9 +4,9 @@ use Rattle.std.specs.Prelude.{Option, Some, None, unwrap_or}
 use Rattle.two_ends.specs.FeatureView.{FeatureNews, FeatureSide, carried_at, with_frame, wish_carried}
 use Rattle.feature_machine.specs.declared.stands.Stand.TheVariants.{Changing}
 use Rattle.two_ends.specs.FeatureView.FeatureNews.{Nothing, Change, Confirm}
-use Rattle.two_ends.specs.FeatureMoves.{Rule, swapped, settled_side, answering_side, sending_side, Move, Pair, Reached}
+use Rattle.two_ends.specs.FeatureMoves.{Rule, swapped, settled_side, answering_side, sending_side, Move, Pair, HaveReached}
 use Rattle.two_ends.specs.FeatureMoves.Move.{Passes, Settles, Answers, Waits, Opens, Sends, Sends_again}
-use Rattle.two_ends.specs.FeatureMoves.Reached.{Starts, Server_moves, Client_moves}
+use Rattle.two_ends.specs.FeatureMoves.HaveReached.{Starts, Server_moves, Client_moves}
 use Rattle.two_ends.specs.FeatureAgreement.{IsGiven, SidesAreGiven}
 use Rattle.two_ends.specs.FeatureAgreement.IsGiven.{Initial, Ruled}
 use Rattle.two_ends.proofs.FeatureFacts.{Kept}
@@ -92,7 +92,7 @@ move_given initial rule opens peer side _ (Opens wish may) facts given =
 move_given initial rule opens peer side _ Sends facts given = send_given initial rule side peer Nothing given
 move_given initial rule opens peer side _ (Sends_again busy) facts given = send_given initial rule side peer (Change side.active) given
 
-pub reached_given : (pair : Pair) (server client : FeatureSide) → Reached pair server client → SidesAreGiven pair.initial pair.rule server client
+pub reached_given : (pair : Pair) (server client : FeatureSide) → HaveReached pair server client → SidesAreGiven pair.initial pair.rule server client
 reached_given pair _ _ (Starts servers clients) = record { servers = Initial refl; clients = Initial refl }
 reached_given pair _ _ (Server_moves server client after reached move) =
     move_given pair.initial pair.rule pair.server_opens client server after move (reached_keeps pair server client reached)

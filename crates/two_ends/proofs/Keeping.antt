@@ -155,10 +155,10 @@ module _ (w : WorldState) (h : IsHeld SideInvariant w) where
       client = party_of w h.logs Client
 
       by : (location : Side)
-          → moves.Reached (pair_of pair.feature (location_of end.Server (place_at Server location)))
+          → moves.HaveReached (pair_of pair.feature (location_of end.Server (place_at Server location)))
           (view_of server (config_of client).iss (holds Server).negotiated.greatest (pair.feature, place_at Server location))
           (view_of client (config_of server).iss (holds Server).negotiated.others (pair.feature, opposite (place_at Server location)))
-          → moves.Reached (pair_of pair.feature (end_at location))
+          → moves.HaveReached (pair_of pair.feature (end_at location))
           (view_of server (config_of client).iss (holds Server).negotiated.greatest (pair.feature, place_at Server location))
           (view_of client (config_of server).iss (holds Server).negotiated.others (pair.feature, place_at Client location))
       by Client reached = reached

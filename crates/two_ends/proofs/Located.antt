@@ -5,9 +5,9 @@ use Rattle.std.specs.Prelude.{Some, unwrap_or, IsTrue}
 use Rattle.two_ends.specs.FeatureView.{FeatureNews, FeatureSide, carried_at, last_wish, last_change, wish_carried}
 use Rattle.feature_machine.specs.declared.stands.Stand.TheVariants.{Stable}
 use Rattle.two_ends.specs.FeatureView.FeatureNews.{Nothing, Change, Confirm}
-use Rattle.two_ends.specs.FeatureMoves.{Rule, swapped, passing_side, settled_side, answering_side, waiting, opening, sending_side, new_side, Move, Reached, own_value, one_value, no_wish, at_server, at_client}
+use Rattle.two_ends.specs.FeatureMoves.{Rule, swapped, passing_side, settled_side, answering_side, waiting, opening, sending_side, new_side, Move, HaveReached, own_value, one_value, no_wish, at_server, at_client}
 use Rattle.two_ends.specs.FeatureMoves.Move.{Passes, Settles, Answers, Waits, Opens, Sends, Sends_again}
-use Rattle.two_ends.specs.FeatureMoves.Reached.{Starts, Server_moves, Client_moves}
+use Rattle.two_ends.specs.FeatureMoves.HaveReached.{Starts, Server_moves, Client_moves}
 use Rattle.two_ends.specs.FeatureAgreement.{was_negotiated, IsGiven, SidesAreGiven, AgreeByLocation, IsToldValue, GivenByLocation}
 use Rattle.two_ends.specs.FeatureAgreement.IsGiven.{Initial, Ruled}
 use Rattle.two_ends.specs.FeatureAgreement.IsToldValue.{Untold, Told}
@@ -78,7 +78,7 @@ remote_moves rule location remote _ Sends facts = same_remote location remote (s
 remote_moves rule location remote _ (Sends_again busy) facts =
     same_remote location remote (sending_side remote (Change remote.active)) refl facts
 
-pub server_located : (initial : ℕ) (server client : FeatureSide) → Reached (at_server initial) server client → Located server client
+pub server_located : (initial : ℕ) (server client : FeatureSide) → HaveReached (at_server initial) server client → Located server client
 server_located initial _ _ (Starts servers clients) = located_start initial servers clients
 server_located initial _ _ (Server_moves server client after reached move) =
     location_moves own_value client server after move (reached_keeps (at_server initial) server client reached)
@@ -86,10 +86,10 @@ server_located initial _ _ (Server_moves server client after reached move) =
 server_located initial _ _ (Client_moves server client after reached move) =
     remote_moves (swapped own_value) server client after move (server_located initial server client reached)
 
-pub client_kept : (initial : ℕ) (server client : FeatureSide) → Reached (at_client initial) server client → Kept own_value client server
+pub client_kept : (initial : ℕ) (server client : FeatureSide) → HaveReached (at_client initial) server client → Kept own_value client server
 client_kept initial server client reached = turned (swapped own_value) server client (reached_keeps (at_client initial) server client reached)
 
-pub client_located : (initial : ℕ) (server client : FeatureSide) → Reached (at_client initial) server client → Located client server
+pub client_located : (initial : ℕ) (server client : FeatureSide) → HaveReached (at_client initial) server client → Located client server
 client_located initial _ _ (Starts servers clients) = located_start initial clients servers
 client_located initial _ _ (Server_moves server client after reached move) =
     remote_moves (swapped own_value) client server after move (client_located initial server client reached)
@@ -150,20 +150,20 @@ module _ (location remote : FeatureSide) (kept : Kept own_value location remote)
       record { locations = told initial location.value given.servers; remotes = told initial remote.value given.clients }
 
 module _ (initial : ℕ) (server client : FeatureSide) where
-  pub server_agree : Reached (at_server initial) server client → AgreeByLocation server client
+  pub server_agree : HaveReached (at_server initial) server client → AgreeByLocation server client
   server_agree reached =
       located_agree server client (reached_keeps (at_server initial) server client reached) (server_located initial server client reached)
 
-  pub server_given : Reached (at_server initial) server client → GivenByLocation initial server client
+  pub server_given : HaveReached (at_server initial) server client → GivenByLocation initial server client
   server_given reached =
       located_given server client (reached_keeps (at_server initial) server client reached)
       (server_located initial server client reached) initial (reached_given (at_server initial) server client reached)
 
-  pub client_agree : Reached (at_client initial) server client → AgreeByLocation client server
+  pub client_agree : HaveReached (at_client initial) server client → AgreeByLocation client server
   client_agree reached =
       located_agree client server (client_kept initial server client reached) (client_located initial server client reached)
 
-  pub client_given : Reached (at_client initial) server client → GivenByLocation initial client server
+  pub client_given : HaveReached (at_client initial) server client → GivenByLocation initial client server
   client_given reached =
       located_given client server (client_kept initial server client reached) (client_located initial server client reached) initial
       (both_turned initial (swapped own_value) server client (reached_given (at_client initial) server client reached))

@@ -11,7 +11,7 @@ use Rattle.dccp_endpoint.specs.Turns.{Key}
 use Rattle.dccp_endpoint.specs.declared.config.Config.{Config}
 use Rattle.two_ends.proofs.Beginning.{start_begun}
 use Rattle.two_ends.proofs.ByFeature.{client_row_reaches, one_pair, server_row_reaches, starts}
-use Rattle.two_ends.specs.FeatureMoves.{Reached, new_side}
+use Rattle.two_ends.specs.FeatureMoves.{HaveReached, new_side}
 use Rattle.two_ends.specs.FeatureRows.{IsBegun, RowMoves, entries_of, location_of, pair_of, row_pair, side_of}
 use Rattle.two_ends.specs.FeatureView.{FeatureSide}
 use Rattle.feature_lists.specs.Features.{initial_of}
@@ -38,7 +38,7 @@ location k = location_of end.Server k.1
 -- the views of a server's row and of its client's are reached by moves
 abbrev pub AreReached : Party → Party → ℕ → ℕ → Type 0
 AreReached x y greatest others =
-    (k : Key) → Reached (pair_of k.0 (location k)) (view_of x (config_of y).iss greatest k) (view_of y (config_of x).iss others (across k))
+    (k : Key) → HaveReached (pair_of k.0 (location k)) (view_of x (config_of y).iss greatest k) (view_of y (config_of x).iss others (across k))
 
 -- What a side and its peer negotiated. `greatest` is the count of the peer's packet with the greatest number that the side took, and
 -- `others` the same of the peer.
@@ -97,10 +97,10 @@ module _ (act : Act) (own : IsOrdered act.side) (peer : IsOrdered act.peer) (gre
   server-reached is before k =
       let pair : row_pair (row k) ≡ pair_of k.0 (location k) = row-pair k ∙ ap (λ (r : Role). pair_of k.0 (location_of (role_of r) k.1)) is in
       let client : FeatureSide = view_of act.peer (config_of act.side).iss others (across k) in
-      subst (λ p. Reached p (view_of (acted act) (config_of act.peer).iss s.later k) client) pair
+      subst (λ p. HaveReached p (view_of (acted act) (config_of act.peer).iss s.later k) client) pair
       (server_row_reaches (row k) (view_of act.side (config_of act.peer).iss greatest k) client (view_of (acted act) (config_of act.peer).iss s.later k)
       (row-role k ∙ ap role_of is) (s.moved k).moves
-      (subst (λ p. Reached p (view_of act.side (config_of act.peer).iss greatest k) client) (sym pair) (before k)))
+      (subst (λ p. HaveReached p (view_of act.side (config_of act.peer).iss greatest k) client) (sym pair) (before k)))
 
   -- the client acts
   client-reached : (config_of act.side).role ≡ role.Client → AreReached act.peer act.side others greatest → AreReached act.peer (acted act) others s.later
@@ -111,11 +111,11 @@ module _ (act : Act) (own : IsOrdered act.side) (peer : IsOrdered act.peer) (gre
       let own_key : across (across k) ≡ k = ap (λ (p : Place). (k.0, p)) (opposite-twice k.1) in
       let first : FeatureSide = view_of act.side (config_of act.peer).iss greatest (across k) in
       let last : FeatureSide = view_of (acted act) (config_of act.peer).iss s.later (across k) in
-      subst (λ p. Reached p server last) pair
+      subst (λ p. HaveReached p server last) pair
       (client_row_reaches (row (across k)) server first last (row-role (across k) ∙ ap role_of is)
       (subst (λ (key : Key). RowMoves (row (across k)) (map (carried_of (config_of act.side).iss key) act.peer.log) first last) own_key
       (s.moved (across k)).moves)
-      (subst (λ p. Reached p server first) (sym pair) (before k)))
+      (subst (λ p. HaveReached p server first) (sym pair) (before k)))
 
 acts : (act : Act) → Both (λ x y. IsOrdered x) act.side act.peer → Both IsNegotiated act.side act.peer → Both IsNegotiated (acted act) act.peer
 acts act (own, peer) (here, there) =
@@ -168,9 +168,9 @@ begins own peer own_fits peer_fits =
       begun_there = begins-begun peer peer_fits;
       reached =
           λ server client k.
-          subst (λ (s : FeatureSide). Reached (pair_of k.0 (location k)) s (view_of (at_beginning peer) own.iss 0 (across k)))
+          subst (λ (s : FeatureSide). HaveReached (pair_of k.0 (location k)) s (view_of (at_beginning peer) own.iss 0 (across k)))
           (sym (first-view own peer.iss own_fits k))
-          (subst (Reached (pair_of k.0 (location k)) (new_side (initial_of k.0) (entries_of (listed_at own.lists k.0 k.1).wish)))
+          (subst (HaveReached (pair_of k.0 (location k)) (new_side (initial_of k.0) (entries_of (listed_at own.lists k.0 k.1).wish)))
           (sym (first-view peer own.iss peer_fits (across k)))
           (starts k.0 (location k) (entries_of (listed_at own.lists k.0 k.1).wish) (entries_of (listed_at peer.lists k.0 (opposite k.1)).wish)));
     }

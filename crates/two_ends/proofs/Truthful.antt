@@ -6,9 +6,9 @@ use Rattle.std.proofs.Props.{props}
 use Rattle.two_ends.specs.FeatureView.{FeatureNews, FeatureSide, carried_at, with_frame, carries_change}
 use Rattle.feature_machine.specs.declared.stands.Stand.TheVariants.{Stable}
 use Rattle.two_ends.specs.FeatureView.FeatureNews.{Nothing, Change, Confirm}
-use Rattle.two_ends.specs.FeatureMoves.{Rule, swapped, Move, Pair, Reached, IsReachable}
+use Rattle.two_ends.specs.FeatureMoves.{Rule, swapped, Move, Pair, HaveReached, IsReachable}
 use Rattle.two_ends.specs.FeatureMoves.Move.{Passes, Settles, Answers, Waits, Opens, Sends, Sends_again}
-use Rattle.two_ends.specs.FeatureMoves.Reached.{Starts, Server_moves, Client_moves}
+use Rattle.two_ends.specs.FeatureMoves.HaveReached.{Starts, Server_moves, Client_moves}
 use Rattle.two_ends.specs.FeatureFacts.{SpeaksForItsRow}
 use Rattle.two_ends.proofs.FeatureFacts.{Kept, changed}
 use Rattle.two_ends.proofs.FeatureFrames.{frame_in, frame_cases, change_seen}
@@ -43,14 +43,14 @@ move_rises rule opens peer side _ (Opens wish may) kept facts = change_rises sid
 move_rises rule opens peer side _ Sends kept facts = plain_rises side.frames facts
 move_rises rule opens peer side _ (Sends_again busy) kept facts = change_rises side.frames side.active facts
 
-server_rises : (pair : Pair) (server client : FeatureSide) → Reached pair server client → Rises server.frames
+server_rises : (pair : Pair) (server client : FeatureSide) → HaveReached pair server client → Rises server.frames
 server_rises pair _ _ (Starts servers clients) = nothing_rises
 server_rises pair _ _ (Server_moves server client after reached move) =
     move_rises pair.rule pair.server_opens client server after move (reached_keeps pair server client reached)
     (server_rises pair server client reached)
 server_rises pair _ _ (Client_moves server client after reached move) = server_rises pair server client reached
 
-client_rises : (pair : Pair) (server client : FeatureSide) → Reached pair server client → Rises client.frames
+client_rises : (pair : Pair) (server client : FeatureSide) → HaveReached pair server client → Rises client.frames
 client_rises pair _ _ (Starts servers clients) = nothing_rises
 client_rises pair _ _ (Server_moves server client after reached move) = client_rises pair server client reached
 client_rises pair _ _ (Client_moves server client after reached move) =

@@ -82,16 +82,16 @@ new_side initial configured =
     record { frames = []; greatest = 0; opened = 0; stand = Stable; active = configured; value = initial }
 
 -- the server's side and the client's, from any two configurations by moves of either in any order
-pub data Reached (pair : Pair) : FeatureSide → FeatureSide → Type 0 where
-  Starts : (servers clients : List ℕ) → Reached pair (new_side pair.initial servers) (new_side pair.initial clients)
-  Server_moves : (server client after : FeatureSide) → Reached pair server client
-      → Move pair.rule pair.server_opens client.frames server after → Reached pair after client
-  Client_moves : (server client after : FeatureSide) → Reached pair server client
-      → Move (swapped pair.rule) pair.client_opens server.frames client after → Reached pair server after
+pub data HaveReached (pair : Pair) : FeatureSide → FeatureSide → Type 0 where
+  Starts : (servers clients : List ℕ) → HaveReached pair (new_side pair.initial servers) (new_side pair.initial clients)
+  Server_moves : (server client after : FeatureSide) → HaveReached pair server client
+      → Move pair.rule pair.server_opens client.frames server after → HaveReached pair after client
+  Client_moves : (server client after : FeatureSide) → HaveReached pair server client
+      → Move (swapped pair.rule) pair.client_opens server.frames client after → HaveReached pair server after
 
 -- some moves lead there
 abbrev pub IsReachable : Pair → FeatureSide → FeatureSide → Type 0
-IsReachable pair server client = ∥ Reached pair server client ∥₁
+IsReachable pair server client = ∥ HaveReached pair server client ∥₁
 
 -- a row that may open with any wish
 abbrev pub any_wish : List ℕ → Bool

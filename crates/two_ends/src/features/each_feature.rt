@@ -8,7 +8,7 @@ ghost use Rattle.feature_machine.specs.declared.stands.Role2.{Role2};
 ghost use Rattle.feature_machine.specs.declared.stands.Role2.TheVariants.{Server, Client};
 ghost use Rattle.feature_machine.specs.Sound.{IsSameRow};
 ghost use Rattle.two_ends.specs.FeatureView.{FeatureNews, FeatureSide};
-ghost use Rattle.two_ends.specs.FeatureMoves.{new_side, Reached, IsReachable};
+ghost use Rattle.two_ends.specs.FeatureMoves.{new_side, HaveReached, IsReachable};
 ghost use Rattle.two_ends.specs.FeatureRows.{RowMoves, pair_of, row_pair, location_of};
 ghost use Rattle.feature_machine.specs.Negotiating.{opposite};
 ghost use Rattle.two_ends.specs.EachFeature.{AgreesOn, IsGivenFor};
@@ -43,20 +43,20 @@ pub fn row_steps_stay_reachable()
 /// of each value comes out itself, with the frames that it has.
 pub fn values_were_given()
     ensures agree { (feature : Feature) (location : Role2) (server client : FeatureSide)
-        → Reached (pair_of feature location) server client → AgreesOn feature location server client }
+        → HaveReached (pair_of feature location) server client → AgreesOn feature location server client }
     ensures given { (feature : Feature) (location : Role2) (server client : FeatureSide)
-        → Reached (pair_of feature location) server client → IsGivenFor feature location server client }
+        → HaveReached (pair_of feature location) server client → IsGivenFor feature location server client }
 {}
 
 /// The moves of a row lead on from what was reached, at the server and at the client, and any two configurations are
 /// reached.
 pub fn row_steps_reach()
     ensures start { (feature : Feature) (location : Role2) (servers clients : List ℕ)
-        → Reached (pair_of feature location) (new_side (initial_of feature) servers) (new_side (initial_of feature) clients) }
+        → HaveReached (pair_of feature location) (new_side (initial_of feature) servers) (new_side (initial_of feature) clients) }
     ensures server_step { (row : Row) (server client after : FeatureSide) → row.role ≡ Server
         → RowMoves row client.frames server after
-        → Reached (row_pair row) server client → Reached (row_pair row) after client }
+        → HaveReached (row_pair row) server client → HaveReached (row_pair row) after client }
     ensures client_step { (row : Row) (server client after : FeatureSide) → row.role ≡ Client
         → RowMoves row server.frames client after
-        → Reached (row_pair row) server client → Reached (row_pair row) server after }
+        → HaveReached (row_pair row) server client → HaveReached (row_pair row) server after }
 {}
