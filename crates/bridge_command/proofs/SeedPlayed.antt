@@ -29,7 +29,7 @@ use Rattle.tool_text.specs.Words.{joined}
 use Rattle.tool_text.specs.declared.words.faults.LineFault.{LineFault}
 use Rattle.tool_text.specs.declared.words.faults.LineWhy.TheVariants as why
 use Rattle.tool_text.proofs.Bytes.{if-true, joined-length}
-use Rattle.two_ends.specs.Controlled.{Controlled, ControlledStep, happens_to}
+use Rattle.two_ends.specs.Controlled.{ControlledWorld, ControlledStep, happens_to}
 use Rattle.two_ends.specs.World.{half_of}
 use Rattle.world_events.specs.declared.event.Event.{Event}
 use Rattle.world_events.specs.declared.event.Event.TheVariants.{Open}
@@ -85,13 +85,13 @@ scene_of play number event step = record { number = number; before = world_of pl
 abbrev pub next_play : Play → ControlledStep Both → Play
 next_play play step = record play { events = play.events + 1; world = Some step.after }
 
-event-accepted : (play : Play) (number : ℕ) (event : Event) (step : ControlledStep Both) (w : Controlled Both) → world_of play ≡ w → play.events < most_events
+event-accepted : (play : Play) (number : ℕ) (event : Event) (step : ControlledStep Both) (w : ControlledWorld Both) → world_of play ≡ w → play.events < most_events
     → happens_to kinds_control w event ≡ Ok step → says_event play number event ≡ Accepted (Some (scene_of play number event step)) (next_play play step)
 event-accepted play number event step w here few is =
     let less : nat_lt play.events most_events ≡ true = grind (arith, nat_tests) in
     if-true (nat_lt play.events most_events) (by_scene play (event_shown number (world_of play) event)) (Refused (whole_line why.TooManyEvents)) less
     ∙ ap (λ (r : Result (ControlledStep Both) WorldFault). by_scene play (by_step number (world_of play) event r))
-    (ap (λ (v : Controlled Both). happens_to kinds_control v event) here ∙ is)
+    (ap (λ (v : ControlledWorld Both). happens_to kinds_control v event) here ∙ is)
 
 event-goes : (play : Play) (number given : ℕ) (event : Event) (rest : List ℕ) (run last : RunState) (more : List Event) → world_of play ≡ run.world
     → play.events < most_events → IsOk (happens_to kinds_control run.world event) → IsBrief event → given + 201 ≤ most_input_bytes
@@ -193,7 +193,7 @@ number-goes play number given side iss rest small none room =
     let text = joined (line_words (line.Iss side iss)) in
     let short = number-short side iss small in
     line-goes play number given text rest (line.Iss side iss) (spelled-line text (line.Iss side iss) (refl, small)) (omega (arith, room, short))
-    ∙ ap (λ (w : Option (Controlled Both)). gone_by play number given
+    ∙ ap (λ (w : Option (ControlledWorld Both)). gone_by play number given
     (if is_some w then Refused (whole_line why.HeaderLate) else Accepted None (with_iss side iss (with_header play)))
     (λ (p : Play). gone_from run_job p (number + 1) (given + (length text + 1)) (lines_of rest))) none
 
@@ -277,9 +277,9 @@ module _ (opens : OpenHappens) (nexts : NextHappens) (seed events : ℕ) (some :
   pub writes : transcript (seed_text seed events) ≡ flat_map scene_text whole.deeds ++ end_lines (seeded seed events).world
   writes =
       let last = run-last (world_at_first whole) whole.deeds (world_of whole.last) (every-run (seed_text seed events)) in
-      run-text (seed_text seed events) accepts ∙ ap (λ (w : Controlled Both). flat_map scene_text whole.deeds ++ end_lines w) (sym last ∙ ends)
+      run-text (seed_text seed events) accepts ∙ ap (λ (w : ControlledWorld Both). flat_map scene_text whole.deeds ++ end_lines w) (sym last ∙ ends)
 
-  abbrev reported : Report → ℕ → Controlled Both → Report
+  abbrev reported : Report → ℕ → ControlledWorld Both → Report
   reported r n w =
       record r {
         seeds = 1;
@@ -297,4 +297,4 @@ module _ (opens : OpenHappens) (nexts : NextHappens) (seed events : ℕ) (some :
   counts =
       ap₂ (λ (r : Report) (n : ℕ). reported r n (world_of whole.last))
       (ap (λ (r : Report). seen_counted r whole.deeds) (sym (begun-counts (generator seed))) ∙ follows.counted) told-many
-      ∙ ap (λ (w : Controlled Both). reported (seeded seed events).report events w) ends
+      ∙ ap (λ (w : ControlledWorld Both). reported (seeded seed events).report events w) ends

@@ -6,7 +6,7 @@ use Rattle.tool_jobs.specs.Transcript.{first_play, run_job}
 use Rattle.tool_jobs.specs.declared.run.play.Play.{Play}
 use Rattle.tool_text.specs.Jobs.{Accepted, Gone, Job, Refused, LineVerdict, gone_through, line_text, refusal_told, text_apart}
 use Rattle.tool_text.specs.declared.lines.refusals.LineRefusal.{LineRefusal}
-use Rattle.two_ends.specs.Controlled.{Controlled, end_of_side}
+use Rattle.two_ends.specs.Controlled.{ControlledWorld, end_of_side}
 use Rattle.two_ends.specs.World.{half_of}
 use Rattle.world_events.specs.declared.event.Side.TheVariants.{Client, Server}
 use Rattle.bridge_pictures.specs.Graph.{GraphParts, counts_drawn, first_graph, graph_picture}
@@ -32,25 +32,25 @@ abbrev pub first_played : Played
 first_played = record { play = first_play; drawn = first_world_drawing }
 
 -- the column of an event that left this world
-abbrev pub column_in_world : WorldDrawing → Controlled Both → List ℕ → GraphParts
+abbrev pub column_in_world : WorldDrawing → ControlledWorld Both → List ℕ → GraphParts
 column_in_world d world said = counts_drawn d.graph (counts_of (end_of_side world Client)) (counts_of (end_of_side world Server)) said
 
 -- what is told and kept of the server after a column
-abbrev pub server_watched : WorldDrawing → Controlled Both → WorldDrawing
+abbrev pub server_watched : WorldDrawing → ControlledWorld Both → WorldDrawing
 server_watched d world =
     record d { graph = end_told d.graph d.server Server world; server = end_watched d.server d.graph.columns Server world }
 
 -- the same of the client, and then of the server
-abbrev pub both_watched : WorldDrawing → Controlled Both → WorldDrawing
+abbrev pub both_watched : WorldDrawing → ControlledWorld Both → WorldDrawing
 both_watched d world =
     server_watched (record d { graph = end_told d.graph d.client Client world; client = end_watched d.client d.graph.columns Client world }) world
 
 -- Draws the column of an event that left this world, with what is told of both ends.
-unfoldable pub world_drawn : WorldDrawing → Controlled Both → List ℕ → WorldDrawing
+unfoldable pub world_drawn : WorldDrawing → ControlledWorld Both → List ℕ → WorldDrawing
 world_drawn d world said = both_watched (record d { graph = column_in_world d world said }) world
 
 -- an event is drawn by the world that it left
-abbrev pub drawn_in : Played → Option (Controlled Both) → List ℕ → Played
+abbrev pub drawn_in : Played → Option (ControlledWorld Both) → List ℕ → Played
 drawn_in p None said = p
 drawn_in p (Some world) said = record p { drawn = world_drawn p.drawn world said }
 
@@ -73,12 +73,12 @@ notes_heading = codes "event, end, and its features as number=Here/There, * in C
 
 -- The picture after the last event, which left this world: the frames of each end are lost that the other never
 -- processed.
-unfoldable pub world_picture : WorldDrawing → Controlled Both → List ℕ
+unfoldable pub world_picture : WorldDrawing → ControlledWorld Both → List ℕ
 world_picture d world =
     graph_picture d.graph notes_heading (loss_marks d.client (half_of world.world Server).processed) (loss_marks d.server (half_of world.world Client).processed)
 
 -- the picture, by the world that the events left, if there were any
-abbrev pub picture_in : WorldDrawing → Option (Controlled Both) → List ℕ
+abbrev pub picture_in : WorldDrawing → Option (ControlledWorld Both) → List ℕ
 picture_in d None = graph_picture d.graph notes_heading [] []
 picture_in d (Some world) = world_picture d world
 

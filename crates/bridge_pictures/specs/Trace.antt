@@ -6,7 +6,7 @@ use Rattle.ccid_two.specs.Kinds.{Both, kinds_control}
 use Rattle.dccp_endpoint.specs.Controlled.{End, window_of, in_flight_of}
 use Rattle.schedule_text.specs.Names.{side_name}
 use Rattle.tool_jobs.specs.EndLines.{end_rows}
-use Rattle.two_ends.specs.Controlled.{Controlled, end_of_side}
+use Rattle.two_ends.specs.Controlled.{ControlledWorld, end_of_side}
 use Rattle.two_ends.specs.World.{half_of}
 use Rattle.two_ends.specs.declared.frames.SentFrame.{SentFrame}
 use Rattle.world_events.specs.declared.event.Side.{Side}
@@ -51,19 +51,19 @@ unfoldable pub rows_kept : TraceParts → List ℕ → TraceParts
 rows_kept w rows = if bytes_eq rows w.rows then w else record w { rows = rows }
 
 -- an end with the frame that it sent last
-abbrev pub end_noted : TraceParts → ℕ → Side → Controlled Both → TraceParts
+abbrev pub end_noted : TraceParts → ℕ → Side → ControlledWorld Both → TraceParts
 end_noted w column side world = frame_noted w column (half_of world.world side).frames
 
 -- the values of an end's features in a world
-abbrev pub rows_in : Controlled Both → Side → List ℕ
+abbrev pub rows_in : ControlledWorld Both → Side → List ℕ
 rows_in world side = end_rows (end_of_side world side).state
 
 -- What is told of an end below the charts.
-unfoldable pub end_told : GraphParts → TraceParts → Side → Controlled Both → GraphParts
+unfoldable pub end_told : GraphParts → TraceParts → Side → ControlledWorld Both → GraphParts
 end_told g w side world = rows_told g (end_noted w g.columns side world) side (rows_in world side)
 
 -- What is kept of an end after a column.
-unfoldable pub end_watched : TraceParts → ℕ → Side → Controlled Both → TraceParts
+unfoldable pub end_watched : TraceParts → ℕ → Side → ControlledWorld Both → TraceParts
 end_watched w column side world = rows_kept (end_noted w column side world) (rows_in world side)
 
 -- the mark of a frame that is not among the numbers which the other end processed

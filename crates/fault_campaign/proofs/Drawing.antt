@@ -7,7 +7,7 @@ use Rattle.std.proofs.lemmas.Nat.{mod_below}
 use Rattle.std.proofs.lemmas.Option.{slice_get_cases}
 use Rattle.ccid_two.specs.Kinds.{Both, kinds_control}
 use Rattle.dccp_states.specs.declared.calls.Timer.TheVariants as timer
-use Rattle.two_ends.specs.Controlled.{Controlled, ControlledStep, congestion_of, controls, happens_to, said_by}
+use Rattle.two_ends.specs.Controlled.{ControlledWorld, ControlledStep, congestion_of, controls, happens_to, said_by}
 use Rattle.two_ends.specs.World.{HalfStep, WorldState, WorldStep, Happening, Calls, Delivers, Said, delivers_frame, half_of, half_steps, happening_of, is_far_frame, is_full, in_world, takes_place, unless_far, unless_full, with_half}
 use Rattle.world_events.specs.Actors.{actor, other}
 use Rattle.world_events.specs.declared.event.Event.{Event}
@@ -72,7 +72,7 @@ takes-place w (Delivers from index) room has = arrives-happens w from index room
 abbrev IsOkOrFar : Result (ControlledStep Both) WorldFault → Type 0
 IsOkOrFar result = (result ≡ Err fault.FarShort) ⊎ IsOk result
 
-controls-happens : (w : Controlled Both) (acting : Side) (result : Result WorldStep WorldFault) → Happens result
+controls-happens : (w : ControlledWorld Both) (acting : Side) (result : Result WorldStep WorldFault) → Happens result
     → IsOkOrFar (controls kinds_control w acting result)
 controls-happens w acting (Ok step) happened = inr refl
 controls-happens w acting (Err why) (inl far) =
@@ -130,7 +130,7 @@ module _ (w : WorldState) (said : Said) where
   unfolding drawn
   drawn-can a b = event_of-can (a % 32) b
 
-happens : (w : Controlled Both) (event : Event) → IsRoomy w.world
+happens : (w : ControlledWorld Both) (event : Event) → IsRoomy w.world
     → HasFrame w.world (happening_of event (said_by kinds_control (congestion_of w (actor event))))
     → IsOkOrFar (happens_to kinds_control w event)
 happens w event room has =

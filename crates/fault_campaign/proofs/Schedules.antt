@@ -9,7 +9,7 @@ use Rattle.dccp_endpoint.specs.Drafts.{Fits}
 use Rattle.dccp_endpoint.specs.declared.config.Config.{Config}
 use Rattle.dccp_states.specs.declared.phase.Role.TheVariants as role
 use Rattle.feature_machine.proofs.Listing.{usual_are_lists}
-use Rattle.two_ends.specs.Controlled.{Controlled, ControlledStep, begins_with, controlled_after, happens_to, plays}
+use Rattle.two_ends.specs.Controlled.{ControlledWorld, ControlledStep, begins_with, controlled_after, happens_to, plays}
 use Rattle.two_ends.specs.Delivered.{IsDeliveredOnce}
 use Rattle.two_ends.specs.Safe.{Safe}
 use Rattle.world_events.specs.declared.event.Event.{Event}
@@ -31,13 +31,13 @@ rest-plays : (n : ℕ) (run : RunState) → (goes_on_for n run).world ≡ plays 
 rest-plays zero run = refl
 rest-plays (suc n) run =
     rest-plays n (goes_on run)
-    ∙ ap (λ (w : Controlled Both). plays kinds_control w (next_events n (goes_on run)))
+    ∙ ap (λ (w : ControlledWorld Both). plays kinds_control w (next_events n (goes_on run)))
     (played-world (record run { words = after_two run.words }) (next_event run))
 
 pub schedule : (seed events : ℕ) → (seeded seed events).world ≡ plays kinds_control (begun_run (generator seed)).world (seeded_events seed events)
 schedule seed events =
     rest-plays (events - 1) (opened_run seed)
-    ∙ ap (λ (w : Controlled Both). plays kinds_control w (next_events (events - 1) (opened_run seed))) (played-world (begun_run (generator seed)) Open)
+    ∙ ap (λ (w : ControlledWorld Both). plays kinds_control w (next_events (events - 1) (opened_run seed))) (played-world (begun_run (generator seed)) Open)
 
 rest-many : (n : ℕ) (run : RunState) → length (next_events n run) ≡ n
 rest-many zero run = refl
@@ -102,7 +102,7 @@ NeverFar =
     → length (plays kinds_control (begins_with kinds_control client server for_client for_server) events).world.server.frames < 2 ^ 23
     → happens_to kinds_control (plays kinds_control (begins_with kinds_control client server for_client for_server) events) next ≢ Err fault.FarShort
 
-abbrev IsNear : Controlled Both → Event → Type 0
+abbrev IsNear : ControlledWorld Both → Event → Type 0
 IsNear w next =
     length w.world.client.frames < 2 ^ 23 → length w.world.server.frames < 2 ^ 23 → happens_to kinds_control w next ≢ Err fault.FarShort
 
@@ -114,4 +114,4 @@ begun-near never g events next =
 
 pub seeded-near : NeverFar → (seed events : ℕ) (next : Event) → IsNear (seeded seed events).world next
 seeded-near never seed events next =
-    subst (λ (w : Controlled Both). IsNear w next) (sym (schedule seed events)) (begun-near never (generator seed) (seeded_events seed events) next)
+    subst (λ (w : ControlledWorld Both). IsNear w next) (sym (schedule seed events)) (begun-near never (generator seed) (seeded_events seed events) next)

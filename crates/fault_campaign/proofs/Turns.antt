@@ -2,7 +2,7 @@
 use Rattle.std.proofs.Common.{◌≡◌, refl, sym, ap, subst, ◌∙◌, ℕ, suc, ◌+◌, ◌*◌, ◌-◌, ◌^◌, ◌≤◌, ◌<◌, Result, Ok, Err, arith}
 use Rattle.rand_pcg.specs.Lcg.{Lcg}
 use Rattle.ccid_two.specs.Kinds.{Both, kinds_control}
-use Rattle.two_ends.specs.Controlled.{Controlled, ControlledStep, happens_to}
+use Rattle.two_ends.specs.Controlled.{ControlledWorld, ControlledStep, happens_to}
 use Rattle.world_events.specs.declared.event.Event.{Event}
 use Rattle.world_events.specs.declared.event.Event.TheVariants.{Open}
 use Rattle.dccp_states.specs.declared.seen.Seen.{Seen}
@@ -14,10 +14,10 @@ use Rattle.fault_campaign.specs.Seeded.{RunState, after_event, begun_run, goes_o
 use Rattle.fault_campaign.specs.declared.report.Report.{Report}
 use Rattle.fault_campaign.proofs.Short.{at-first, seen-size}
 
-abbrev made : Lcg → Controlled Both → Report → RunState
+abbrev made : Lcg → ControlledWorld Both → Report → RunState
 made words world report = record { words = words; world = world; report = report }
 
-pub plays : (words : Lcg) (world after : Controlled Both) (report counted : Report) (event : Event) (seen : Seen)
+pub plays : (words : Lcg) (world after : ControlledWorld Both) (report counted : Report) (event : Event) (seen : Seen)
     → happens_to kinds_control world event ≡ Ok (record { after = after; seen = seen }) → counted ≡ with_seen report seen
     → made words after counted ≡ played (made words world report) event
 unfolding played
@@ -28,18 +28,18 @@ abbrev failed : WorldFault → Result Seen WorldFault
 failed why = Err why
 
 -- an event that cannot happen changes nothing
-pub refuses : (words : Lcg) (world after : Controlled Both) (report : Report) (event : Event) (why : WorldFault) → (why ≡ fault.NoMemory → ⊥)
+pub refuses : (words : Lcg) (world after : ControlledWorld Both) (report : Report) (event : Event) (why : WorldFault) → (why ≡ fault.NoMemory → ⊥)
     → (failed why ≡ failed fault.NoSuchFrame → happens_to kinds_control world event ≡ Err fault.NoSuchFrame)
     → (failed why ≡ failed fault.Full → happens_to kinds_control world event ≡ Err fault.Full)
     → (failed why ≡ failed fault.FarShort → happens_to kinds_control world event ≡ Err fault.FarShort)
     → after ≡ world → made words after report ≡ played (made words world report) event
 unfolding played
 refuses words world after report event fault.NoSuchFrame some lacks full far same =
-    ap (λ (w : Controlled Both). made words w report) same ∙ sym (ap (after_event (made words world report)) (lacks refl))
+    ap (λ (w : ControlledWorld Both). made words w report) same ∙ sym (ap (after_event (made words world report)) (lacks refl))
 refuses words world after report event fault.Full some lacks full far same =
-    ap (λ (w : Controlled Both). made words w report) same ∙ sym (ap (after_event (made words world report)) (full refl))
+    ap (λ (w : ControlledWorld Both). made words w report) same ∙ sym (ap (after_event (made words world report)) (full refl))
 refuses words world after report event fault.FarShort some lacks full far same =
-    ap (λ (w : Controlled Both). made words w report) same ∙ sym (ap (after_event (made words world report)) (far refl))
+    ap (λ (w : ControlledWorld Both). made words w report) same ∙ sym (ap (after_event (made words world report)) (far refl))
 refuses words world after report event fault.NoMemory some lacks full far same = absurd (some refl)
 
 -- after so many of all further events

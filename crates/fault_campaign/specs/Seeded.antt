@@ -9,7 +9,7 @@ use Rattle.dccp_endpoint.specs.Usual.{usual}
 use Rattle.dccp_endpoint.specs.declared.config.Config.{Config}
 use Rattle.dccp_states.specs.declared.phase.Role.{Role}
 use Rattle.dccp_states.specs.declared.phase.Role.TheVariants as role
-use Rattle.two_ends.specs.Controlled.{Controlled, ControlledStep, begins_with, happens_to}
+use Rattle.two_ends.specs.Controlled.{ControlledWorld, ControlledStep, begins_with, happens_to}
 use Rattle.two_ends.specs.World.{half_of}
 use Rattle.world_events.specs.declared.event.Event.{Event}
 use Rattle.world_events.specs.declared.event.Event.TheVariants.{Open}
@@ -23,7 +23,7 @@ use Rattle.fault_campaign.specs.declared.report.Report.{Report}
 -- a run on its way: the generator, the two ends, and what was counted
 pub record RunState : Type 0 where
   pub words : Lcg
-  pub world : Controlled Both
+  pub world : ControlledWorld Both
   pub report : Report
 
 -- the usual end with another initial number

@@ -10,7 +10,7 @@ use Rattle.dccp_packets.specs.Outgoing.{Outgoing}
 use Rattle.dccp_states.specs.declared.outcome.Outcome.TheVariants as outcomes
 use Rattle.dccp_states.specs.declared.seen.Seen.{Seen}
 use Rattle.dccp_states.specs.declared.seen.Seen.TheVariants as seens
-use Rattle.two_ends.specs.Controlled.{Controlled, plays_from_start}
+use Rattle.two_ends.specs.Controlled.{ControlledWorld, plays_from_start}
 use Rattle.two_ends.specs.Delivered.{place_delivered}
 use Rattle.two_ends.specs.World.{Half, WorldState, as_sent, half_at_start, moved, newly_processed}
 use Rattle.two_ends.specs.declared.frames.SentFrame.{SentFrame}
@@ -22,7 +22,7 @@ use Rattle.world_events.specs.declared.event.Event.TheVariants as event
 use Rattle.world_events.specs.declared.event.Side.TheVariants.{Client, Server}
 use Rattle.tests_claims.specs.Ways.{AreBothOpen, IsAnEndOver, IsPassiveWay}
 
-pub passive-way : {C : Type 0} (control : Control C) (most : ℕ) (w : Controlled C) (goal : Controlled C → Type 0) (way : HasWay control most w goal)
+pub passive-way : {C : Type 0} (control : Control C) (most : ℕ) (w : ControlledWorld C) (goal : ControlledWorld C → Type 0) (way : HasWay control most w goal)
     → IsPassiveWay most way.events
 passive-way control most w goal way = record { few = way.few; passive = λ place e there. passive-at way.events place e way.are_passive there }
 

@@ -11,7 +11,7 @@ ghost use Rattle.feature_lists.specs.declared.features.Feature.{Feature};
 ghost use Rattle.feature_lists.specs.declared.features.Place.{Place};
 ghost use Rattle.feature_lists.specs.declared.features.Place.TheVariants as place;
 ghost use Rattle.feature_machine.specs.declared.stands.Stand.TheVariants.{Stable};
-ghost use Rattle.two_ends.specs.Controlled.{Controlled, ControlledStep, happens_to, plays, plays_from_start};
+ghost use Rattle.two_ends.specs.Controlled.{ControlledWorld, ControlledStep, happens_to, plays, plays_from_start};
 ghost use Rattle.two_ends.specs.Reached.{ReachedByEvents};
 ghost use Rattle.two_ends.specs.World.{half_of};
 ghost use Rattle.two_ends.specs.declared.frames.SentFrame.{SentFrame};
@@ -42,7 +42,7 @@ pub fn an_opening_takes_thirteen_events<C: Congestion>()
 /// Where both ends are OPEN, at most twenty-four timers and deliveries settle all features, and each has one value then;
 /// or an end is over.
 pub fn a_negotiation_takes_twenty_four_events<C: Congestion>()
-    ensures { (w : Controlled C) (reached : ReachedByEvents C.control w) → AreForEachOther reached.client reached.server → AreBothOpen w.world
+    ensures { (w : ControlledWorld C) (reached : ReachedByEvents C.control w) → AreForEachOther reached.client reached.server → AreBothOpen w.world
         → ((side : Side) → length (half_of w.world side).frames + 24 < 2 ^ 47 - 1)
         → (way : List Event) × (IsPassiveWay 24 way × (IsAnEndOver (plays C.control w way).world
         ⊎ ((feature : Feature)
@@ -56,7 +56,7 @@ pub fn a_negotiation_takes_twenty_four_events<C: Congestion>()
 
 /// After `close` of either at most seven timers and deliveries lead both ends to CLOSED or TIMEWAIT.
 pub fn a_closing_takes_seven_events<C: Congestion>()
-    ensures { (w : Controlled C) (reached : ReachedByEvents C.control w) (closer : Side) → AreForEachOther reached.client reached.server
+    ensures { (w : ControlledWorld C) (reached : ReachedByEvents C.control w) (closer : Side) → AreForEachOther reached.client reached.server
         → AreBothOpen w.world → ((side : Side) → length (half_of w.world side).frames + 8 < 2 ^ 47 - 1)
         → (way : List Event) × (IsPassiveWay 7 way
         × ((side : Side) → IsEndOver (plays C.control (plays C.control w (event.Close closer ∷ [])) way).world side)) }
@@ -67,7 +67,7 @@ pub fn a_closing_takes_seven_events<C: Congestion>()
 /// Where both ends are OPEN and all rows of both are STABLE, and a sender gets the reports that its CCID needs, at most
 /// six timers and deliveries let its data through: `send` takes them, and the frame that goes out hands over just these.
 pub fn data_take_six_events<C: Congestion>()
-    ensures { (w : Controlled C) (reached : ReachedByEvents C.control w) (side : Side) (payload : List ℕ)
+    ensures { (w : ControlledWorld C) (reached : ReachedByEvents C.control w) (side : Side) (payload : List ℕ)
         → AreForEachOther reached.client reached.server → AreBothOpen w.world
         → ((each : Side) (feature : Feature) (at : Place) → (held_of (half_of w.world each).end feature at).stand ≡ Stable)
         → ((each : Side) → length (half_of w.world each).frames + 8 < 2 ^ 23) → lacks_vectors (half_of w.world side).end.rows ≡ false

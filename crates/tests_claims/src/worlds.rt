@@ -18,7 +18,7 @@ ghost use Rattle.run_list.specs.MarkedSet.{has};
 ghost use Rattle.seq_circle.specs.Circle.{IsBefore};
 ghost use Rattle.seq_circle.specs.Counts.{number_of};
 ghost use Rattle.two_ends.specs.CameOf.{CameOfLists, CameOfLocation};
-ghost use Rattle.two_ends.specs.Controlled.{Controlled, congestion_of};
+ghost use Rattle.two_ends.specs.Controlled.{ControlledWorld, congestion_of};
 ghost use Rattle.two_ends.specs.Counted.{AreAmongFirst, AreResets};
 ghost use Rattle.two_ends.specs.Frames.{packet_of};
 ghost use Rattle.two_ends.specs.Negotiated.{HasSent, IsNotNegotiable, IsServerPriority, IsSettled, last_list_sent, last_value, list_said, pair_was_negotiated, value_said};
@@ -43,18 +43,18 @@ use two_ends::{
 /// last list that is in the client's, where one does, and each has sent a list then (`shared`, `listed`); or what the
 /// location sent last (`told`).
 pub fn settled_ends_hold_one_value<C: Congestion>()
-    ensures clients { (w : Controlled C) → ReachedByEvents C.control w → (feature : Feature)
+    ensures clients { (w : ControlledWorld C) → ReachedByEvents C.control w → (feature : Feature)
         → (held_of w.world.client.end feature Here).stand ≡ Stable → (held_of w.world.server.end feature There).stand ≡ Stable
         → (held_of w.world.client.end feature Here).value ≡ (held_of w.world.server.end feature There).value }
-    ensures servers { (w : Controlled C) → ReachedByEvents C.control w → (feature : Feature)
+    ensures servers { (w : ControlledWorld C) → ReachedByEvents C.control w → (feature : Feature)
         → (held_of w.world.client.end feature There).stand ≡ Stable → (held_of w.world.server.end feature Here).stand ≡ Stable
         → (held_of w.world.client.end feature There).value ≡ (held_of w.world.server.end feature Here).value }
-    ensures listed { (w : Controlled C) → ReachedByEvents C.control w → (pair : FeatureAt) (side : Side) → IsSettled w.world pair
+    ensures listed { (w : ControlledWorld C) → ReachedByEvents C.control w → (pair : FeatureAt) (side : Side) → IsSettled w.world pair
         → IsServerPriority pair → IsTrue (pair_was_negotiated w.world pair) → IsSome (last_list_sent w.world pair side) }
-    ensures shared { (w : Controlled C) → ReachedByEvents C.control w → (pair : FeatureAt) (side : Side) (value : ℕ) (servers clients : List ℕ)
+    ensures shared { (w : ControlledWorld C) → ReachedByEvents C.control w → (pair : FeatureAt) (side : Side) (value : ℕ) (servers clients : List ℕ)
         → IsSettled w.world pair → IsServerPriority pair → last_list_sent w.world pair Server ≡ Some servers
         → last_list_sent w.world pair Client ≡ Some clients → IsFirstShared servers clients value → (held_at w.world pair side).value ≡ value }
-    ensures told { (w : Controlled C) → ReachedByEvents C.control w → (pair : FeatureAt) (side : Side) (value : ℕ) → IsSettled w.world pair
+    ensures told { (w : ControlledWorld C) → ReachedByEvents C.control w → (pair : FeatureAt) (side : Side) (value : ℕ) → IsSettled w.world pair
         → IsNotNegotiable pair → IsTrue (pair_was_negotiated w.world pair) → last_value w.world pair ≡ Some value
         → (held_at w.world pair side).value ≡ value }
 {
@@ -66,17 +66,17 @@ pub fn settled_ends_hold_one_value<C: Congestion>()
 /// location told it (`said`). It is the initial one where a side sent no list (`silent`), where no two lists share an
 /// entry (`apart`), and where the location told none (`untold`).
 pub fn each_value_was_given<C: Congestion>()
-    ensures listed { (w : Controlled C) → ReachedByEvents C.control w → (pair : FeatureAt) (side : Side) → IsServerPriority pair
+    ensures listed { (w : ControlledWorld C) → ReachedByEvents C.control w → (pair : FeatureAt) (side : Side) → IsServerPriority pair
         → (held_at w.world pair side).value ≢ initial_of pair.feature → CameOfLists w.world pair (held_at w.world pair side).value }
-    ensures said { (w : Controlled C) → ReachedByEvents C.control w → (pair : FeatureAt) (side : Side) → IsNotNegotiable pair
+    ensures said { (w : ControlledWorld C) → ReachedByEvents C.control w → (pair : FeatureAt) (side : Side) → IsNotNegotiable pair
         → (held_at w.world pair side).value ≢ initial_of pair.feature → CameOfLocation w.world pair (held_at w.world pair side).value }
-    ensures silent { (w : Controlled C) → ReachedByEvents C.control w → (pair : FeatureAt) (quiet side : Side) → IsServerPriority pair
+    ensures silent { (w : ControlledWorld C) → ReachedByEvents C.control w → (pair : FeatureAt) (quiet side : Side) → IsServerPriority pair
         → ((index : ℕ) (frame : SentFrame) → slice_get (half_of w.world quiet).frames index ≡ Some frame
         → list_said (said_by pair quiet frame.bytes) ≡ None) → (held_at w.world pair side).value ≡ initial_of pair.feature }
-    ensures apart { (w : Controlled C) → ReachedByEvents C.control w → (pair : FeatureAt) (side : Side) → IsServerPriority pair
+    ensures apart { (w : ControlledWorld C) → ReachedByEvents C.control w → (pair : FeatureAt) (side : Side) → IsServerPriority pair
         → ((servers clients : List ℕ) → HasSent w.world pair Server servers → HasSent w.world pair Client clients → SharesNothing servers clients)
         → (held_at w.world pair side).value ≡ initial_of pair.feature }
-    ensures untold { (w : Controlled C) → ReachedByEvents C.control w → (pair : FeatureAt) (side : Side) → IsNotNegotiable pair
+    ensures untold { (w : ControlledWorld C) → ReachedByEvents C.control w → (pair : FeatureAt) (side : Side) → IsNotNegotiable pair
         → ((index : ℕ) (frame : SentFrame) → slice_get (half_of w.world pair.location).frames index ≡ Some frame
         → value_said (said_by pair pair.location frame.bytes) ≡ None) → (held_at w.world pair side).value ≡ initial_of pair.feature }
 {
@@ -87,17 +87,17 @@ pub fn each_value_was_given<C: Congestion>()
 /// *truthful*: of every Ack Vector ever sent, what it reports as received was processed when it was sent (`received`), what it reports otherwise
 /// was not (`missing`), a whole one leaves out nothing that was processed (`all`), and nothing after its acknowledgement was (`none_after`).
 pub fn each_vector_is_true<C: Congestion>()
-    ensures received { (w : Controlled C) → ReachedByEvents C.control w → (side : Side) (frame : SentFrame) (ack n : ℕ) (bytes : List ℕ)
+    ensures received { (w : ControlledWorld C) → ReachedByEvents C.control w → (side : Side) (frame : SentFrame) (ack n : ℕ) (bytes : List ℕ)
         → HasSentVector (half_of w.world side) frame ack bytes → ack < 2 ^ 48 → n < 2 ^ 48
         → IsTrue (is_received (state_at ack bytes n)) → Contains (processed_by (half_of w.world side) frame) n }
-    ensures missing { (w : Controlled C) → ReachedByEvents C.control w → (side : Side) (frame : SentFrame) (ack n state : ℕ) (bytes : List ℕ)
+    ensures missing { (w : ControlledWorld C) → ReachedByEvents C.control w → (side : Side) (frame : SentFrame) (ack n state : ℕ) (bytes : List ℕ)
         → HasSentVector (half_of w.world side) frame ack bytes → frame.floor < 2 ^ 48 → ack < 2 ^ 48 → n < 2 ^ 48
         → state_at ack bytes n ≡ Some state → is_received (Some state) ≡ false → Contains (processed_by (half_of w.world side) frame) n → ⊥ }
-    ensures all { (w : Controlled C) → ReachedByEvents C.control w → (side : Side) (frame : SentFrame) (ack n : ℕ) (bytes : List ℕ)
+    ensures all { (w : ControlledWorld C) → ReachedByEvents C.control w → (side : Side) (frame : SentFrame) (ack n : ℕ) (bytes : List ℕ)
         → HasSentVector (half_of w.world side) frame ack bytes
         → is_whole_under (has (processed_by (half_of w.world side) frame)) frame.floor ack (half_of w.world side).end.config.vectors ≡ true
         → IsSpokenOf frame ack n → Contains (processed_by (half_of w.world side) frame) n → IsTrue (is_received (state_at ack bytes n)) }
-    ensures none_after { (w : Controlled C) → ReachedByEvents C.control w → (side : Side) (frame : SentFrame) (ack n : ℕ) (bytes : List ℕ)
+    ensures none_after { (w : ControlledWorld C) → ReachedByEvents C.control w → (side : Side) (frame : SentFrame) (ack n : ℕ) (bytes : List ℕ)
         → HasSentVector (half_of w.world side) frame ack bytes → Contains (processed_by (half_of w.world side) frame) n → IsBefore ack n → ⊥ }
 {
     every_run_is_safe::<C>();
@@ -107,7 +107,7 @@ pub fn each_vector_is_true<C: Congestion>()
 /// *told*: what lies below a floor was told in a whole vector that arrived, or a number 2,048 or more after it was
 /// processed.
 pub fn what_lies_below_a_floor_was_told<C: Congestion>()
-    ensures { (w : Controlled C) → ReachedByEvents C.control w → (side : Side) (iss first count floor : ℕ) → iss < 2 ^ 48 → 1 ≤ first
+    ensures { (w : ControlledWorld C) → ReachedByEvents C.control w → (side : Side) (iss first count floor : ℕ) → iss < 2 ^ 48 → 1 ≤ first
         → first ≤ count → count < floor → floor ≤ 2 ^ 47 + 1 → count + 2047 ≤ 2 ^ 47
         → (half_of w.world side).end.marks.isr ≡ number_of iss first → floor_of (half_of w.world side).end ≡ number_of iss floor
         → IsUntold w.world side (number_of iss count) → AreAmongFirst iss (count + 2047) (half_of w.world side).processed → ⊥ }
@@ -119,11 +119,11 @@ pub fn what_lies_below_a_floor_was_told<C: Congestion>()
 /// *once* and *heard*: no number is processed early and late (`once`), nor one that the other side did not send (`sent`);
 /// and what a congestion control has as Reported the other side processed (`heard`).
 pub fn each_number_is_processed_once<C: Congestion>()
-    ensures once { (w : Controlled C) → ReachedByEvents C.control w → (side : Side) (early n : ℕ)
+    ensures once { (w : ControlledWorld C) → ReachedByEvents C.control w → (side : Side) (early n : ℕ)
         → Contains (take early (half_of w.world side).processed) n → Contains (drop early (half_of w.world side).processed) n → ⊥ }
-    ensures sent { (w : Controlled C) → ReachedByEvents C.control w → (side : Side) (n : ℕ) → AreResets (half_of w.world (other side)).frames n
+    ensures sent { (w : ControlledWorld C) → ReachedByEvents C.control w → (side : Side) (n : ℕ) → AreResets (half_of w.world (other side)).frames n
         → Contains (half_of w.world side).processed n → ⊥ }
-    ensures heard { (w : Controlled C) → ReachedByEvents C.control w → (side : Side) (n : ℕ)
+    ensures heard { (w : ControlledWorld C) → ReachedByEvents C.control w → (side : Side) (n : ℕ)
         → Has (C.control.flight (congestion_of w side)) n Reported → Contains (half_of w.world (other side)).processed n }
 {
     every_run_is_safe::<C>();

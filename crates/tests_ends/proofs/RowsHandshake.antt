@@ -15,13 +15,13 @@ use Rattle.dccp_endpoint.specs.Controlled.{in_flight_of, window_of}
 use Rattle.dccp_endpoint.specs.Drafts.{framed}
 use Rattle.dccp_endpoint.specs.End.{EndState, floor_of, marked_of}
 use Rattle.dccp_endpoint.specs.Receiving.{receives}
-use Rattle.two_ends.specs.Controlled.{Controlled, begins_with, congestion_of, plays}
+use Rattle.two_ends.specs.Controlled.{ControlledWorld, begins_with, congestion_of, plays}
 use Rattle.two_ends.specs.World.{half_of}
 use Rattle.two_ends.specs.declared.frames.SentFrame.{SentFrame}
 use Rattle.tests_ends.proofs.RowsSeen.{bytes, initial_rows, plain, shown}
 
 -- the world after it
-abbrev met : Controlled Both
+abbrev met : ControlledWorld Both
 met =
     plays
     kinds_control

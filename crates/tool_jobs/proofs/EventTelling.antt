@@ -4,7 +4,7 @@ use Rattle.ccid_two.specs.Kinds.{Both, kinds_control}
 use Rattle.dccp_endpoint.specs.Calling.{aborts, closes, opens, prefers, sends_payload}
 use Rattle.dccp_endpoint.specs.Early.{sends_early}
 use Rattle.dccp_endpoint.specs.Inputs as input
-use Rattle.two_ends.specs.Controlled.{Controlled, ControlledStep, congestion_of, controlled, controls, happens_to, said_by}
+use Rattle.two_ends.specs.Controlled.{ControlledWorld, ControlledStep, congestion_of, controlled, controls, happens_to, said_by}
 use Rattle.two_ends.specs.World.{Half, HalfStep, Said, WorldState, WorldStep, delivers_frame as arrives_at, half_of, half_steps, happens, is_far_frame, is_full, in_world, unless_far, with_half}
 use Rattle.dccp_endpoint.specs.UserCalls.{seen_of_call}
 use Rattle.dccp_states.specs.Refusals.{refusal_of, send_refusal_of}
@@ -114,11 +114,11 @@ abbrev controlled-world-or : WorldState → Result (ControlledStep Both) WorldFa
 controlled-world-or none (Ok step) = step.after.world
 controlled-world-or none (Err fault) = none
 
-same-world : (w : Controlled Both) (side : Side) (step : WorldStep) → step.world ≡ (controlled kinds_control w side step).world
+same-world : (w : ControlledWorld Both) (side : Side) (step : WorldStep) → step.world ≡ (controlled kinds_control w side step).world
 same-world w Client step = refl
 same-world w Server step = refl
 
-controlled-told : (w next : Controlled Both) (side : Side) (given : Event) (seen : Seen) (result : Result WorldStep WorldFault)
+controlled-told : (w next : ControlledWorld Both) (side : Side) (given : Event) (seen : Seen) (result : Result WorldStep WorldFault)
     → controls kinds_control w side result ≡ Ok (record { after = next; seen = seen })
     → ((step : WorldStep) → result ≡ Ok step → IsSeenOf (arrived step.world given) step.seen) → IsSeenOf (arrived next.world given) seen
 controlled-told w next side given seen (Ok step) is told =
@@ -127,13 +127,13 @@ controlled-told w next side given seen (Ok step) is told =
     (subst (IsSeenOf (arrived step.world given)) (ap (controlled-seen-or step.seen) is) (told step refl))
 controlled-told w next side given seen (Err fault) is told = cc is
 
-event-in-place : (w next : Controlled Both) (given : Event) (seen : Seen) → happens_to kinds_control w given ≡ Ok (record { after = next; seen = seen })
+event-in-place : (w next : ControlledWorld Both) (given : Event) (seen : Seen) → happens_to kinds_control w given ≡ Ok (record { after = next; seen = seen })
     → IsSeenOf (arrived next.world given) seen
 event-in-place w next given seen is =
     let said = said_by kinds_control (congestion_of w (actor given)) in
     controlled-told w next (actor given) given seen (happens w.world given said) is (λ step. event-told w.world given said step)
 
 -- Whatever is seen of an event, the bytes that arrived have the data that it delivers.
-pub event_is_told : (w next : Controlled Both) (given : Event) (seen : Seen) (bytes : List ℕ)
+pub event_is_told : (w next : ControlledWorld Both) (given : Event) (seen : Seen) (bytes : List ℕ)
     → happens_to kinds_control w given ≡ Ok (record { after = next; seen = seen }) → bytes ≡ arrived next.world given → IsSeenOf bytes seen
 event_is_told w next given seen bytes is same = subst (λ (b : List ℕ). IsSeenOf b seen) (sym same) (event-in-place w next given seen is)

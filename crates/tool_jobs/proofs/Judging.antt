@@ -11,14 +11,14 @@ use Rattle.tool_text.specs.declared.lines.error.LineError.{LineError}
 use Rattle.tool_text.specs.declared.lines.error.LineError.TheVariants as line_error
 use Rattle.tool_text.specs.declared.words.faults.LineFault.{LineFault}
 use Rattle.tool_text.specs.declared.words.faults.LineWhy.TheVariants as why
-use Rattle.two_ends.specs.Controlled.{Controlled}
+use Rattle.two_ends.specs.Controlled.{ControlledWorld}
 use Rattle.world_events.specs.declared.event.Event.{Event}
 
 -- a schedule after an event that took place
-abbrev led_on : Play → Controlled Both → Play
+abbrev led_on : Play → ControlledWorld Both → Play
 led_on old w = record old { events = old.events + 1; world = Some w }
 
-module _ (old : Play) (text new : List ℕ) (after : Controlled Both) where
+module _ (old : Play) (text new : List ℕ) (after : ControlledWorld Both) where
   judged-ok : (r : Result Scene LineFault) → ShowsEvent r text new after (Ok tt) → Judges run_job (by_scene old r) text new (led_on old after) (Ok tt)
   judged-ok (Ok scene) shown = (shown.0, ap (led_on old) shown.1, shown.2)
   judged-ok (Err fault) shown = cc shown.1
@@ -43,10 +43,10 @@ module _ (old : Play) (text new : List ℕ) (after : Controlled Both) where
         (subst (λ (v : LineVerdict Scene Play). Judges run_job v text new (led_on old after) (Ok tt)) (sym says)
         (judged-ok (event_shown number (world_of old) event) shown))
 
-    pub judged-else : (next : Play) (w : Controlled Both) → w ≡ world_of old → (error : LineError) → ShowsEvent (event_shown number w event) text new after (Err error)
+    pub judged-else : (next : Play) (w : ControlledWorld Both) → w ≡ world_of old → (error : LineError) → ShowsEvent (event_shown number w event) text new after (Err error)
         → Judges run_job (says_event old number event) text new next (Err error)
     judged-else next w is error shown =
         let here : ShowsEvent (event_shown number (world_of old) event) text new after (Err error) =
-        subst (λ (world : Controlled Both). ShowsEvent (event_shown number world event) text new after (Err error)) is shown in
+        subst (λ (world : ControlledWorld Both). ShowsEvent (event_shown number world event) text new after (Err error)) is shown in
         subst (λ (v : LineVerdict Scene Play). Judges run_job v text new next (Err error)) (sym says)
         (judged-not next error (event_shown number (world_of old) event) here)

@@ -17,7 +17,7 @@ use Rattle.tool_jobs.specs.Scenes.{Scene, scene_events}
 use Rattle.tool_jobs.specs.Transcript.{IsPlayable, SentFew, ShowsEvent, by_step, event_shown, first_play, performed, run_job, world_at_first, world_of, world_or_start}
 use Rattle.tool_jobs.specs.declared.run.play.Play.{Play}
 use Rattle.two_ends.proofs.Numbering.{sent-few}
-use Rattle.two_ends.specs.Controlled.{Controlled, ControlledStep, begins_with, congestion_of, controls, happens_to, plays, said_by}
+use Rattle.two_ends.specs.Controlled.{ControlledWorld, ControlledStep, begins_with, congestion_of, controls, happens_to, plays, said_by}
 use Rattle.two_ends.specs.World.{Half, Happening, WorldState, WorldStep, Calls, Delivers, as_sent, delivers_frame, half_of, half_steps, happening_of, is_far_frame, is_full, takes_place, unless_far, unless_full, with_half}
 use Rattle.two_ends.specs.declared.frames.SentFrame.{SentFrame}
 use Rattle.world_events.specs.Actors.{actor, other}
@@ -88,50 +88,50 @@ happening-grows w (Delivers from index) n few = arrival-grows w from (slice_get 
 
 -- the same of the two ends with their congestion controls
 
-abbrev GrowsControlled : Controlled Both → ℕ → Result (ControlledStep Both) WorldFault → Type 0
+abbrev GrowsControlled : ControlledWorld Both → ℕ → Result (ControlledStep Both) WorldFault → Type 0
 GrowsControlled w n (Ok step) = SentFew step.after (n + 1)
 GrowsControlled w n (Err reason) = n < 2 ^ 47 - 1 → reason ≢ fault.Full
 
-controlled-grows : (w : Controlled Both) (side : Side) (n : ℕ) (result : Result WorldStep WorldFault) → Grows w.world n result
+controlled-grows : (w : ControlledWorld Both) (side : Side) (n : ℕ) (result : Result WorldStep WorldFault) → Grows w.world n result
     → GrowsControlled w n (controls kinds_control w side result)
 controlled-grows w Client n (Ok step) grows = grows
 controlled-grows w Server n (Ok step) grows = grows
 controlled-grows w side n (Err reason) grows = grows
 
-event-grows : (w : Controlled Both) (event : Event) (n : ℕ) → SentFew w n → GrowsControlled w n (happens_to kinds_control w event)
+event-grows : (w : ControlledWorld Both) (event : Event) (n : ℕ) → SentFew w n → GrowsControlled w n (happens_to kinds_control w event)
 event-grows w event n few =
     let said = said_by kinds_control (congestion_of w (actor event)) in
     controlled-grows w (actor event) n (takes_place w.world (happening_of event said)) (happening-grows w.world (happening_of event said) n few)
 
-pub one-more-frame : (w : Controlled Both) (event : Event) (step : ControlledStep Both) (n : ℕ) → SentFew w n → happens_to kinds_control w event ≡ Ok step
+pub one-more-frame : (w : ControlledWorld Both) (event : Event) (step : ControlledStep Both) (n : ℕ) → SentFew w n → happens_to kinds_control w event ≡ Ok step
     → SentFew step.after (n + 1)
 one-more-frame w event step n few is = subst (GrowsControlled w n) is (event-grows w event n few)
 
-pub has-room : (w : Controlled Both) (event : Event) (n : ℕ) → SentFew w n → n < 2 ^ 47 - 1 → happens_to kinds_control w event ≢ Err fault.Full
+pub has-room : (w : ControlledWorld Both) (event : Event) (n : ℕ) → SentFew w n → n < 2 ^ 47 - 1 → happens_to kinds_control w event ≢ Err fault.Full
 has-room w event n few room is = subst (GrowsControlled w n) is (event-grows w event n few) room refl
 
 -- the world of a schedule
 
 -- an event that was shown
-pub shown-few : (number : ℕ) (before after : Controlled Both) (event : Event) (old new : List ℕ) (n : ℕ)
+pub shown-few : (number : ℕ) (before after : ControlledWorld Both) (event : Event) (old new : List ℕ) (n : ℕ)
     → ShowsEvent (event_shown number before event) old new after (Ok tt) → SentFew before n → SentFew after (n + 1)
 shown-few number before after event old new n shows few = by (happens_to kinds_control before event) refl shows where
   by : (result : Result (ControlledStep Both) WorldFault) → happens_to kinds_control before event ≡ result
       → ShowsEvent (by_step number before event result) old new after (Ok tt) → SentFew after (n + 1)
-  by (Ok step) is shown = subst (λ (w : Controlled Both). SentFew w (n + 1)) (sym shown.1) (one-more-frame before event step n few is)
+  by (Ok step) is shown = subst (λ (w : ControlledWorld Both). SentFew w (n + 1)) (sym shown.1) (one-more-frame before event step n few is)
   by (Err fault.NoSuchFrame) is shown = cc shown.1
   by (Err fault.Full) is shown = cc shown.1
   by (Err fault.FarShort) is shown = cc shown.1
   by (Err fault.NoMemory) is shown = cc shown.1
 
-pub few-at : (client server : Config) (world : Option (Controlled Both)) (n : ℕ) → IfSome world (λ w. SentFew w n)
+pub few-at : (client server : Config) (world : Option (ControlledWorld Both)) (n : ℕ) → IfSome world (λ w. SentFew w n)
     → SentFew (world_or_start client server world) n
 few-at client server None n few Client = omega arith
 few-at client server None n few Server = omega arith
 few-at client server (Some w) n few side = few side
 
 -- a schedule after the line of an event
-pub playable-after : (old made : Play) (after : Controlled Both) → made ≡ record old { world = Some (world_of old) } → IsPlayable old
+pub playable-after : (old made : Play) (after : ControlledWorld Both) → made ≡ record old { world = Some (world_of old) } → IsPlayable old
     → SentFew after (old.events + 1)
     → IsPlayable (record made { events = made.events + 1; world = Some after })
 playable-after old made after is_made playable few =
@@ -149,7 +149,7 @@ room-after : (play : Play) (verdict : LineVerdict Scene Play) → Turns play ver
 room-after play (Accepted None next) turns room = record {
   few =
       subst (λ (n : ℕ). IfSome next.world (λ w. SentFew w n)) (sym turns.events)
-      (subst (λ (world : Option (Controlled Both)). IfSome world (λ w. SentFew w play.events)) (sym turns.world) room.few);
+      (subst (λ (world : Option (ControlledWorld Both)). IfSome world (λ w. SentFew w play.events)) (sym turns.world) room.few);
   events = omega (arith, turns.events, room.events);
 }
 room-after play (Accepted (Some scene) next) turns room =
@@ -158,7 +158,7 @@ room-after play (Accepted (Some scene) next) turns room =
     record {
       few =
           subst (λ (n : ℕ). IfSome next.world (λ w. SentFew w n)) (sym turns.events)
-          (subst (λ (world : Option (Controlled Both)). IfSome world (λ w. SentFew w (play.events + 1))) (sym turns.world) few);
+          (subst (λ (world : Option (ControlledWorld Both)). IfSome world (λ w. SentFew w (play.events + 1))) (sym turns.world) few);
       events = omega (arith, turns.events, turns.few);
     }
 room-after play (Refused why) turns room = tt
@@ -182,10 +182,10 @@ never-full input event =
     has-room (world_of last) event last.events (few-at last.client last.server last.world last.events room.few) (omega (arith, room.events))
 
 -- While the events are so few, each side has sent fewer than 2^23 frames.
-pub few_clients : (w : Controlled Both) → SentFew w most_events → length w.world.client.frames < 2 ^ 23
+pub few_clients : (w : ControlledWorld Both) → SentFew w most_events → length w.world.client.frames < 2 ^ 23
 few_clients w few = omega (arith, few Client)
 
-pub few_servers : (w : Controlled Both) → SentFew w most_events → length w.world.server.frames < 2 ^ 23
+pub few_servers : (w : ControlledWorld Both) → SentFew w most_events → length w.world.server.frames < 2 ^ 23
 few_servers w few = omega (arith, few Server)
 
 abbrev NeverFar : Type 0
@@ -202,7 +202,7 @@ never-far never input event =
     let room = room-last (lines_of input) 1 0 first_play (record { few = tt; events = omega arith }) in
     let few = few-at last.client last.server last.world last.events room.few in
     subst
-    (λ (w : Controlled Both).
+    (λ (w : ControlledWorld Both).
     length w.world.client.frames < 2 ^ 23 → length w.world.server.frames < 2 ^ 23 → happens_to kinds_control w event ≢ Err fault.FarShort)
     (sym (run-last (world_at_first (performed input)) (performed input).deeds (world_of last) (every-run input)))
     (λ clients servers.

@@ -20,7 +20,7 @@ use Rattle.tool_jobs.specs.Scenes.{Scene, scene_events, scene_text, IsRun}
 use Rattle.tool_jobs.specs.Transcript.{IsPlayable, SafeThroughout, with_header, by_line, by_scene, by_step, configures, event_shown, first_play, is_refused, judged_line, performed, run_job, says_event, says_plain, says_version, transcript, vectors_of, with_config, with_iss, with_offered, with_set, with_vectors, world_at_first, world_of, world_or_start}
 use Rattle.tool_jobs.specs.WorldLines.{end_lines}
 use Rattle.tool_jobs.specs.declared.run.play.Play.{Play}
-use Rattle.two_ends.specs.Controlled.{Controlled, ControlledStep, begins_with, controlled_after, happens_to, plays}
+use Rattle.two_ends.specs.Controlled.{ControlledWorld, ControlledStep, begins_with, controlled_after, happens_to, plays}
 use Rattle.two_ends.specs.Safe.{Safe}
 use Rattle.world_events.specs.declared.event.Event.{Event}
 use Rattle.world_events.specs.declared.event.Side.{Side}
@@ -113,11 +113,11 @@ next-turns play number Much = tt
 next-turns play number End = record { world = refl; events = refl; configured = λ _. (refl, refl) }
 
 -- once there is a world
-abbrev RunsOn : Controlled Both → Play → Gone Scene Play → Type 0
+abbrev RunsOn : ControlledWorld Both → Play → Gone Scene Play → Type 0
 RunsOn w play whole = IsRun w whole.deeds (world_of whole.last) × Configured play whole.last
 
-runs-by : (rest : Play → Gone Scene Play) (number given : ℕ) → ((next : Play) (w : Controlled Both) → next.world ≡ Some w → RunsOn w next (rest next))
-    → (play : Play) (w : Controlled Both) → play.world ≡ Some w → (verdict : LineVerdict Scene Play) → Turns play verdict
+runs-by : (rest : Play → Gone Scene Play) (number given : ℕ) → ((next : Play) (w : ControlledWorld Both) → next.world ≡ Some w → RunsOn w next (rest next))
+    → (play : Play) (w : ControlledWorld Both) → play.world ≡ Some w → (verdict : LineVerdict Scene Play) → Turns play verdict
     → RunsOn w play (gone_by play number given verdict rest)
 runs-by rest number given on play w is (Accepted None next) turns =
     let same = turns.configured (ap is_some is) in
@@ -126,12 +126,12 @@ runs-by rest number given on play w is (Accepted None next) turns =
 runs-by rest number given on play w is (Accepted (Some scene) next) turns =
     let here : world_of play ≡ w = ap (world_or_start play.client play.server) is in
     let more = on next scene.step.after turns.world in (
-      (turns.before ∙ here, ap (λ (v : Controlled Both). happens_to kinds_control v scene.event) (sym here) ∙ turns.takes_place, more.0),
+      (turns.before ∙ here, ap (λ (v : ControlledWorld Both). happens_to kinds_control v scene.event) (sym here) ∙ turns.takes_place, more.0),
       (more.1.0 ∙ turns.configured.0, more.1.1 ∙ turns.configured.1),
     )
 runs-by rest number given on play w is (Refused fault) turns = (ap (world_or_start play.client play.server) is, (refl, refl))
 
-runs-on : (lines : List (List ℕ)) (number given : ℕ) (play : Play) (w : Controlled Both) → play.world ≡ Some w
+runs-on : (lines : List (List ℕ)) (number given : ℕ) (play : Play) (w : ControlledWorld Both) → play.world ≡ Some w
     → RunsOn w play (gone_from run_job play number given lines)
 runs-on [] number given play w is = (ap (world_or_start play.client play.server) is, (refl, refl))
 runs-on (line ∷ lines) number given play w is =
@@ -142,7 +142,7 @@ runs-on (line ∷ lines) number given play w is =
 abbrev RunsFirst : Gone Scene Play → Type 0
 RunsFirst whole = IsRun (world_at_first whole) whole.deeds (world_of whole.last)
 
-first-by : (rest : Play → Gone Scene Play) (number given : ℕ) → ((next : Play) (w : Controlled Both) → next.world ≡ Some w → RunsOn w next (rest next))
+first-by : (rest : Play → Gone Scene Play) (number given : ℕ) → ((next : Play) (w : ControlledWorld Both) → next.world ≡ Some w → RunsOn w next (rest next))
     → ((next : Play) → next.world ≡ None → RunsFirst (rest next)) → (play : Play) → play.world ≡ None → (verdict : LineVerdict Scene Play) → Turns play verdict
     → RunsFirst (gone_by play number given verdict rest)
 first-by rest number given on first play is (Accepted None next) turns = first next (turns.world ∙ is)
@@ -154,7 +154,7 @@ first-by rest number given on first play is (Accepted (Some scene) next) turns =
     let here : world_of play ≡ world_at_first (rest next) =
     ap (world_or_start play.client play.server) is
     ∙ ap (λ (c : Config). world_or_start c play.server None) (sym client) ∙ ap (λ (s : Config). world_or_start last.client s None) (sym server) in
-    (turns.before ∙ here, ap (λ (v : Controlled Both). happens_to kinds_control v scene.event) (sym here) ∙ turns.takes_place, more.0)
+    (turns.before ∙ here, ap (λ (v : ControlledWorld Both). happens_to kinds_control v scene.event) (sym here) ∙ turns.takes_place, more.0)
 first-by rest number given on first play is (Refused fault) turns = ap (world_or_start play.client play.server) is
 
 runs-first : (lines : List (List ℕ)) (number given : ℕ) (play : Play) → play.world ≡ None → RunsFirst (gone_from run_job play number given lines)
@@ -169,16 +169,16 @@ every-run input = runs-first (lines_of input) 1 0 first_play refl
 
 -- what a run plays
 
-one-more : (w : Controlled Both) (scene : Scene) (events : List Event) → happens_to kinds_control w scene.event ≡ Ok scene.step
+one-more : (w : ControlledWorld Both) (scene : Scene) (events : List Event) → happens_to kinds_control w scene.event ≡ Ok scene.step
     → plays kinds_control scene.step.after events ≡ plays kinds_control w (scene.event ∷ events)
 one-more w scene events is = ap (λ (r : Result (ControlledStep Both) WorldFault). plays kinds_control (controlled_after w r) events) (sym is)
 
-pub run-last : (first : Controlled Both) (scenes : List Scene) (last : Controlled Both) → IsRun first scenes last
+pub run-last : (first : ControlledWorld Both) (scenes : List Scene) (last : ControlledWorld Both) → IsRun first scenes last
     → last ≡ plays kinds_control first (scene_events scenes)
 run-last first [] last run = run
 run-last first (scene ∷ scenes) last (before, is, rest) = run-last scene.step.after scenes last rest ∙ one-more first scene (scene_events scenes) is
 
-pub run-nth : (first : Controlled Both) (scenes : List Scene) (last : Controlled Both) → IsRun first scenes last → (n : ℕ) (scene : Scene)
+pub run-nth : (first : ControlledWorld Both) (scenes : List Scene) (last : ControlledWorld Both) → IsRun first scenes last → (n : ℕ) (scene : Scene)
     → slice_get scenes n ≡ Some scene
     → scene.before ≡ plays kinds_control first (take n (scene_events scenes))
 run-nth first [] last run n scene is = cc is
@@ -200,7 +200,7 @@ run-text input is =
     let whole = performed input in
     ap (λ (refusal : Option LineFault). flat_map scene_text whole.deeds ++ last_lines run_job whole.last whole.number refusal)
     (refused-none whole.refusal is)
-    ∙ ap (λ (w : Controlled Both). flat_map scene_text whole.deeds ++ end_lines w)
+    ∙ ap (λ (w : ControlledWorld Both). flat_map scene_text whole.deeds ++ end_lines w)
     (run-last (world_at_first whole) whole.deeds (world_of whole.last) (every-run input))
 
 -- the law of two_ends
@@ -215,7 +215,7 @@ abbrev BetweenSafe : Scene → Type 0
 BetweenSafe scene = Safe kinds_control scene.before × Safe kinds_control scene.step.after
 
 -- Where all of them are safe, so are those to which the first events lead.
-pub prefix-safe : (first : Controlled Both) (scenes : List Scene) (last : Controlled Both) → IsRun first scenes last → All BetweenSafe scenes
+pub prefix-safe : (first : ControlledWorld Both) (scenes : List Scene) (last : ControlledWorld Both) → IsRun first scenes last → All BetweenSafe scenes
     → Safe kinds_control last → (n : ℕ) → Safe kinds_control (plays kinds_control first (take n (scene_events scenes)))
 prefix-safe first [] last run all safe zero = subst (Safe kinds_control) run safe
 prefix-safe first [] last run all safe (suc n) = subst (Safe kinds_control) run safe
@@ -226,7 +226,7 @@ prefix-safe first (here ∷ scenes) last (before, is, rest) all safe (suc n) =
     (prefix-safe here.step.after scenes last rest (All-tail BetweenSafe here scenes all) safe n)
 
 -- The worlds of a run whose first is safe after all events are safe.
-pub run-safe : (first : Controlled Both) (scenes : List Scene) (last : Controlled Both) → IsRun first scenes last
+pub run-safe : (first : ControlledWorld Both) (scenes : List Scene) (last : ControlledWorld Both) → IsRun first scenes last
     → ((events : List Event) → Safe kinds_control (plays kinds_control first events))
     → All BetweenSafe scenes × Safe kinds_control last
 run-safe first [] last run safe = (All-nil BetweenSafe, subst (Safe kinds_control) (sym run) (safe []))

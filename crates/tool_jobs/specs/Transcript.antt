@@ -13,7 +13,7 @@ use Rattle.feature_lists.specs.declared.wishes.PreferFault.{PreferFault}
 use Rattle.feature_lists.specs.declared.wishes.Wanted.{Wanted}
 use Rattle.feature_machine.specs.Lists.{with_wish, with_offer}
 use Rattle.ccid_two.specs.Kinds.{Both, at_first, kinds_control}
-use Rattle.two_ends.specs.Controlled.{Controlled, ControlledStep, begins_with, happens_to}
+use Rattle.two_ends.specs.Controlled.{ControlledWorld, ControlledStep, begins_with, happens_to}
 use Rattle.two_ends.specs.World.{half_of}
 use Rattle.dccp_endpoint.specs.Drafts.{Fits}
 use Rattle.two_ends.specs.Safe.{Safe}
@@ -42,16 +42,16 @@ abbrev pub first_play : Play
 first_play = record { events = 0; is_configured = false; client = usual role.Client; server = usual role.Server; world = None }
 
 -- two ends of these configurations that have sent and received nothing, each with its own congestion control
-abbrev pub starts : Config → Config → Controlled Both
+abbrev pub starts : Config → Config → ControlledWorld Both
 starts client server = begins_with kinds_control client server at_first at_first
 
 -- the world that events have led to, or that of two ends to which nothing has happened
-abbrev pub world_or_start : Config → Config → Option (Controlled Both) → Controlled Both
+abbrev pub world_or_start : Config → Config → Option (ControlledWorld Both) → ControlledWorld Both
 world_or_start client server None = starts client server
 world_or_start client server (Some w) = w
 
 -- The world of a schedule: until its first event, that of the two configurations.
-abbrev pub world_of : Play → Controlled Both
+abbrev pub world_of : Play → ControlledWorld Both
 world_of play = world_or_start play.client play.server play.world
 
 -- A delivery names no frame; its name follows `deliver `.
@@ -120,13 +120,13 @@ with_offered side feature place mandatory play = with_config side (offering (con
 
 -- An event that takes place, or the fault of its line: it names no frame. (No schedule leads to a world without room
 -- for the event, or to a frame that is far. Some fault has to be named for these cases, which the code does not have.)
-abbrev pub by_step : ℕ → Controlled Both → Event → Result (ControlledStep Both) WorldFault → Result Scene LineFault
+abbrev pub by_step : ℕ → ControlledWorld Both → Event → Result (ControlledStep Both) WorldFault → Result Scene LineFault
 by_step number before event (Ok step) = Ok (record { number = number; before = before; event = event; step = step })
 by_step number before event (Err fault.NoSuchFrame) = Err no_such_frame
 by_step number before event (Err _) = Err (whole_line why.TooManyEvents)
 
 -- An event of a world, under the number of its line.
-abbrev pub event_shown : ℕ → Controlled Both → Event → Result Scene LineFault
+abbrev pub event_shown : ℕ → ControlledWorld Both → Event → Result Scene LineFault
 event_shown number before event = by_step number before event (happens_to kinds_control before event)
 
 -- an event that took place is counted, and the schedule goes on from the world that it left
@@ -170,13 +170,13 @@ abbrev pub run_job : Job Scene Play
 run_job = record { judged = judged_line; told = scene_text; ending = λ play. end_lines (world_of play) }
 
 -- An event was shown so, unless memory was not found.
-abbrev pub ShowsEvent : Result Scene LineFault → List ℕ → List ℕ → Controlled Both → Result (Unit {0}) LineError → Type 0
+abbrev pub ShowsEvent : Result Scene LineFault → List ℕ → List ℕ → ControlledWorld Both → Result (Unit {0}) LineError → Type 0
 ShowsEvent shown old new after (Err line_error.NoMemory) = Unit {0}
 ShowsEvent (Ok scene) old new after answer = (new ≡ old ++ scene_text scene) × (after ≡ scene.step.after) × (answer ≡ Ok tt)
 ShowsEvent (Err fault) old new after answer = (new ≡ old) × (answer ≡ Err (line_error.Refused fault))
 
 -- Neither side has sent more frames than this.
-abbrev pub SentFew : Controlled Both → ℕ → Type 0
+abbrev pub SentFew : ControlledWorld Both → ℕ → Type 0
 SentFew w most = (side : Side) → length (half_of w.world side).frames ≤ most
 
 -- A client and a server, whose fields fit their widths.
@@ -219,5 +219,5 @@ abbrev pub SafeThroughout : List ℕ → Type 0
 SafeThroughout input = IsSafeThroughout (performed input)
 
 -- The two ends as they are configured at last, to which nothing has happened.
-abbrev pub world_at_first : Gone Scene Play → Controlled Both
+abbrev pub world_at_first : Gone Scene Play → ControlledWorld Both
 world_at_first whole = starts whole.last.client whole.last.server

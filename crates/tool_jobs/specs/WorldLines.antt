@@ -2,7 +2,7 @@
 use Rattle.std.specs.Prelude.{ℕ, ◌++◌, List, [], slice_get, Option, Some, None}
 use Rattle.ccid_two.specs.Kinds.{Both}
 use Rattle.tool_jobs.specs.EndLines.{bytes_line, end_line}
-use Rattle.two_ends.specs.Controlled.{Controlled, end_of_side}
+use Rattle.two_ends.specs.Controlled.{ControlledWorld, end_of_side}
 use Rattle.two_ends.specs.World.{WorldState, half_of}
 use Rattle.two_ends.specs.declared.frames.SentFrame.{SentFrame}
 use Rattle.world_events.specs.declared.event.Side.{Side}
@@ -36,5 +36,5 @@ abbrev pub sent_line : WorldState → Side → ℕ → List ℕ
 sent_line w side before = sent_frame_line side before (slice_get (half_of w side).frames before)
 
 -- the last lines of a schedule that was not refused, the line of the client first
-abbrev pub end_lines : Controlled Both → List ℕ
+abbrev pub end_lines : ControlledWorld Both → List ℕ
 end_lines w = end_line Client (end_of_side w Client) ++ end_line Server (end_of_side w Server)

@@ -22,7 +22,7 @@ use Rattle.dccp_endpoint.specs.declared.config.Config.{Config}
 use Rattle.dccp_options.specs.Vectors.{report_of}
 use Rattle.dccp_states.specs.declared.phase.Role.TheVariants as role
 use Rattle.two_ends.specs.Asked.{AllIsAsked, KeepsInitialValues}
-use Rattle.two_ends.specs.Controlled.{Controlled, begins_with, congestion_of, controlled_after, controls, happens_to, plays, said_by}
+use Rattle.two_ends.specs.Controlled.{ControlledWorld, begins_with, congestion_of, controlled_after, controls, happens_to, plays, said_by}
 use Rattle.two_ends.specs.Delivered.{DeliversItsData, IsDeliveredOnce}
 use Rattle.two_ends.specs.Frames.{options_in, packet_of, packet_options}
 use Rattle.two_ends.specs.Numbered.{Facts}
@@ -112,10 +112,10 @@ module _ {C : Type 0} (control : Control C) (lawful : IsLawful control) where
         (sends-so e given f.hearing f.sending f.calls has.because.calls))
 
     -- of both sides
-    abbrev AreHonest : Controlled C → Type 0
+    abbrev AreHonest : ControlledWorld C → Type 0
     AreHonest w = IsHonest w.for_client w.world.server.processed × IsHonest w.for_server w.world.client.processed
 
-    honest-after : (w : Controlled C) → IsHeld SideInvariant w.world → AreHonest w → (side : Side) (r : Result WorldStep WorldFault) → Takes w.world side r
+    honest-after : (w : ControlledWorld C) → IsHeld SideInvariant w.world → AreHonest w → (side : Side) (r : Result WorldStep WorldFault) → Takes w.world side r
         → AreHonest (controlled_after w (controls control w side r))
     honest-after w held h side _ (Refused why) = h
     honest-after w held h Client _ (Steps arrived given room from) = (
@@ -127,7 +127,7 @@ module _ {C : Type 0} (control : Control C) (lawful : IsLawful control) where
       acting-honest w.world held Server arrived given from w.for_server h.1,
     )
 
-    honest-from : (w : Controlled C) (events : List Event) → IsHeld SideInvariant w.world → AreHonest w → AreHonest (plays control w events)
+    honest-from : (w : ControlledWorld C) (events : List Event) → IsHeld SideInvariant w.world → AreHonest w → AreHonest (plays control w events)
     honest-from w [] held h = h
     honest-from w (event ∷ events) held h =
         let said : Said = said_by control (congestion_of w (actor event)) in
@@ -138,10 +138,10 @@ module _ {C : Type 0} (control : Control C) (lawful : IsLawful control) where
         (honest-after w held h (actor event) r takes)
 
     module _ (client server : Config) (for_client for_server : C) (events : List Event) (client_fits : Fits client) (server_fits : Fits server) where
-      abbrev start : Controlled C
+      abbrev start : ControlledWorld C
       start = begins_with control client server for_client for_server
 
-      abbrev last : Controlled C
+      abbrev last : ControlledWorld C
       last = plays control start events
 
       same : last.world ≡ world_after_all (at_start client server) (occurring control start events)
@@ -182,24 +182,24 @@ module _ {C : Type 0} (control : Control C) (lawful : IsLawful control) where
           (plays-roles is_client is_server)
           last-heard
 
-    pub reached-held : (w : Controlled C) → ReachedByEvents control w → IsHeld SideInvariant w.world
+    pub reached-held : (w : ControlledWorld C) → ReachedByEvents control w → IsHeld SideInvariant w.world
     reached-held w r =
-        subst (λ (v : Controlled C). IsHeld SideInvariant v.world) (sym r.same)
+        subst (λ (v : ControlledWorld C). IsHeld SideInvariant v.world) (sym r.same)
         (last-held r.client r.server r.for_client r.for_server r.events r.client_fits r.server_fits)
 
     -- what `step` answers of data
-    pub reached-delivers : (w : Controlled C) → ReachedByEvents control w → (event : Event) (new : Controlled C) (result : Result Seen WorldFault)
+    pub reached-delivers : (w : ControlledWorld C) → ReachedByEvents control w → (event : Event) (new : ControlledWorld C) (result : Result Seen WorldFault)
         → IfOk result (λ seen. happens_to control w event ≡ Ok (record { after = new; seen = seen }))
         → IfOk result (λ seen. DeliversItsData w.world event new.world seen)
     reached-delivers w r event new (Ok seen) took = delivers-so control w (reached-held w r) event new seen took
     reached-delivers w r event new (Err fault) none = tt
 
-    pub reached-facts : (w : Controlled C) → ReachedByEvents control w → Facts w.world
+    pub reached-facts : (w : ControlledWorld C) → ReachedByEvents control w → Facts w.world
     reached-facts w r =
-        subst (λ (v : Controlled C). Facts v.world) (sym r.same)
+        subst (λ (v : ControlledWorld C). Facts v.world) (sym r.same)
         (plays-facts r.client r.server r.for_client r.for_server r.events r.client_fits r.server_fits)
 
-    pub reached-safe : (w : Controlled C) → ReachedByEvents control w → Safe control w
+    pub reached-safe : (w : ControlledWorld C) → ReachedByEvents control w → Safe control w
     reached-safe w r =
         subst (Safe control) (sym r.same)
         (plays-safe r.client r.server r.for_client r.for_server r.events r.client_fits r.server_fits r.is_client r.is_server)

@@ -29,7 +29,7 @@ use Rattle.world_events.specs.declared.event.Side.TheVariants.{Client, Server}
 use Rattle.two_ends.specs.declared.frames.SentFrame.{SentFrame}
 use Rattle.dccp_endpoint.specs.End.{floor_of}
 use Rattle.two_ends.specs.CameOf.{CameOfLists, CameOfLocation}
-use Rattle.two_ends.specs.Controlled.{Controlled, congestion_of}
+use Rattle.two_ends.specs.Controlled.{ControlledWorld, congestion_of}
 use Rattle.two_ends.specs.Counted.{AreAmongFirst, AreResets}
 use Rattle.two_ends.specs.Frames.{is_reset}
 use Rattle.two_ends.specs.Negotiated.{Agree, HasSent, Initial, IsNotNegotiable, IsServerPriority, IsSettled, Origin, Reconciled, Told as ToldValue, last_list_sent, last_value, list_said, pair_was_negotiated, value_said}
@@ -234,7 +234,7 @@ module _ (w : WorldState) where
         (resets sent.index sent.frame sent.packet sent.is_there sent.is_packet
         (sent.is_numbered ∙ or-any (half_of w side).processed has_it.0 0 n has_it.1 ∙ has_it.2))
 
-module _ {C : Type 0} (control : Control C) (w : Controlled C) (heard : Heard control w) (side : Side) (n : ℕ) where
+module _ {C : Type 0} (control : Control C) (w : ControlledWorld C) (heard : Heard control w) (side : Side) (n : ℕ) where
   pub reported-processed : Has (control.flight (congestion_of w side)) n Reported → Contains (half_of w.world (other side)).processed n
   reported-processed is = heard side n ((numbers_reported-exact (control.flight (congestion_of w side)) n).1 is)
 

@@ -41,7 +41,7 @@ use Rattle.world_events.specs.declared.event.Side.TheVariants.{Client, Server}
 use Rattle.world_events.specs.declared.event.WorldFault.{WorldFault}
 use Rattle.world_events.specs.declared.event.WorldFault.TheVariants as fault
 use Rattle.two_ends.specs.declared.frames.SentFrame.{SentFrame}
-use Rattle.two_ends.specs.Controlled.{Controlled, ControlledStep, congestion_of, controlled, controlled_after, controls, happens_to, said_by}
+use Rattle.two_ends.specs.Controlled.{ControlledWorld, ControlledStep, congestion_of, controlled, controlled_after, controls, happens_to, said_by}
 use Rattle.two_ends.specs.Delivered.{DeliversFrame, DeliversIn, DeliversItsData, IsDeliveredOnce, delivered_by, frame_delivered, frames_delivered, named_if, place_delivered}
 use Rattle.two_ends.specs.Reported.{IsOnce}
 use Rattle.two_ends.specs.Frames.{packet_of}
@@ -367,12 +367,12 @@ named-one from index place zero named there = (refl, same_Some (from, index) nam
 named-one from index place (suc i) named there = cc there
 
 module _ {C : Type 0} (control : Control C) where
-  controlled-world : (w : Controlled C) (side : Side) (step : WorldStep) → (controlled control w side step).world ≡ step.world
+  controlled-world : (w : ControlledWorld C) (side : Side) (step : WorldStep) → (controlled control w side step).world ≡ step.world
   controlled-world w Client taking = refl
   controlled-world w Server taking = refl
 
-  controls-by : (w : Controlled C) → IsHeld SideInvariant w.world → (e : Event) (said : Said) (r : Result WorldStep WorldFault)
-      → happens w.world e said ≡ r → (new : Controlled C) (seen : Seen)
+  controls-by : (w : ControlledWorld C) → IsHeld SideInvariant w.world → (e : Event) (said : Said) (r : Result WorldStep WorldFault)
+      → happens w.world e said ≡ r → (new : ControlledWorld C) (seen : Seen)
       → controls control w (actor e) r ≡ Ok (record { after = new; seen = seen }) → DeliversItsData w.world e new.world seen
   controls-by w h e said (Err why) is new seen same = cc same
   controls-by w h e said (Ok step) is new seen same = λ place delivered.
@@ -382,17 +382,17 @@ module _ {C : Type 0} (control : Control C) where
       (step-delivers w.world h e said step is place (ap (λ (s : ControlledStep C). place_delivered s.seen) stepped ∙ delivered))
 
   -- What a step delivers are the data of the frame that arrives.
-  pub delivers-so : (w : Controlled C) → IsHeld SideInvariant w.world → (e : Event) (new : Controlled C) (seen : Seen)
+  pub delivers-so : (w : ControlledWorld C) → IsHeld SideInvariant w.world → (e : Event) (new : ControlledWorld C) (seen : Seen)
       → happens_to control w e ≡ Ok (record { after = new; seen = seen }) → DeliversItsData w.world e new.world seen
   delivers-so w h e new seen same = controls-by w h e (said_by control (congestion_of w (actor e))) _ refl new seen same
 
   -- The frame whose data an event delivers.
-  record DeliveredNow (w : Controlled C) (e : Event) (i : ℕ) (named : Side × ℕ) : Type 0 where
+  record DeliveredNow (w : ControlledWorld C) (e : Event) (i : ℕ) (named : Side × ℕ) : Type 0 where
     alone : i ≡ 0
     place : ℕ × ℕ
     delivers : DeliversFrame w.world (controlled_after w (happens_to control w e)).world named.0 named.1 place
 
-  delivered-now : (w : Controlled C) → IsHeld SideInvariant w.world → (e : Event) (i : ℕ) (named : Side × ℕ)
+  delivered-now : (w : ControlledWorld C) → IsHeld SideInvariant w.world → (e : Event) (i : ℕ) (named : Side × ℕ)
       → slice_get (delivered_by e (happens_to control w e)) i ≡ Some named → DeliveredNow w e i named
   delivered-now w h e i named there = by (happens_to control w e) refl there where
     now : (r : Result (ControlledStep C) WorldFault) (step : ControlledStep C) → happens_to control w e ≡ r → r ≡ Ok step → (f : Event) → e ≡ f
@@ -409,7 +409,7 @@ module _ {C : Type 0} (control : Control C) where
           alone = one.0;
           place = place;
           delivers =
-              subst (λ (v : Controlled C). DeliversFrame w.world v.world named.0 named.1 place) (sym (ap (controlled_after w) (same ∙ is)))
+              subst (λ (v : ControlledWorld C). DeliversFrame w.world v.world named.0 named.1 place) (sym (ap (controlled_after w) (same ∙ is)))
               (subst (λ (n : Side × ℕ). DeliversFrame w.world step.after.world n.0 n.1 place) one.1 its);
         }
     now r step same is _ at p place_is there = cc there
@@ -419,11 +419,11 @@ module _ {C : Type 0} (control : Control C) where
     by (Ok step) same there = now (Ok step) step same refl e refl (place_delivered step.seen) refl there
 
   module _ (effects : EveryStepHasOneEffect) where
-    module _ (w : Controlled C) (h : IsHeld SideInvariant w.world) (e : Event) where
+    module _ (w : ControlledWorld C) (h : IsHeld SideInvariant w.world) (e : Event) where
       abbrev r : Result WorldStep WorldFault
       r = happens w.world e (said_by control (congestion_of w (actor e)))
 
-      abbrev next : Controlled C
+      abbrev next : ControlledWorld C
       next = controlled_after w (happens_to control w e)
 
       next-world : next.world ≡ world_after w.world r
@@ -448,12 +448,12 @@ module _ {C : Type 0} (control : Control C) where
       never-now i named d p =
           not-again w.world next.world named.0 named.1 d.place d.delivers (held-once next.world next-held (other named.0)) p
 
-    once-more : (w : Controlled C) (h : IsHeld SideInvariant w.world) (e : Event) (later : List (Side × ℕ)) (i : ℕ) (named : Side × ℕ)
+    once-more : (w : ControlledWorld C) (h : IsHeld SideInvariant w.world) (e : Event) (later : List (Side × ℕ)) (i : ℕ) (named : Side × ℕ)
         → ((j : ℕ) → slice_get later j ≡ Some named → ⊥) → IsPast w.world named → StandsAt (delivered_by e (happens_to control w e)) later i named → ⊥
     once-more w h e later i named never p (InFront now) = never-now w h e i named (delivered-now w h e i named now) p
     once-more w h e later i named never p (Following j same there) = never j there
 
-    never-again : (w : Controlled C) (events : List Event) → IsHeld SideInvariant w.world → (i : ℕ) (named : Side × ℕ)
+    never-again : (w : ControlledWorld C) (events : List Event) → IsHeld SideInvariant w.world → (i : ℕ) (named : Side × ℕ)
         → slice_get (frames_delivered control w events) i ≡ Some named → IsPast w.world named → ⊥
     never-again w [] h i named there p = cc there
     never-again w (e ∷ events) h i named there p =
@@ -461,7 +461,7 @@ module _ {C : Type 0} (control : Control C) where
         (λ j later. never-again (next w h e) events (next-held w h e) j named later (next-past w h e named p)) p
         (stands-at (delivered_by e (happens_to control w e)) (frames_delivered control (next w h e) events) i named there)
 
-    module _ (w : Controlled C) (h : IsHeld SideInvariant w.world) (e : Event) (events : List Event) where
+    module _ (w : ControlledWorld C) (h : IsHeld SideInvariant w.world) (e : Event) (events : List Event) where
       abbrev now : List (Side × ℕ)
       now = delivered_by e (happens_to control w e)
 
@@ -484,7 +484,7 @@ module _ {C : Type 0} (control : Control C) where
           omega (arith, is, other_is, ends)
 
     -- No frame's data are delivered twice.
-    pub delivered-once : (w : Controlled C) (events : List Event) → IsHeld SideInvariant w.world → IsDeliveredOnce control w events
+    pub delivered-once : (w : ControlledWorld C) (events : List Event) → IsHeld SideInvariant w.world → IsDeliveredOnce control w events
     delivered-once w [] h i j named one other = cc one
     delivered-once w (e ∷ events) h i j named one other =
         at-one w h e events i j named (λ m n first second. delivered-once (next w h e) events (next-held w h e) m n named first second)

@@ -22,7 +22,7 @@ use Rattle.world_events.specs.declared.event.Side.TheVariants.{Client, Server}
 use Rattle.world_events.specs.declared.event.WorldFault.{WorldFault}
 use Rattle.two_ends.specs.declared.frames.SentFrame.{SentFrame}
 use Rattle.two_ends.specs.Asked.{AllIsAsked, KeepsInitialValues, row_for}
-use Rattle.two_ends.specs.Controlled.{Controlled}
+use Rattle.two_ends.specs.Controlled.{ControlledWorld}
 use Rattle.two_ends.specs.Numbered.{AreNumbered, Facts, Hears, IsNumberOf, IsNumbered}
 use Rattle.two_ends.specs.Pairs.{FeatureAt, place_at}
 use Rattle.two_ends.specs.Negotiated.{Agree, Given}
@@ -230,7 +230,7 @@ module _ (w : WorldState) (h : IsHeld SideInvariant w) where
       }
 
 -- With what the ends believe received, the world is safe.
-pub kept-safe : {C : Type 0} (control : Control C) (w : Controlled C) → IsHeld SideInvariant w.world → HasRoles w.world → Heard control w → Safe control w
+pub kept-safe : {C : Type 0} (control : Control C) (w : ControlledWorld C) → IsHeld SideInvariant w.world → HasRoles w.world → Heard control w → Safe control w
 kept-safe control w h roles heard =
     let parts = kept-parts w.world h roles in
     record {

@@ -26,7 +26,7 @@ use Rattle.world_events.specs.declared.event.Side.{Side}
 use Rattle.world_events.specs.declared.event.Side.TheVariants.{Client, Server}
 use Rattle.world_events.specs.declared.event.WorldFault.{WorldFault}
 use Rattle.world_events.specs.declared.event.WorldFault.TheVariants as fault
-use Rattle.two_ends.specs.Controlled.{Controlled, begins_with, congestion_of, controls, happens_to, plays, said_by}
+use Rattle.two_ends.specs.Controlled.{ControlledWorld, begins_with, congestion_of, controls, happens_to, plays, said_by}
 use Rattle.two_ends.specs.Frames.{is_short_packet, packet_of}
 use Rattle.two_ends.specs.Numbered.{IsNumberOf}
 use Rattle.two_ends.specs.World.{Calls, Delivers, Happening, WorldState, WorldStep, delivers_frame, half_of, half_steps, happening_of, happens, is_far_frame, is_full, in_world, takes_place, unless_far}
@@ -164,14 +164,14 @@ module _ (w : WorldState) (h : IsHeld SideInvariant w) (clients : length w.clien
   happening-near (Delivers from index) is = delivery-near from index (slice_get (half_of w from).frames index) refl is
 
 module _ {C : Type 0} (control : Control C) where
-  controls-same : (w : Controlled C) (side : Side) (r : Result WorldStep WorldFault) → r ≢ Err fault.FarShort
+  controls-same : (w : ControlledWorld C) (side : Side) (r : Result WorldStep WorldFault) → r ≢ Err fault.FarShort
       → controls control w side r ≢ Err fault.FarShort
   controls-same w side (Ok step) near is = cc is
   controls-same w side (Err why) near is =
       let same : why ≡ fault.FarShort = cc is in
       near (ap Err same)
 
-  pub held-near : (w : Controlled C) → IsHeld SideInvariant w.world → length w.world.client.frames < 2 ^ 23 → length w.world.server.frames < 2 ^ 23
+  pub held-near : (w : ControlledWorld C) → IsHeld SideInvariant w.world → length w.world.client.frames < 2 ^ 23 → length w.world.server.frames < 2 ^ 23
       → (event : Event) → happens_to control w event ≢ Err fault.FarShort
   held-near w held clients servers event =
       let said = said_by control (congestion_of w (actor event)) in
@@ -183,6 +183,6 @@ module _ {C : Type 0} (control : Control C) (effects : EveryStepHasOneEffect) wh
       → length (plays control (begins_with control client server for_client for_server) events).world.server.frames < 2 ^ 23 → (event : Event)
       → happens_to control (plays control (begins_with control client server for_client for_server) events) event ≢ Err fault.FarShort
   plays-near client server for_client for_server events client_fits server_fits clients servers event =
-      let start : Controlled C = begins_with control client server for_client for_server in
+      let start : ControlledWorld C = begins_with control client server for_client for_server in
       held-near control (plays control start events)
       (plays-held control effects start (run-kept effects client server [] client_fits server_fits) events) clients servers event

@@ -37,7 +37,7 @@ use Rattle.world_events.specs.declared.event.Side.{Side}
 use Rattle.world_events.specs.declared.event.Side.TheVariants.{Client, Server}
 use Rattle.world_events.specs.declared.event.WorldFault.{WorldFault}
 use Rattle.world_events.specs.declared.event.WorldFault.TheVariants as fault
-use Rattle.two_ends.specs.Controlled.{Controlled, ControlledStep, begins_with, congestion_of, controlled, controlled_after, controls, happens_to, plays, said_by}
+use Rattle.two_ends.specs.Controlled.{ControlledWorld, ControlledStep, begins_with, congestion_of, controlled, controlled_after, controls, happens_to, plays, said_by}
 use Rattle.two_ends.specs.Reached.{IsBeginning}
 use Rattle.two_ends.specs.Preferred.{AsksFor, AsksNothing, IsAccepted, IsLastAsked, WantsValues, row_of, values_configured}
 use Rattle.two_ends.specs.World.{Half, HalfStep, Said, WorldState, WorldStep, delivers_frame, half_of, half_steps, happens, is_far_frame, is_full, unless_far, unless_full, with_half, world_after}
@@ -230,39 +230,39 @@ module _ (effects : EveryStepHasOneEffect) (w : WorldState) (held : IsHeld SideI
     by false room = other-set w acting side (half_steps (half_of w acting) None (input.Prefers key values)).half k (own room)
 
 module _ {C : Type 0} (control : Control C) (effects : EveryStepHasOneEffect) where
-  abbrev said : Controlled C → Event → Said
+  abbrev said : ControlledWorld C → Event → Said
   said w given = said_by control (congestion_of w (actor given))
 
-  abbrev next-world : Controlled C → Event → Controlled C
+  abbrev next-world : ControlledWorld C → Event → ControlledWorld C
   next-world w given = controlled_after w (happens_to control w given)
 
-  next-held : (w : Controlled C) → IsHeld SideInvariant w.world → (given : Event) → IsHeld SideInvariant (next-world w given).world
+  next-held : (w : ControlledWorld C) → IsHeld SideInvariant w.world → (given : Event) → IsHeld SideInvariant (next-world w given).world
   next-held w held given =
       let r : Result WorldStep WorldFault = happens w.world given (said w given) in
       subst (IsHeld SideInvariant) (sym (world-after control w (actor given) r))
       (step-kept effects w.world (actor given) r (event-taken w.world given (said w given)) held)
 
-  pub plays-held : (w : Controlled C) → IsHeld SideInvariant w.world → (events : List Event) → IsHeld SideInvariant (plays control w events).world
+  pub plays-held : (w : ControlledWorld C) → IsHeld SideInvariant w.world → (events : List Event) → IsHeld SideInvariant (plays control w events).world
   plays-held w held [] = held
   plays-held w held (first ∷ later) = plays-held (next-world w first) (next-held w held first) later
 
-  pub plays-joined : (w : Controlled C) (earlier later : List Event) → plays control w (earlier ++ later) ≡ plays control (plays control w earlier) later
+  pub plays-joined : (w : ControlledWorld C) (earlier later : List Event) → plays control w (earlier ++ later) ≡ plays control (plays control w earlier) later
   plays-joined w [] later = refl
   plays-joined w (first ∷ earlier) later = plays-joined (next-world w first) earlier later
 
   -- a side's preference, by whether it is full
-  abbrev asked-of : Controlled C → Side → Key → List ℕ → Bool → Result (ControlledStep C) WorldFault
+  abbrev asked-of : ControlledWorld C → Side → Key → List ℕ → Bool → Result (ControlledStep C) WorldFault
   asked-of w side key values full = controls control w side (unless w.world side (half_steps (half_of w.world side) None (input.Prefers key values)) full)
 
-  abbrev done : Controlled C → Seen → Result (ControlledStep C) WorldFault
+  abbrev done : ControlledWorld C → Seen → Result (ControlledStep C) WorldFault
   done after what = Ok (record { after = after; seen = what })
 
-  abbrev asked-world : Controlled C → Side → Key → List ℕ → Controlled C
+  abbrev asked-world : ControlledWorld C → Side → Key → List ℕ → ControlledWorld C
   asked-world w side key values =
       let step : HalfStep = half_steps (half_of w.world side) None (input.Prefers key values) in
       controlled control w side (record { world = with_half w.world side step.half; calls = step.calls; seen = step.seen })
 
-  accepted-so : (w : Controlled C) (side : Side) (feature : Feature) (place : Place) (values : List ℕ) → is_full (half_of w.world side) ≡ false
+  accepted-so : (w : ControlledWorld C) (side : Side) (feature : Feature) (place : Place) (values : List ℕ) → is_full (half_of w.world side) ≡ false
       → (prefers (half_of w.world side).end (feature, place) values).answer ≡ Ok tt → IsAccepted control w (event.Prefer side feature place values)
   accepted-so w side feature place values room answer =
       record {
@@ -272,7 +272,7 @@ module _ {C : Type 0} (control : Control C) (effects : EveryStepHasOneEffect) wh
             ∙ ap (λ (r : Result (Unit {0}) PreferFault). done (asked-world w side (feature, place) values) (seen_of_call refusal_of r)) answer;
       }
 
-  event-keeps : (w : Controlled C) → IsHeld SideInvariant w.world → (given : Event) (side : Side) (feature : Feature) (place : Place)
+  event-keeps : (w : ControlledWorld C) → IsHeld SideInvariant w.world → (given : Event) (side : Side) (feature : Feature) (place : Place)
       → (AsksFor side feature place given → IsAccepted control w given → ⊥)
       → latest (row_of (next-world w given).world side feature place) ≡ latest (row_of w.world side feature place)
   event-keeps w held given side feature place none =
@@ -299,7 +299,7 @@ module _ {C : Type 0} (control : Control C) (effects : EveryStepHasOneEffect) wh
       by (event.Close acting) unless_so = call-keeps effects w.world held acting None input.Closes tt side k
       by (event.Abort acting) unless_so = call-keeps effects w.world held acting None input.Aborts tt side k
 
-  nothing-asked : (w : Controlled C) → IsHeld SideInvariant w.world → (events : List Event) (side : Side) (feature : Feature) (place : Place)
+  nothing-asked : (w : ControlledWorld C) → IsHeld SideInvariant w.world → (events : List Event) (side : Side) (feature : Feature) (place : Place)
       → AsksNothing control w events side feature place
       → latest (row_of (plays control w events).world side feature place) ≡ latest (row_of w.world side feature place)
   nothing-asked w held [] side feature place none = refl
@@ -308,23 +308,23 @@ module _ {C : Type 0} (control : Control C) (effects : EveryStepHasOneEffect) wh
       ∙ event-keeps w held first side feature place none.0
 
   -- what an accepted preference makes of its row
-  record IsTaken (w after : Controlled C) (side : Side) (feature : Feature) (place : Place) (values : List ℕ) : Type 0 where
+  record IsTaken (w after : ControlledWorld C) (side : Side) (feature : Feature) (place : Place) (values : List ℕ) : Type 0 where
     wish : Wanted
     is_wish : wish_of feature place values ≡ Ok wish
     wants_it : latest (row_of after.world side feature place) ≡ Some wish
     leads : next-world w (event.Prefer side feature place values) ≡ after
 
-  done-both : (one other : Controlled C) (what seen_of_it : Seen) → done one what ≡ done other seen_of_it → (one ≡ other) × (what ≡ seen_of_it)
+  done-both : (one other : ControlledWorld C) (what seen_of_it : Seen) → done one what ≡ done other seen_of_it → (one ≡ other) × (what ≡ seen_of_it)
   done-both one other what seen_of_it is =
       let same : record { after = one; seen = what } ≡ record { after = other; seen = seen_of_it } = cc is in
       (ap (λ (s : ControlledStep C). s.after) same, ap (λ (s : ControlledStep C). s.seen) same)
 
-  controlled-rows : (w : Controlled C) (side : Side) (key : Key) (values : List ℕ) (feature : Feature) (place : Place)
+  controlled-rows : (w : ControlledWorld C) (side : Side) (key : Key) (values : List ℕ) (feature : Feature) (place : Place)
       → row_of (asked-world w side key values).world side feature place ≡ row_at (prefers (half_of w.world side).end key values).after.rows feature place
   controlled-rows w Client key values feature place = refl
   controlled-rows w Server key values feature place = refl
 
-  accepted-taken : (w : Controlled C) → IsHeld SideInvariant w.world → (side : Side) (feature : Feature) (place : Place) (values : List ℕ)
+  accepted-taken : (w : ControlledWorld C) → IsHeld SideInvariant w.world → (side : Side) (feature : Feature) (place : Place) (values : List ℕ)
       → (a : IsAccepted control w (event.Prefer side feature place values)) → IsTaken w a.after side feature place values
   accepted-taken w held side feature place values a = by (is_full (half_of w.world side)) refl where
     k : Key
@@ -346,36 +346,36 @@ module _ {C : Type 0} (control : Control C) (effects : EveryStepHasOneEffect) wh
           wish = its.wish;
           is_wish = its.is_wish;
           wants_it =
-              ap (λ (v : Controlled C). latest (row_of v.world side feature place)) (sym both.0)
+              ap (λ (v : ControlledWorld C). latest (row_of v.world side feature place)) (sym both.0)
               ∙ ap latest (controlled-rows w side k values feature place) ∙ its.wants_it;
           leads = ap (controlled_after w) a.takes_place;
         }
 
-  sound-row : (w : Controlled C) → IsHeld SideInvariant w.world → (side : Side) (feature : Feature) (place : Place)
+  sound-row : (w : ControlledWorld C) → IsHeld SideInvariant w.world → (side : Side) (feature : Feature) (place : Place)
       → IsSoundRow (row_of w.world side feature place)
   sound-row w held side feature place = ((kept-proper w.world held side).rows.sound.each feature place).sound
 
-  asked-wants : (w : Controlled C) → IsHeld SideInvariant w.world → (events : List Event) (side : Side) (feature : Feature) (place : Place) (values : List ℕ)
+  asked-wants : (w : ControlledWorld C) → IsHeld SideInvariant w.world → (events : List Event) (side : Side) (feature : Feature) (place : Place) (values : List ℕ)
       → IsLastAsked control w events side feature place values → WantsValues (row_of (plays control w events).world side feature place) values
   asked-wants w held events side feature place values asked =
-      let middle : Controlled C = plays control w asked.before in
+      let middle : ControlledWorld C = plays control w asked.before in
       let middle_held : IsHeld SideInvariant middle.world = plays-held w held asked.before in
       let given : Event = event.Prefer side feature place values in
       let taken = accepted-taken middle middle_held side feature place values asked.accepted in
       let after_held : IsHeld SideInvariant asked.accepted.after.world =
-      subst (λ (v : Controlled C). IsHeld SideInvariant v.world) taken.leads (next-held middle middle_held given) in
+      subst (λ (v : ControlledWorld C). IsHeld SideInvariant v.world) taken.leads (next-held middle middle_held given) in
       let ends : plays control w events ≡ plays control asked.accepted.after asked.since =
       ap (plays control w) asked.in_order ∙ plays-joined w asked.before (given ∷ asked.since)
-      ∙ ap (λ (v : Controlled C). plays control v asked.since) taken.leads in
+      ∙ ap (λ (v : ControlledWorld C). plays control v asked.since) taken.leads in
       let wish : latest (row_of (plays control w events).world side feature place) ≡ Some taken.wish =
-      ap (λ (v : Controlled C). latest (row_of v.world side feature place)) ends
+      ap (λ (v : ControlledWorld C). latest (row_of v.world side feature place)) ends
       ∙ nothing-asked asked.accepted.after after_held asked.since side feature place asked.nothing_since
       ∙ taken.wants_it in
       subst (WantsValues (row_of (plays control w events).world side feature place)) (entries-are feature place taken.wish values taken.is_wish)
       (wants (row_of (plays control w events).world side feature place) (Some taken.wish)
       (sound-row (plays control w events) (plays-held w held events) side feature place) wish)
 
-  unasked-wants : (w : Controlled C) → IsHeld SideInvariant w.world → (events : List Event) (side : Side) (feature : Feature) (place : Place)
+  unasked-wants : (w : ControlledWorld C) → IsHeld SideInvariant w.world → (events : List Event) (side : Side) (feature : Feature) (place : Place)
       → AsksNothing control w events side feature place
       → WantsValues (row_of (plays control w events).world side feature place) (entries_of (latest (row_of w.world side feature place)))
   unasked-wants w held events side feature place none =
@@ -383,7 +383,7 @@ module _ {C : Type 0} (control : Control C) (effects : EveryStepHasOneEffect) wh
       (sound-row (plays control w events) (plays-held w held events) side feature place) (nothing-asked w held events side feature place none)
 
   module _ (client server : Config) (for_client for_server : C) (events : List Event) (client_fits : Fits client) (server_fits : Fits server) where
-    abbrev start : Controlled C
+    abbrev start : ControlledWorld C
     start = begins_with control client server for_client for_server
 
     start-held : IsHeld SideInvariant start.world
@@ -408,23 +408,23 @@ module _ {C : Type 0} (control : Control C) (effects : EveryStepHasOneEffect) wh
         (unasked-wants start start-held events side feature place none)
 
   -- The same of any world that begins so.
-  pub last-asked-wanted : (start : Controlled C) (events : List Event) → IsBeginning control start → (side : Side) (feature : Feature) (place : Place)
+  pub last-asked-wanted : (start : ControlledWorld C) (events : List Event) → IsBeginning control start → (side : Side) (feature : Feature) (place : Place)
       (values : List ℕ) → IsLastAsked control start events side feature place values
       → WantsValues (row_of (plays control start events).world side feature place) values
   last-asked-wanted start events begins side feature place values =
       subst
-      (λ (w : Controlled C).
+      (λ (w : ControlledWorld C).
       IsLastAsked control w events side feature place values → WantsValues (row_of (plays control w events).world side feature place) values)
       (sym begins.same)
       (plays-asked-last begins.client begins.server begins.for_client begins.for_server events begins.client_fits begins.server_fits side feature place values)
 
   -- and where nothing was asked for
-  pub unasked-wanted : (start : Controlled C) (events : List Event) → IsBeginning control start → (side : Side) (feature : Feature) (place : Place)
+  pub unasked-wanted : (start : ControlledWorld C) (events : List Event) → IsBeginning control start → (side : Side) (feature : Feature) (place : Place)
       → AsksNothing control start events side feature place
       → WantsValues (row_of (plays control start events).world side feature place) (values_configured start.world side feature place)
   unasked-wanted start events begins side feature place =
       subst
-      (λ (w : Controlled C). AsksNothing control w events side feature place
+      (λ (w : ControlledWorld C). AsksNothing control w events side feature place
       → WantsValues (row_of (plays control w events).world side feature place) (values_configured w.world side feature place))
       (sym begins.same)
       (plays-unasked begins.client begins.server begins.for_client begins.for_server events begins.client_fits begins.server_fits side feature place)

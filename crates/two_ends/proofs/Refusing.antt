@@ -12,7 +12,7 @@ use Rattle.world_events.specs.declared.event.Side.{Side}
 use Rattle.world_events.specs.declared.event.WorldFault.{WorldFault}
 use Rattle.world_events.specs.declared.event.WorldFault.TheVariants as fault
 use Rattle.two_ends.specs.declared.frames.SentFrame.{SentFrame}
-use Rattle.two_ends.specs.Controlled.{Controlled, ControlledHalf, ControlledStep, controlled_half_steps, controls, happens_to}
+use Rattle.two_ends.specs.Controlled.{ControlledWorld, ControlledHalf, ControlledStep, controlled_half_steps, controls, happens_to}
 use Rattle.two_ends.specs.World.{ActorIsFull, DeliversFar, Half, LacksFrame, delivers_frame, half_of, is_far_at, is_far_frame, is_full, in_world, unless_far}
 
 -- where a list has nothing
@@ -44,7 +44,7 @@ roomy half room = by (is_full half) refl where
   by true full = absurd (room (leb-true (2 ^ 47 - 1) (length half.frames) full))
   by false full = refl
 
-module _ {C : Type 0} (control : Control C) (w : Controlled C) (from : Side) where
+module _ {C : Type 0} (control : Control C) (w : ControlledWorld C) (from : Side) where
   abbrev to : Half
   to = half_of w.world (other from)
 

@@ -42,7 +42,7 @@ use Rattle.world_events.specs.declared.event.Side.{Side}
 use Rattle.world_events.specs.declared.event.Side.TheVariants.{Client, Server}
 use Rattle.world_events.specs.declared.event.WorldFault.{WorldFault}
 use Rattle.two_ends.specs.Asked.{row_for}
-use Rattle.two_ends.specs.Controlled.{Controlled, begins_with, congestion_of, plays, said_by}
+use Rattle.two_ends.specs.Controlled.{ControlledWorld, begins_with, congestion_of, plays, said_by}
 use Rattle.two_ends.specs.Negotiated.{HasSent, IsServerPriority}
 use Rattle.two_ends.specs.Pairs.{FeatureAt, held_at, place_at}
 use Rattle.two_ends.specs.Shared.{ChangesByLists, IsShared, reconciled_for}
@@ -421,13 +421,13 @@ pub plays-changes : {C : Type 0} (control : Control C) (lawful : IsLawful contro
     → ChangesByLists (plays control (begins_with control client server for_client for_server) events).world
     (plays control (begins_with control client server for_client for_server) (events ++ next ∷ [])).world
 plays-changes {C} control lawful effects client server for_client for_server events next client_fits server_fits is_client is_server =
-    let start : Controlled C = begins_with control client server for_client for_server in
-    let w : Controlled C = plays control start events in
+    let start : ControlledWorld C = begins_with control client server for_client for_server in
+    let w : ControlledWorld C = plays control start events in
     let held : IsHeld SideInvariant w.world = plays-held control effects start (run-kept effects client server [] client_fits server_fits) events in
     let roles : HasRoles w.world =
     plays-roles control lawful effects client server for_client for_server events client_fits server_fits is_client is_server in
     let said : Said = said_by control (congestion_of w (actor next)) in
     let r : Result WorldStep WorldFault = happens w.world next said in
     let leads : (plays control start (events ++ next ∷ [])).world ≡ world_after w.world r =
-    ap (λ (v : Controlled C). v.world) (plays-joined control effects start events (next ∷ [])) ∙ world-after control w (actor next) r in
+    ap (λ (v : ControlledWorld C). v.world) (plays-joined control effects start events (next ∷ [])) ∙ world-after control w (actor next) r in
     subst (ChangesByLists w.world) (sym leads) (step-changes effects w.world held roles (actor next) r (event-taken w.world next said))

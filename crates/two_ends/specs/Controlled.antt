@@ -14,14 +14,14 @@ use Rattle.world_events.specs.declared.event.WorldFault.{WorldFault}
 use Rattle.world_events.specs.declared.event.WorldFault.TheVariants as fault
 
 -- the two ends with all that they sent and processed, and the congestion control of each
-pub record Controlled (C : Type 0) : Type 0 where
+pub record ControlledWorld (C : Type 0) : Type 0 where
   pub world : WorldState
   pub for_client : C
   pub for_server : C
 
 -- the world after an event that took place, and what was seen of the end's step
 pub record ControlledStep (C : Type 0) : Type 0 where
-  pub after : Controlled C
+  pub after : ControlledWorld C
   pub seen : Seen
 
 -- one side of it
@@ -35,12 +35,12 @@ pub record ControlledHalfStep (C : Type 0) : Type 0 where
   pub seen : Seen
 
 -- each side has a congestion control of its own
-abbrev pub congestion_of : {C : Type 0} → Controlled C → Side → C
+abbrev pub congestion_of : {C : Type 0} → ControlledWorld C → Side → C
 congestion_of w Client = w.for_client
 congestion_of w Server = w.for_server
 
 -- the end of a side, with its congestion control
-abbrev pub end_of_side : {C : Type 0} → Controlled C → Side → End C
+abbrev pub end_of_side : {C : Type 0} → ControlledWorld C → Side → End C
 end_of_side w side = record { state = (half_of w.world side).end; congestion = congestion_of w side }
 
 -- what a congestion control says when it is asked
@@ -60,26 +60,26 @@ controlled_half_steps control side arrived given =
     }
 
 -- the world after a step of a side, whose congestion control has heard of it
-abbrev pub controlled : {C : Type 0} → Control C → Controlled C → Side → WorldStep → Controlled C
+abbrev pub controlled : {C : Type 0} → Control C → ControlledWorld C → Side → WorldStep → ControlledWorld C
 controlled control w Client step = record w { world = step.world; for_client = after_calls control w.for_client step.calls }
 controlled control w Server step = record w { world = step.world; for_server = after_calls control w.for_server step.calls }
 
 -- an event that cannot happen calls no congestion control
-abbrev pub controls : {C : Type 0} → Control C → Controlled C → Side → Result WorldStep WorldFault → Result (ControlledStep C) WorldFault
+abbrev pub controls : {C : Type 0} → Control C → ControlledWorld C → Side → Result WorldStep WorldFault → Result (ControlledStep C) WorldFault
 controls control w side (Ok step) = Ok (record { after = controlled control w side step; seen = step.seen })
 controls control w side (Err fault) = Err fault
 
 -- one event
-abbrev pub happens_to : {C : Type 0} → Control C → Controlled C → Event → Result (ControlledStep C) WorldFault
+abbrev pub happens_to : {C : Type 0} → Control C → ControlledWorld C → Event → Result (ControlledStep C) WorldFault
 happens_to control w event = controls control w (actor event) (happens w.world event (said_by control (congestion_of w (actor event))))
 
 -- the world after an event; one that cannot happen changes nothing
-abbrev pub controlled_after : {C : Type 0} → Controlled C → Result (ControlledStep C) WorldFault → Controlled C
+abbrev pub controlled_after : {C : Type 0} → ControlledWorld C → Result (ControlledStep C) WorldFault → ControlledWorld C
 controlled_after w (Ok step) = step.after
 controlled_after w (Err _) = w
 
 -- a whole schedule
-abbrev pub plays : {C : Type 0} → Control C → Controlled C → List Event → Controlled C
+abbrev pub plays : {C : Type 0} → Control C → ControlledWorld C → List Event → ControlledWorld C
 plays control w [] = w
 plays control w (event ∷ events) = plays control (controlled_after w (happens_to control w event)) events
 
@@ -88,7 +88,7 @@ abbrev pub half_begins : {C : Type 0} → Control C → Config → C → Control
 half_begins control config congestion = record { half = half_at_start config; congestion = (begins control config congestion).congestion }
 
 -- two ends that have sent and received nothing, each with its congestion control started
-abbrev pub begins_with : {C : Type 0} → Control C → Config → Config → C → C → Controlled C
+abbrev pub begins_with : {C : Type 0} → Control C → Config → Config → C → C → ControlledWorld C
 begins_with control client server for_client for_server =
     record {
       world = at_start client server;
@@ -97,10 +97,10 @@ begins_with control client server for_client for_server =
     }
 
 -- A whole schedule of two ends that have sent and received nothing.
-abbrev pub plays_from_start : {C : Type 0} → Control C → Config → Config → C → C → List Event → Controlled C
+abbrev pub plays_from_start : {C : Type 0} → Control C → Config → Config → C → C → List Event → ControlledWorld C
 plays_from_start control client server for_client for_server events = plays control (begins_with control client server for_client for_server) events
 
 -- Where each side has sent fewer than 2^23 frames, the event is not refused for a frame that is far (own).
-abbrev pub IsNeverFar : {C : Type 0} → Control C → Controlled C → Event → Type 0
+abbrev pub IsNeverFar : {C : Type 0} → Control C → ControlledWorld C → Event → Type 0
 IsNeverFar control w event =
     length w.world.client.frames < 2 ^ 23 → length w.world.server.frames < 2 ^ 23 → happens_to control w event ≢ Err fault.FarShort

@@ -15,7 +15,7 @@ use Rattle.dccp_states.specs.declared.seen.Seen.TheVariants as seen
 use Rattle.world_events.specs.declared.event.Side.{Side}
 use Rattle.world_events.specs.declared.event.WorldFault.{WorldFault}
 use Rattle.two_ends.specs.declared.frames.SentFrame.{SentFrame}
-use Rattle.two_ends.specs.Controlled.{Controlled, ControlledStep, controlled_after, happens_to}
+use Rattle.two_ends.specs.Controlled.{ControlledWorld, ControlledStep, controlled_after, happens_to}
 use Rattle.two_ends.specs.Frames.{packet_of}
 use Rattle.two_ends.specs.World.{WorldState, half_of}
 
@@ -74,13 +74,13 @@ delivered_by event (Ok step) = frame_delivered event step.seen
 delivered_by event (Err _) = []
 
 -- the frames whose data a schedule delivers, one after another
-abbrev pub frames_delivered : {C : Type 0} → Control C → Controlled C → List Event → List (Side × ℕ)
+abbrev pub frames_delivered : {C : Type 0} → Control C → ControlledWorld C → List Event → List (Side × ℕ)
 frames_delivered control w [] = []
 frames_delivered control w (event ∷ events) =
     delivered_by event (happens_to control w event) ++ frames_delivered control (controlled_after w (happens_to control w event)) events
 
 -- No frame stands twice among them.
-abbrev pub IsDeliveredOnce : {C : Type 0} → Control C → Controlled C → List Event → Type 0
+abbrev pub IsDeliveredOnce : {C : Type 0} → Control C → ControlledWorld C → List Event → Type 0
 IsDeliveredOnce control w events =
     (i j : ℕ) (frame : Side × ℕ) → slice_get (frames_delivered control w events) i ≡ Some frame
     → slice_get (frames_delivered control w events) j ≡ Some frame → i ≡ j

@@ -12,7 +12,7 @@ use Rattle.world_events.specs.declared.event.Event.{Event}
 use Rattle.world_events.specs.declared.event.Event.TheVariants as event
 use Rattle.dccp_states.specs.declared.seen.Seen.TheVariants as seen
 use Rattle.world_events.specs.declared.event.Side.{Side}
-use Rattle.two_ends.specs.Controlled.{Controlled, controlled_after, happens_to, plays}
+use Rattle.two_ends.specs.Controlled.{ControlledWorld, controlled_after, happens_to, plays}
 use Rattle.two_ends.specs.World.{WorldState, half_of}
 
 -- the row of a side for a feature at a place
@@ -29,19 +29,19 @@ AsksFor side feature place (event.Prefer asked other there values) = (asked ≡ 
 AsksFor side feature place _ = ⊥
 
 -- The event takes place, and the call that it is is not refused.
-pub record IsAccepted {C : Type 0} (control : Control C) (w : Controlled C) (given : Event) : Type 0 where
-  pub after : Controlled C
+pub record IsAccepted {C : Type 0} (control : Control C) (w : ControlledWorld C) (given : Event) : Type 0 where
+  pub after : ControlledWorld C
   pub takes_place : happens_to control w given ≡ Ok (record { after = after; seen = seen.Called (Ok tt) })
 
 -- In this schedule the side is asked for no values of the feature, or refuses them.
-abbrev pub AsksNothing : {C : Type 0} → Control C → Controlled C → List Event → Side → Feature → Place → Type 0
+abbrev pub AsksNothing : {C : Type 0} → Control C → ControlledWorld C → List Event → Side → Feature → Place → Type 0
 AsksNothing control w [] side feature place = Unit {0}
 AsksNothing control w (first ∷ later) side feature place =
     (AsksFor side feature place first → IsAccepted control w first → ⊥)
     × AsksNothing control (controlled_after w (happens_to control w first)) later side feature place
 
 -- These values are the last ones for which a side was asked and which it did not refuse.
-pub record IsLastAsked {C : Type 0} (control : Control C) (w : Controlled C) (events : List Event) (side : Side) (feature : Feature) (place : Place) (values : List ℕ)
+pub record IsLastAsked {C : Type 0} (control : Control C) (w : ControlledWorld C) (events : List Event) (side : Side) (feature : Feature) (place : Place) (values : List ℕ)
     : Type 0 where
   pub before : List Event
   pub since : List Event

@@ -4,11 +4,11 @@ use Rattle.congestion_trait.specs.Control.{Control}
 use Rattle.dccp_endpoint.specs.declared.config.Config.{Config}
 use Rattle.dccp_states.specs.declared.phase.Role.TheVariants.{Client, Server}
 use Rattle.dccp_endpoint.specs.Drafts.{Fits}
-use Rattle.two_ends.specs.Controlled.{Controlled, begins_with, plays}
+use Rattle.two_ends.specs.Controlled.{ControlledWorld, begins_with, plays}
 use Rattle.world_events.specs.declared.event.Event.{Event}
 
 -- two ends with configurations that fit, which have sent and received nothing
-pub record IsBeginning {C : Type 0} (control : Control C) (w : Controlled C) : Type 0 where
+pub record IsBeginning {C : Type 0} (control : Control C) (w : ControlledWorld C) : Type 0 where
   pub client : Config
   pub server : Config
   pub for_client : C
@@ -18,7 +18,7 @@ pub record IsBeginning {C : Type 0} (control : Control C) (w : Controlled C) : T
   pub same : w ≡ begins_with control client server for_client for_server
 
 -- some schedule leads here from a client and a server that have sent and received nothing
-pub record ReachedByEvents {C : Type 0} (control : Control C) (w : Controlled C) : Type 0 where
+pub record ReachedByEvents {C : Type 0} (control : Control C) (w : ControlledWorld C) : Type 0 where
   pub client : Config
   pub server : Config
   pub for_client : C

@@ -12,7 +12,7 @@ use Rattle.two_ends.specs.declared.frames.SentFrame.{SentFrame}
 use Rattle.world_events.specs.declared.event.Side.{Side}
 use Rattle.two_ends.specs.World.{Half, WorldState, half_of}
 use Rattle.world_events.specs.Actors.{other}
-use Rattle.two_ends.specs.Controlled.{Controlled, congestion_of}
+use Rattle.two_ends.specs.Controlled.{ControlledWorld, congestion_of}
 use Rattle.two_ends.specs.Frames.{packet_of, options_in, is_reset}
 
 -- A side sent a packet with this number that is no Reset. The number of a Reset without a connection comes from the
@@ -37,7 +37,7 @@ abbrev pub Once : WorldState → Type 0
 Once w = (side : Side) → IsOnce w side
 
 -- What an end believes received, by its congestion control, the other side processed.
-abbrev pub Heard : {C : Type 0} → Control C → Controlled C → Type 0
+abbrev pub Heard : {C : Type 0} → Control C → ControlledWorld C → Type 0
 Heard control w = (side : Side) (n : ℕ) → Contains (reported_of control (congestion_of w side)) n → Contains (half_of w.world (other side)).processed n
 
 -- what a side had processed when it sent a frame

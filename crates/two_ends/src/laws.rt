@@ -33,7 +33,7 @@ ghost use Rattle.world_events.specs.declared.event.Side.TheVariants.{Client, Ser
 ghost use Rattle.two_ends.specs.declared.frames.SentFrame.{SentFrame};
 ghost use Rattle.two_ends.specs.Asked.{AllIsAsked, KeepsInitialValues};
 ghost use Rattle.two_ends.specs.CameOf.{CameOfLists, CameOfLocation};
-ghost use Rattle.two_ends.specs.Controlled.{Controlled, IsNeverFar, congestion_of, plays, plays_from_start};
+ghost use Rattle.two_ends.specs.Controlled.{ControlledWorld, IsNeverFar, congestion_of, plays, plays_from_start};
 ghost use Rattle.two_ends.specs.Counted.{AreAmongFirst, AreResets};
 ghost use Rattle.dccp_endpoint.specs.Spelled.{ack_in_width, in_width};
 ghost use Rattle.two_ends.specs.Delivered.{DeliversItsData, IsDeliveredOnce, frames_delivered};
@@ -56,24 +56,24 @@ use dccp_endpoint::every_step_has_one_effect;
 /// the value is the server's first entry, in its last list, that is in the client's last (RFC 4340, section
 /// 6.3.1). The value of a feature that is not negotiable is, at the other end too, the last one that its location told.
 pub fn settled_features_are_alike<C: Congestion>()
-    ensures clients { (w : Controlled C) → Safe C.control w → (feature : Feature)
+    ensures clients { (w : ControlledWorld C) → Safe C.control w → (feature : Feature)
         → (held_of w.world.client.end feature place.Here).stand ≡ Stable → (held_of w.world.server.end feature place.There).stand ≡ Stable
         → (held_of w.world.client.end feature place.Here).value ≡ (held_of w.world.server.end feature place.There).value }
-    ensures servers { (w : Controlled C) → Safe C.control w → (feature : Feature)
+    ensures servers { (w : ControlledWorld C) → Safe C.control w → (feature : Feature)
         → (held_of w.world.client.end feature place.There).stand ≡ Stable → (held_of w.world.server.end feature place.Here).stand ≡ Stable
         → (held_of w.world.client.end feature place.There).value ≡ (held_of w.world.server.end feature place.Here).value }
-    ensures listed { (w : Controlled C) → Safe C.control w → (pair : FeatureAt) (side : Side) → IsSettled w.world pair
+    ensures listed { (w : ControlledWorld C) → Safe C.control w → (pair : FeatureAt) (side : Side) → IsSettled w.world pair
         → IsServerPriority pair
         → IsTrue (pair_was_negotiated w.world pair) → IsSome (last_list_sent w.world pair side) }
-    ensures first { (w : Controlled C) → Safe C.control w
+    ensures first { (w : ControlledWorld C) → Safe C.control w
         → (pair : FeatureAt) (side : Side) (value : ℕ) (later clients : List ℕ)
         → IsSettled w.world pair → IsServerPriority pair → last_list_sent w.world pair Server ≡ Some (value ∷ later)
         → last_list_sent w.world pair Client ≡ Some clients → IsTrue (has_entry clients value) → (held_at w.world pair side).value ≡ value }
-    ensures shared { (w : Controlled C) → Safe C.control w
+    ensures shared { (w : ControlledWorld C) → Safe C.control w
         → (pair : FeatureAt) (side : Side) (value : ℕ) (servers clients : List ℕ)
         → IsSettled w.world pair → IsServerPriority pair → last_list_sent w.world pair Server ≡ Some servers
         → last_list_sent w.world pair Client ≡ Some clients → IsFirstShared servers clients value → (held_at w.world pair side).value ≡ value }
-    ensures told { (w : Controlled C) → Safe C.control w → (pair : FeatureAt) (side : Side) (value : ℕ)
+    ensures told { (w : ControlledWorld C) → Safe C.control w → (pair : FeatureAt) (side : Side) (value : ℕ)
         → IsSettled w.world pair → IsNotNegotiable pair
         → IsTrue (pair_was_negotiated w.world pair) → last_value w.world pair ≡ Some value → (held_at w.world pair side).value ≡ value }
 {}
@@ -83,19 +83,19 @@ pub fn settled_features_are_alike<C: Congestion>()
 /// negotiable, its location has told no value. Another value is the first entry in a list of the server's that stands
 /// in one of the client's too, or else one that the location told.
 pub fn values_come_from_both_sides<C: Congestion>()
-    ensures silent { (w : Controlled C) → Safe C.control w → (pair : FeatureAt) (quiet side : Side)
+    ensures silent { (w : ControlledWorld C) → Safe C.control w → (pair : FeatureAt) (quiet side : Side)
         → IsServerPriority pair
         → ((index : ℕ) (frame : SentFrame) → slice_get (half_of w.world quiet).frames index ≡ Some frame → list_said (said_by pair quiet frame.bytes) ≡ None)
         → (held_at w.world pair side).value ≡ initial_of pair.feature }
-    ensures apart { (w : Controlled C) → Safe C.control w → (pair : FeatureAt) (side : Side) → IsServerPriority pair
+    ensures apart { (w : ControlledWorld C) → Safe C.control w → (pair : FeatureAt) (side : Side) → IsServerPriority pair
         → ((servers clients : List ℕ) → HasSent w.world pair Server servers → HasSent w.world pair Client clients → SharesNothing servers clients)
         → (held_at w.world pair side).value ≡ initial_of pair.feature }
-    ensures untold { (w : Controlled C) → Safe C.control w → (pair : FeatureAt) (side : Side) → IsNotNegotiable pair
+    ensures untold { (w : ControlledWorld C) → Safe C.control w → (pair : FeatureAt) (side : Side) → IsNotNegotiable pair
         → ((index : ℕ) (frame : SentFrame) → slice_get (half_of w.world pair.location).frames index ≡ Some frame
         → value_said (said_by pair pair.location frame.bytes) ≡ None) → (held_at w.world pair side).value ≡ initial_of pair.feature }
-    ensures listed { (w : Controlled C) → Safe C.control w → (pair : FeatureAt) (side : Side) → IsServerPriority pair
+    ensures listed { (w : ControlledWorld C) → Safe C.control w → (pair : FeatureAt) (side : Side) → IsServerPriority pair
         → (held_at w.world pair side).value ≢ initial_of pair.feature → CameOfLists w.world pair (held_at w.world pair side).value }
-    ensures said { (w : Controlled C) → Safe C.control w → (pair : FeatureAt) (side : Side) → IsNotNegotiable pair
+    ensures said { (w : ControlledWorld C) → Safe C.control w → (pair : FeatureAt) (side : Side) → IsNotNegotiable pair
         → (held_at w.world pair side).value ≢ initial_of pair.feature → CameOfLocation w.world pair (held_at w.world pair side).value }
 {}
 
@@ -103,18 +103,18 @@ pub fn values_come_from_both_sides<C: Congestion>()
 /// it; a number that it tells not received, whole or cut, is none of those; a whole vector tells received each of those
 /// from the frame's floor up to the number that it acknowledges; and none of them is after that.
 pub fn vectors_tell_what_was_processed<C: Congestion>()
-    ensures received { (w : Controlled C) → Safe C.control w → (side : Side) (frame : SentFrame) (ack n : ℕ) (bytes : List ℕ)
+    ensures received { (w : ControlledWorld C) → Safe C.control w → (side : Side) (frame : SentFrame) (ack n : ℕ) (bytes : List ℕ)
         → HasSentVector (half_of w.world side) frame ack bytes → ack < 2 ^ 48 → n < 2 ^ 48
         → IsTrue (is_received (state_at ack bytes n)) → Contains (processed_by (half_of w.world side) frame) n }
-    ensures missing { (w : Controlled C) → Safe C.control w → (side : Side) (frame : SentFrame) (ack n state : ℕ) (bytes : List ℕ)
+    ensures missing { (w : ControlledWorld C) → Safe C.control w → (side : Side) (frame : SentFrame) (ack n state : ℕ) (bytes : List ℕ)
         → HasSentVector (half_of w.world side) frame ack bytes → frame.floor < 2 ^ 48 → ack < 2 ^ 48 → n < 2 ^ 48
         → state_at ack bytes n ≡ Some state → is_received (Some state) ≡ false → Contains (processed_by (half_of w.world side) frame) n → ⊥ }
-    ensures all { (w : Controlled C) → Safe C.control w → (side : Side) (frame : SentFrame) (ack n : ℕ) (bytes : List ℕ)
+    ensures all { (w : ControlledWorld C) → Safe C.control w → (side : Side) (frame : SentFrame) (ack n : ℕ) (bytes : List ℕ)
         → HasSentVector (half_of w.world side) frame ack bytes
         → is_whole_under (has (processed_by (half_of w.world side) frame)) frame.floor ack (half_of w.world side).end.config.vectors ≡ true
         → IsSpokenOf frame ack n
         → Contains (processed_by (half_of w.world side) frame) n → IsTrue (is_received (state_at ack bytes n)) }
-    ensures none_after { (w : Controlled C) → Safe C.control w → (side : Side) (frame : SentFrame) (ack n : ℕ) (bytes : List ℕ)
+    ensures none_after { (w : ControlledWorld C) → Safe C.control w → (side : Side) (frame : SentFrame) (ack n : ℕ) (bytes : List ℕ)
         → HasSentVector (half_of w.world side) frame ack bytes
         → Contains (processed_by (half_of w.world side) frame) n → IsBefore ack n → ⊥ }
 {}
@@ -124,12 +124,12 @@ pub fn vectors_tell_what_was_processed<C: Congestion>()
 /// that number's: it has processed one that is 2,048 after it or more. Below the floor lies a packet of a count from
 /// that of ISR on, and less than that of the floor.
 pub fn what_none_told_is_far_behind<C: Congestion>()
-    ensures by_counts { (w : Controlled C) → Safe C.control w → (side : Side) (iss first count floor : ℕ) → iss < 2 ^ 48
+    ensures by_counts { (w : ControlledWorld C) → Safe C.control w → (side : Side) (iss first count floor : ℕ) → iss < 2 ^ 48
         → 1 ≤ first → first ≤ count → count < floor → floor ≤ 2 ^ 47 + 1 → count + 2047 ≤ 2 ^ 47
         → (half_of w.world side).end.marks.isr ≡ number_of iss first → floor_of (half_of w.world side).end ≡ number_of iss floor
         → IsUntold w.world side (number_of iss count)
         → AreAmongFirst iss (count + 2047) (half_of w.world side).processed → ⊥ }
-    ensures below { (w : Controlled C) → Safe C.control w → (side : Side) (iss count n : ℕ) → iss < 2 ^ 48 → 1 ≤ count
+    ensures below { (w : ControlledWorld C) → Safe C.control w → (side : Side) (iss count n : ℕ) → iss < 2 ^ 48 → 1 ≤ count
         → count + 2047 ≤ 2 ^ 47
         → n ≡ number_of iss count → LiesBelowFloor (half_of w.world side) n → IsUntold w.world side n
         → AreAmongFirst iss (count + 2047) (half_of w.world side).processed → ⊥ }
@@ -162,7 +162,7 @@ pub fn delivered_data_are_those_of_their_frame<C: Congestion>()
         × ((packet_type packet.header.kind ≡ types.Data) ⊎ (packet_type packet.header.kind ≡ types.DataAck))
         × (begins ≤ ends) × (ends ≡ length frame.bytes) × (drop begins frame.bytes ≡ packet.payload)
         × ((half_of new (other from)).processed ≡ (half_of old (other from)).processed ++ frame.number ∷ []) }
-    ensures once { (w : Controlled C) (events : List Event) → IsDeliveredOnce C.control w events
+    ensures once { (w : ControlledWorld C) (events : List Event) → IsDeliveredOnce C.control w events
         → (early late : ℕ) (named : Side × ℕ) → early < late → slice_get (frames_delivered C.control w events) early ≡ Some named
         → slice_get (frames_delivered C.control w events) late ≡ Some named → ⊥ }
 {}
@@ -179,10 +179,10 @@ pub fn few_frames_are_never_far<C: Congestion>()
 /// What *once* comes to. A number that a side processed early it does not process later. A number that the other side
 /// has sent in no packet but Resets, or not at all, it has not processed.
 pub fn no_number_is_processed_again<C: Congestion>()
-    ensures apart { (w : Controlled C) → Safe C.control w → (side : Side) (early n : ℕ)
+    ensures apart { (w : ControlledWorld C) → Safe C.control w → (side : Side) (early n : ℕ)
         → Contains (take early (half_of w.world side).processed) n
         → Contains (drop early (half_of w.world side).processed) n → ⊥ }
-    ensures sent { (w : Controlled C) → Safe C.control w → (side : Side) (n : ℕ)
+    ensures sent { (w : ControlledWorld C) → Safe C.control w → (side : Side) (n : ℕ)
         → AreResets (half_of w.world (other side)).frames n
         → Contains (half_of w.world side).processed n → ⊥ }
 {}
@@ -190,9 +190,9 @@ pub fn no_number_is_processed_again<C: Congestion>()
 /// What *heard* comes to. A number that the flight list of a congestion control has as Reported was processed by the
 /// other side. So it is none that its own side has sent in no packet but Resets, or not at all.
 pub fn what_is_reported_arrived<C: Congestion>()
-    ensures processed { (w : Controlled C) → Safe C.control w → (side : Side) (n : ℕ)
+    ensures processed { (w : ControlledWorld C) → Safe C.control w → (side : Side) (n : ℕ)
         → Has (C.control.flight (congestion_of w side)) n standing.Reported → Contains (half_of w.world (other side)).processed n }
-    ensures sent { (w : Controlled C) → Safe C.control w → (side : Side) (n : ℕ)
+    ensures sent { (w : ControlledWorld C) → Safe C.control w → (side : Side) (n : ℕ)
         → AreResets (half_of w.world side).frames n
         → Has (C.control.flight (congestion_of w side)) n standing.Reported → ⊥ }
 {}
@@ -223,11 +223,11 @@ pub fn last_lists_are_active<C: Congestion>()
 /// next Change. Where none was accepted they are those that the side was configured with. So where a row is STABLE, the
 /// last list that its end sent for it, if it sent one, has just these values ([`last_lists_are_active`]).
 pub fn what_was_asked_last_is_wanted<C: Congestion>()
-    ensures asked { (start : Controlled C) (events : List Event) → IsBeginning C.control start
+    ensures asked { (start : ControlledWorld C) (events : List Event) → IsBeginning C.control start
         → (side : Side) (feature : Feature) (place : Place) (values : List ℕ)
         → IsLastAsked C.control start events side feature place values
         → WantsValues (row_of (plays C.control start events).world side feature place) values }
-    ensures configured { (start : Controlled C) (events : List Event) → IsBeginning C.control start
+    ensures configured { (start : ControlledWorld C) (events : List Event) → IsBeginning C.control start
         → (side : Side) (feature : Feature) (place : Place) → AsksNothing C.control start events side feature place
         → WantsValues (row_of (plays C.control start events).world side feature place) (values_configured start.world side feature place) }
 {

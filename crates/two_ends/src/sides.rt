@@ -24,9 +24,9 @@ pub(crate) struct Sides<C> {
 }
 
 impl<C> Model for Sides<C> {
-    ghost use Rattle.two_ends.specs.Controlled.{Controlled};
+    ghost use Rattle.two_ends.specs.Controlled.{ControlledWorld};
 
-    ghost Value = { Controlled C };
+    ghost Value = { ControlledWorld C };
 
     ghost view = { λ s. record { world = record { client = s.client.value.half; server = s.server.value.half }; for_client = s.client.value.congestion; for_server = s.server.value.congestion } };
 }

@@ -50,10 +50,10 @@ pub struct World<C: Congestion> {
 }
 
 impl<C: Congestion> Model for World<C> {
-    ghost use Rattle.two_ends.specs.Controlled.{Controlled};
+    ghost use Rattle.two_ends.specs.Controlled.{ControlledWorld};
     ghost use Rattle.two_ends.specs.Reached.{ReachedByEvents};
 
-    ghost Value = { Controlled C };
+    ghost Value = { ControlledWorld C };
 
     ghost view = { λ w. w.sides };
 

@@ -26,7 +26,7 @@ use Rattle.dccp_endpoint.specs.Receiving.{number_without_connection, receives}
 use Rattle.dccp_endpoint.specs.Steps.{detail_of, without_detail}
 use Rattle.dccp_endpoint.specs.declared.config.Config.{Config}
 use Rattle.seq_circle.specs.Circle.{later_of, residue}
-use Rattle.two_ends.specs.Controlled.{Controlled, congestion_of, plays, plays_from_start, begins_with}
+use Rattle.two_ends.specs.Controlled.{ControlledWorld, congestion_of, plays, plays_from_start, begins_with}
 use Rattle.two_ends.specs.World.{Half, Occurrence, WorldState, at_start, half_of, world_after_all}
 use Rattle.two_ends.proofs.Acting.{IsHeld, run-configs}
 use Rattle.two_ends.proofs.Keeping.{HasRoles, SideInvariant, run-kept, run-roles}
@@ -118,8 +118,8 @@ heard-in-order m last h =
     record { first = h.first; early = h.greatest; late = h.end; low_is = h.gsr_is; high_is = h.last_is; in_order = h.ends; few = omega (arith, h.few) }
 
 module _ {C : Type 0} (control : Control C) (effects : EveryStepHasOneEffect) where
-  abbrev Leads : ℕ → Controlled C → Type 0
-  Leads most w = HasWay control most w (λ (v : Controlled C). AreOver v.world)
+  abbrev Leads : ℕ → ControlledWorld C → Type 0
+  Leads most w = HasWay control most w (λ (v : ControlledWorld C). AreOver v.world)
 
   -- what comes is checked
   checked-so : (e : EndState) (bytes : List ℕ) (number : ℕ) (k : Kind) (here : IsHere e bytes number k) (p : Phase) → e.phase ≡ p
@@ -127,7 +127,7 @@ module _ {C : Type 0} (control : Control C) (effects : EveryStepHasOneEffect) wh
   checked-so e bytes number k here p phase is = rw (phase, here.type_is) is
 
   -- A Reset that is valid at a client in CLOSING ends both.
-  reset-last : (w : Controlled C) → IsUnderWay 1 w.world → w.world.client.end.phase ≡ phases.Closing → w.world.server.end.phase ≡ phases.Closed
+  reset-last : (w : ControlledWorld C) → IsUnderWay 1 w.world → w.world.client.end.phase ≡ phases.Closing → w.world.server.end.phase ≡ phases.Closed
       → (n ack : ℕ) (code : ResetCode) → IsSent w.world.server n (reset-with ack code) → IsBare (reset-with ack code) → n < 2 ^ 48
       → by_greatest w.world.client.end.marks n (Some ack) w.world.client.end.marks.gsr ≡ verdicts.Valid → Leads 1 w
   reset-last w u closing closed n ack code sent bare small valid =
@@ -139,13 +139,13 @@ module _ {C : Type 0} (control : Control C) (effects : EveryStepHasOneEffect) wh
       reset-comes e bytes c.here.packet c.here.came (checked-so e bytes n k c.here phases.Closing closing refl)
       (verdict-so e bytes n k c.here verdicts.Valid valid) c.here.type_is in
       let now = event.Deliver Server c.index in
-      let v : Controlled C = next control w now in
+      let v : ControlledWorld C = next control w now in
       let left = after-moves control effects 0 w now ClientFirst _ _ _ _ _ c.acts moves u in
       leads-by control 0 w _ now tt
       (leads-here control v _ (both-over v.world (inr left.phase) (inl (ap (λ (h : Half). h.end.phase) left.rests ∙ closed))))
 
   -- A Reset under any number that acknowledges the client's last one: where it is not valid, the client's Sync is answered by one that is.
-  reset-over : (w : Controlled C) → IsUnderWay 3 w.world → w.world.client.end.phase ≡ phases.Closing → w.world.server.end.phase ≡ phases.Closed
+  reset-over : (w : ControlledWorld C) → IsUnderWay 3 w.world → w.world.client.end.phase ≡ phases.Closing → w.world.server.end.phase ≡ phases.Closed
       → (n ack : ℕ) → ack < 2 ^ 48 → n < 2 ^ 48 → IsSent w.world.server n (reset-with ack codes.Closed) → Leads 3 w
   reset-over w u closing closed n ack ack_small small sent =
       elim (greatest-or w.world.client.end.marks n (Some ack) w.world.client.end.marks.gsr) [
@@ -169,7 +169,7 @@ module _ {C : Type 0} (control : Control C) (effects : EveryStepHasOneEffect) wh
           bad-comes e bytes c.here.packet c.here.came e.marks.gsr (checked-so e bytes n k c.here phases.Closing closing refl)
           (verdict-so e bytes n k c.here (verdicts.SyncFor e.marks.gsr) bad) in
           let first = event.Deliver Server c.index in
-          let v : Controlled C = next control w first in
+          let v : ControlledWorld C = next control w first in
           let said = after-says control effects 2 w first ClientFirst _ _ _ _ _ _ c.acts says u in
           let still : v.world.server ≡ w.world.server = said.is_after.rests in
           let sync : Kind = kind.Sync e.marks.gsr in
@@ -182,7 +182,7 @@ module _ {C : Type 0} (control : Control C) (effects : EveryStepHasOneEffect) wh
           let is : entrance_of there d.here.packet ≡ entrance.NoConnection = rw (shut, d.here.type_is) refl in
           let stays = stray-stays there d.frame.bytes d.here.packet d.here.came is in
           let second = event.Deliver Client d.index in
-          let x : Controlled C = next control v second in
+          let x : ControlledWorld C = next control v second in
           let u1 = under-way-next control effects 1 v second ServerFirst (Some d.frame.number) (receives there d.frame.bytes) d.acts (ap (λ (y : EndState). y.config) stays) said.is_after.under_way in
           let frame = stray-frame there d.frame.bytes d.here.packet d.here.came is in
           let half : Half = v.world.server in
@@ -214,11 +214,11 @@ module _ {C : Type 0} (control : Control C) (effects : EveryStepHasOneEffect) wh
     sent : IsSent v.server v.server.end.marks.gss (reset-with w.client.end.marks.gss codes.Closed)
     rests : v.client ≡ w.client
 
-  record ShutsBy (more : ℕ) (w : Controlled C) : Type 0 where
+  record ShutsBy (more : ℕ) (w : ControlledWorld C) : Type 0 where
     index : ℕ
     shut : IsShut more w.world (next control w (event.Deliver Client index)).world
 
-  close-shuts : (more : ℕ) (w : Controlled C) → IsUnderWay (more + 1) w.world → (p : Phase) → Waits p → w.world.server.end.phase ≡ p
+  close-shuts : (more : ℕ) (w : ControlledWorld C) → IsUnderWay (more + 1) w.world → (p : Phase) → Waits p → w.world.server.end.phase ≡ p
       → (ack : ℕ) → ack < 2 ^ 48 → IsSent w.world.client w.world.client.end.marks.gss (kind.Close ack)
       → by_greatest w.world.server.end.marks w.world.client.end.marks.gss (Some ack) w.world.client.end.marks.gss ≡ verdicts.Valid
       → ShutsBy more w
@@ -263,14 +263,14 @@ module _ {C : Type 0} (control : Control C) (effects : EveryStepHasOneEffect) wh
       ]
 
   -- A Close that is valid, where the Reset that answers it will be valid too.
-  close-last : (w : Controlled C) → IsUnderWay 2 w.world → w.world.client.end.phase ≡ phases.Closing → (p : Phase) → Waits p
+  close-last : (w : ControlledWorld C) → IsUnderWay 2 w.world → w.world.client.end.phase ≡ phases.Closing → (p : Phase) → Waits p
       → w.world.server.end.phase ≡ p → (ack : ℕ) → ack < 2 ^ 48 → IsSent w.world.client w.world.client.end.marks.gss (kind.Close ack)
       → by_greatest w.world.server.end.marks w.world.client.end.marks.gss (Some ack) w.world.client.end.marks.gss ≡ verdicts.Valid
       → IsNear w.world → Leads 2 w
   close-last w u closing p waits phase ack small sent valid near =
       let by = close-shuts 1 w u p waits phase ack small sent valid in
       let now = event.Deliver Client by.index in
-      let v : Controlled C = next control w now in
+      let v : ControlledWorld C = next control w now in
       let m : Marks = w.world.client.end.marks in
       let marks : v.world.client.end.marks ≡ m = ap (λ (h : Half). h.end.marks) by.shut.rests in
       let heard = heard-so 2 w.world u ClientFirst (ap is_live closing) in
@@ -290,10 +290,10 @@ module _ {C : Type 0} (control : Control C) (effects : EveryStepHasOneEffect) wh
     pub heard : (half_of w y).end.marks.gsr ≡ (half_of w x).end.marks.gss
     pub near : ((half_of w y).end.marks.gss ≡ (half_of w x).end.marks.gsr) ⊎ ((half_of w y).end.marks.gss ≡ residue ((half_of w x).end.marks.gsr + 1))
 
-  abbrev pub synced-twice : Controlled C → Side → Side → ℕ → ℕ → Controlled C
+  abbrev pub synced-twice : ControlledWorld C → Side → Side → ℕ → ℕ → ControlledWorld C
   synced-twice w x y first second = next control (next control w (event.Deliver y first)) (event.Deliver x second)
 
-  pub record GetInStep (more : ℕ) (w : Controlled C) (x y : Side) (p q : Phase) : Type 0 where
+  pub record GetInStep (more : ℕ) (w : ControlledWorld C) (x y : Side) (p q : Phase) : Type 0 where
     pub first : ℕ
     pub second : ℕ
     pub in_step : AreInStep more (synced-twice w x y first second).world x y p q
@@ -301,7 +301,7 @@ module _ {C : Type 0} (control : Control C) (effects : EveryStepHasOneEffect) wh
     pub peer_rows : (half_of (synced-twice w x y first second).world y).end.rows ≡ (half_of w.world y).end.rows
 
   -- With a Sync on its way to the first side two deliveries put both in step.
-  pub get-in-step : (more : ℕ) (w : Controlled C) → IsUnderWay (more + 1 + 1) w.world → {x y : Side} (two : AreTwo x y) (who whose : Role) (p q : Phase)
+  pub get-in-step : (more : ℕ) (w : ControlledWorld C) → IsUnderWay (more + 1 + 1) w.world → {x y : Side} (two : AreTwo x y) (who whose : Role) (p q : Phase)
       → IsRow who p types.Sync p reply.SyncAck → IsRow whose q types.SyncAck q reply.Nothing
       → (half_of w.world x).end.config.role ≡ who → (half_of w.world y).end.config.role ≡ whose
       → (half_of w.world x).end.phase ≡ p → (half_of w.world y).end.phase ≡ q → is_live p ≡ true → is_live q ≡ true → is_begun q ≡ true
@@ -319,7 +319,7 @@ module _ {C : Type 0} (control : Control C) (effects : EveryStepHasOneEffect) wh
       sync-acked e c.frame.bytes c.here.packet c.here.came who p p types.Sync reply.SyncAck here_row is_role phase c.here.type_is
       c.here.listed (verdict-so e c.frame.bytes n k c.here verdicts.Valid (low-end-valid e.marks n heard)) refl in
       let now = event.Deliver y c.index in
-      let v : Controlled C = next control w now in
+      let v : ControlledWorld C = next control w now in
       let said = after-says control effects (more + 1) w now two _ _ _ _ _ _ c.acts says u in
       let gsr_is : (half_of v.world x).end.marks.gsr ≡ n =
       said.is_after.gsr_is ∙ ap (later_of e.marks.gsr) c.here.numbered ∙ later-so e.marks.gsr n (heard-in-order e.marks n heard) in
@@ -346,7 +346,7 @@ module _ {C : Type 0} (control : Control C) (effects : EveryStepHasOneEffect) wh
       nothing-sent there d.frame.bytes a d.here.came whose q q types.SyncAck reply.Nothing there_row role_at peer_at d.here.type_is d.here.listed valid refl in
       let later = event.Deliver x d.index in
       let left = after-moves control effects more v later (turned two) _ _ _ _ _ d.acts moves u1 in
-      let z : Controlled C = next control v later in
+      let z : ControlledWorld C = next control v later in
       let unmoved : half_of z.world x ≡ half_of v.world x = left.rests in
       let here_gsr : (half_of z.world x).end.marks.gsr ≡ n = ap (λ (h : Half). h.end.marks.gsr) unmoved ∙ gsr_is in
       let gar_is : (half_of z.world y).end.marks.gar ≡ n =
@@ -378,11 +378,11 @@ module _ {C : Type 0} (control : Control C) (effects : EveryStepHasOneEffect) wh
       }
 
   -- In step, the client's timer sends a Close that ends both.
-  client-closes : (w : Controlled C) (p : Phase) → Waits p → AreInStep 3 w.world Client Server phases.Closing p → Leads 3 w
+  client-closes : (w : ControlledWorld C) (p : Phase) → Waits p → AreInStep 3 w.world Client Server phases.Closing p → Leads 3 w
   client-closes w p waits s =
       let e : EndState = w.world.client.end in
       let now = event.Timer Client timers.Close in
-      let v : Controlled C = next control w now in
+      let v : ControlledWorld C = next control w now in
       let says = close-fires e (has_in_flight control (congestion_of w Client)) s.phase in
       let said = after-says control effects 2 w now ClientFirst _ _ _ _ _ _ (timer-acts control effects w ClientFirst timers.Close 3 s.under_way) says s.under_way in
       let still : v.world.server ≡ w.world.server = said.is_after.rests in
@@ -399,7 +399,7 @@ module _ {C : Type 0} (control : Control C) (effects : EveryStepHasOneEffect) wh
       (subst (λ (g : ℕ). (w.world.server.end.marks.gss ≡ g) ⊎ (w.world.server.end.marks.gss ≡ residue (g + 1))) (sym said.is_after.gsr_is) s.near)))
 
   -- A Close on its way from a client in CLOSING ends both.
-  close-over : (w : Controlled C) → IsUnderWay 6 w.world → w.world.client.end.phase ≡ phases.Closing → (p : Phase) → Waits p
+  close-over : (w : ControlledWorld C) → IsUnderWay 6 w.world → w.world.client.end.phase ≡ phases.Closing → (p : Phase) → Waits p
       → w.world.server.end.phase ≡ p → (ack : ℕ) → ack < 2 ^ 48 → IsSent w.world.client w.world.client.end.marks.gss (kind.Close ack) → Leads 6 w
   close-over w u closing p waits phase ack small sent =
       elim (greatest-or e.marks n (Some ack) n) [
@@ -417,7 +417,7 @@ module _ {C : Type 0} (control : Control C) (effects : EveryStepHasOneEffect) wh
       shuts valid =
           let by = close-shuts 5 w u p waits phase ack small sent valid in
           let now = event.Deliver Client by.index in
-          let v : Controlled C = next control w now in
+          let v : ControlledWorld C = next control w now in
           leads-by control 5 w _ now tt
           (leads-within control 3 5 v _ (omega arith)
           (reset-over v (fewer-under-way 3 5 v.world (omega arith) by.shut.under_way) (ap (λ (h : Half). h.end.phase) by.shut.rests ∙ closing) by.shut.closed
@@ -432,7 +432,7 @@ module _ {C : Type 0} (control : Control C) (effects : EveryStepHasOneEffect) wh
           bad-comes e c.frame.bytes c.here.packet c.here.came n (checked-so e c.frame.bytes n k c.here p phase (waits-checked p waits))
           (verdict-so e c.frame.bytes n k c.here (verdicts.SyncFor n) bad) in
           let now = event.Deliver Client c.index in
-          let v : Controlled C = next control w now in
+          let v : ControlledWorld C = next control w now in
           let said = after-says control effects 5 w now ServerFirst _ _ _ _ _ _ c.acts says u in
           let still : v.world.client ≡ w.world.client = said.is_after.rests in
           let sync : IsSent v.world.server v.world.server.end.marks.gss (kind.Sync v.world.client.end.marks.gss) =
@@ -454,11 +454,11 @@ module _ {C : Type 0} (control : Control C) (effects : EveryStepHasOneEffect) wh
     sent : IsSent v.client v.client.end.marks.gss (kind.Close w.server.end.marks.gss)
     rests : v.server ≡ w.server
 
-  record AsksBy (more : ℕ) (w : Controlled C) : Type 0 where
+  record AsksBy (more : ℕ) (w : ControlledWorld C) : Type 0 where
     index : ℕ
     asked : IsAsked more w.world (next control w (event.Deliver Server index)).world
 
-  request-asks : (more : ℕ) (w : Controlled C) → IsUnderWay (more + 1) w.world → w.world.client.end.phase ≡ phases.Open → (ack : ℕ) → ack < 2 ^ 48
+  request-asks : (more : ℕ) (w : ControlledWorld C) → IsUnderWay (more + 1) w.world → w.world.client.end.phase ≡ phases.Open → (ack : ℕ) → ack < 2 ^ 48
       → IsSent w.world.server w.world.server.end.marks.gss (kind.CloseReq ack)
       → by_greatest w.world.client.end.marks w.world.server.end.marks.gss (Some ack) w.world.server.end.marks.gss ≡ verdicts.Valid
       → AsksBy more w
@@ -475,7 +475,7 @@ module _ {C : Type 0} (control : Control C) (effects : EveryStepHasOneEffect) wh
       close-answered e c.frame.bytes a c.here.came role.Client phases.Open phases.Closing types.CloseReq reply.Close client-asked u.roles.is_client opened
       c.here.type_is c.here.listed (verdict-so e c.frame.bytes n k c.here verdicts.Valid valid) refl in
       let now = event.Deliver Server c.index in
-      let v : Controlled C = next control w now in
+      let v : ControlledWorld C = next control w now in
       let said = after-says control effects more w now ClientFirst _ _ _ _ _ _ c.acts says u in
       record {
         index = c.index;
@@ -491,11 +491,11 @@ module _ {C : Type 0} (control : Control C) (effects : EveryStepHasOneEffect) wh
       }
 
   -- In step, the server's timer sends a CloseReq that ends both.
-  server-asks : (w : Controlled C) → AreInStep 4 w.world Server Client phases.CloseReq phases.Open → Leads 4 w
+  server-asks : (w : ControlledWorld C) → AreInStep 4 w.world Server Client phases.CloseReq phases.Open → Leads 4 w
   server-asks w s =
       let e : EndState = w.world.server.end in
       let now = event.Timer Server timers.Close in
-      let v : Controlled C = next control w now in
+      let v : ControlledWorld C = next control w now in
       let says = request-fires e (has_in_flight control (congestion_of w Server)) s.phase in
       let said = after-says control effects 3 w now ServerFirst _ _ _ _ _ _ (timer-acts control effects w ServerFirst timers.Close 4 s.under_way) says s.under_way in
       let u1 = said.is_after.under_way in
@@ -509,7 +509,7 @@ module _ {C : Type 0} (control : Control C) (effects : EveryStepHasOneEffect) wh
       request-asks 2 v u1 (ap (λ (h : Half). h.end.phase) still ∙ s.peer_phase) e.marks.gsr (gsr-small 4 w.world s.under_way ServerFirst) said.sent
       (subst (λ (h : Half). by_greatest h.end.marks n (Some e.marks.gsr) n ≡ verdicts.Valid) (sym still) valid) in
       let then = event.Deliver Server by.index in
-      let z : Controlled C = next control v then in
+      let z : ControlledWorld C = next control v then in
       let unmoved : z.world.server ≡ v.world.server = by.asked.rests in
       let at : ℕ = z.world.client.end.marks.gss in
       let servers : Marks = v.world.server.end.marks in
@@ -527,7 +527,7 @@ module _ {C : Type 0} (control : Control C) (effects : EveryStepHasOneEffect) wh
       (inl (ap (λ (h : Half). h.end.marks.gss) unmoved ∙ sym by.asked.gsr_is))))
 
   -- A CloseReq on its way from a server in CLOSEREQ to a client in OPEN ends both.
-  request-over : (w : Controlled C) → IsUnderWay 7 w.world → w.world.client.end.phase ≡ phases.Open → w.world.server.end.phase ≡ phases.CloseReq
+  request-over : (w : ControlledWorld C) → IsUnderWay 7 w.world → w.world.client.end.phase ≡ phases.Open → w.world.server.end.phase ≡ phases.CloseReq
       → (ack : ℕ) → ack < 2 ^ 48 → IsSent w.world.server w.world.server.end.marks.gss (kind.CloseReq ack) → Leads 7 w
   request-over w u opened waiting ack small sent =
       elim (greatest-or e.marks n (Some ack) n) [
@@ -557,7 +557,7 @@ module _ {C : Type 0} (control : Control C) (effects : EveryStepHasOneEffect) wh
           bad-comes e c.frame.bytes c.here.packet c.here.came n (checked-so e c.frame.bytes n k c.here phases.Open opened refl)
           (verdict-so e c.frame.bytes n k c.here (verdicts.SyncFor n) bad) in
           let now = event.Deliver Server c.index in
-          let v : Controlled C = next control w now in
+          let v : ControlledWorld C = next control w now in
           let said = after-says control effects 6 w now ClientFirst _ _ _ _ _ _ c.acts says u in
           let still : v.world.server ≡ w.world.server = said.is_after.rests in
           let sync : IsSent v.world.client v.world.client.end.marks.gss (kind.Sync v.world.server.end.marks.gss) =
@@ -571,7 +571,7 @@ module _ {C : Type 0} (control : Control C) (effects : EveryStepHasOneEffect) wh
           (leads-by control 4 _ _ (event.Deliver Server by.second) tt (server-asks _ by.in_step)))
 
   -- What the call leads to, from a world in which both are OPEN.
-  close-leads : (w : Controlled C) → IsUnderWay 8 w.world → AreOpen w.world → (side : Side) → Leads 7 (next control w (event.Close side))
+  close-leads : (w : ControlledWorld C) → IsUnderWay 8 w.world → AreOpen w.world → (side : Side) → Leads 7 (next control w (event.Close side))
   close-leads w u opened Client =
       let e : EndState = w.world.client.end in
       let now = event.Close Client in
@@ -594,8 +594,8 @@ module _ {C : Type 0} (control : Control C) (effects : EveryStepHasOneEffect) wh
       → HaveRoomFor more (plays_from_start control client server for_client for_server events).world
       → IsUnderWay more (plays_from_start control client server for_client for_server events).world
   start-under-way more client server for_client for_server events is_client is_server client_fits server_fits paired room =
-      let start : Controlled C = begins_with control client server for_client for_server in
-      let last : Controlled C = plays control start events in
+      let start : ControlledWorld C = begins_with control client server for_client for_server in
+      let last : ControlledWorld C = plays control start events in
       let all : List Occurrence = occurring control start events in
       let same : last.world ≡ world_after_all (at_start client server) all = plays-run control start events in
       let configs =

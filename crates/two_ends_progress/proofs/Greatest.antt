@@ -46,7 +46,7 @@ use Rattle.two_ends.proofs.ReadBack.{IsFromLog, IsFromPeer}
 use Rattle.two_ends.proofs.Reaching.{occurring, plays-run, world-after}
 use Rattle.two_ends.proofs.Shown.{few-processed, next-number}
 use Rattle.two_ends.proofs.Vectors.{frames-length}
-use Rattle.two_ends.specs.Controlled.{Controlled, begins_with, congestion_of, controlled, controlled_after, controls, happens_to, plays, said_by}
+use Rattle.two_ends.specs.Controlled.{ControlledWorld, begins_with, congestion_of, controlled, controlled_after, controls, happens_to, plays, said_by}
 use Rattle.two_ends.specs.MarkMoves.{begun_shut}
 use Rattle.two_ends.specs.MarkView.{MarkSide}
 use Rattle.two_ends.specs.Reached.{IsBeginning}
@@ -341,14 +341,14 @@ delivers-side w Client (Some frame) = refl
 delivers-side w Server (Some frame) = refl
 
 -- a schedule with one event more
-plays-snoc : {C : Type 0} (control : Control C) (w : Controlled C) (events : List Event) (event : Event)
+plays-snoc : {C : Type 0} (control : Control C) (w : ControlledWorld C) (events : List Event) (event : Event)
     → plays control w (events ++ event ∷ []) ≡ controlled_after (plays control w events) (happens_to control (plays control w events) event)
 plays-snoc control w [] event = refl
 plays-snoc control w (now ∷ later) event = plays-snoc control (controlled_after w (happens_to control w now)) later event
 
-module _ {C : Type 0} (control : Control C) (start : Controlled C) (effects : EveryStepHasOneEffect) (early : List Event)
+module _ {C : Type 0} (control : Control C) (start : ControlledWorld C) (effects : EveryStepHasOneEffect) (early : List Event)
     (h : IsHeld SideInvariant (plays control start early).world) where
-  abbrev at : Controlled C
+  abbrev at : ControlledWorld C
   at = plays control start early
 
   abbrev w : WorldState
@@ -515,7 +515,7 @@ module _ {C : Type 0} (control : Control C) (start : Controlled C) (effects : Ev
     -- one event more
     step-met : (side : Side) → GreatestIsMet control start (early ++ e ∷ []) side
     step-met side =
-        subst (λ (v : Controlled C). IsGreatestMet (half_of v.world side) (Now e side)) (sym (plays-snoc control start early e))
+        subst (λ (v : ControlledWorld C). IsGreatestMet (half_of v.world side) (Now e side)) (sym (plays-snoc control start early e))
         (subst (λ (v : WorldState). IsGreatestMet (half_of v side) (Now e side)) (sym (world-after control at (actor e) r))
         (after-met (leaves e (said_by control (congestion_of at (actor e)))) side))
 
@@ -526,19 +526,19 @@ begins-deaf config (inl live) = by config.role live where
   by role.Server is = cc is
 begins-deaf config (inr some) = omega (arith, some)
 
-module _ {C : Type 0} (control : Control C) (start : Controlled C) (effects : EveryStepHasOneEffect) (begins : IsBeginning control start) where
-  abbrev beginning : Controlled C
+module _ {C : Type 0} (control : Control C) (start : ControlledWorld C) (effects : EveryStepHasOneEffect) (begins : IsBeginning control start) where
+  abbrev beginning : ControlledWorld C
   beginning = begins_with control begins.client begins.server begins.for_client begins.for_server
 
   held : (events : List Event) → IsHeld SideInvariant (plays control start events).world
   held events =
-      subst (λ (s : Controlled C). IsHeld SideInvariant (plays control s events).world) (sym begins.same)
+      subst (λ (s : ControlledWorld C). IsHeld SideInvariant (plays control s events).world) (sym begins.same)
       (subst (IsHeld SideInvariant) (sym (plays-run control beginning events))
       (run-kept effects begins.client begins.server (occurring control beginning events) begins.client_fits begins.server_fits))
 
   starts-met : (side : Side) → GreatestIsMet control start [] side
   starts-met side = λ stands heard.
-      absurd (deaf side (subst (λ (s : Controlled C). HasHeardFirst (half_of s.world side)) begins.same heard))
+      absurd (deaf side (subst (λ (s : ControlledWorld C). HasHeardFirst (half_of s.world side)) begins.same heard))
     where
       deaf : (side : Side) → HasHeardFirst (half_of beginning.world side) → ⊥
       deaf Client heard = begins-deaf begins.client heard

@@ -34,7 +34,7 @@ use Rattle.feature_lists.specs.declared.features.Place.TheVariants.{Here, There}
 use Rattle.feature_machine.specs.Negotiating.{held_by, row_at}
 use Rattle.feature_machine.specs.declared.row.Row.{Row}
 use Rattle.seq_circle.specs.Circle.{later_of}
-use Rattle.two_ends.specs.Controlled.{Controlled, congestion_of}
+use Rattle.two_ends.specs.Controlled.{ControlledWorld, congestion_of}
 use Rattle.two_ends.specs.World.{Half, WorldState, half_of}
 use Rattle.validity_windows.specs.Verdict.{by_window}
 use Rattle.validity_windows.specs.declared.verdict.Verdict.{Verdict}
@@ -72,7 +72,7 @@ module _ {C : Type 0} (control : Control C) (effects : EveryStepHasOneEffect) (o
     pub options_are : draft.options ≡ map vector_item bodies
     pub out : IsOutAs (half_of v x) (half_of v x).end.marks.gss draft
 
-  pub ack-sent : (more : ℕ) (w : Controlled C) {x y : Side} (two : AreTwo x y) → AreOpenWith (more + 1) w.world x y own others
+  pub ack-sent : (more : ℕ) (w : ControlledWorld C) {x y : Side} (two : AreTwo x y) → AreOpenWith (more + 1) w.world x y own others
       → HasAcked more w.world (next control w (event.Timer x timers.Ack)).world x y
   ack-sent more w {x} {y} two o =
       let e : EndState = (half_of w.world x).end in
@@ -105,7 +105,7 @@ module _ {C : Type 0} (control : Control C) (effects : EveryStepHasOneEffect) (o
   fewer-synced fewer more w x y less s = record { opened = fewer-open fewer more w x y own others less s.opened; heard = s.heard }
 
   -- That Ack arrives.
-  module _ (more : ℕ) (before : WorldState) (w : Controlled C) {x y : Side} (two : AreTwo x y) (a1 : HasAcked (more + 1) before w.world x y) where
+  module _ (more : ℕ) (before : WorldState) (w : ControlledWorld C) {x y : Side} (two : AreTwo x y) (a1 : HasAcked (more + 1) before w.world x y) where
     abbrev e : EndState
     e = (half_of w.world y).end
 
@@ -124,7 +124,7 @@ module _ {C : Type 0} (control : Control C) (effects : EveryStepHasOneEffect) (o
     abbrev now : Event
     now = event.Deliver x c.index
 
-    abbrev v : Controlled C
+    abbrev v : ControlledWorld C
     v = next control w now
 
     type_is : a.kind ≡ types.Ack
@@ -172,10 +172,10 @@ module _ {C : Type 0} (control : Control C) (effects : EveryStepHasOneEffect) (o
         }
 
   -- What each event keeps, as `Kept`, still holds.
-  pub in-step-on : (Kept : Controlled C → Type 0) → ((v : Controlled C) (e : Event) → Kept v → Kept (next control v e))
-      → (rest most : ℕ) (w : Controlled C) {x y : Side} (two : AreTwo x y) (goal : Controlled C → Type 0) → Kept w
+  pub in-step-on : (Kept : ControlledWorld C → Type 0) → ((v : ControlledWorld C) (e : Event) → Kept v → Kept (next control v e))
+      → (rest most : ℕ) (w : ControlledWorld C) {x y : Side} (two : AreTwo x y) (goal : ControlledWorld C → Type 0) → Kept w
       → AreOpenWith (rest + 1 + 1 + 1 + 1) w.world x y own others
-      → ((v : Controlled C) → Kept v → AreSynced rest v.world x y → HasWay control most v goal) → HasWay control (most + 1 + 1 + 1 + 1) w goal
+      → ((v : ControlledWorld C) → Kept v → AreSynced rest v.world x y → HasWay control most v goal) → HasWay control (most + 1 + 1 + 1 + 1) w goal
   in-step-on Kept keep rest most w {x} {y} two goal kept o go =
       leads-by control (most + 1 + 1 + 1) w goal first tt
       (elim (window-or (half_of u.world y).end.marks (half_of u.world x).end.marks.gss (Some a1.ack)) [
@@ -191,7 +191,7 @@ module _ {C : Type 0} (control : Control C) (effects : EveryStepHasOneEffect) (o
       first : Event
       first = event.Timer x timers.Ack
 
-      u : Controlled C
+      u : ControlledWorld C
       u = next control w first
 
       a1 : HasAcked (rest + 1 + 1 + 1) w.world u.world x y
@@ -204,7 +204,7 @@ module _ {C : Type 0} (control : Control C) (effects : EveryStepHasOneEffect) (o
           let n : ℕ = (half_of u.world x).end.marks.gss in
           let d = c (rest + 1 + 1) w.world u two a1 in
           let now : Event = event.Deliver x d.index in
-          let v : Controlled C = next control u now in
+          let v : ControlledWorld C = next control u now in
           let type : d.here.packet.kind ≡ types.Ack = type_is (rest + 1 + 1) w.world u two a1 in
           let checked = entrance-so e d.here.packet phases.Open types.Ack entrance.Check a1.opened.there type refl in
           let says =
@@ -221,9 +221,9 @@ module _ {C : Type 0} (control : Control C) (effects : EveryStepHasOneEffect) (o
           get-in-step control effects rest v opened.under_way two (half_of v.world x).end.config.role (half_of v.world y).end.config.role phases.Open phases.Open
           (open-sync (half_of v.world x).end.config.role) (open-sync-ack (half_of v.world y).end.config.role) refl refl opened.here opened.there refl refl refl sent in
           let second : Event = event.Deliver y g.first in
-          let v2 : Controlled C = next control v second in
+          let v2 : ControlledWorld C = next control v second in
           let third : Event = event.Deliver x g.second in
-          let v3 : Controlled C = next control v2 third in
+          let v3 : ControlledWorld C = next control v2 third in
           leads-by control (most + 1 + 1) u goal now tt
           (leads-by control (most + 1) v goal second tt
           (leads-by control most v2 goal third tt

@@ -3,7 +3,7 @@ use Rattle.std.proofs.Common.{◌≡◌, ◌⊎◌, inl, inr, refl, subst, ℕ, 
 use Rattle.std.proofs.lemmas.Option.{same_Some}
 use Rattle.dccp_states.specs.declared.calls.Timer.{Timer}
 use Rattle.congestion_trait.specs.Control.{Control}
-use Rattle.two_ends.specs.Controlled.{Controlled, controlled_after, happens_to}
+use Rattle.two_ends.specs.Controlled.{ControlledWorld, controlled_after, happens_to}
 use Rattle.world_events.specs.declared.event.Event.{Event}
 use Rattle.world_events.specs.declared.event.Event.TheVariants as event
 use Rattle.world_events.specs.declared.event.Side.{Side}
@@ -11,18 +11,18 @@ use Rattle.two_ends_progress.specs.Leading.{ArePassive, IsPassive, HasWay}
 
 module _ {C : Type 0} (control : Control C) where
   -- the world after an event
-  abbrev pub next : Controlled C → Event → Controlled C
+  abbrev pub next : ControlledWorld C → Event → ControlledWorld C
   next w event = controlled_after w (happens_to control w event)
 
-  pub leads-here : (w : Controlled C) (goal : Controlled C → Type 0) → goal w → HasWay control 0 w goal
+  pub leads-here : (w : ControlledWorld C) (goal : ControlledWorld C → Type 0) → goal w → HasWay control 0 w goal
   leads-here w goal is = record { events = []; are_passive = tt; few = omega arith; leads = is }
 
-  pub leads-by : (most : ℕ) (w : Controlled C) (goal : Controlled C → Type 0) (event : Event) → IsPassive event → HasWay control most (next w event) goal
+  pub leads-by : (most : ℕ) (w : ControlledWorld C) (goal : ControlledWorld C → Type 0) (event : Event) → IsPassive event → HasWay control most (next w event) goal
       → HasWay control (most + 1) w goal
   leads-by most w goal event passive rest =
       record { events = event ∷ rest.events; are_passive = (passive, rest.are_passive); few = omega (arith, rest.few); leads = rest.leads }
 
-  pub leads-within : (fewer most : ℕ) (w : Controlled C) (goal : Controlled C → Type 0) → fewer ≤ most → HasWay control fewer w goal
+  pub leads-within : (fewer most : ℕ) (w : ControlledWorld C) (goal : ControlledWorld C → Type 0) → fewer ≤ most → HasWay control fewer w goal
       → HasWay control most w goal
   leads-within fewer most w goal under way =
       record { events = way.events; are_passive = way.are_passive; few = omega (arith, way.few, under); leads = way.leads }

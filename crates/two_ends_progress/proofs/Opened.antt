@@ -46,7 +46,7 @@ use Rattle.feature_machine.specs.declared.stands.Stand.TheVariants as stand
 use Rattle.run_list.specs.MarkedSet.{MarkedSet}
 use Rattle.seq_circle.specs.Circle.{is_before, residue}
 use Rattle.two_ends.proofs.Consequences.{alike}
-use Rattle.two_ends.specs.Controlled.{Controlled, begins_with, congestion_of, plays, plays_from_start}
+use Rattle.two_ends.specs.Controlled.{ControlledWorld, begins_with, congestion_of, plays, plays_from_start}
 use Rattle.two_ends.specs.Negotiated.{Agree}
 use Rattle.two_ends.specs.Safe.{Safe}
 use Rattle.two_ends.specs.World.{Half, WorldState, moved}
@@ -101,11 +101,11 @@ settled-one true b is = is
 settled-one false b is = cc is
 
 module _ {C : Type 0} (control : Control C) (effects : EveryStepHasOneEffect) where
-  abbrev Leads : ℕ → Controlled C → Type 0
-  Leads most w = HasWay control most w (λ (v : Controlled C). HasEnded v.world ⊎ AreOpen v.world)
+  abbrev Leads : ℕ → ControlledWorld C → Type 0
+  Leads most w = HasWay control most w (λ (v : ControlledWorld C). HasEnded v.world ⊎ AreOpen v.world)
 
   -- The SyncAck that answers the client's Sync opens it.
-  sync-ack-opens : (w : Controlled C) → IsUnderWay 1 w.world → IsHalfOpen w.world
+  sync-ack-opens : (w : ControlledWorld C) → IsUnderWay 1 w.world → IsHalfOpen w.world
       → IsSent w.world.server w.world.server.end.marks.gss (kind.SyncAck w.world.client.end.marks.gss) → Leads 1 w
   sync-ack-opens w u half out =
       let e : EndState = w.world.client.end in
@@ -124,7 +124,7 @@ module _ {C : Type 0} (control : Control C) (effects : EveryStepHasOneEffect) wh
       (inr (both-open (next control w now).world left.phase (ap (λ (h : Half). h.end.phase) left.rests ∙ half.1))))
 
   -- The Sync, for the server's last number, is answered by that.
-  sync-opens : (w : Controlled C) → IsUnderWay 2 w.world → IsHalfOpen w.world
+  sync-opens : (w : ControlledWorld C) → IsUnderWay 2 w.world → IsHalfOpen w.world
       → IsSent w.world.client w.world.client.end.marks.gss (kind.Sync w.world.server.end.marks.gss) → Leads 2 w
   sync-opens w u half out =
       let e : EndState = w.world.server.end in
@@ -137,7 +137,7 @@ module _ {C : Type 0} (control : Control C) (effects : EveryStepHasOneEffect) wh
       half.1 c.here.type_is c.here.listed
       (verdict-so e c.frame.bytes n k c.here verdicts.Valid (low-end-valid e.marks n (heard-so 2 w.world u ServerFirst (ap is_live half.1)))) refl in
       let now = event.Deliver Client c.index in
-      let v : Controlled C = next control w now in
+      let v : ControlledWorld C = next control w now in
       let said = after-says control effects 1 w now ServerFirst _ _ _ _ _ _ c.acts says u in
       let still : v.world.client ≡ w.world.client = said.is_after.rests in
       let sync_ack : IsSent v.world.server v.world.server.end.marks.gss (kind.SyncAck v.world.client.end.marks.gss) =
@@ -147,7 +147,7 @@ module _ {C : Type 0} (control : Control C) (effects : EveryStepHasOneEffect) wh
       (sync-ack-opens v said.is_after.under_way (ap (λ (h : Half). h.end.phase) still ∙ half.0, said.is_after.phase) sync_ack)
 
   -- An Ack under the server's last number opens the client, or a fault of its options closes it, or a Sync answers it.
-  module _ (w : Controlled C) (u : IsUnderWay 3 w.world) (half : IsHalfOpen w.world) (index : ℕ) (frame : SentFrame) (a : Incoming)
+  module _ (w : ControlledWorld C) (u : IsUnderWay 3 w.world) (half : IsHalfOpen w.world) (index : ℕ) (frame : SentFrame) (a : Incoming)
       (came : Came w.world.client.end (Arrives frame.bytes) a) (type_is : a.kind ≡ types.Ack) (numbered : a.number ≡ w.world.server.end.marks.gss) (ack : ℕ)
       (acks : a.ack ≡ Some ack)
       (acts : Acts w.world (next control w (event.Deliver Server index)).world Client Server
@@ -164,7 +164,7 @@ module _ {C : Type 0} (control : Control C) (effects : EveryStepHasOneEffect) wh
     abbrev now : Event
     now = event.Deliver Server index
 
-    abbrev v : Controlled C
+    abbrev v : ControlledWorld C
     v = next control w now
 
     verdict-is : (is : Verdict) → by_window e.marks n (Some ack) ≡ is → verdict_of e a ≡ is
@@ -207,7 +207,7 @@ module _ {C : Type 0} (control : Control C) (effects : EveryStepHasOneEffect) wh
         ]
 
   -- a long one
-  told-opens : (w : Controlled C) → IsUnderWay 3 w.world → IsHalfOpen w.world → (d : Draft) (ack : ℕ) → IsSendable d → d.kind ≡ kind.Ack (Long ack)
+  told-opens : (w : ControlledWorld C) → IsUnderWay 3 w.world → IsHalfOpen w.world → (d : Draft) (ack : ℕ) → IsSendable d → d.kind ≡ kind.Ack (Long ack)
       → ack < 2 ^ 48 → IsOut w.world.server w.world.server.end.marks.gss d → Leads 3 w
   told-opens w u half d ack sendable is_kind small out =
       let b =
@@ -216,7 +216,7 @@ module _ {C : Type 0} (control : Control C) (effects : EveryStepHasOneEffect) wh
       (b.here.acks ∙ ap ack_of is_kind) b.acts
 
   -- The timer ack of the server, in the form that it has.
-  acks-opens : (w : Controlled C) → IsUnderWay 4 w.world → AreFew 4 w.world → IsHalfOpen w.world
+  acks-opens : (w : ControlledWorld C) → IsUnderWay 4 w.world → AreFew 4 w.world → IsHalfOpen w.world
       → (is_settled_on_one (held_of w.world.server.end ShortSeqnos Here) ≡ true → takes_short w.world.client.end ≡ true) → Leads 4 w
   acks-opens w u few half takes =
       let e : EndState = w.world.server.end in
@@ -225,7 +225,7 @@ module _ {C : Type 0} (control : Control C) (effects : EveryStepHasOneEffect) wh
       let acts = timer-acts control effects w ServerFirst timers.Ack 4 u in
       let s : Step Bool = fires e timers.Ack flies in
       let now = event.Timer Server timers.Ack in
-      let v : Controlled C = next control w now in
+      let v : ControlledWorld C = next control w now in
       let u1 = under-way-next control effects 3 w now ServerFirst None s acts acks.says.config u in
       let few1 = few-next control effects 3 w now few in
       let out : IsOutAs v.world.server v.world.server.end.marks.gss acks.draft = out-as v.world.server w.world.server None s acks.draft acts.acting acks.says in
@@ -285,13 +285,13 @@ module _ {C : Type 0} (control : Control C) (effects : EveryStepHasOneEffect) wh
   abbrev Question : Event
   Question = event.Timer Client timers.Negotiate
 
-  question-sent : (more : ℕ) (w : Controlled C) → IsUnderWay (more + 1) w.world → IsHalfOpen w.world → (k : Key) (keys : List Key)
+  question-sent : (more : ℕ) (w : ControlledWorld C) → IsUnderWay (more + 1) w.world → IsHalfOpen w.world → (k : Key) (keys : List Key)
       → due_keys w.world.client.end.rows ≡ k ∷ keys → HasQuestion more w.world (next control w Question).world
   question-sent more w u half k keys due =
       let e : EndState = w.world.client.end in
       let flies : Bool = has_in_flight control (congestion_of w Client) in
       let speaks = negotiate-speaks e flies phases.PartOpen refl k keys (proper-of (more + 1) w.world u ClientFirst) half.0 due in
-      let v : Controlled C = next control w Question in
+      let v : ControlledWorld C = next control w Question in
       let s : Step Bool = fires e timers.Negotiate flies in
       let acts = timer-acts control effects w ClientFirst timers.Negotiate (more + 1) u in
       let told = after-tells control effects more w Question ClientFirst None s e phases.PartOpen _ acts speaks.tells refl u in
@@ -321,7 +321,7 @@ module _ {C : Type 0} (control : Control C) (effects : EveryStepHasOneEffect) wh
   short-there = (ShortSeqnos, There)
 
   -- The server, whose row is not UNSTABLE, answers what is valid by a Confirm, and that opens the client.
-  module _ (before : WorldState) (w : Controlled C) (q : HasQuestion 4 before w.world) (sound : IsNegotiation before.client.end.rows)
+  module _ (before : WorldState) (w : ControlledWorld C) (q : HasQuestion 4 before w.world) (sound : IsNegotiation before.client.end.rows)
       (due : is_due (row_at before.client.end.rows ShortSeqnos There) ≡ true)
       (settled : (row_at w.world.server.end.rows ShortSeqnos Here).stand ≢ stand.Unstable) (small : before.client.end.marks.gsr < 2 ^ 48)
       (valid : by_window w.world.server.end.marks w.world.client.end.marks.gss (Some before.client.end.marks.gsr) ≡ verdicts.Valid)
@@ -340,7 +340,7 @@ module _ {C : Type 0} (control : Control C) (effects : EveryStepHasOneEffect) wh
     abbrev hearing : Event
     hearing = event.Deliver Client coming-there.index
 
-    abbrev heard-world : Controlled C
+    abbrev heard-world : ControlledWorld C
     heard-world = next control w hearing
 
     type_is : heard-packet.kind ≡ types.Ack
@@ -402,14 +402,14 @@ module _ {C : Type 0} (control : Control C) (effects : EveryStepHasOneEffect) wh
   due-so rows sound due none =
       let no : is_due (row_at rows ShortSeqnos There) ≡ false = sym (has-due rows short-there sound) ∙ ap (has_key short-there) none in cc (no, due)
 
-  later-of : (more : ℕ) (w : Controlled C) (v : WorldState) → IsUnderWay more w.world → IsHalfOpen w.world → v.server ≡ w.world.server
+  later-of : (more : ℕ) (w : ControlledWorld C) (v : WorldState) → IsUnderWay more w.world → IsHalfOpen w.world → v.server ≡ w.world.server
       → v.client.end.marks.gss ≡ next_number w.world.client.end → is_before v.server.end.marks.gsr v.client.end.marks.gss ≡ true
   later-of more w v u half rests gss =
       subst (λ (h : Half). is_before h.end.marks.gsr v.client.end.marks.gss ≡ true) (sym rests)
       (next-newest w.world.server.end.marks w.world.client.end.marks.gss v.client.end.marks.gss (heard-so more w.world u ServerFirst (ap is_live half.1)) gss)
 
   -- In step the question is valid.
-  step-asks : (w : Controlled C) → AreInStep control effects 5 w.world Client Server phases.PartOpen phases.Open
+  step-asks : (w : ControlledWorld C) → AreInStep control effects 5 w.world Client Server phases.PartOpen phases.Open
       → is_due (row_at w.world.client.end.rows ShortSeqnos There) ≡ true
       → (row_at w.world.server.end.rows ShortSeqnos Here).stand ≢ stand.Unstable → Leads 5 w
   step-asks w k due settled = by (due_keys w.world.client.end.rows) refl where
@@ -423,7 +423,7 @@ module _ {C : Type 0} (control : Control C) (effects : EveryStepHasOneEffect) wh
     by [] none = absurd (due-so w.world.client.end.rows sound due none)
     by (key ∷ keys) is =
         let q = question-sent 4 w k.under_way half key keys is in
-        let v : Controlled C = next control w Question in
+        let v : ControlledWorld C = next control w Question in
         let m : Marks = w.world.server.end.marks in
         let near : (m.gss ≡ m.gar) ⊎ (m.gss ≡ residue (m.gar + 1)) = subst (λ (g : ℕ). (m.gss ≡ g) ⊎ (m.gss ≡ residue (g + 1))) k.told k.near in
         let ordered = own-in-order 5 w.world k.under_way ServerFirst (ap is_begun k.peer_phase) in
@@ -446,7 +446,7 @@ module _ {C : Type 0} (control : Control C) (effects : EveryStepHasOneEffect) wh
   changing-due row is = rw is refl
 
   -- The client asks, and once more in step where that is not valid.
-  module _ (w : Controlled C) (u : IsUnderWay 9 w.world) (half : IsHalfOpen w.world) (due : is_due (row_at w.world.client.end.rows ShortSeqnos There) ≡ true)
+  module _ (w : ControlledWorld C) (u : IsUnderWay 9 w.world) (half : IsHalfOpen w.world) (due : is_due (row_at w.world.client.end.rows ShortSeqnos There) ≡ true)
       (settled : (row_at w.world.server.end.rows ShortSeqnos Here).stand ≢ stand.Unstable) where
     asking-sound : IsNegotiation w.world.client.end.rows
     asking-sound = (proper-of 9 w.world u ClientFirst).rows.sound
@@ -454,7 +454,7 @@ module _ {C : Type 0} (control : Control C) (effects : EveryStepHasOneEffect) wh
     abbrev gsr : ℕ
     gsr = w.world.client.end.marks.gsr
 
-    abbrev asked-world : Controlled C
+    abbrev asked-world : ControlledWorld C
     asked-world = next control w Question
 
     refused : HasQuestion 8 w.world asked-world.world
@@ -472,7 +472,7 @@ module _ {C : Type 0} (control : Control C) (effects : EveryStepHasOneEffect) wh
         (verdict-read e its.frame.bytes n q.draft its.here (verdicts.SyncFor n)
         (ap (λ (k : Kind). verdict e.marks (packet_type k) n (ack_of k)) q.is_kind ∙ bad)) in
         let now = event.Deliver Client its.index in
-        let o : Controlled C = next control asked-world now in
+        let o : ControlledWorld C = next control asked-world now in
         let said = after-says control effects 7 asked-world now ServerFirst _ _ _ _ _ _ its.acts says q.under_way in
         let still : o.world.client ≡ asked-world.world.client = said.is_after.rests in
         let sent : IsSent o.world.server o.world.server.end.marks.gss (kind.Sync o.world.client.end.marks.gss) =
@@ -481,7 +481,7 @@ module _ {C : Type 0} (control : Control C) (effects : EveryStepHasOneEffect) wh
         let by =
         get-in-step control effects 5 o u1 ClientFirst role.Client role.Server phases.PartOpen phases.Open sync-answered (open-sync-ack role.Server)
         u1.roles.is_client u1.roles.is_server (ap (λ (h : Half). h.end.phase) still ∙ q.half.0) (said.is_after.phase ∙ q.half.1) refl refl refl sent in
-        let s : Controlled C = next control (next control o (event.Deliver Server by.first)) (event.Deliver Client by.second) in
+        let s : ControlledWorld C = next control (next control o (event.Deliver Server by.first)) (event.Deliver Client by.second) in
         let rows : s.world.client.end.rows ≡ asked w.world.client.end.rows (next_number w.world.client.end) =
         by.rows_are ∙ ap (λ (h : Half). h.end.rows) still ∙ q.rows_are in
         let theirs : s.world.server.end.rows ≡ w.world.server.end.rows =
@@ -512,7 +512,7 @@ module _ {C : Type 0} (control : Control C) (effects : EveryStepHasOneEffect) wh
     asking-opens = asking-by (due_keys w.world.client.end.rows) refl
 
   -- Where the server may send short, its row is settled on that: so is the client's, or the client asks.
-  module _ (w : Controlled C) (u : IsUnderWay 9 w.world) (few : AreFew 4 w.world) (half : IsHalfOpen w.world) (agree : Agree w.world) where
+  module _ (w : ControlledWorld C) (u : IsUnderWay 9 w.world) (few : AreFew 4 w.world) (half : IsHalfOpen w.world) (agree : Agree w.world) where
     acked : (is_settled_on_one (held_of w.world.server.end ShortSeqnos Here) ≡ true → takes_short w.world.client.end ≡ true) → Leads 9 w
     acked takes = leads-within control 4 9 w _ (omega arith) (acks-opens w (fewer-under-way 4 9 w.world (omega arith) u) few half takes)
 
@@ -545,34 +545,34 @@ module _ {C : Type 0} (control : Control C) (effects : EveryStepHasOneEffect) wh
 module _ {C : Type 0} (control : Control C) (effects : EveryStepHasOneEffect) (client server : Config) (for_client for_server : C) (events : List Event)
     (is_client : client.role ≡ role.Client) (is_server : server.role ≡ role.Server) (client_fits : Fits client) (server_fits : Fits server)
     (paired : AreForEachOther client server) (safe : (all : List Event) → Safe control (plays_from_start control client server for_client for_server all)) where
-  abbrev reached : Controlled C
+  abbrev reached : ControlledWorld C
   reached = plays_from_start control client server for_client for_server events
 
-  abbrev Goal : Controlled C → Type 0
+  abbrev Goal : ControlledWorld C → Type 0
   Goal v = HasEnded v.world ⊎ AreOpen v.world
 
   -- after a way to where the client is in PARTOPEN and the server in OPEN
   half-on : (more : List Event) → AreFew 9 (plays control reached more).world → IsHalfOpen (plays control reached more).world
       → HasWay control 9 (plays control reached more) Goal
   half-on more few half = half-opens control effects v under_way (λ side. omega (arith, few side)) half agree where
-    v : Controlled C
+    v : ControlledWorld C
     v = plays control reached more
 
-    all : Controlled C
+    all : ControlledWorld C
     all = plays_from_start control client server for_client for_server (events ++ more)
 
     same : all ≡ v
     same = plays-joined control (begins_with control client server for_client for_server) events more
 
     agree : Agree v.world
-    agree = subst (λ (z : Controlled C). Agree z.world) same (safe (events ++ more)).agree
+    agree = subst (λ (z : ControlledWorld C). Agree z.world) same (safe (events ++ more)).agree
 
     few-all : AreFew 9 all.world
-    few-all = subst (λ (z : Controlled C). AreFew 9 z.world) (sym same) few
+    few-all = subst (λ (z : ControlledWorld C). AreFew 9 z.world) (sym same) few
 
     under_way : IsUnderWay 9 v.world
     under_way =
-        subst (λ (z : Controlled C). IsUnderWay 9 z.world) same
+        subst (λ (z : ControlledWorld C). IsUnderWay 9 z.world) same
         (start-under-way control effects 9 client server for_client for_server (events ++ more) is_client is_server client_fits server_fits paired
         (λ side. omega (arith, few-all side)))
 
@@ -585,7 +585,7 @@ module _ {C : Type 0} (control : Control C) (effects : EveryStepHasOneEffect) (c
             (half-on first.events (few-plays control effects 9 reached first.events (λ each. omega (arith, few each, first.few))) half)
       ]
     where
-      first : HasWay control 4 reached (λ (v : Controlled C). HasEnded v.world ⊎ IsHalfOpen v.world)
+      first : HasWay control 4 reached (λ (v : ControlledWorld C). HasEnded v.world ⊎ IsHalfOpen v.world)
       first =
           half-leads control effects client server for_client for_server events is_client is_server client_fits server_fits paired opening
           (λ each. omega (arith, few each))

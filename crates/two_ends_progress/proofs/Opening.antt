@@ -31,7 +31,7 @@ use Rattle.dccp_endpoint.specs.Receiving.{acknowledges_in_window, heeded, is_oth
 use Rattle.dccp_endpoint.specs.Steps.{Step, detail_of, next_number, without_detail}
 use Rattle.dccp_endpoint.specs.declared.config.Config.{Config}
 use Rattle.seq_circle.specs.Circle.{later_of, residue}
-use Rattle.two_ends.specs.Controlled.{Controlled, begins_with, congestion_of, plays, plays_from_start}
+use Rattle.two_ends.specs.Controlled.{ControlledWorld, begins_with, congestion_of, plays, plays_from_start}
 use Rattle.two_ends.specs.World.{Half, WorldState, half_of, moved}
 use Rattle.validity_windows.specs.Verdict.{by_window, is_ack_within, verdict}
 use Rattle.validity_windows.specs.Windows.{ack_high, ack_low}
@@ -116,10 +116,10 @@ unfolding opens
 opens-so client is = rw is refl
 
 module _ {C : Type 0} (control : Control C) (effects : EveryStepHasOneEffect) where
-  abbrev Leads : ℕ → Controlled C → Type 0
-  Leads most w = HasWay control most w (λ (v : Controlled C). HasEnded v.world ⊎ IsHalfOpen v.world)
+  abbrev Leads : ℕ → ControlledWorld C → Type 0
+  Leads most w = HasWay control most w (λ (v : ControlledWorld C). HasEnded v.world ⊎ IsHalfOpen v.world)
 
-  pub after-tells : {A : Type 0} (more : ℕ) (w : Controlled C) (e : Event) {x y : Side} (two : AreTwo x y) (arrived : Option ℕ) (s : Step A) (b : EndState)
+  pub after-tells : {A : Type 0} (more : ℕ) (w : ControlledWorld C) (e : Event) {x y : Side} (two : AreTwo x y) (arrived : Option ℕ) (s : Step A) (b : EndState)
       (to : Phase) (k : Kind) → Acts w.world (next control w e).world x y (moved (half_of w.world x) arrived s) → (tells : Tells b s to k)
       → b.config ≡ (half_of w.world x).end.config → IsUnderWay (more + 1) w.world
       → HasTold more (next control w e).world (half_of (next control w e).world x) b to k tells.draft
@@ -150,7 +150,7 @@ module _ {C : Type 0} (control : Control C) (effects : EveryStepHasOneEffect) wh
     each Server = ap is_connected half.1
 
   -- An Ack or a SyncAck that is valid at a server in RESPOND opens it, or a fault of its options closes it.
-  opened-by : (w : Controlled C) → IsUnderWay 1 w.world → w.world.client.end.phase ≡ phases.PartOpen → w.world.server.end.phase ≡ phases.Respond
+  opened-by : (w : ControlledWorld C) → IsUnderWay 1 w.world → w.world.client.end.phase ≡ phases.PartOpen → w.world.server.end.phase ≡ phases.Respond
       → (n : ℕ) (d : Draft) (type : PacketType) → packet_type d.kind ≡ type → IsRow role.Server phases.Respond type phases.Open reply.Ack
       → IsOut w.world.client n d → n < 2 ^ 48 → IsPlain d → verdict w.world.server.end.marks (packet_type d.kind) n (ack_of d.kind) ≡ verdicts.Valid
       → Leads 1 w
@@ -164,7 +164,7 @@ module _ {C : Type 0} (control : Control C) (effects : EveryStepHasOneEffect) wh
       let goes = row-heeds e bytes a c.here.came role.Server phases.Respond phases.Open type reply.Ack row u.roles.is_server respond kind_is fits in
       let next_is = next-so e bytes a c.here.came role.Server phases.Respond phases.Open type reply.Ack row u.roles.is_server respond kind_is fits in
       let now = event.Deliver Client c.index in
-      let v : Controlled C = next control w now in
+      let v : ControlledWorld C = next control w now in
       let y : EndState = with_raised_marks e a in
       let phase_is : v.world.server.end.phase ≡ (heeded y a (reads_options y a)).after.phase =
       ap (λ (h : Half). h.end.phase) c.acts.acting ∙ ap (λ (s : Step Outcome). s.after.phase) goes in
@@ -176,7 +176,7 @@ module _ {C : Type 0} (control : Control C) (effects : EveryStepHasOneEffect) wh
       ]))
 
   -- A Response to the client's last Request: the client acknowledges it, or is over.
-  module _ (w : Controlled C) (u : IsUnderWay 2 w.world) (request : w.world.client.end.phase ≡ phases.Request)
+  module _ (w : ControlledWorld C) (u : IsUnderWay 2 w.world) (request : w.world.client.end.phase ≡ phases.Request)
       (respond : w.world.server.end.phase ≡ phases.Respond) (heard : w.world.server.end.marks.gsr ≡ w.world.client.end.marks.gss)
       (d : Draft) (service : ℕ) (sendable : IsSendable d) (is_kind : d.kind ≡ kind.Response w.world.client.end.marks.gss service)
       (fits_service : service < 2 ^ 32) (out : IsOut w.world.server w.world.server.end.marks.gss d) where
@@ -216,7 +216,7 @@ module _ {C : Type 0} (control : Control C) (effects : EveryStepHasOneEffect) wh
     abbrev now : Event
     now = event.Deliver Server c.index
 
-    abbrev v : Controlled C
+    abbrev v : ControlledWorld C
     v = next control w now
 
     acked : (for_us : is_other_service y e.phase a.kind a.service ≡ false) → Leads 2 w
@@ -264,7 +264,7 @@ module _ {C : Type 0} (control : Control C) (effects : EveryStepHasOneEffect) wh
       by false is = acked is
 
   -- What a server that was asked leaves: it is over, or has answered.
-  respond-on : (w : Controlled C) → IsUnderWay 3 w.world → w.world.client.end.phase ≡ phases.Request → (index : ℕ) (frame : SentFrame) (y : EndState) (a : Incoming)
+  respond-on : (w : ControlledWorld C) → IsUnderWay 3 w.world → w.world.client.end.phase ≡ phases.Request → (index : ℕ) (frame : SentFrame) (y : EndState) (a : Incoming)
       → (receives w.world.server.end frame.bytes) ≡ heeded y a (reads_options y a)
       → Acts w.world (next control w (event.Deliver Client index)).world Server Client
       (moved w.world.server (Some frame.number) (receives w.world.server.end frame.bytes))
@@ -273,7 +273,7 @@ module _ {C : Type 0} (control : Control C) (effects : EveryStepHasOneEffect) wh
   respond-on w u request index frame y a goes came_acts config rows heard row =
       let s : Step Outcome = heeded y a (reads_options y a) in
       let now = event.Deliver Client index in
-      let v : Controlled C = next control w now in
+      let v : ControlledWorld C = next control w now in
       let acts : Acts w.world v.world Server Client (moved w.world.server (Some frame.number) s) =
       subst (λ (t : Step Outcome). Acts w.world v.world Server Client (moved w.world.server (Some frame.number) t)) goes came_acts in
       let its : AreRowsOf (end_of y.config.role) y.rows =
@@ -295,7 +295,7 @@ module _ {C : Type 0} (control : Control C) (effects : EveryStepHasOneEffect) wh
       ]
 
   -- A Request that reaches a server in LISTEN.
-  module _ (w : Controlled C) (u : IsUnderWay 3 w.world) (request : w.world.client.end.phase ≡ phases.Request)
+  module _ (w : ControlledWorld C) (u : IsUnderWay 3 w.world) (request : w.world.client.end.phase ≡ phases.Request)
       (listens : w.world.server.end.phase ≡ phases.Listen) (d : Draft) (service : ℕ) (sendable : IsSendable d) (is_kind : d.kind ≡ kind.Request service)
       (fits_service : service < 2 ^ 32) (out : IsOut w.world.client w.world.client.end.marks.gss d) where
     abbrev first-e : EndState
@@ -319,7 +319,7 @@ module _ {C : Type 0} (control : Control C) (effects : EveryStepHasOneEffect) wh
     abbrev first-now : Event
     first-now = event.Deliver Client first-c.index
 
-    abbrev first-v : Controlled C
+    abbrev first-v : ControlledWorld C
     first-v = next control w first-now
 
     accepted : is_own_service first-e first-a.service ≡ true → Leads 3 w
@@ -372,7 +372,7 @@ module _ {C : Type 0} (control : Control C) (effects : EveryStepHasOneEffect) wh
       by false is = refused is
 
   -- A Request that is valid at a server in RESPOND.
-  asked-again : (w : Controlled C) → IsUnderWay 3 w.world → w.world.client.end.phase ≡ phases.Request → w.world.server.end.phase ≡ phases.Respond
+  asked-again : (w : ControlledWorld C) → IsUnderWay 3 w.world → w.world.client.end.phase ≡ phases.Request → w.world.server.end.phase ≡ phases.Respond
       → (d : Draft) (service : ℕ) → IsSendable d → d.kind ≡ kind.Request service → service < 2 ^ 32
       → IsOut w.world.client w.world.client.end.marks.gss d
       → by_window w.world.server.end.marks w.world.client.end.marks.gss None ≡ verdicts.Valid → Leads 3 w
@@ -396,7 +396,7 @@ module _ {C : Type 0} (control : Control C) (effects : EveryStepHasOneEffect) wh
       (ap (later_of e.marks.gsr) c.here.numbered ∙ later-so e.marks.gsr n (heard-in-order e.marks n heard)) next_is
 
   -- The timer request, from both worlds.
-  asking-on : (w : Controlled C) → IsUnderWay 4 w.world → w.world.client.end.phase ≡ phases.Request
+  asking-on : (w : ControlledWorld C) → IsUnderWay 4 w.world → w.world.client.end.phase ≡ phases.Request
       → (w.world.server.end.phase ≡ phases.Listen)
       ⊎ ((w.world.server.end.phase ≡ phases.Respond) × (by_window w.world.server.end.marks (next_number w.world.client.end) None ≡ verdicts.Valid))
       → Leads 4 w
@@ -405,7 +405,7 @@ module _ {C : Type 0} (control : Control C) (effects : EveryStepHasOneEffect) wh
       let flies : Bool = has_in_flight control (congestion_of w Client) in
       let tells = request-again e flies (proper-of 4 w.world u ClientFirst) request in
       let now = event.Timer Client timers.Request in
-      let v : Controlled C = next control w now in
+      let v : ControlledWorld C = next control w now in
       let acts = timer-acts control effects w ClientFirst timers.Request 4 u in
       let told = after-tells 3 w now ClientFirst None (fires e timers.Request flies) e phases.Request _ acts tells refl u in
       let still : v.world.server ≡ w.world.server = acts.resting in
@@ -421,13 +421,13 @@ module _ {C : Type 0} (control : Control C) (effects : EveryStepHasOneEffect) wh
       ])
 
   -- The timer ack of a client in PARTOPEN: where its Ack is not valid, a Sync and a SyncAck open the server.
-  acking-on : (w : Controlled C) → IsUnderWay 4 w.world → w.world.client.end.phase ≡ phases.PartOpen → w.world.server.end.phase ≡ phases.Respond → Leads 4 w
+  acking-on : (w : ControlledWorld C) → IsUnderWay 4 w.world → w.world.client.end.phase ≡ phases.PartOpen → w.world.server.end.phase ≡ phases.Respond → Leads 4 w
   acking-on w u part respond =
       let e : EndState = w.world.client.end in
       let flies : Bool = has_in_flight control (congestion_of w Client) in
       let tells = ack-fires e flies part in
       let now = event.Timer Client timers.Ack in
-      let v : Controlled C = next control w now in
+      let v : ControlledWorld C = next control w now in
       let acts = timer-acts control effects w ClientFirst timers.Ack 4 u in
       let told = after-tells 3 w now ClientFirst None (fires e timers.Ack flies) e phases.PartOpen _ acts tells refl u in
       let still : v.world.server ≡ w.world.server = acts.resting in
@@ -436,7 +436,7 @@ module _ {C : Type 0} (control : Control C) (effects : EveryStepHasOneEffect) wh
       (gsr-small 4 w.world u ClientFirst) told.out)
     where
       -- the SyncAck opens the server
-      sync-ack-on : (w : Controlled C) → IsUnderWay 1 w.world → w.world.client.end.phase ≡ phases.PartOpen → w.world.server.end.phase ≡ phases.Respond
+      sync-ack-on : (w : ControlledWorld C) → IsUnderWay 1 w.world → w.world.client.end.phase ≡ phases.PartOpen → w.world.server.end.phase ≡ phases.Respond
           → IsOut w.world.client w.world.client.end.marks.gss (alone (kind.SyncAck w.world.server.end.marks.gss)) → Leads 1 w
       sync-ack-on w u part respond out =
           let m : Marks = w.world.server.end.marks in
@@ -446,7 +446,7 @@ module _ {C : Type 0} (control : Control C) (effects : EveryStepHasOneEffect) wh
           (low-end-valid m n (heard-so 1 w.world u ServerFirst (ap is_live respond)))
 
       -- the Sync is answered by it
-      sync-on : (w : Controlled C) → IsUnderWay 2 w.world → w.world.client.end.phase ≡ phases.PartOpen → w.world.server.end.phase ≡ phases.Respond
+      sync-on : (w : ControlledWorld C) → IsUnderWay 2 w.world → w.world.client.end.phase ≡ phases.PartOpen → w.world.server.end.phase ≡ phases.Respond
           → IsOut w.world.server w.world.server.end.marks.gss (alone (kind.Sync w.world.client.end.marks.gss)) → Leads 2 w
       sync-on w u part respond out =
           let e : EndState = w.world.client.end in
@@ -459,7 +459,7 @@ module _ {C : Type 0} (control : Control C) (effects : EveryStepHasOneEffect) wh
           sync-acked e c.frame.bytes c.here.packet c.here.came role.Client phases.PartOpen phases.PartOpen types.Sync reply.SyncAck sync-answered u.roles.is_client part
           c.here.type_is c.here.listed (verdict-read e c.frame.bytes n (alone k) c.here verdicts.Valid (low-end-valid e.marks n heard)) refl in
           let now = event.Deliver Server c.index in
-          let v : Controlled C = next control w now in
+          let v : ControlledWorld C = next control w now in
           let said = after-says control effects 1 w now ClientFirst _ _ _ _ _ _ c.acts says u in
           let still : v.world.server ≡ w.world.server = said.is_after.rests in
           let sync_ack : IsOut v.world.client v.world.client.end.marks.gss (alone (kind.SyncAck v.world.server.end.marks.gss)) =
@@ -468,7 +468,7 @@ module _ {C : Type 0} (control : Control C) (effects : EveryStepHasOneEffect) wh
           leads-by control 1 w _ now tt
           (sync-ack-on v said.is_after.under_way said.is_after.phase (ap (λ (h : Half). h.end.phase) still ∙ respond) sync_ack)
 
-      ack-on : (w : Controlled C) → IsUnderWay 3 w.world → w.world.client.end.phase ≡ phases.PartOpen → w.world.server.end.phase ≡ phases.Respond
+      ack-on : (w : ControlledWorld C) → IsUnderWay 3 w.world → w.world.client.end.phase ≡ phases.PartOpen → w.world.server.end.phase ≡ phases.Respond
           → (d : Draft) (ack : ℕ) → IsSendable d → d.kind ≡ kind.Ack (Long ack) → ack < 2 ^ 48 → IsOut w.world.client w.world.client.end.marks.gss d → Leads 3 w
       ack-on w u part respond d ack sendable is_kind small out =
           let e : EndState = w.world.server.end in
@@ -486,7 +486,7 @@ module _ {C : Type 0} (control : Control C) (effects : EveryStepHasOneEffect) wh
                 let is = entrance-so e c.here.packet phases.Respond (packet_type d.kind) entrance.Check respond c.here.type_is refl in
                 let says = bad-comes e c.frame.bytes c.here.packet c.here.came n is (verdict-read e c.frame.bytes n d c.here (verdicts.SyncFor n) (so ∙ bad)) in
                 let now = event.Deliver Client c.index in
-                let v : Controlled C = next control w now in
+                let v : ControlledWorld C = next control w now in
                 let said = after-says control effects 2 w now ServerFirst _ _ _ _ _ _ c.acts says u in
                 let still : v.world.client ≡ w.world.client = said.is_after.rests in
                 leads-by control 2 w _ now tt
@@ -495,7 +495,7 @@ module _ {C : Type 0} (control : Control C) (effects : EveryStepHasOneEffect) wh
           ]
 
   -- from each world in which an opening is under way
-  opening-on : (w : Controlled C) → IsUnderWay 4 w.world → IsInHandshake w.world → Leads 4 w
+  opening-on : (w : ControlledWorld C) → IsUnderWay 4 w.world → IsInHandshake w.world → Leads 4 w
   opening-on w u (IsAsking request listens) = asking-on w u request (inl listens)
   opening-on w u (AsksAgain request respond near) = asking-on w u request (inr (respond, near))
   opening-on w u (IsAnswered part respond) = acking-on w u part respond
@@ -514,7 +514,7 @@ module _ {C : Type 0} (control : Control C) (effects : EveryStepHasOneEffect) wh
       → IsInHandshake (plays_from_start control client server for_client for_server events).world
       → HaveRoomFor 4 (plays_from_start control client server for_client for_server events).world
       → HasWay control 4 (plays_from_start control client server for_client for_server events)
-      (λ (v : Controlled C). HasEnded v.world ⊎ AreConnected v.world)
+      (λ (v : ControlledWorld C). HasEnded v.world ⊎ AreConnected v.world)
   opening-leads client server for_client for_server events is_client is_server client_fits server_fits paired opening room =
       let way = half-leads client server for_client for_server events is_client is_server client_fits server_fits paired opening room in
       record {

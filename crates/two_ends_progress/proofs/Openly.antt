@@ -20,7 +20,7 @@ use Rattle.feature_lists.specs.declared.features.Feature.TheVariants.{ShortSeqno
 use Rattle.feature_lists.specs.declared.features.Place.TheVariants.{Here, There}
 use Rattle.feature_machine.specs.Negotiating.{held_by, row_at}
 use Rattle.feature_machine.specs.declared.row.Row.{Row}
-use Rattle.two_ends.specs.Controlled.{Controlled, congestion_of, happens_to, said_by}
+use Rattle.two_ends.specs.Controlled.{ControlledWorld, congestion_of, happens_to, said_by}
 use Rattle.two_ends.specs.World.{Half, WorldState, WorldStep, as_sent, half_of, happens, is_far_frame, is_full, moved, world_after}
 use Rattle.two_ends.specs.declared.frames.SentFrame.{SentFrame}
 use Rattle.two_ends.proofs.Acting.{Refused, Steps, Takes, event-taken}
@@ -119,7 +119,7 @@ out-as half old arrived s d same says =
     }
 
 module _ {C : Type 0} (control : Control C) (effects : EveryStepHasOneEffect) where
-  pub few-next : (more : ℕ) (w : Controlled C) (e : Event) → AreFew (more + 1) w.world → AreFew more (next control w e).world
+  pub few-next : (more : ℕ) (w : ControlledWorld C) (e : Event) → AreFew (more + 1) w.world → AreFew more (next control w e).world
   few-next more w e few side =
       let said = said_by control (congestion_of w (actor e)) in
       let r : Result WorldStep WorldFault = happens w.world e said in
@@ -129,14 +129,14 @@ module _ {C : Type 0} (control : Control C) (effects : EveryStepHasOneEffect) wh
       ap (λ (v : WorldState). length (half_of v side).frames) same in
       omega (arith, few side, longer, is)
 
-  far-is : (w : Controlled C) {x y : Side} → AreTwo x y → (index : ℕ) (frame : SentFrame) → slice_get (half_of w.world y).frames index ≡ Some frame
+  far-is : (w : ControlledWorld C) {x y : Side} → AreTwo x y → (index : ℕ) (frame : SentFrame) → slice_get (half_of w.world y).frames index ≡ Some frame
       → is_full (half_of w.world x) ≡ false → is_far_frame (half_of w.world x).end frame ≡ true
       → happens_to control w (event.Deliver y index) ≡ Err fault.FarShort
   far-is w ClientFirst index frame there room far = rw (there, room, far) refl
   far-is w ServerFirst index frame there room far = rw (there, room, far) refl
 
   -- no frame is far where few were sent
-  pub near-so : (w : Controlled C) {x y : Side} (two : AreTwo x y) (more : ℕ) → IsUnderWay more w.world → AreFew more w.world → (index : ℕ) (frame : SentFrame)
+  pub near-so : (w : ControlledWorld C) {x y : Side} (two : AreTwo x y) (more : ℕ) → IsUnderWay more w.world → AreFew more w.world → (index : ℕ) (frame : SentFrame)
       → slice_get (half_of w.world y).frames index ≡ Some frame → is_far_frame (half_of w.world x).end frame ≡ false
   near-so w {x} {y} two more u few index frame there = by (is_far_frame (half_of w.world x).end frame) refl where
     clients : length w.world.client.frames < 2 ^ 23
@@ -152,7 +152,7 @@ module _ {C : Type 0} (control : Control C) (effects : EveryStepHasOneEffect) wh
         (far-is w two index frame there (room-so (half_of w.world x) more (u.room x)) is))
 
   -- The frame of a draft can arrive, and this is what comes.
-  pub record IsComingAs (w : Controlled C) (x y : Side) (number : ℕ) (d : Draft) : Type 0 where
+  pub record IsComingAs (w : ControlledWorld C) (x y : Side) (number : ℕ) (d : Draft) : Type 0 where
     pub index : ℕ
     pub frame : SentFrame
     pub is_there : slice_get (half_of w.world x).frames index ≡ Some frame
@@ -162,7 +162,7 @@ module _ {C : Type 0} (control : Control C) (effects : EveryStepHasOneEffect) wh
         (moved (half_of w.world y) (Some frame.number) (receives (half_of w.world y).end frame.bytes))
 
   -- An event at which the first side acts, and both stay OPEN with their rows.
-  pub stays-open : {A : Type 0} (own others : List Row) (more : ℕ) (w : Controlled C) (e : Event) {x y : Side} (two : AreTwo x y) (arrived : Option ℕ) (s : Step A)
+  pub stays-open : {A : Type 0} (own others : List Row) (more : ℕ) (w : ControlledWorld C) (e : Event) {x y : Side} (two : AreTwo x y) (arrived : Option ℕ) (s : Step A)
       → Acts w.world (next control w e).world x y (moved (half_of w.world x) arrived s) → s.after.config ≡ (half_of w.world x).end.config
       → s.after.phase ≡ phases.Open → s.after.rows ≡ (half_of w.world x).end.rows → AreOpenWith (more + 1) w.world x y own others
       → AreOpenWith more (next control w e).world x y own others
@@ -186,7 +186,7 @@ module _ {C : Type 0} (control : Control C) (effects : EveryStepHasOneEffect) wh
         ap (λ (p : Phase). is_live p && (value_in (half_of w y).end.rows ShortSeqnos There == 1)) o.there
         ∙ ap (λ (rows : List Row). value_in rows ShortSeqnos There == 1) o.others_rows ∙ is
 
-    abbrev pub coming-as : (more : ℕ) (w : Controlled C) {x y : Side} (two : AreTwo x y) (number : ℕ) (d : Draft) → AreOpenWith more w.world x y own others
+    abbrev pub coming-as : (more : ℕ) (w : ControlledWorld C) {x y : Side} (two : AreTwo x y) (number : ℕ) (d : Draft) → AreOpenWith more w.world x y own others
         → IsOutAs (half_of w.world x) number d → number < 2 ^ 48 → IsSendable d → KindFits d.kind → ack_of (kind_in_widths d.kind) ≡ ack_of d.kind
         → IsComingAs w x y number d
     coming-as more w {x} {y} two number d o out small sendable fields widths =

@@ -46,7 +46,7 @@ use Rattle.two_ends.proofs.Acting.{party_of}
 use Rattle.two_ends.proofs.FeatureSteps.{reached_keeps}
 use Rattle.two_ends.proofs.Numbering.{few-logged}
 use Rattle.two_ends.proofs.Viewing.{carried_of}
-use Rattle.two_ends.specs.Controlled.{Controlled, congestion_of}
+use Rattle.two_ends.specs.Controlled.{ControlledWorld, congestion_of}
 use Rattle.two_ends.specs.FeatureRows.{opened_count}
 use Rattle.two_ends.specs.World.{Half, WorldState, half_of, moved}
 use Rattle.validity_windows.specs.Verdict.{by_window, verdict}
@@ -220,7 +220,7 @@ module _ {C : Type 0} (control : Control C) (effects : EveryStepHasOneEffect) wh
   ended-at w ServerFirst closed = inr (inl closed)
 
   -- the timer negotiate, where rows ask
-  pub ask : (more : ℕ) (w : Controlled C) → IsUnderWay (more + 1) w.world → {x y : Side} (two : AreTwo x y) → (half_of w.world x).end.phase ≡ phases.Open
+  pub ask : (more : ℕ) (w : ControlledWorld C) → IsUnderWay (more + 1) w.world → {x y : Side} (two : AreTwo x y) → (half_of w.world x).end.phase ≡ phases.Open
       → (half_of w.world y).end.phase ≡ phases.Open → (k : Key) (keys : List Key) → due_keys (half_of w.world x).end.rows ≡ k ∷ keys
       → HasAsked more (next control w (event.Timer x timers.Negotiate)).world x y (half_of w.world y) (half_of w.world x).end.rows (next_number (half_of w.world x).end)
       (half_of w.world x).end.marks.gsr
@@ -229,7 +229,7 @@ module _ {C : Type 0} (control : Control C) (effects : EveryStepHasOneEffect) wh
       let flies : Bool = has_in_flight control (congestion_of w x) in
       let speaks = negotiate-speaks e flies phases.Open refl k keys (proper-of (more + 1) w.world u two) here due in
       let now = event.Timer x timers.Negotiate in
-      let v : Controlled C = next control w now in
+      let v : ControlledWorld C = next control w now in
       let s : Step Bool = fires e timers.Negotiate flies in
       let acts = timer-acts control effects w two timers.Negotiate (more + 1) u in
       let told = after-tells control effects more w now two None s e phases.Open _ acts speaks.tells refl u in
@@ -258,7 +258,7 @@ module _ {C : Type 0} (control : Control C) (effects : EveryStepHasOneEffect) wh
       }
 
   -- The other end takes that Ack where it is valid.
-  module _ (more : ℕ) (w : Controlled C) {x y : Side} (two : AreTwo x y) (rows theirs : List Row) (n ack : ℕ) (sound : IsNegotiation rows)
+  module _ (more : ℕ) (w : ControlledWorld C) {x y : Side} (two : AreTwo x y) (rows theirs : List Row) (n ack : ℕ) (sound : IsNegotiation rows)
       (their_sound : IsNegotiation theirs) (their : Half) (a1 : HasAsked (more + 1) w.world x y their rows n ack) (theirs_are : (half_of w.world y).end.rows ≡ theirs) (ack_fits : ack < 2 ^ 48)
       (early : (k : Key) → is_due (row_at rows k.0 k.1) ≡ true → answers_opening (row_at (asked rows n) k.0 k.1).opened (Some n) ≡ true)
       (later : is_before (half_of w.world y).end.marks.gsr n ≡ true) where
@@ -282,7 +282,7 @@ module _ {C : Type 0} (control : Control C) (effects : EveryStepHasOneEffect) wh
     abbrev pub now : Event
     now = event.Deliver x c.index
 
-    abbrev pub v : Controlled C
+    abbrev pub v : ControlledWorld C
     v = next control w now
 
     pub kind_is : a.kind ≡ types.Ack
@@ -379,9 +379,9 @@ module _ {C : Type 0} (control : Control C) (effects : EveryStepHasOneEffect) wh
         (ap (λ (t : Half). t.end.phase) c.acts.acting ∙ ap (λ (t : Step Outcome). t.after.phase) (goes fits ∙ ap (heeded z a) read) ∙ shut.closed)
 
     -- with what comes then
-    pub hear : (goal : Controlled C → Type 0) → ((u : Controlled C) → HasEnded u.world → goal u) → (rest : ℕ)
+    pub hear : (goal : ControlledWorld C → Type 0) → ((u : ControlledWorld C) → HasEnded u.world → goal u) → (rest : ℕ)
         → by_window e.marks n (Some ack) ≡ verdicts.Valid
-        → ((u : Controlled C) → HasHeard more u.world x y rows theirs n ack e.marks.gss → HasWay control rest u goal) → HasWay control (rest + 1) w goal
+        → ((u : ControlledWorld C) → HasHeard more u.world x y rows theirs n ack e.marks.gss → HasWay control rest u goal) → HasWay control (rest + 1) w goal
     hear goal ended rest valid go =
         leads-by control rest w _ now tt (by (reads_options z a) refl)
       where
@@ -393,7 +393,7 @@ module _ {C : Type 0} (control : Control C) (effects : EveryStepHasOneEffect) wh
         by (Err fault) read = leads-within control 0 rest v _ (omega arith) (leads-here control v _ (ended v (faulted fits fault read)))
 
   -- The answer, where it is valid or none was due, ends the round.
-  module _ (more : ℕ) (w0 : WorldState) (w : Controlled C) {x y : Side} (two : AreTwo x y) (rows : List Row) (n gsr before : ℕ)
+  module _ (more : ℕ) (w0 : WorldState) (w : ControlledWorld C) {x y : Side} (two : AreTwo x y) (rows : List Row) (n gsr before : ℕ)
       (s2 : HasHeard (more + 1) w.world x y rows (half_of w0 y).end.rows n gsr before) (n_fits : n < 2 ^ 48) where
     pub theirs_stay : (k : Key) → (row_at (half_of w.world y).end.rows k.0 k.1).stand ≡ (row_at (half_of w0 y).end.rows k.0 k.1).stand
     theirs_stay k =
@@ -438,7 +438,7 @@ module _ {C : Type 0} (control : Control C) (effects : EveryStepHasOneEffect) wh
       abbrev pub back-now : Event
       back-now = event.Deliver y back.index
 
-      abbrev pub r : Controlled C
+      abbrev pub r : ControlledWorld C
       r = next control w back-now
 
       pub back-kind : b.kind ≡ types.Ack
@@ -501,9 +501,9 @@ module _ {C : Type 0} (control : Control C) (effects : EveryStepHasOneEffect) wh
           (ap (λ (o : Half). o.end.phase) back.acts.acting ∙ ap (λ (o : Step Outcome). o.after.phase) (back-goes fits ∙ ap (heeded q b) read) ∙ shut.closed)
 
       -- with what comes then
-      pub finish : (goal : Controlled C → Type 0) → ((u : Controlled C) → HasEnded u.world → goal u) → (rest : ℕ)
+      pub finish : (goal : ControlledWorld C → Type 0) → ((u : ControlledWorld C) → HasEnded u.world → goal u) → (rest : ℕ)
           → is_before me.marks.gsr last ≡ true → by_window me.marks last (Some n) ≡ verdicts.Valid
-          → ((u : Controlled C) → IsRound more w0 u.world x y → HasWay control rest u goal) → HasWay control (rest + 1) w goal
+          → ((u : ControlledWorld C) → IsRound more w0 u.world x y → HasWay control rest u goal) → HasWay control (rest + 1) w goal
       finish goal ended rest later valid go =
           leads-by control rest w _ back-now tt (by (reads_options q b) refl)
         where

@@ -21,7 +21,7 @@ use Rattle.feature_machine.specs.Negotiating.{IsNegotiation, due_keys, is_due, r
 use Rattle.feature_machine.specs.Rows.{answers_opening}
 use Rattle.feature_machine.specs.declared.row.Row.{Row}
 use Rattle.seq_circle.specs.Circle.{is_before, residue}
-use Rattle.two_ends.specs.Controlled.{Controlled}
+use Rattle.two_ends.specs.Controlled.{ControlledWorld}
 use Rattle.two_ends.specs.World.{Half, WorldState, half_of}
 use Rattle.validity_windows.specs.Verdict.{by_window, is_ack_within, is_in_window}
 use Rattle.validity_windows.specs.Windows.{ack_high, ack_low}
@@ -83,13 +83,13 @@ first-so more w u two =
     omega (arith, mine.ordered.first, mine.ordered.fits.iss)
 
 -- Each goal that is reached where an end is over.
-module _ {C : Type 0} (control : Control C) (effects : EveryStepHasOneEffect) (goal : Controlled C → Type 0)
-    (ended : (v : Controlled C) → HasEnded v.world → goal v) where
-  abbrev Leads : ℕ → Controlled C → Type 0
+module _ {C : Type 0} (control : Control C) (effects : EveryStepHasOneEffect) (goal : ControlledWorld C → Type 0)
+    (ended : (v : ControlledWorld C) → HasEnded v.world → goal v) where
+  abbrev Leads : ℕ → ControlledWorld C → Type 0
   Leads most w = HasWay control most w goal
 
   -- No row asks: nothing is to be done.
-  quiet-round : (more : ℕ) (w : Controlled C) → IsUnderWay more w.world → {x y : Side} (two : AreTwo x y) → (half_of w.world x).end.phase ≡ phases.Open
+  quiet-round : (more : ℕ) (w : ControlledWorld C) → IsUnderWay more w.world → {x y : Side} (two : AreTwo x y) → (half_of w.world x).end.phase ≡ phases.Open
       → (half_of w.world y).end.phase ≡ phases.Open → due_keys (half_of w.world x).end.rows ≡ [] → IsRound more w.world w.world x y
   quiet-round more w u {x} two here there none =
       let sound : IsNegotiation (half_of w.world x).end.rows = (proper-of more w.world u two).rows.sound in
@@ -117,7 +117,7 @@ module _ {C : Type 0} (control : Control C) (effects : EveryStepHasOneEffect) (g
         | inr after ↦ inr (same ∙ ap (λ (g : ℕ). residue (g + 1)) after)
       ]
 
-  number-fits : (w : Controlled C) (x : Side) → next_number (half_of w.world x).end < 2 ^ 48
+  number-fits : (w : ControlledWorld C) (x : Side) → next_number (half_of w.world x).end < 2 ^ 48
   number-fits w x = omega arith
 
   -- What the asking end's rows and the number say of the last openings.
@@ -135,9 +135,9 @@ module _ {C : Type 0} (control : Control C) (effects : EveryStepHasOneEffect) (g
       next-newest (half_of w y).end.marks (half_of w x).end.marks.gss (next_number (half_of w x).end) (heard-so more w u (turned two) (ap is_live there)) refl
 
   -- A round of two ends in step takes three events.
-  sure-round : (rest : ℕ) (w : Controlled C) → IsUnderWay (rest + 1 + 1 + 1) w.world → {x y : Side} (two : AreTwo x y)
+  sure-round : (rest : ℕ) (w : ControlledWorld C) → IsUnderWay (rest + 1 + 1 + 1) w.world → {x y : Side} (two : AreTwo x y)
       → (half_of w.world x).end.phase ≡ phases.Open → (half_of w.world y).end.phase ≡ phases.Open → IsReady w.world x y
-      → ((v : Controlled C) → IsRound rest w.world v.world x y → Leads rest v) → Leads (rest + 1 + 1 + 1) w
+      → ((v : ControlledWorld C) → IsRound rest w.world v.world x y → Leads rest v) → Leads (rest + 1 + 1 + 1) w
   sure-round rest w u {x} {y} two here there ready go = by (due_keys (half_of w.world x).end.rows) refl where
     n : ℕ
     n = next_number (half_of w.world x).end
@@ -149,7 +149,7 @@ module _ {C : Type 0} (control : Control C) (effects : EveryStepHasOneEffect) (g
     by (k ∷ keys) due =
         let a1 = ask control effects (rest + 1 + 1) w u two here there k keys due in
         let now = event.Timer x timers.Negotiate in
-        let v : Controlled C = next control w now in
+        let v : ControlledWorld C = next control w now in
         let m : Marks = (half_of w.world y).end.marks in
         let at : ℕ = next_number (half_of w.world x).end in
         let ack : ℕ = (half_of w.world x).end.marks.gsr in
@@ -165,7 +165,7 @@ module _ {C : Type 0} (control : Control C) (effects : EveryStepHasOneEffect) (g
         (subst (λ (h : Half). by_window h.end.marks at (Some ack) ≡ verdicts.Valid) (sym a1.rests) valid)
         (λ o s2. on o (subst (λ (h : Half). HasHeard (rest + 1) o.world x y (half_of w.world x).end.rows (half_of w.world y).end.rows n ack h.end.marks.gss) a1.rests s2)))
       where
-        on : (o : Controlled C)
+        on : (o : ControlledWorld C)
             → HasHeard (rest + 1) o.world x y (half_of w.world x).end.rows (half_of w.world y).end.rows n (half_of w.world x).end.marks.gsr
             (half_of w.world y).end.marks.gss → Leads (rest + 1) o
         on o s2 =
@@ -190,17 +190,17 @@ module _ {C : Type 0} (control : Control C) (effects : EveryStepHasOneEffect) (g
             ]
 
   -- With a Sync on its way to the side that asks, it asks once both are in step.
-  synced-round : (rest : ℕ) (w0 : WorldState) (w : Controlled C) → IsUnderWay (rest + 1 + 1 + 1 + 1 + 1) w.world → {x y : Side} (two : AreTwo x y)
+  synced-round : (rest : ℕ) (w0 : WorldState) (w : ControlledWorld C) → IsUnderWay (rest + 1 + 1 + 1 + 1 + 1) w.world → {x y : Side} (two : AreTwo x y)
       → (half_of w.world x).end.phase ≡ phases.Open → (half_of w.world y).end.phase ≡ phases.Open
       → IsSent (half_of w.world y) (half_of w.world y).end.marks.gss (kind.Sync (half_of w.world x).end.marks.gss)
       → ((k : Key) → (row_at (half_of w.world y).end.rows k.0 k.1).stand ≡ (row_at (half_of w0 y).end.rows k.0 k.1).stand)
-      → ((v : Controlled C) → IsRound rest w0 v.world x y → Leads rest v) → Leads (rest + 1 + 1 + 1 + 1 + 1) w
+      → ((v : ControlledWorld C) → IsRound rest w0 v.world x y → Leads rest v) → Leads (rest + 1 + 1 + 1 + 1 + 1) w
   synced-round rest w0 w u {x} {y} two here there sent same go =
       let by =
       get-in-step control effects (rest + 1 + 1 + 1) w u two (role-of control effects w.world x) (role-of control effects w.world y) phases.Open phases.Open (open-sync (role-of control effects w.world x))
       (open-sync-ack (role-of control effects w.world y)) refl refl here there refl refl refl sent in
-      let v : Controlled C = next control w (event.Deliver y by.first) in
-      let s : Controlled C = next control v (event.Deliver x by.second) in
+      let v : ControlledWorld C = next control w (event.Deliver y by.first) in
+      let s : ControlledWorld C = next control v (event.Deliver x by.second) in
       let k = by.in_step in
       let m : Marks = (half_of s.world y).end.marks in
       let begun : is_begun (half_of s.world y).end.phase ≡ true = ap is_begun k.peer_phase in
@@ -220,17 +220,17 @@ module _ {C : Type 0} (control : Control C) (effects : EveryStepHasOneEffect) (g
       (λ z r. go z (round-of rest w0 s.world z.world x y (λ k. ap (λ (rs : List Row). (row_at rs k.0 k.1).stand) by.peer_rows ∙ same k) r))))
 
   -- With one on its way to the side that answers, the other asks anew once both are in step.
-  synced-back : (rest : ℕ) (w0 : WorldState) (w : Controlled C) → IsUnderWay (rest + 1 + 1 + 1 + 1 + 1) w.world → {x y : Side} (two : AreTwo x y)
+  synced-back : (rest : ℕ) (w0 : WorldState) (w : ControlledWorld C) → IsUnderWay (rest + 1 + 1 + 1 + 1 + 1) w.world → {x y : Side} (two : AreTwo x y)
       → (half_of w.world x).end.phase ≡ phases.Open → (half_of w.world y).end.phase ≡ phases.Open
       → IsSent (half_of w.world x) (half_of w.world x).end.marks.gss (kind.Sync (half_of w.world y).end.marks.gss)
       → ((k : Key) → (row_at (half_of w.world y).end.rows k.0 k.1).stand ≡ (row_at (half_of w0 y).end.rows k.0 k.1).stand)
-      → ((v : Controlled C) → IsRound rest w0 v.world x y → Leads rest v) → Leads (rest + 1 + 1 + 1 + 1 + 1) w
+      → ((v : ControlledWorld C) → IsRound rest w0 v.world x y → Leads rest v) → Leads (rest + 1 + 1 + 1 + 1 + 1) w
   synced-back rest w0 w u {x} {y} two here there sent same go =
       let by =
       get-in-step control effects (rest + 1 + 1 + 1) w u (turned two) (role-of control effects w.world y) (role-of control effects w.world x) phases.Open phases.Open
       (open-sync (role-of control effects w.world y)) (open-sync-ack (role-of control effects w.world x)) refl refl there here refl refl refl sent in
-      let v : Controlled C = next control w (event.Deliver x by.first) in
-      let s : Controlled C = next control v (event.Deliver y by.second) in
+      let v : ControlledWorld C = next control w (event.Deliver x by.first) in
+      let s : ControlledWorld C = next control v (event.Deliver y by.second) in
       let k = by.in_step in
       let m : Marks = (half_of s.world y).end.marks in
       leads-by control (rest + 1 + 1 + 1 + 1) w _ (event.Deliver x by.first) tt
@@ -244,9 +244,9 @@ module _ {C : Type 0} (control : Control C) (effects : EveryStepHasOneEffect) (g
       (λ z r. go z (round-of rest w0 s.world z.world x y (λ k. ap (λ (rs : List Row). (row_at rs k.0 k.1).stand) by.rows_are ∙ same k) r))))
 
   -- A round of two ends in OPEN takes at most eight events.
-  module _ (rest : ℕ) (w : Controlled C) (u : IsUnderWay (rest + 8) w.world) {x y : Side} (two : AreTwo x y)
+  module _ (rest : ℕ) (w : ControlledWorld C) (u : IsUnderWay (rest + 8) w.world) {x y : Side} (two : AreTwo x y)
       (here : (half_of w.world x).end.phase ≡ phases.Open) (there : (half_of w.world y).end.phase ≡ phases.Open)
-      (go : (v : Controlled C) → IsRound rest w.world v.world x y → Leads rest v) where
+      (go : (v : ControlledWorld C) → IsRound rest w.world v.world x y → Leads rest v) where
     abbrev asker : EndState
     asker = (half_of w.world x).end
 
@@ -256,11 +256,11 @@ module _ {C : Type 0} (control : Control C) (effects : EveryStepHasOneEffect) (g
     abbrev question : ℕ
     question = next_number asker
 
-    abbrev Heard : Controlled C → Type 0
+    abbrev Heard : ControlledWorld C → Type 0
     Heard o = HasHeard (rest + 5 + 1) o.world x y asker.rows answerer.rows question asker.marks.gsr answerer.marks.gss
 
     -- The answer is not valid: it is asked anew, in step.
-    module _ (o : Controlled C) (s2 : Heard o) (t : HasAnswered (half_of o.world y) asker.marks.gsr answerer.marks.gss question s2.h.confirms)
+    module _ (o : ControlledWorld C) (s2 : Heard o) (t : HasAnswered (half_of o.world y) asker.marks.gsr answerer.marks.gss question s2.h.confirms)
         (bad : by_window (half_of o.world x).end.marks (half_of o.world y).end.marks.gss (Some question) ≡ verdicts.SyncFor (half_of o.world y).end.marks.gss)
       where
         abbrev reader : EndState
@@ -282,7 +282,7 @@ module _ {C : Type 0} (control : Control C) (effects : EveryStepHasOneEffect) (g
             bad-comes reader its.frame.bytes a its.here.came reply_number checked
             (back-verdict control effects (rest + 5) w.world o two asker.rows question asker.marks.gsr answerer.marks.gss s2 (number-fits w x) t (verdicts.SyncFor reply_number) bad) in
             let now = event.Deliver y its.index in
-            let v : Controlled C = next control o now in
+            let v : ControlledWorld C = next control o now in
             let said = after-says control effects (rest + 5) o now two _ _ _ _ _ _ its.acts says s2.under_way in
             let still : half_of v.world y ≡ half_of o.world y = said.is_after.rests in
             let sent : IsSent (half_of v.world x) (half_of v.world x).end.marks.gss (kind.Sync (half_of v.world y).end.marks.gss) =
@@ -297,7 +297,7 @@ module _ {C : Type 0} (control : Control C) (effects : EveryStepHasOneEffect) (g
             go))
 
     -- The other end has read the question.
-    answered-round : (o : Controlled C) → Heard o → Leads (rest + 5 + 1) o
+    answered-round : (o : ControlledWorld C) → Heard o → Leads (rest + 5 + 1) o
     answered-round o s2 =
         elim s2.answer [
           | inl none ↦
@@ -316,7 +316,7 @@ module _ {C : Type 0} (control : Control C) (effects : EveryStepHasOneEffect) (g
         ]
 
     -- The first side has asked.
-    module _ (v : Controlled C) (a1 : HasAsked (rest + 5 + 1 + 1) v.world x y (half_of w.world y) asker.rows question asker.marks.gsr) where
+    module _ (v : ControlledWorld C) (a1 : HasAsked (rest + 5 + 1 + 1) v.world x y (half_of w.world y) asker.rows question asker.marks.gsr) where
       abbrev sound : IsNegotiation asker.rows
       sound = (proper-of (rest + 8) w.world u two).rows.sound
 
@@ -349,7 +349,7 @@ module _ {C : Type 0} (control : Control C) (effects : EveryStepHasOneEffect) (g
           (verdict-as control effects (rest + 5 + 1) v two asker.rows answerer.rows question asker.marks.gsr sound their_sound (half_of w.world y) a1 theirs_are
           (gsr-small (rest + 8) w.world u two) early later (verdicts.SyncFor question) bad) in
           let now = event.Deliver x its.index in
-          let o : Controlled C = next control v now in
+          let o : ControlledWorld C = next control v now in
           let said = after-says control effects (rest + 5 + 1) v now (turned two) _ _ _ _ _ _ its.acts says a1.under_way in
           let still : half_of o.world x ≡ half_of v.world x = said.is_after.rests in
           let sent : IsSent (half_of o.world y) (half_of o.world y).end.marks.gss (kind.Sync (half_of o.world x).end.marks.gss) =
@@ -387,8 +387,8 @@ module _ {C : Type 0} (control : Control C) (effects : EveryStepHasOneEffect) (g
           (ask control effects (rest + 5 + 1 + 1) w (fewer-under-way (rest + 5 + 1 + 1 + 1) (rest + 8) w.world (omega arith) u) two here there k keys due)))
 
   -- Three rounds settle all: by the first no row of the client is UNSTABLE, by the second the server's are STABLE, and by the third all are.
-  pub settle-on : (rest : ℕ) (w : Controlled C) → IsUnderWay (rest + 24) w.world → AreOpen w.world
-      → ((v : Controlled C) → IsUnderWay rest v.world → AreOpen v.world → AreSettled v.world → Leads rest v) → Leads (rest + 24) w
+  pub settle-on : (rest : ℕ) (w : ControlledWorld C) → IsUnderWay (rest + 24) w.world → AreOpen w.world
+      → ((v : ControlledWorld C) → IsUnderWay rest v.world → AreOpen v.world → AreSettled v.world → Leads rest v) → Leads (rest + 24) w
   settle-on rest w u opened go =
       leads-within control (rest + 8 + 8 + 8) (rest + 24) w _ (omega arith)
       (round (rest + 8 + 8) w (fewer-under-way (rest + 8 + 8 + 8) (rest + 24) w.world (omega arith) u) ClientFirst (opened Client) (opened Server)
@@ -397,11 +397,11 @@ module _ {C : Type 0} (control : Control C) (effects : EveryStepHasOneEffect) (g
       (λ b two.
       round rest b two.under_way ClientFirst two.there two.here (λ c three. go c three.under_way (both c three) (settled a b c one two three)))))
     where
-      both : (c : Controlled C) {b : WorldState} → IsRound rest b c.world Client Server → AreOpen c.world
+      both : (c : ControlledWorld C) {b : WorldState} → IsRound rest b c.world Client Server → AreOpen c.world
       both c three Client = three.here
       both c three Server = three.there
 
-      settled : (a b c : Controlled C) → IsRound (rest + 8 + 8) w.world a.world Client Server → IsRound (rest + 8) a.world b.world Server Client
+      settled : (a b c : ControlledWorld C) → IsRound (rest + 8 + 8) w.world a.world Client Server → IsRound (rest + 8) a.world b.world Server Client
           → IsRound rest b.world c.world Client Server → AreSettled c.world
       settled a b c one two three Client feature place =
           three.settles (feature, place) (λ is. cc (two.settles (over (feature, place)) (one.none (over (over (feature, place)))), is))

@@ -13,7 +13,7 @@ use Rattle.dccp_states.specs.declared.phase.Role.TheVariants as role
 use Rattle.feature_lists.specs.declared.features.Feature.TheVariants.{ShortSeqnos}
 use Rattle.feature_lists.specs.declared.features.Place.TheVariants.{Here, There}
 use Rattle.feature_machine.specs.Negotiating.{held_by, row_at}
-use Rattle.two_ends.specs.Controlled.{Controlled, begins_with, congestion_of, plays, plays_from_start}
+use Rattle.two_ends.specs.Controlled.{ControlledWorld, begins_with, congestion_of, plays, plays_from_start}
 use Rattle.two_ends.specs.Safe.{Safe}
 use Rattle.two_ends.specs.World.{WorldState, half_of}
 use Rattle.world_events.specs.declared.event.Event.{Event}
@@ -48,7 +48,7 @@ alike-so w one ServerFirst settled =
 
 module _ {C : Type 0} (control : Control C) (effects : EveryStepHasOneEffect) where
   -- so many events add so many frames at most
-  pub few-plays : (more : ℕ) (w : Controlled C) (events : List Event) → AreFew (more + length events) w.world → AreFew more (plays control w events).world
+  pub few-plays : (more : ℕ) (w : ControlledWorld C) (events : List Event) → AreFew (more + length events) w.world → AreFew more (plays control w events).world
   few-plays more w [] few = λ side. omega (arith, few side)
   few-plays more w (event ∷ events) few =
       few-plays more (next control w event) events
@@ -59,7 +59,7 @@ passive-joined : (events more : List Event) → ArePassive events → ArePassive
 passive-joined [] more first second = second
 passive-joined (event ∷ events) more first second = (first.0, passive-joined events more first.1 second)
 
-pub way-joined : {C : Type 0} (control : Control C) (most least : ℕ) (w : Controlled C) (goal : Controlled C → Type 0) (events : List Event) → ArePassive events
+pub way-joined : {C : Type 0} (control : Control C) (most least : ℕ) (w : ControlledWorld C) (goal : ControlledWorld C → Type 0) (events : List Event) → ArePassive events
     → length events ≤ most → HasWay control least (plays control w events) goal → HasWay control (most + least) w goal
 way-joined control most least w goal events passive few way =
     record {
@@ -70,27 +70,27 @@ way-joined control most least w goal events passive few way =
     }
 
 module _ {C : Type 0} (control : Control C) (lawful : IsLawful control) (effects : EveryStepHasOneEffect) where
-  abbrev AreWide : Controlled C → Type 0
+  abbrev AreWide : ControlledWorld C → Type 0
   AreWide w = (side : Side) → 1 ≤ control.window (congestion_of w side)
 
-  data-way : (w : Controlled C) {x y : Side} (two : AreTwo x y) (payload : List ℕ) → IsUnderWay 8 w.world → AreFew 8 w.world → AreWide w
+  data-way : (w : ControlledWorld C) {x y : Side} (two : AreTwo x y) (payload : List ℕ) → IsUnderWay 8 w.world → AreFew 8 w.world → AreWide w
       → (half_of w.world x).end.phase ≡ phases.Open → (half_of w.world y).end.phase ≡ phases.Open → HoldOneValue w.world
-      → lacks_vectors (half_of w.world x).end.rows ≡ false → length payload ≤ 1024 → HasWay control 6 w (λ (v : Controlled C). GetsThrough control v x payload)
+      → lacks_vectors (half_of w.world x).end.rows ≡ false → length payload ≤ 1024 → HasWay control 6 w (λ (v : ControlledWorld C). GetsThrough control v x payload)
   data-way w {x} {y} two payload u few wide here there one reports short =
       through-on control effects (half_of w.world x).end.rows (half_of w.world y).end.rows (alike-so w.world one two)
       (λ c. sends-after-timeout control lawful c) (wide-next control lawful.keeps_window) w two payload wide
       (record { under_way = u; few = few; here = here; there = there; own_rows = refl; others_rows = refl }) reports short
 
-  pub data-from : (w : Controlled C) (side : Side) (payload : List ℕ) → IsUnderWay 8 w.world → AreFew 8 w.world → AreWide w → AreOpen w.world
+  pub data-from : (w : ControlledWorld C) (side : Side) (payload : List ℕ) → IsUnderWay 8 w.world → AreFew 8 w.world → AreWide w → AreOpen w.world
       → HoldOneValue w.world → lacks_vectors (half_of w.world side).end.rows ≡ false → length payload ≤ 1024
-      → HasWay control 6 w (λ (v : Controlled C). GetsThrough control v side payload)
+      → HasWay control 6 w (λ (v : ControlledWorld C). GetsThrough control v side payload)
   data-from w Client payload u few wide opened one reports short = data-way w ClientFirst payload u few wide (opened Client) (opened Server) one reports short
   data-from w Server payload u few wide opened one reports short = data-way w ServerFirst payload u few wide (opened Server) (opened Client) one reports short
 
 module _ {C : Type 0} (control : Control C) (lawful : IsLawful control) (effects : EveryStepHasOneEffect) (client server : Config) (for_client for_server : C)
     (events : List Event) (is_client : client.role ≡ role.Client) (is_server : server.role ≡ role.Server) (client_fits : Fits client) (server_fits : Fits server)
     (paired : AreForEachOther client server) where
-  abbrev reached : Controlled C
+  abbrev reached : ControlledWorld C
   reached = plays_from_start control client server for_client for_server events
 
   wide-reached : (side : Side) → 1 ≤ control.window (congestion_of reached side)
@@ -105,7 +105,7 @@ module _ {C : Type 0} (control : Control C) (lawful : IsLawful control) (effects
 
   pub data-leads : Safe control reached → (side : Side) (payload : List ℕ) → AreOpen reached.world → AreSettled reached.world → AreFew 8 reached.world
       → lacks_vectors (half_of reached.world side).end.rows ≡ false → length payload ≤ 1024
-      → HasWay control 6 reached (λ (v : Controlled C). GetsThrough control v side payload)
+      → HasWay control 6 reached (λ (v : ControlledWorld C). GetsThrough control v side payload)
   data-leads safe side payload opened settled few reports short =
       data-from control lawful effects reached side payload (under-way few) few wide-reached opened (one-value reached.world safe.agree settled) reports short
 
@@ -113,19 +113,19 @@ module _ {C : Type 0} (control : Control C) (lawful : IsLawful control) (effects
     (is_client : client.role ≡ role.Client) (is_server : server.role ≡ role.Server) (client_fits : Fits client) (server_fits : Fits server)
     (paired : AreForEachOther client server) (safe : (all : List Event) → Safe control (plays_from_start control client server for_client for_server all))
     (events : List Event) (side : Side) (payload : List ℕ) (short : length payload ≤ 1024) where
-  abbrev w : Controlled C
+  abbrev w : ControlledWorld C
   w = plays_from_start control client server for_client for_server events
 
-  abbrev Ends : Controlled C → Type 0
+  abbrev Ends : ControlledWorld C → Type 0
   Ends v = HasEnded v.world ⊎ (LacksReports v.world side ⊎ GetsThrough control v side payload)
 
   -- after a way to where both have agreed
   agreed-on : (more : List Event) → AreFew 8 (plays control w more).world → HaveAgreed (plays control w more).world → HasWay control 6 (plays control w more) Ends
   agreed-on more few agreed = by (lacks_vectors (half_of v.world side).end.rows) refl where
-    v : Controlled C
+    v : ControlledWorld C
     v = plays control w more
 
-    all : Controlled C
+    all : ControlledWorld C
     all = plays_from_start control client server for_client for_server (events ++ more)
 
     same : all ≡ v
@@ -134,8 +134,8 @@ module _ {C : Type 0} (control : Control C) (lawful : IsLawful control) (effects
     by : (lacks : Bool) → lacks_vectors (half_of v.world side).end.rows ≡ lacks → HasWay control 6 v Ends
     by true is = leads-within control 0 6 v Ends (omega arith) (leads-here control v Ends (inr (inl (agreed, is))))
     by false is =
-        let way = subst (λ (u : Controlled C). AreFew 8 u.world → AreOpen u.world → AreSettled u.world → lacks_vectors (half_of u.world side).end.rows ≡ false
-        → HasWay control 6 u (λ (z : Controlled C). GetsThrough control z side payload)) same
+        let way = subst (λ (u : ControlledWorld C). AreFew 8 u.world → AreOpen u.world → AreSettled u.world → lacks_vectors (half_of u.world side).end.rows ≡ false
+        → HasWay control 6 u (λ (z : ControlledWorld C). GetsThrough control z side payload)) same
         (λ few opened settled reports.
         data-leads control lawful effects client server for_client for_server (events ++ more) is_client is_server client_fits server_fits paired
         (safe (events ++ more)) side payload opened settled few reports short) few agreed.are_open agreed.are_settled is in
@@ -151,7 +151,7 @@ module _ {C : Type 0} (control : Control C) (lawful : IsLawful control) (effects
             (agreed-on first.events (few-plays control effects 8 w first.events (λ each. omega (arith, few each, first.few))) agreed)
       ]
     where
-      first : HasWay control 24 w (λ (v : Controlled C). HasEnded v.world ⊎ HaveAgreed v.world)
+      first : HasWay control 24 w (λ (v : ControlledWorld C). HasEnded v.world ⊎ HaveAgreed v.world)
       first =
           agreeing-leads control effects client server for_client for_server events is_client is_server client_fits server_fits paired safe opened
           (λ each. omega (arith, few each))

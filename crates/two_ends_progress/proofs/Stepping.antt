@@ -17,7 +17,7 @@ use Rattle.dccp_endpoint.specs.Inputs.{Input}
 use Rattle.dccp_endpoint.specs.Receiving.{receives}
 use Rattle.dccp_endpoint.specs.Steps.{Step, next_number}
 use Rattle.dccp_endpoint.specs.declared.config.Config.{Config}
-use Rattle.two_ends.specs.Controlled.{Controlled, congestion_of, said_by}
+use Rattle.two_ends.specs.Controlled.{ControlledWorld, congestion_of, said_by}
 use Rattle.two_ends.specs.Numbered.{Hears}
 use Rattle.two_ends.specs.World.{Calls, Half, Said, WorldState, as_sent, half_of, half_steps, happens, is_far_frame, is_full, moved, takes_place, with_half, world_after}
 use Rattle.two_ends.specs.declared.frames.SentFrame.{SentFrame}
@@ -235,18 +235,18 @@ module _ (more : ℕ) (w : WorldState) (u : IsUnderWay more w) {x y : Side} (two
 
 module _ {C : Type 0} (control : Control C) (effects : EveryStepHasOneEffect) where
   -- what a congestion control says
-  abbrev said : Controlled C → Event → Said
+  abbrev said : ControlledWorld C → Event → Said
   said w e = said_by control (congestion_of w (actor e))
 
-  pub after-so : (w : Controlled C) (e : Event) → (next control w e).world ≡ world_after w.world (happens w.world e (said w e))
+  pub after-so : (w : ControlledWorld C) (e : Event) → (next control w e).world ≡ world_after w.world (happens w.world e (said w e))
   after-so w e = world-after control w (actor e) (happens w.world e (said w e))
 
-  held-next : (w : Controlled C) (e : Event) → IsHeld SideInvariant w.world → IsHeld SideInvariant (next control w e).world
+  held-next : (w : ControlledWorld C) (e : Event) → IsHeld SideInvariant w.world → IsHeld SideInvariant (next control w e).world
   held-next w e h =
       subst (IsHeld SideInvariant) (sym (after-so w e))
       (step-kept effects w.world (actor e) (happens w.world e (said w e)) (event-taken w.world e (said w e)) h)
 
-  pub arrives : (w : Controlled C) {x y : Side} (two : AreTwo x y) (index : ℕ) (frame : SentFrame) → slice_get (half_of w.world y).frames index ≡ Some frame
+  pub arrives : (w : ControlledWorld C) {x y : Side} (two : AreTwo x y) (index : ℕ) (frame : SentFrame) → slice_get (half_of w.world y).frames index ≡ Some frame
       → is_full (half_of w.world x) ≡ false → is_far_frame (half_of w.world x).end frame ≡ false
       → Acts w.world (next control w (event.Deliver y index)).world x y
       (moved (half_of w.world x) (Some frame.number) (receives (half_of w.world x).end frame.bytes))
@@ -255,17 +255,17 @@ module _ {C : Type 0} (control : Control C) (effects : EveryStepHasOneEffect) wh
   arrives w ServerFirst index frame there room near =
       acts-with w.world _ _ ServerFirst (after-so w (event.Deliver Client index) ∙ delivered-so w.world Client index frame (said w (event.Deliver Client index)) there room near)
 
-  pub open-acts : (w : Controlled C) → is_full w.world.client ≡ false
+  pub open-acts : (w : ControlledWorld C) → is_full w.world.client ≡ false
       → Acts w.world (next control w event.Open).world Client Server (moved w.world.client None (opens w.world.client.end))
   open-acts w room = acts-with w.world _ _ ClientFirst (after-so w event.Open ∙ called-so w.world Client input.Opens room)
 
-  pub close-acts : (w : Controlled C) {x y : Side} (two : AreTwo x y) (more : ℕ) → IsUnderWay more w.world
+  pub close-acts : (w : ControlledWorld C) {x y : Side} (two : AreTwo x y) (more : ℕ) → IsUnderWay more w.world
       → Acts w.world (next control w (event.Close x)).world x y (moved (half_of w.world x) None (closes (half_of w.world x).end))
   close-acts w {x} two more s =
       acts-with w.world _ _ two
       (after-so w (event.Close x) ∙ called-so w.world x input.Closes (room-so (half_of w.world x) more (s.room x)))
 
-  pub timer-acts : (w : Controlled C) {x y : Side} (two : AreTwo x y) (timer : Timer) (more : ℕ) → IsUnderWay more w.world
+  pub timer-acts : (w : ControlledWorld C) {x y : Side} (two : AreTwo x y) (timer : Timer) (more : ℕ) → IsUnderWay more w.world
       → Acts w.world (next control w (event.Timer x timer)).world x y
       (moved (half_of w.world x) None (fires (half_of w.world x).end timer (has_in_flight control (congestion_of w x))))
   timer-acts w {x} two timer more s =
@@ -273,7 +273,7 @@ module _ {C : Type 0} (control : Control C) (effects : EveryStepHasOneEffect) wh
       (after-so w (event.Timer x timer)
       ∙ called-so w.world x (input.Fires timer (has_in_flight control (congestion_of w x))) (room-so (half_of w.world x) more (s.room x)))
 
-  pub under-way-next : {A : Type 0} (more : ℕ) (w : Controlled C) (e : Event) {x y : Side} (two : AreTwo x y) (arrived : Option ℕ) (s : Step A)
+  pub under-way-next : {A : Type 0} (more : ℕ) (w : ControlledWorld C) (e : Event) {x y : Side} (two : AreTwo x y) (arrived : Option ℕ) (s : Step A)
       → Acts w.world (next control w e).world x y (moved (half_of w.world x) arrived s) → s.after.config ≡ (half_of w.world x).end.config
       → IsUnderWay (more + 1) w.world → IsUnderWay more (next control w e).world
   under-way-next more w e two arrived s acts same u =
@@ -291,7 +291,7 @@ module _ {C : Type 0} (control : Control C) (effects : EveryStepHasOneEffect) wh
         room = λ each. omega (arith, u.room each, frames-so w.world v two arrived s acts each);
       }
 
-  pub after-moves : {A : Type 0} (more : ℕ) (w : Controlled C) (e : Event) {x y : Side} (two : AreTwo x y) (arrived : Option ℕ) (s : Step A)
+  pub after-moves : {A : Type 0} (more : ℕ) (w : ControlledWorld C) (e : Event) {x y : Side} (two : AreTwo x y) (arrived : Option ℕ) (s : Step A)
       (to : Phase) (gsr gar : ℕ)
       → Acts w.world (next control w e).world x y (moved (half_of w.world x) arrived s) → Moves (half_of w.world x).end s to gsr gar
       → IsUnderWay (more + 1) w.world → IsAfter more w.world (next control w e).world x y to gsr gar
@@ -305,7 +305,7 @@ module _ {C : Type 0} (control : Control C) (effects : EveryStepHasOneEffect) wh
         rests = acts.resting;
       }
 
-  pub after-says : {A : Type 0} (more : ℕ) (w : Controlled C) (e : Event) {x y : Side} (two : AreTwo x y) (arrived : Option ℕ) (s : Step A)
+  pub after-says : {A : Type 0} (more : ℕ) (w : ControlledWorld C) (e : Event) {x y : Side} (two : AreTwo x y) (arrived : Option ℕ) (s : Step A)
       (to : Phase) (gsr gar : ℕ) (k : Kind)
       → Acts w.world (next control w e).world x y (moved (half_of w.world x) arrived s) → Says (half_of w.world x).end s to gsr gar k
       → IsUnderWay (more + 1) w.world → HasSaid more w.world (next control w e).world x y to gsr gar k
@@ -323,14 +323,14 @@ module _ {C : Type 0} (control : Control C) (effects : EveryStepHasOneEffect) wh
       }
 
   -- The frame of a draft can arrive, and this is what comes.
-  pub record IsComing (w : Controlled C) (x y : Side) (number : ℕ) (d : Draft) : Type 0 where
+  pub record IsComing (w : ControlledWorld C) (x y : Side) (number : ℕ) (d : Draft) : Type 0 where
     pub index : ℕ
     pub frame : SentFrame
     pub here : IsRead (half_of w.world x).end frame.bytes number d
     pub acts : Acts w.world (next control w (event.Deliver y index)).world x y
         (moved (half_of w.world x) (Some frame.number) (receives (half_of w.world x).end frame.bytes))
 
-  pub coming : (more : ℕ) (w : Controlled C) {x y : Side} (two : AreTwo x y) (number : ℕ) (d : Draft) → IsUnderWay more w.world
+  pub coming : (more : ℕ) (w : ControlledWorld C) {x y : Side} (two : AreTwo x y) (number : ℕ) (d : Draft) → IsUnderWay more w.world
       → IsOut (half_of w.world y) number d → number < 2 ^ 48 → IsPlain d → IsComing w x y number d
   coming more w {x} {y} two number d u out small plain =
       let e : EndState = (half_of w.world x).end in
@@ -344,7 +344,7 @@ module _ {C : Type 0} (control : Control C) (effects : EveryStepHasOneEffect) wh
         acts = arrives w two out.index out.frame out.is_there (room-so (half_of w.world x) more (u.room x)) (long-near e out.frame here.is_long);
       }
 
-  pub arriving : (more : ℕ) (w : Controlled C) {x y : Side} (two : AreTwo x y) (number : ℕ) (k : Kind) → IsUnderWay more w.world
+  pub arriving : (more : ℕ) (w : ControlledWorld C) {x y : Side} (two : AreTwo x y) (number : ℕ) (k : Kind) → IsUnderWay more w.world
       → IsSent (half_of w.world y) number k → number < 2 ^ 48 → IsBare k → IsComing w x y number (alone k)
   arriving more w two number k u sent small bare = coming more w two number (alone k) u sent small (bare-plain k bare)
 

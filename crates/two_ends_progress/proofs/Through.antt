@@ -30,7 +30,7 @@ use Rattle.feature_machine.specs.declared.row.Row.{Row}
 use Rattle.run_list.specs.MarkedSet.{answer_to}
 use Rattle.run_list.specs.declared.answers.Marked.TheVariants.{New}
 use Rattle.seq_circle.specs.Circle.{residue}
-use Rattle.two_ends.specs.Controlled.{Controlled, ControlledStep, congestion_of, controlled, controlled_after, happens_to}
+use Rattle.two_ends.specs.Controlled.{ControlledWorld, ControlledStep, congestion_of, controlled, controlled_after, happens_to}
 use Rattle.two_ends.specs.Delivered.{place_delivered}
 use Rattle.two_ends.specs.World.{Half, HalfStep, WorldState, half_of, half_steps, is_far_frame, is_full, moved, with_half}
 use Rattle.dccp_endpoint.specs.UserCalls.{seen_of}
@@ -104,13 +104,13 @@ module _ {C : Type 0} (control : Control C) (effects : EveryStepHasOneEffect) wh
   may-by frees c wide true flies = frees c
   may-by frees c wide false flies = room-left (pipe_of (control.flight c)) (control.window c) flies wide
 
-  rto-congestion : (w : Controlled C) {x y : Side} → AreTwo x y → is_full (half_of w.world x) ≡ false
+  rto-congestion : (w : ControlledWorld C) {x y : Side} → AreTwo x y → is_full (half_of w.world x) ≡ false
       → congestion_of (next control w (event.Timer x timers.Rto)) x
       ≡ after_calls control (congestion_of w x) (fires (half_of w.world x).end timers.Rto (has_in_flight control (congestion_of w x))).calls
   rto-congestion w ClientFirst room = rw room refl
   rto-congestion w ServerFirst room = rw room refl
 
-  rto-frees : ((c : C) → may_send control (control.timed_out c) ≡ true) → (w : Controlled C) {x y : Side} → AreTwo x y → is_full (half_of w.world x) ≡ false
+  rto-frees : ((c : C) → may_send control (control.timed_out c) ≡ true) → (w : ControlledWorld C) {x y : Side} → AreTwo x y → is_full (half_of w.world x) ≡ false
       → (half_of w.world x).end.phase ≡ phases.Open → 1 ≤ control.window (congestion_of w x)
       → may_send control (congestion_of (next control w (event.Timer x timers.Rto)) x) ≡ true
   rto-frees frees w {x} two room free wide =
@@ -119,27 +119,27 @@ module _ {C : Type 0} (control : Control C) (effects : EveryStepHasOneEffect) wh
       ∙ may-by frees c wide (has_in_flight control c) refl
 
   -- a step of a side by what it makes of its half
-  abbrev step-of : Controlled C → Side → HalfStep → ControlledStep C
+  abbrev step-of : ControlledWorld C → Side → HalfStep → ControlledStep C
   step-of w side h = record { after = controlled control w side (record { world = with_half w.world side h.half; calls = h.calls; seen = h.seen }); seen = h.seen }
 
-  abbrev send-half : Controlled C → Side → List ℕ → HalfStep
+  abbrev send-half : ControlledWorld C → Side → List ℕ → HalfStep
   send-half w side payload = half_steps (half_of w.world side) None (input.Sends payload (may_send control (congestion_of w side)))
 
-  send-happens : (w : Controlled C) {x y : Side} → AreTwo x y → (payload : List ℕ) → is_full (half_of w.world x) ≡ false
+  send-happens : (w : ControlledWorld C) {x y : Side} → AreTwo x y → (payload : List ℕ) → is_full (half_of w.world x) ≡ false
       → happens_to control w (event.Send x payload) ≡ Ok (step-of w x (send-half w x payload))
   send-happens w ClientFirst payload room = rw room refl
   send-happens w ServerFirst payload room = rw room refl
 
-  abbrev taken-half : Controlled C → Side → SentFrame → HalfStep
+  abbrev taken-half : ControlledWorld C → Side → SentFrame → HalfStep
   taken-half w side frame = half_steps (half_of w.world side) (Some frame.number) (input.Arrives frame.bytes)
 
-  deliver-happens : (w : Controlled C) {x y : Side} → AreTwo x y → (index : ℕ) (frame : SentFrame) → slice_get (half_of w.world x).frames index ≡ Some frame
+  deliver-happens : (w : ControlledWorld C) {x y : Side} → AreTwo x y → (index : ℕ) (frame : SentFrame) → slice_get (half_of w.world x).frames index ≡ Some frame
       → is_full (half_of w.world y) ≡ false → is_far_frame (half_of w.world y).end frame ≡ false
       → happens_to control w (event.Deliver x index) ≡ Ok (step-of w y (taken-half w y frame))
   deliver-happens w ClientFirst index frame there room near = rw (there, room, near) refl
   deliver-happens w ServerFirst index frame there room near = rw (there, room, near) refl
 
-  send-acts : (more : ℕ) (w : Controlled C) {x y : Side} (two : AreTwo x y) (payload : List ℕ) → is_full (half_of w.world x) ≡ false
+  send-acts : (more : ℕ) (w : ControlledWorld C) {x y : Side} (two : AreTwo x y) (payload : List ℕ) → is_full (half_of w.world x) ≡ false
       → Acts w.world (next control w (event.Send x payload)).world x y
       (moved (half_of w.world x) None (sends_payload (half_of w.world x).end payload (may_send control (congestion_of w x))))
   send-acts more w {x} two payload room =
@@ -165,7 +165,7 @@ module _ {C : Type 0} (control : Control C) (effects : EveryStepHasOneEffect) wh
               a1.gss_is ∙ ap (λ (g : ℕ). residue (g + 1)) (sym heard) ∙ ap (λ (h : Half). residue (h.end.marks.gsr + 1)) (sym a1.rests);
         }
 
-    rto-ready : (more : ℕ) (w : Controlled C) {x y : Side} (two : AreTwo x y) → IsReady (more + 1) w.world x y
+    rto-ready : (more : ℕ) (w : ControlledWorld C) {x y : Side} (two : AreTwo x y) → IsReady (more + 1) w.world x y
         → IsReady more (next control w (event.Timer x timers.Rto)).world x y
     rto-ready more w {x} {y} two r =
         let e : EndState = (half_of w.world x).end in
@@ -184,7 +184,7 @@ module _ {C : Type 0} (control : Control C) (effects : EveryStepHasOneEffect) wh
         }
 
     -- There `send` takes data, and they get through.
-    gets-through : (w : Controlled C) {x y : Side} (two : AreTwo x y) (payload : List ℕ) → IsReady 2 w.world x y → may_send control (congestion_of w x) ≡ true
+    gets-through : (w : ControlledWorld C) {x y : Side} (two : AreTwo x y) (payload : List ℕ) → IsReady 2 w.world x y → may_send control (congestion_of w x) ≡ true
         → lacks_vectors own ≡ false → length payload ≤ 1024 → GetsThrough control w x payload
     gets-through w {x} {y} two payload r may reports short =
         record {
@@ -192,10 +192,10 @@ module _ {C : Type 0} (control : Control C) (effects : EveryStepHasOneEffect) wh
           takes_place = takes;
           is_taken = ap (λ (t : Step (Result (Unit {0}) SendFault)). seen_of (input.Sent t.answer)) (sends-so e payload m r.opened.here r.not_owed short reports_here may);
           frame = c.frame;
-          is_added = subst (λ (u : Controlled C). slice_get (half_of u.world x).frames index ≡ Some c.frame) same c.is_there;
+          is_added = subst (λ (u : ControlledWorld C). slice_get (half_of u.world x).frames index ≡ Some c.frame) same c.is_there;
           handed = step-of v y (taken-half v y c.frame);
           arrives =
-              subst (λ (u : Controlled C). happens_to control u (event.Deliver x index) ≡ Ok (step-of v y (taken-half v y c.frame))) same
+              subst (λ (u : ControlledWorld C). happens_to control u (event.Deliver x index) ≡ Ok (step-of v y (taken-half v y c.frame))) same
               (deliver-happens v two index c.frame c.is_there (room-so (half_of v.world y) 1 (opened.under_way.room y)) c.near);
           place = (length c.frame.bytes - length payload, length c.frame.bytes);
           is_delivered = ap (λ (o : Outcome). place_delivered (seen.Received o)) taken ∙ ap Some c.here.placed;
@@ -217,7 +217,7 @@ module _ {C : Type 0} (control : Control C) (effects : EveryStepHasOneEffect) wh
         room : is_full (half_of w.world x) ≡ false
         room = room-so (half_of w.world x) 2 (r.opened.under_way.room x)
 
-        v : Controlled C
+        v : ControlledWorld C
         v = next control w (event.Send x payload)
 
         takes : happens_to control w (event.Send x payload) ≡ Ok (step-of w x (send-half w x payload))
@@ -274,20 +274,20 @@ module _ {C : Type 0} (control : Control C) (effects : EveryStepHasOneEffect) wh
 
     -- The tree.
     pub through-on : ((c : C) → may_send control (control.timed_out c) ≡ true)
-        → ((w : Controlled C) (e : Event) → ((side : Side) → 1 ≤ control.window (congestion_of w side)) → (side : Side) → 1 ≤ control.window (congestion_of (next control w e) side))
-        → (w : Controlled C) {x y : Side} (two : AreTwo x y) (payload : List ℕ) → ((side : Side) → 1 ≤ control.window (congestion_of w side))
+        → ((w : ControlledWorld C) (e : Event) → ((side : Side) → 1 ≤ control.window (congestion_of w side)) → (side : Side) → 1 ≤ control.window (congestion_of (next control w e) side))
+        → (w : ControlledWorld C) {x y : Side} (two : AreTwo x y) (payload : List ℕ) → ((side : Side) → 1 ≤ control.window (congestion_of w side))
         → AreOpenWith 8 w.world x y own others → lacks_vectors own ≡ false → length payload ≤ 1024
-        → HasWay control 6 w (λ (v : Controlled C). GetsThrough control v x payload)
+        → HasWay control 6 w (λ (v : ControlledWorld C). GetsThrough control v x payload)
     through-on frees keep w {x} {y} two payload wide o reports short =
-        let goal : (Controlled C → Type 0) = λ v. GetsThrough control v x payload in
+        let goal : (ControlledWorld C → Type 0) = λ v. GetsThrough control v x payload in
         in-step-on control effects own others alike (λ u. (side : Side) → 1 ≤ control.window (congestion_of u side)) keep 4 2 w two goal wide o
         (λ u wide_there synced.
         let first : Event = event.Timer x timers.Ack in
-        let u1 : Controlled C = next control u first in
+        let u1 : ControlledWorld C = next control u first in
         let a1 = ack-sent control effects own others alike 3 u two synced.opened in
         let ready = ready-so 3 u.world u1.world x y synced.heard a1 in
         let second : Event = event.Timer x timers.Rto in
-        let u2 : Controlled C = next control u1 second in
+        let u2 : ControlledWorld C = next control u1 second in
         let may =
         rto-frees frees u1 two (room-so (half_of u1.world x) 3 (ready.opened.under_way.room x)) ready.opened.here (keep u first wide_there x) in
         leads-by control 1 u goal first tt

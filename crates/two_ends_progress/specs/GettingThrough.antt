@@ -2,7 +2,7 @@
 use Rattle.std.specs.Prelude.{◌≡◌, ℕ, ◌+◌, ◌^◌, ◌<◌, true, List, length, drop, slice_get, Some, Ok}
 use Rattle.congestion_trait.specs.Control.{Control}
 use Rattle.dccp_endpoint.specs.Calling.{lacks_vectors}
-use Rattle.two_ends.specs.Controlled.{Controlled, ControlledStep, happens_to}
+use Rattle.two_ends.specs.Controlled.{ControlledWorld, ControlledStep, happens_to}
 use Rattle.two_ends.specs.Delivered.{place_delivered}
 use Rattle.two_ends.specs.World.{WorldState, half_of}
 use Rattle.two_ends.specs.declared.frames.SentFrame.{SentFrame}
@@ -17,7 +17,7 @@ abbrev pub AreFew : ℕ → WorldState → Type 0
 AreFew more w = (side : Side) → length (half_of w side).frames + more < 2 ^ 23
 
 -- A side's `send` takes these data, and the delivery of the frame that carries them hands over exactly these.
-pub record GetsThrough {C : Type 0} (control : Control C) (w : Controlled C) (from : Side) (payload : List ℕ) : Type 0 where
+pub record GetsThrough {C : Type 0} (control : Control C) (w : ControlledWorld C) (from : Side) (payload : List ℕ) : Type 0 where
   pub sent : ControlledStep C
   pub takes_place : happens_to control w (event.Send from payload) ≡ Ok sent
   pub is_taken : sent.seen ≡ seen.Called (Ok tt)

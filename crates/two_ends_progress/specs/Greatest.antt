@@ -8,7 +8,7 @@ use Rattle.dccp_endpoint.specs.Receiving.{is_unexpected}
 use Rattle.dccp_states.specs.declared.outcome.Outcome.TheVariants as outcome
 use Rattle.dccp_states.specs.declared.phase.Phase.TheVariants as phases
 use Rattle.dccp_states.specs.declared.seen.Seen.TheVariants as seen
-use Rattle.two_ends.specs.Controlled.{Controlled, happens_to, plays}
+use Rattle.two_ends.specs.Controlled.{ControlledWorld, happens_to, plays}
 use Rattle.two_ends.specs.Remembered.{HasHeardFirst}
 use Rattle.two_ends.specs.World.{Half, half_of}
 use Rattle.two_ends.specs.declared.frames.SentFrame.{SentFrame}
@@ -26,7 +26,7 @@ pub record IsOutOfPlace (e : EndState) (bytes : List ℕ) (number : ℕ) : Type 
   pub has_number : number ≡ packet.number
 
 -- Among the events a frame of the other side with this number arrives, is out of place, and a Sync of the number answers it.
-pub record WasRefused {C : Type 0} (control : Control C) (start : Controlled C) (events : List Event) (side : Side) (number : ℕ) : Type 0 where
+pub record WasRefused {C : Type 0} (control : Control C) (start : ControlledWorld C) (events : List Event) (side : Side) (number : ℕ) : Type 0 where
   pub early : List Event
   pub index : ℕ
   pub later : List Event
@@ -35,7 +35,7 @@ pub record WasRefused {C : Type 0} (control : Control C) (start : Controlled C) 
   pub is_there : slice_get (half_of (plays control start early).world (other side)).frames index ≡ Some frame
   pub is_numbered : frame.number ≡ number
   pub out_of_place : IsOutOfPlace (half_of (plays control start early).world side).end frame.bytes number
-  pub after : Controlled C
+  pub after : ControlledWorld C
   pub answered : happens_to control (plays control start early) (event.Deliver (other side) index)
       ≡ Ok (record { after = after; seen = seen.Received (outcome.Synced number) })
 
@@ -45,5 +45,5 @@ IsGreatestMet half refused =
     half.end.phase ≢ phases.Closed → HasHeardFirst half → Contains half.processed half.end.marks.gsr ⊎ refused half.end.marks.gsr
 
 -- So it is of a side after the events.
-abbrev pub GreatestIsMet : {C : Type 0} → Control C → Controlled C → List Event → Side → Type 0
+abbrev pub GreatestIsMet : {C : Type 0} → Control C → ControlledWorld C → List Event → Side → Type 0
 GreatestIsMet control start events side = IsGreatestMet (half_of (plays control start events).world side) (WasRefused control start events side)

@@ -2,7 +2,7 @@
 use Rattle.std.specs.Prelude.{◌≡◌, ◌⊎◌, ℕ, ◌+◌, ◌-◌, ◌^◌, ◌<◌, ◌≤◌, List, [], ◌∷◌, length}
 use Rattle.congestion_trait.specs.Control.{Control}
 use Rattle.dccp_states.specs.declared.phase.Phase.TheVariants as phases
-use Rattle.two_ends.specs.Controlled.{Controlled, plays}
+use Rattle.two_ends.specs.Controlled.{ControlledWorld, plays}
 use Rattle.two_ends.specs.World.{WorldState, half_of}
 use Rattle.world_events.specs.declared.event.Event.{Event}
 use Rattle.world_events.specs.declared.event.Event.TheVariants as event
@@ -25,7 +25,7 @@ ArePassive [] = Unit {0}
 ArePassive (now ∷ later) = IsPassive now × ArePassive later
 
 -- Some list of timers and deliveries, at most so many, leads from the world to the goal.
-pub record HasWay {C : Type 0} (control : Control C) (most : ℕ) (w : Controlled C) (goal : Controlled C → Type 0) : Type 0 where
+pub record HasWay {C : Type 0} (control : Control C) (most : ℕ) (w : ControlledWorld C) (goal : ControlledWorld C → Type 0) : Type 0 where
   pub events : List Event
   pub are_passive : ArePassive events
   pub few : length events ≤ most

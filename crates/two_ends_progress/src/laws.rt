@@ -15,7 +15,7 @@ ghost use Rattle.feature_lists.specs.declared.features.Feature.TheVariants.{Ccid
 ghost use Rattle.feature_lists.specs.declared.features.Place.{Place};
 ghost use Rattle.feature_lists.specs.declared.features.Place.TheVariants as place;
 ghost use Rattle.feature_machine.specs.declared.stands.Stand.TheVariants.{Stable};
-ghost use Rattle.two_ends.specs.Controlled.{Controlled, ControlledStep, happens_to, plays, plays_from_start};
+ghost use Rattle.two_ends.specs.Controlled.{ControlledWorld, ControlledStep, happens_to, plays, plays_from_start};
 ghost use Rattle.two_ends.specs.Reached.{IsBeginning};
 ghost use Rattle.two_ends.specs.World.{WorldState, half_of};
 ghost use Rattle.two_ends.specs.declared.frames.SentFrame.{SentFrame};
@@ -46,7 +46,7 @@ pub fn closing_ends_both<C: Congestion>()
         → AreOpen (plays_from_start C.control client server for_client for_server events).world
         → HaveRoomFor 8 (plays_from_start C.control client server for_client for_server events).world
         → HasWay C.control 7 (plays C.control (plays_from_start C.control client server for_client for_server events) (event.Close side ∷ []))
-        (λ (w : Controlled C). AreOver w.world) }
+        (λ (w : ControlledWorld C). AreOver w.world) }
 {
     every_step_has_one_effect();
 }
@@ -54,11 +54,11 @@ pub fn closing_ends_both<C: Congestion>()
 /// What such a way of closing is, in plain words: a list of at most seven events (`few`), each of them a timer of a
 /// side or the delivery of a frame (`passive`), after which each end is in CLOSED or in TIMEWAIT (`over`).
 pub fn closing_takes_seven_events<C: Congestion>()
-    ensures few { (w : Controlled C) (way : HasWay C.control 7 w (λ (v : Controlled C). AreOver v.world)) → length way.events ≤ 7 }
-    ensures passive { (w : Controlled C) (way : HasWay C.control 7 w (λ (v : Controlled C). AreOver v.world)) (place : ℕ) (e : Event)
+    ensures few { (w : ControlledWorld C) (way : HasWay C.control 7 w (λ (v : ControlledWorld C). AreOver v.world)) → length way.events ≤ 7 }
+    ensures passive { (w : ControlledWorld C) (way : HasWay C.control 7 w (λ (v : ControlledWorld C). AreOver v.world)) (place : ℕ) (e : Event)
         → slice_get way.events place ≡ Some e
         → ((side : Side) × ((timer : Timer) × (e ≡ event.Timer side timer))) ⊎ ((from : Side) × ((index : ℕ) × (e ≡ event.Deliver from index))) }
-    ensures over { (w : Controlled C) (way : HasWay C.control 7 w (λ (v : Controlled C). AreOver v.world)) (side : Side)
+    ensures over { (w : ControlledWorld C) (way : HasWay C.control 7 w (λ (v : ControlledWorld C). AreOver v.world)) (side : Side)
         → ((half_of (plays C.control w way.events).world side).end.phase ≡ phases.Closed)
         ⊎ ((half_of (plays C.control w way.events).world side).end.phase ≡ phases.TimeWait) }
 {}
@@ -73,11 +73,11 @@ pub fn openings_take_four_events<C: Congestion>()
     ensures again { (w : WorldState) → w.client.end.phase ≡ phases.Request → w.server.end.phase ≡ phases.Respond
         → by_window w.server.end.marks (next_number w.client.end) None ≡ verdicts.Valid → IsInHandshake w }
     ensures answered { (w : WorldState) → w.client.end.phase ≡ phases.PartOpen → w.server.end.phase ≡ phases.Respond → IsInHandshake w }
-    ensures few { (w : Controlled C) (way : HasWay C.control 4 w (λ (v : Controlled C). HasEnded v.world ⊎ AreConnected v.world)) → length way.events ≤ 4 }
-    ensures passive { (w : Controlled C) (way : HasWay C.control 4 w (λ (v : Controlled C). HasEnded v.world ⊎ AreConnected v.world)) (place : ℕ) (e : Event)
+    ensures few { (w : ControlledWorld C) (way : HasWay C.control 4 w (λ (v : ControlledWorld C). HasEnded v.world ⊎ AreConnected v.world)) → length way.events ≤ 4 }
+    ensures passive { (w : ControlledWorld C) (way : HasWay C.control 4 w (λ (v : ControlledWorld C). HasEnded v.world ⊎ AreConnected v.world)) (place : ℕ) (e : Event)
         → slice_get way.events place ≡ Some e
         → ((side : Side) × ((timer : Timer) × (e ≡ event.Timer side timer))) ⊎ ((from : Side) × ((index : ℕ) × (e ≡ event.Deliver from index))) }
-    ensures through { (w : Controlled C) (way : HasWay C.control 4 w (λ (v : Controlled C). HasEnded v.world ⊎ AreConnected v.world))
+    ensures through { (w : ControlledWorld C) (way : HasWay C.control 4 w (λ (v : ControlledWorld C). HasEnded v.world ⊎ AreConnected v.world))
         → ((side : Side) × (((half_of (plays C.control w way.events).world side).end.phase ≡ phases.Closed)
         ⊎ ((half_of (plays C.control w way.events).world side).end.phase ≡ phases.TimeWait)))
         ⊎ ((side : Side) → ((half_of (plays C.control w way.events).world side).end.phase ≡ phases.PartOpen)
@@ -95,7 +95,7 @@ pub fn openings_get_through<C: Congestion>()
         → IsInHandshake (plays_from_start C.control client server for_client for_server events).world
         → HaveRoomFor 4 (plays_from_start C.control client server for_client for_server events).world
         → HasWay C.control 4 (plays_from_start C.control client server for_client for_server events)
-        (λ (w : Controlled C). HasEnded w.world ⊎ AreConnected w.world) }
+        (λ (w : ControlledWorld C). HasEnded w.world ⊎ AreConnected w.world) }
     ensures started { (client server : Config) (for_client for_server : C) → client.role ≡ role.Client → server.role ≡ role.Server
         → IsInHandshake (plays_from_start C.control client server for_client for_server (event.Open ∷ [])).world }
 {
@@ -111,7 +111,7 @@ pub fn openings_end_in_open<C: Congestion>()
         → IsInHandshake (plays_from_start C.control client server for_client for_server events).world
         → AreFew 13 (plays_from_start C.control client server for_client for_server events).world
         → HasWay C.control 13 (plays_from_start C.control client server for_client for_server events)
-        (λ (w : Controlled C). HasEnded w.world ⊎ AreOpen w.world) }
+        (λ (w : ControlledWorld C). HasEnded w.world ⊎ AreOpen w.world) }
 {
     every_step_has_one_effect();
     every_run_is_safe::<C>();
@@ -127,7 +127,7 @@ pub fn negotiations_settle<C: Congestion>()
         → AreOpen (plays_from_start C.control client server for_client for_server events).world
         → HaveRoomFor 24 (plays_from_start C.control client server for_client for_server events).world
         → HasWay C.control 24 (plays_from_start C.control client server for_client for_server events)
-        (λ (w : Controlled C). HasEnded w.world ⊎ HaveAgreed w.world) }
+        (λ (w : ControlledWorld C). HasEnded w.world ⊎ HaveAgreed w.world) }
 {
     every_step_has_one_effect();
     every_run_is_safe::<C>();
@@ -138,23 +138,23 @@ pub fn negotiations_settle<C: Congestion>()
 /// each row of each is STABLE (`settled`), and what an end holds of its own feature the other holds of its peer's
 /// (`clients`, `servers`).
 pub fn settling_takes_twenty_four_events<C: Congestion>()
-    ensures few { (w : Controlled C) (way : HasWay C.control 24 w (λ (v : Controlled C). HasEnded v.world ⊎ HaveAgreed v.world)) → length way.events ≤ 24 }
-    ensures passive { (w : Controlled C) (way : HasWay C.control 24 w (λ (v : Controlled C). HasEnded v.world ⊎ HaveAgreed v.world)) (place : ℕ) (e : Event)
+    ensures few { (w : ControlledWorld C) (way : HasWay C.control 24 w (λ (v : ControlledWorld C). HasEnded v.world ⊎ HaveAgreed v.world)) → length way.events ≤ 24 }
+    ensures passive { (w : ControlledWorld C) (way : HasWay C.control 24 w (λ (v : ControlledWorld C). HasEnded v.world ⊎ HaveAgreed v.world)) (place : ℕ) (e : Event)
         → slice_get way.events place ≡ Some e
         → ((side : Side) × ((timer : Timer) × (e ≡ event.Timer side timer))) ⊎ ((from : Side) × ((index : ℕ) × (e ≡ event.Deliver from index))) }
-    ensures opened { (w : Controlled C) (way : HasWay C.control 24 w (λ (v : Controlled C). HasEnded v.world ⊎ HaveAgreed v.world))
+    ensures opened { (w : ControlledWorld C) (way : HasWay C.control 24 w (λ (v : ControlledWorld C). HasEnded v.world ⊎ HaveAgreed v.world))
         → ((side : Side) × (((half_of (plays C.control w way.events).world side).end.phase ≡ phases.Closed)
         ⊎ ((half_of (plays C.control w way.events).world side).end.phase ≡ phases.TimeWait)))
         ⊎ ((side : Side) → (half_of (plays C.control w way.events).world side).end.phase ≡ phases.Open) }
-    ensures settled { (w : Controlled C) (way : HasWay C.control 24 w (λ (v : Controlled C). HasEnded v.world ⊎ HaveAgreed v.world))
+    ensures settled { (w : ControlledWorld C) (way : HasWay C.control 24 w (λ (v : ControlledWorld C). HasEnded v.world ⊎ HaveAgreed v.world))
         → ((side : Side) → (half_of (plays C.control w way.events).world side).end.phase ≡ phases.Open)
         → (side : Side) (feature : Feature) (place : Place)
         → (held_of (half_of (plays C.control w way.events).world side).end feature place).stand ≡ Stable }
-    ensures clients { (w : Controlled C) (way : HasWay C.control 24 w (λ (v : Controlled C). HasEnded v.world ⊎ HaveAgreed v.world))
+    ensures clients { (w : ControlledWorld C) (way : HasWay C.control 24 w (λ (v : ControlledWorld C). HasEnded v.world ⊎ HaveAgreed v.world))
         → ((side : Side) → (half_of (plays C.control w way.events).world side).end.phase ≡ phases.Open) → (feature : Feature)
         → (held_of (plays C.control w way.events).world.client.end feature place.Here).value
         ≡ (held_of (plays C.control w way.events).world.server.end feature place.There).value }
-    ensures servers { (w : Controlled C) (way : HasWay C.control 24 w (λ (v : Controlled C). HasEnded v.world ⊎ HaveAgreed v.world))
+    ensures servers { (w : ControlledWorld C) (way : HasWay C.control 24 w (λ (v : ControlledWorld C). HasEnded v.world ⊎ HaveAgreed v.world))
         → ((side : Side) → (half_of (plays C.control w way.events).world side).end.phase ≡ phases.Open) → (feature : Feature)
         → (held_of (plays C.control w way.events).world.client.end feature place.There).value
         ≡ (held_of (plays C.control w way.events).world.server.end feature place.Here).value }
@@ -174,7 +174,7 @@ pub fn data_get_through<C: Congestion>()
         → lacks_vectors (half_of (plays_from_start C.control client server for_client for_server events).world side).end.rows ≡ false
         → length payload ≤ 1024
         → HasWay C.control 6 (plays_from_start C.control client server for_client for_server events)
-        (λ (w : Controlled C). GetsThrough C.control w side payload) }
+        (λ (w : ControlledWorld C). GetsThrough C.control w side payload) }
 {
     every_step_has_one_effect();
     every_run_is_safe::<C>();
@@ -189,7 +189,7 @@ pub fn senders_are_never_stuck<C: Congestion>()
         → AreOpen (plays_from_start C.control client server for_client for_server events).world
         → AreFew 32 (plays_from_start C.control client server for_client for_server events).world → length payload ≤ 1024
         → HasWay C.control 30 (plays_from_start C.control client server for_client for_server events)
-        (λ (w : Controlled C). HasEnded w.world ⊎ (LacksReports w.world side ⊎ GetsThrough C.control w side payload)) }
+        (λ (w : ControlledWorld C). HasEnded w.world ⊎ (LacksReports w.world side ⊎ GetsThrough C.control w side payload)) }
 {
     every_step_has_one_effect();
     every_run_is_safe::<C>();
@@ -200,14 +200,14 @@ pub fn senders_are_never_stuck<C: Congestion>()
 /// delivery of the frame that it added hands over the bytes from a place up to the frame's end, which are the data
 /// (`handed`). It is enough that each side has sent fewer than 2^23 - 8 frames (`counts`).
 pub fn sending_takes_six_events<C: Congestion>()
-    ensures few { (w : Controlled C) (side : Side) (payload : List ℕ) (way : HasWay C.control 6 w (λ (v : Controlled C). GetsThrough C.control v side payload))
+    ensures few { (w : ControlledWorld C) (side : Side) (payload : List ℕ) (way : HasWay C.control 6 w (λ (v : ControlledWorld C). GetsThrough C.control v side payload))
         → length way.events ≤ 6 }
-    ensures passive { (w : Controlled C) (side : Side) (payload : List ℕ) (way : HasWay C.control 6 w (λ (v : Controlled C). GetsThrough C.control v side payload))
+    ensures passive { (w : ControlledWorld C) (side : Side) (payload : List ℕ) (way : HasWay C.control 6 w (λ (v : ControlledWorld C). GetsThrough C.control v side payload))
         (place : ℕ) (e : Event) → slice_get way.events place ≡ Some e
         → ((side : Side) × ((timer : Timer) × (e ≡ event.Timer side timer))) ⊎ ((from : Side) × ((index : ℕ) × (e ≡ event.Deliver from index))) }
-    ensures taken { (w : Controlled C) (side : Side) (payload : List ℕ) → GetsThrough C.control w side payload
+    ensures taken { (w : ControlledWorld C) (side : Side) (payload : List ℕ) → GetsThrough C.control w side payload
         → (step : ControlledStep C) × (happens_to C.control w (event.Send side payload) ≡ Ok step) × (step.seen ≡ seen.Called (Ok tt)) }
-    ensures handed { (w : Controlled C) (side : Side) (payload : List ℕ) → GetsThrough C.control w side payload
+    ensures handed { (w : ControlledWorld C) (side : Side) (payload : List ℕ) → GetsThrough C.control w side payload
         → let sent = plays C.control w (event.Send side payload ∷ []) in
         let index = length (half_of w.world side).frames in
         (frame : SentFrame) × (step : ControlledStep C) × (begins : ℕ) × (slice_get (half_of sent.world side).frames index ≡ Some frame)
@@ -231,7 +231,7 @@ pub fn a_sender_lacks_reports_by_agreement()
 /// that number arrived, valid and of a type that the phase did not expect, and was answered by a Sync for that number
 /// (RFC 4340, section 8.5, step 7). So no other packet raises GSR.
 pub fn the_greatest_number_was_processed_or_refused<C: Congestion>()
-    ensures { (start : Controlled C) (events : List Event) → IsBeginning C.control start → (side : Side) → GreatestIsMet C.control start events side }
+    ensures { (start : ControlledWorld C) (events : List Event) → IsBeginning C.control start → (side : Side) → GreatestIsMet C.control start events side }
 {
     every_step_has_one_effect();
 }
@@ -240,12 +240,12 @@ pub fn the_greatest_number_was_processed_or_refused<C: Congestion>()
 /// has processed a number. Then GSR is among the numbers that it processed; or after some of the events a frame of the
 /// other side with just this number arrived, and was answered by a Sync for that number.
 pub fn a_number_that_is_not_processed_was_answered_by_a_sync<C: Congestion>()
-    ensures { (start : Controlled C) (events : List Event) (side : Side) → GreatestIsMet C.control start events side
+    ensures { (start : ControlledWorld C) (events : List Event) (side : Side) → GreatestIsMet C.control start events side
         → (half_of (plays C.control start events).world side).end.phase ≢ phases.Closed
         → (is_live (half_of (plays C.control start events).world side).end.phase ≡ true)
         ⊎ (1 ≤ length (half_of (plays C.control start events).world side).processed)
         → Contains (half_of (plays C.control start events).world side).processed (half_of (plays C.control start events).world side).end.marks.gsr
-        ⊎ ((early : List Event) × ((index : ℕ) × ((later : List Event) × ((frame : SentFrame) × ((after : Controlled C)
+        ⊎ ((early : List Event) × ((index : ℕ) × ((later : List Event) × ((frame : SentFrame) × ((after : ControlledWorld C)
         × ((events ≡ early ++ event.Deliver (other side) index ∷ later)
         × ((slice_get (half_of (plays C.control start early).world (other side)).frames index ≡ Some frame)
         × ((frame.number ≡ (half_of (plays C.control start events).world side).end.marks.gsr)

@@ -22,7 +22,7 @@ use Rattle.dccp_states.specs.declared.outcome.Outcome.{Outcome}
 use Rattle.dccp_states.specs.declared.seen.Seen.{Seen}
 use Rattle.dccp_states.specs.declared.seen.Seen.TheVariants as seen
 use Rattle.dccp_sum.specs.declared.pseudo_header.Pseudo.{Pseudo}
-use Rattle.two_ends.specs.Controlled.{Controlled, congestion_of, controlled, controlled_after, controls, happens_to, plays, said_by}
+use Rattle.two_ends.specs.Controlled.{ControlledWorld, congestion_of, controlled, controlled_after, controls, happens_to, plays, said_by}
 use Rattle.two_ends.specs.Frames.{is_short_packet, packet_of}
 use Rattle.two_ends.specs.World.{Half, Said, WorldState, WorldStep, as_sent, delivers_frame, half_of, half_steps, half_with, happens, in_world, is_far_frame, is_full, newly_processed, unless_far, with_half, world_after}
 use Rattle.two_ends.specs.declared.frames.SentFrame.{SentFrame}
@@ -232,7 +232,7 @@ module _ {C : Type 0} (control : Control C) (effects : EveryStepHasOneEffect) wh
   with-ends w Client x = refl
   with-ends w Server x = refl
 
-  controlled-same : (w : Controlled C) (side : Side) (one two : WorldStep) → one.world ≡ two.world → one.calls ≡ two.calls
+  controlled-same : (w : ControlledWorld C) (side : Side) (one two : WorldStep) → one.world ≡ two.world → one.calls ≡ two.calls
       → controlled control w side one ≡ controlled control w side two
   controlled-same w Client one two world calls =
       ap (λ (v : WorldState). record w { world = v; for_client = after_calls control w.for_client one.calls }) world
@@ -317,7 +317,7 @@ module _ {C : Type 0} (control : Control C) (effects : EveryStepHasOneEffect) wh
   runs-alone w like [] = refl
   runs-alone w like (Happens e ∷ events) =
       runs-alone (inbox_steps control w (Happens e)) (like-after w like e) events
-      ∙ ap (λ (v : Controlled C). plays control v (of_ends events)) (ends-after w like e)
+      ∙ ap (λ (v : ControlledWorld C). plays control v (of_ends events)) (ends-after w like e)
   runs-alone w like (Reads Client ∷ events) = runs-alone (inbox_steps control w (Reads Client)) like events
   runs-alone w like (Reads Server ∷ events) = runs-alone (inbox_steps control w (Reads Server)) like events
   runs-alone w like (Ends Client ∷ events) = runs-alone (inbox_steps control w (Ends Client)) like events

@@ -45,7 +45,7 @@ use Rattle.dccp_states.specs.declared.seen.Refusal.{Refusal}
 use Rattle.dccp_states.specs.declared.seen.Seen.{Seen}
 use Rattle.dccp_states.specs.declared.seen.Seen.TheVariants as seen
 use Rattle.dccp_sum.specs.declared.pseudo_header.Pseudo.{Pseudo}
-use Rattle.two_ends.specs.Controlled.{Controlled, congestion_of, controlled, controls, plays_from_start, said_by}
+use Rattle.two_ends.specs.Controlled.{ControlledWorld, congestion_of, controlled, controls, plays_from_start, said_by}
 use Rattle.two_ends.specs.Delivered.{DeliversIn, place_delivered}
 use Rattle.two_ends.specs.Frames.{options_in, packet_options}
 use Rattle.two_ends.specs.Reported.{processed_by}
@@ -409,7 +409,7 @@ numbered w h side arrived (Arrives bytes) from place again is took =
 numbered w h side arrived _ from place again is took = cc is
 
 -- What a step of two ends delivers, it processed just now.
-module _ {C : Type 0} (control : Control C) (w : Controlled C) (h : IsHeld SideInvariant w.world) (e : Event) (two : WorldStep)
+module _ {C : Type 0} (control : Control C) (w : ControlledWorld C) (h : IsHeld SideInvariant w.world) (e : Event) (two : WorldStep)
     (happened : happens w.world e (said_by control (congestion_of w (actor e))) ≡ Ok two) (kept : IsHeld SideInvariant two.world)
     (arrived : Option ℕ) (given : Input) (from : IsFromPeer (half_of w.world (actor e)).end (half_of w.world (other (actor e))).frames arrived given)
     (world : two.world ≡ with_half w.world (actor e) (half_steps (half_of w.world (actor e)) arrived given).half)

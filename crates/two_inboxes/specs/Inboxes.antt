@@ -11,7 +11,7 @@ use Rattle.dccp_endpoint.specs.declared.config.Config.{Config}
 use Rattle.dccp_states.specs.declared.seen.Seen.{Seen}
 use Rattle.dccp_states.specs.declared.seen.Seen.TheVariants as seen
 use Rattle.dccp_sum.specs.declared.pseudo_header.Pseudo.{Pseudo}
-use Rattle.two_ends.specs.Controlled.{Controlled, begins_with, congestion_of, controlled, plays, said_by}
+use Rattle.two_ends.specs.Controlled.{ControlledWorld, begins_with, congestion_of, controlled, plays, said_by}
 use Rattle.two_ends.specs.World.{Half, Said, WorldStep, delivers_frame, half_of, happens}
 use Rattle.two_ends.specs.declared.frames.SentFrame.{SentFrame}
 use Rattle.world_events.specs.Actors.{actor}
@@ -28,7 +28,7 @@ pub record InboxSide : Type 0 where
 
 -- Two ends with all that they sent, as they made it, and the inbox of each.
 pub record InboxPair (C : Type 0) : Type 0 where
-  pub ends : Controlled C
+  pub ends : ControlledWorld C
   pub client : InboxSide
   pub server : InboxSide
 

@@ -1,5 +1,5 @@
 use Rattle.std.proofs.Common.{◌⊎◌, inl, inr, sym, subst}
-use Rattle.two_ends.specs.Controlled.{Controlled}
+use Rattle.two_ends.specs.Controlled.{ControlledWorld}
 use Rattle.feature_lists.specs.declared.features.Place.TheVariants.{Here, There}
 use Rattle.two_ends_progress.specs.Leading.{AreOpen, HasWay, HaveRoomFor}
 use Rattle.two_ends_progress.specs.Opening.{HasEnded}
@@ -10,12 +10,12 @@ use Rattle.tests_claims.proofs.ways.a_negotiation_takes_twenty_four_events.Goals
 
 pub returns : goal.returns
 returns g c = λ w reached paired opened room.
-    let goal_is : Controlled g.row.C.Denot → Type 0 = λ v. HasEnded v.world ⊎ HaveAgreed v.world in
+    let goal_is : ControlledWorld g.row.C.Denot → Type 0 = λ v. HasEnded v.world ⊎ HaveAgreed v.world in
     let way : HasWay g.C.Congestion.control 24 w goal_is =
-    subst (λ (v : Controlled g.row.C.Denot). HasWay g.C.Congestion.control 24 v goal_is) (sym reached.same)
+    subst (λ (v : ControlledWorld g.row.C.Denot). HasWay g.C.Congestion.control 24 v goal_is) (sym reached.same)
     (c.negotiations_settle.ensures reached.client reached.server reached.for_client reached.for_server reached.events reached.is_client reached.is_server
-    reached.client_fits reached.server_fits paired (subst (λ (v : Controlled g.row.C.Denot). AreOpen v.world) reached.same (both-open w.world opened))
-    (subst (λ (v : Controlled g.row.C.Denot). HaveRoomFor 24 v.world) reached.same room)) in (
+    reached.client_fits reached.server_fits paired (subst (λ (v : ControlledWorld g.row.C.Denot). AreOpen v.world) reached.same (both-open w.world opened))
+    (subst (λ (v : ControlledWorld g.row.C.Denot). HaveRoomFor 24 v.world) reached.same room)) in (
       way.events,
       (
         passive-way g.C.Congestion.control 24 w goal_is way,

@@ -1,5 +1,5 @@
 use Rattle.std.proofs.Common.{◌≡◌, ap, ◌∙◌, subst, sym, ℕ, Some, Ok, length, slice_get}
-use Rattle.two_ends.specs.Controlled.{Controlled, controlled_after, happens_to}
+use Rattle.two_ends.specs.Controlled.{ControlledWorld, controlled_after, happens_to}
 use Rattle.two_ends.specs.World.{half_of}
 use Rattle.world_events.specs.declared.event.Event.TheVariants as event
 use Rattle.dccp_states.specs.declared.outcome.Outcome.TheVariants.{Took}
@@ -23,8 +23,8 @@ returns g c =
             through.frame,
             through.handed,
             at,
-            subst (λ (u : Controlled _). slice_get (half_of u.world side).frames (length (half_of w.world side).frames) ≡ Some through.frame) (sym same) through.is_added,
-            subst (λ (u : Controlled _). happens_to control u (event.Deliver side (length (half_of w.world side).frames)) ≡ Ok through.handed) (sym same)
+            subst (λ (u : ControlledWorld _). slice_get (half_of u.world side).frames (length (half_of w.world side).frames) ≡ Some through.frame) (sym same) through.is_added,
+            subst (λ (u : ControlledWorld _). happens_to control u (event.Deliver side (length (half_of w.world side).frames)) ≡ Ok through.handed) (sym same)
                 through.arrives,
             delivered-seen through.handed.seen through.place through.is_delivered ∙ ends,
             through.are_the_data,

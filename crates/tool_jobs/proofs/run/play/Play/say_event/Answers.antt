@@ -4,7 +4,7 @@ use Rattle.tool_jobs.specs.Transcript.{SentFew, ShowsEvent, event_shown, run_job
 use Rattle.tool_jobs.specs.declared.run.play.Play.{Play}
 use Rattle.tool_jobs.proofs.Judging.{judged-else, judged-then}
 use Rattle.tool_jobs.proofs.Room.{few-at, shown-few, playable-after}
-use Rattle.two_ends.specs.Controlled.{Controlled}
+use Rattle.two_ends.specs.Controlled.{ControlledWorld}
 use Rattle.ccid_two.specs.Kinds.{Both}
 use Rattle.tool_jobs.proofs.run.play.Play.say_event.Goals as goal
 use Rattle.tool_text.specs.Jobs.{Judges, most_events}
@@ -15,7 +15,7 @@ returns-clause-playable c =
     let old = c.args.self.now in
     let made : c.make_world.new.self ≡ record old { world = Some (world_of old) } = search rules in
     let here : world_of old ≡ c.in-Some.world = search rules in
-    let few = subst (λ (w : Controlled Both). SentFew w old.events) here (few-at old.client old.server old.world old.events c.requires.few) in
+    let few = subst (λ (w : ControlledWorld Both). SentFew w old.events) here (few-at old.client old.server old.world old.events c.requires.few) in
     playable-after old c.make_world.new.self c.show_event.new.world made c.requires
     (shown-few _ c.in-Some.world c.show_event.new.world c.args.event.now _ _ old.events c.in_ok-show_event.ensures few)
 
@@ -28,7 +28,7 @@ returns-clause-verdict c =
     judged-then old c.args.text.now.items c.show_event.new.text.items c.show_event.new.world c.args.number c.args.event.now few
     c.make_world.new.self made
     (subst
-    (λ (w : Controlled Both).
+    (λ (w : ControlledWorld Both).
     ShowsEvent (event_shown c.args.number w c.args.event.now) c.args.text.now.items c.show_event.new.text.items c.show_event.new.world (Ok tt))
     here c.in_ok-show_event.ensures)
 
