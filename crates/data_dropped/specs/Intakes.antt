@@ -15,21 +15,21 @@ intake_of zero = None
 intake_of (suc n) = Some (inbox_of 2032 (suc n))
 
 -- the inbox, if there is one, once a packet was received, and what became of its data, if they came into it
-pub record Settled : Type 0 where
+pub record IntakeDelivery : Type 0 where
   pub inbox : Option InboxState
   pub arrival : Option Arrival
 
 -- by what an inbox makes of it
-abbrev pub settled_by : Delivery → Settled
+abbrev pub settled_by : Delivery → IntakeDelivery
 settled_by delivery = record { inbox = Some delivery.inbox; arrival = delivery.arrival }
 
 -- a packet of this number was received with this outcome
-abbrev pub settled_in : Option InboxState → ℕ → List ℕ → Outcome → Settled
+abbrev pub settled_in : Option InboxState → ℕ → List ℕ → Outcome → IntakeDelivery
 settled_in None n bytes outcome = record { inbox = None; arrival = None }
 settled_in (Some held) n bytes outcome = settled_by (delivery_by held n bytes outcome)
 
 -- a packet was received with this outcome, if the end heard it at all
-abbrev pub came_in : Option InboxState → ℕ → List ℕ → Option Outcome → Settled
+abbrev pub came_in : Option InboxState → ℕ → List ℕ → Option Outcome → IntakeDelivery
 came_in held n bytes None = record { inbox = held; arrival = None }
 came_in held n bytes (Some outcome) = settled_in held n bytes outcome
 

@@ -4,7 +4,7 @@ use Rattle.std.specs.BTreeMap.{insert_entry}
 use Rattle.std.specs.Map.{lookup, remove_entry, set_value}
 use Rattle.dccp_packets.specs.Outgoing.{Outgoing}
 use Rattle.data_dropped.specs.Inbox.{InboxState}
-use Rattle.data_dropped.specs.Intakes.{Settled, came_in, count_held, first_read, intake_of, most_said, read_over, spoken, without_first, without_listener}
+use Rattle.data_dropped.specs.Intakes.{IntakeDelivery, came_in, count_held, first_read, intake_of, most_said, read_over, spoken, without_first, without_listener}
 use Rattle.data_dropped.specs.declared.answers.Arrival.{Arrival}
 use Rattle.data_dropped.specs.declared.answers.Arrival.TheVariants.{Kept}
 use Rattle.data_dropped.specs.declared.answers.Arrival.TheVariants as arrival
@@ -66,7 +66,7 @@ pub record FlowDelivery : Type 0 where
   pub arrival : Option Arrival
 
 -- a peer's data came to its inbox, which is this then
-abbrev pub settled_there : Inboxes → Peer → Settled → FlowDelivery
+abbrev pub settled_there : Inboxes → Peer → IntakeDelivery → FlowDelivery
 settled_there s peer settled = record { inboxes = with_flow_inbox s peer settled.inbox; arrival = settled.arrival }
 
 -- data of a peer came under this number, which are there in the datagram

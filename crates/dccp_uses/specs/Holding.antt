@@ -1,7 +1,7 @@
 -- An end with its timers beside the inbox in which its data wait and the Init Cookie that it returns, where it has them (own).
 use Rattle.std.specs.Prelude.{ℕ, List, [], Option, None}
 use Rattle.data_dropped.specs.Inbox.{InboxState}
-use Rattle.data_dropped.specs.Intakes.{Settled, came_in, spoken}
+use Rattle.data_dropped.specs.Intakes.{IntakeDelivery, came_in, spoken}
 use Rattle.dccp_endpoint.specs.End.{last_taken}
 use Rattle.dccp_packets.specs.Outgoing.{Outgoing}
 use Rattle.dccp_states.specs.declared.outcome.Outcome.{Outcome}
@@ -46,7 +46,7 @@ abbrev pub steps_beside : {C Answer : Type 0} → HoldingState C → TimedStep C
 steps_beside h step = holding_step (record h { timed = step.timed }) step.frame step.answer
 
 -- the end has heard a datagram or left it out: this is its cookie then, and this became of the inbox
-abbrev pub holds_settled : {C : Type 0} → List ℕ → Settled → TimedStep C (Option Outcome) → HoldingStep C Reading
+abbrev pub holds_settled : {C : Type 0} → List ℕ → IntakeDelivery → TimedStep C (Option Outcome) → HoldingStep C Reading
 holds_settled cookie settled step =
     holding_step (record { timed = step.timed; inbox = settled.inbox; cookie = cookie }) step.frame
     (record { heard = step.answer; arrival = settled.arrival })
