@@ -11,7 +11,7 @@ use Rattle.dccp_endpoint.specs.Strangers.{stays_in}
 use Rattle.dccp_listener.specs.Calls.{IsStep}
 use Rattle.dccp_listener.specs.Chain.{Arrives, Calls, ChainStep, Deed, chain_step, flow_step, fresh_end, is_given_up}
 use Rattle.dccp_listener.specs.Listens.{AreInOrder, WhatIsComputedIsARun, is_table_full, listening_after, listens_by, fresh_met, with_end}
-use Rattle.dccp_listener.specs.Peers.{FlowEnd, Flows, Listening, end_of_peer, is_peer, peer_cmp}
+use Rattle.dccp_listener.specs.Peers.{FlowEnd, Flows, ListenerState, end_of_peer, is_peer, peer_cmp}
 use Rattle.dccp_listener.specs.Runs.{IsTurnSo}
 use Rattle.dccp_listener.specs.declared.peer.Peer.{Peer}
 use Rattle.dccp_listener.proofs.InOrder.{found_insert, in_order_insert, in_order_remove, in_order_set}
@@ -43,7 +43,7 @@ others-after peer other e flows false ordered there apart =
     ∙ ap (λ (b : Bool). cond b (Some e) (end_of_peer flows other)) apart
 
 -- an end that stands takes a step
-stands-step : (l : Listening) (peer : Peer) (deed : Deed) (e : FlowEnd) → end_of_peer l.flows peer ≡ Some e → AreInOrder l.flows
+stands-step : (l : ListenerState) (peer : Peer) (deed : Deed) (e : FlowEnd) → end_of_peer l.flows peer ≡ Some e → AreInOrder l.flows
     → IsStep l (record l { flows = with_end l.flows peer (flow_step e deed).after }) peer deed (flow_step e deed).frame
     (Some (seen_of (flow_step e deed).answer))
 stands-step l peer deed e found ordered =
@@ -58,7 +58,7 @@ stands-step l peer deed e found ordered =
     }
 
 -- a fresh end meets a datagram
-meets : (l : Listening) (peer : Peer) (iss : ℕ) (bytes : List ℕ) → end_of_peer l.flows peer ≡ None → (stays full : Bool)
+meets : (l : ListenerState) (peer : Peer) (iss : ℕ) (bytes : List ℕ) → end_of_peer l.flows peer ≡ None → (stays full : Bool)
     → stays_in (flow_step (fresh_end l.config peer iss bytes) (Arrives iss bytes)).after.state.phase ≡ stays
     → IsTurnSo l (record l { flows = (fresh_met l peer iss bytes (flow_step (fresh_end l.config peer iss bytes) (Arrives iss bytes)) stays full).flows })
     (record {
@@ -89,7 +89,7 @@ meets l peer iss bytes found true false is =
       same_config = refl;
     }
 
-turn-so : (l : Listening) (peer : Peer) (found : Option FlowEnd) (deed : Deed) → end_of_peer l.flows peer ≡ found → AreInOrder l.flows
+turn-so : (l : ListenerState) (peer : Peer) (found : Option FlowEnd) (deed : Deed) → end_of_peer l.flows peer ≡ found → AreInOrder l.flows
     → IsTurnSo l (record l { flows = (listens_by l peer found deed).flows })
     (record { peer = peer; deed = deed; frame = (listens_by l peer found deed).frame; told = (listens_by l peer found deed).told })
     (listens_by l peer found deed).told
@@ -108,13 +108,13 @@ order-with : (peer : Peer) (e : FlowEnd) (flows : Flows) (over : Bool) → AreIn
 order-with peer e flows true ordered = in_order_remove (is_peer peer) flows ordered
 order-with peer e flows false ordered = in_order_set (is_peer peer) flows e ordered
 
-order-met : (l : Listening) (peer : Peer) (iss : ℕ) (bytes : List ℕ) (step : EndStep Both EndAnswer) (stays full : Bool) → AreInOrder l.flows
+order-met : (l : ListenerState) (peer : Peer) (iss : ℕ) (bytes : List ℕ) (step : EndStep Both EndAnswer) (stays full : Bool) → AreInOrder l.flows
     → AreInOrder (fresh_met l peer iss bytes step stays full).flows
 order-met l peer iss bytes step false full ordered = ordered
 order-met l peer iss bytes step true true ordered = ordered
 order-met l peer iss bytes step true false ordered = in_order_insert peer step.after l.flows ordered
 
-order-so : (l : Listening) (peer : Peer) (found : Option FlowEnd) (deed : Deed) → AreInOrder l.flows → AreInOrder (listens_by l peer found deed).flows
+order-so : (l : ListenerState) (peer : Peer) (found : Option FlowEnd) (deed : Deed) → AreInOrder l.flows → AreInOrder (listens_by l peer found deed).flows
 order-so l peer (Some e) deed ordered =
     order-with peer (flow_step e deed).after l.flows (is_given_up (flow_step e deed).after.state.phase) ordered
 order-so l peer None (Arrives iss bytes) ordered =
@@ -125,6 +125,6 @@ order-so l peer None (Calls call) ordered = ordered
 pub computed_runs : WhatIsComputedIsARun
 computed_runs l [] ordered = (refl, ordered)
 computed_runs l (now ∷ later) ordered =
-    let next : Listening = listening_after l now.0 now.1 in
+    let next : ListenerState = listening_after l now.0 now.1 in
     let rest = computed_runs next later (order-so l now.0 (end_of_peer l.flows now.0) now.1 ordered) in
     ((next, turn-so l now.0 (end_of_peer l.flows now.0) now.1 refl ordered, rest.0), rest.1)

@@ -18,7 +18,7 @@ use Rattle.dccp_packets.specs.Outgoing.{Outgoing}
 use Rattle.dccp_endpoint.specs.Strangers.{stays_in}
 use Rattle.dccp_listener.specs.Calls.{Arrived, IsStep}
 use Rattle.dccp_listener.specs.Chain.{Arrives, Calls, ChainStep, Deed, chain_step, config_for, flow_step, fresh_end, input_of_deed, is_given_up}
-use Rattle.dccp_listener.specs.Peers.{FlowEnd, Listening, end_of_peer, is_peer}
+use Rattle.dccp_listener.specs.Peers.{FlowEnd, ListenerState, end_of_peer, is_peer}
 use Rattle.dccp_listener.specs.Standing.{ChainsStand, IsSoundListener, IsFlowOf}
 use Rattle.dccp_listener.specs.declared.calls.Heard.{Heard}
 use Rattle.dccp_listener.specs.declared.calls.Heard.TheVariants as heard
@@ -109,7 +109,7 @@ ends_stand config peer None (Arrives iss bytes) lists none =
 ends_stand config peer None (Calls call) lists none = tt
 
 -- each peer's end comes after a step of one peer
-stand-after : (before after : Listening) (peer : Peer) (deed : Deed) (frame : Option Outgoing) (seen : Option Seen)
+stand-after : (before after : ListenerState) (peer : Peer) (deed : Deed) (frame : Option Outgoing) (seen : Option Seen)
     → IsSoundListener before.config before.flows → IsStep before after peer deed frame seen
     → (q : Peer) (same : Bool) → is_peer peer q ≡ same → IfSome (end_of_peer after.flows q) (IsFlowOf before.config q)
 stand-after before after peer deed frame seen sound step q true is =
@@ -121,7 +121,7 @@ stand-after before after peer deed frame seen sound step q true is =
 stand-after before after peer deed frame seen sound step q false is =
     subst (λ (x : Option FlowEnd). IfSome x (IsFlowOf before.config q)) (sym (step.others q is)) (sound.stand q)
 
-pub sound_step : (before after : Listening) (peer : Peer) (deed : Deed) (frame : Option Outgoing) (seen : Option Seen)
+pub sound_step : (before after : ListenerState) (peer : Peer) (deed : Deed) (frame : Option Outgoing) (seen : Option Seen)
     → IsSoundListener before.config before.flows → IsStep before after peer deed frame seen → length after.flows ≤ before.config.most
     → IsSoundListener after.config after.flows
 sound_step before after peer deed frame seen sound step room =
@@ -132,15 +132,15 @@ sound_step before after peer deed frame seen sound step room =
       stand = λ q. stand-after before after peer deed frame seen sound step q (is_peer peer q) refl;
     })
 
-pub sound_arrival : (before after : Listening) (peer : Peer) (iss : ℕ) (bytes : List ℕ) (frame : Option Outgoing) (result : Result Heard NoMemory)
+pub sound_arrival : (before after : ListenerState) (peer : Peer) (iss : ℕ) (bytes : List ℕ) (frame : Option Outgoing) (result : Result Heard NoMemory)
     → IsSoundListener before.config before.flows → Arrived before after peer iss bytes frame result → length after.flows ≤ before.config.most
     → IsSoundListener after.config after.flows
 sound_arrival before after peer iss bytes frame (Ok (heard.Flow outcome)) sound arrived room =
     sound_step before after peer (Arrives iss bytes) frame _ sound arrived.0 room
 sound_arrival before after peer iss bytes frame (Ok heard.Busy) sound arrived room =
-    subst (λ (l : Listening). IsSoundListener l.config l.flows) (sym arrived.1) sound
+    subst (λ (l : ListenerState). IsSoundListener l.config l.flows) (sym arrived.1) sound
 sound_arrival before after peer iss bytes frame (Err fault) sound arrived room =
-    subst (λ (l : Listening). IsSoundListener l.config l.flows) (sym arrived.1) sound
+    subst (λ (l : ListenerState). IsSoundListener l.config l.flows) (sym arrived.1) sound
 
 -- a listener without flows
 pub sound_fresh : (config : ListenConfig) → IsLists config.lists → IsSoundListener config []

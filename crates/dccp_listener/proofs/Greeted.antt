@@ -7,12 +7,12 @@ use Rattle.dccp_endpoint.specs.Strangers.{stays_in}
 use Rattle.dccp_listener.specs.Chain.{Arrives, flow_step, fresh_end}
 use Rattle.dccp_listener.specs.Greeting.{GreetingsOpen}
 use Rattle.dccp_listener.specs.Listens.{Listened, fresh_met, is_table_full, listens, listens_by}
-use Rattle.dccp_listener.specs.Peers.{FlowEnd, Listening, end_of_peer}
+use Rattle.dccp_listener.specs.Peers.{FlowEnd, ListenerState, end_of_peer}
 use Rattle.dccp_listener.specs.declared.peer.Peer.{Peer}
 use Rattle.dccp_listener.proofs.InOrder.{found_insert}
 use Rattle.dccp_listener.proofs.OnePeer.{peers_alike}
 
-module _ (l : Listening) (peer : Peer) (iss : ℕ) (bytes : List ℕ) where
+module _ (l : ListenerState) (peer : Peer) (iss : ℕ) (bytes : List ℕ) where
   abbrev step : EndStep Both EndAnswer
   step = flow_step (fresh_end l.config peer iss bytes) (Arrives iss bytes)
 

@@ -15,26 +15,26 @@ use Rattle.dccp_states.specs.declared.seen.Seen.{Seen}
 use Rattle.dccp_states.specs.declared.seen.Seen.TheVariants as seen
 use Rattle.dccp_packets.specs.Outgoing.{Outgoing}
 use Rattle.dccp_listener.specs.Chain.{Deed, Arrives, chain_step, config_for}
-use Rattle.dccp_listener.specs.Peers.{Listening, end_of_peer, is_peer}
+use Rattle.dccp_listener.specs.Peers.{ListenerState, end_of_peer, is_peer}
 use Rattle.dccp_listener.specs.declared.calls.NoFlow.{NoFlow}
 use Rattle.dccp_listener.specs.declared.calls.Heard.{Heard}
 use Rattle.dccp_listener.specs.declared.calls.Heard.TheVariants as heard
 use Rattle.dccp_listener.specs.declared.peer.Peer.{Peer}
 
 -- A deed of a peer is a step of its own chain, and each other peer has what it had.
-pub record IsStep (before after : Listening) (peer : Peer) (deed : Deed) (frame : Option Outgoing) (seen : Option Seen) : Type 0 where
+pub record IsStep (before after : ListenerState) (peer : Peer) (deed : Deed) (frame : Option Outgoing) (seen : Option Seen) : Type 0 where
   pub own : record { after = end_of_peer after.flows peer; frame = frame; seen = seen } ≡ chain_step before.config peer (end_of_peer before.flows peer) deed
   pub others : (other : Peer) → is_peer peer other ≡ false → end_of_peer after.flows other ≡ end_of_peer before.flows other
   pub same_config : after.config ≡ before.config
 
 -- The listener has as many flows as it may, and the peer has none but would get one.
-pub record IsBusy (l : Listening) (peer : Peer) (deed : Deed) : Type 0 where
+pub record IsBusy (l : ListenerState) (peer : Peer) (deed : Deed) : Type 0 where
   pub has_none : end_of_peer l.flows peer ≡ None
   pub is_table_full : l.config.most ≤ length l.flows
   pub would_stay : IsSome (chain_step l.config peer None deed).after
 
 -- The listener may have one flow more, and the peer has none and would get it.
-pub record OpensFlow (l : Listening) (peer : Peer) (deed : Deed) : Type 0 where
+pub record OpensFlow (l : ListenerState) (peer : Peer) (deed : Deed) : Type 0 where
   pub has_none : end_of_peer l.flows peer ≡ None
   pub has_room : length l.flows < l.config.most
   pub would_stay : IsSome (chain_step l.config peer None deed).after
@@ -55,7 +55,7 @@ busy_frame config (Ok parts) = busy_reply config parts.header.number
 busy_frame config (Err _) = None
 
 -- What `arrive` does, by its answer.
-abbrev pub Arrived : Listening → Listening → Peer → ℕ → List ℕ → Option Outgoing → Result Heard NoMemory → Type 0
+abbrev pub Arrived : ListenerState → ListenerState → Peer → ℕ → List ℕ → Option Outgoing → Result Heard NoMemory → Type 0
 Arrived before after peer iss bytes frame (Ok (heard.Flow outcome)) =
     IsStep before after peer (Arrives iss bytes) frame (Some (seen.Received outcome)) × (IsBusy before peer (Arrives iss bytes) → ⊥)
 Arrived before after peer iss bytes frame (Ok heard.Busy) =
@@ -79,6 +79,6 @@ pub record IsRequest (bytes : List ℕ) : Type 0 where
 -- Who finds the listener busy has sent a Request, and the Reset acknowledges it.
 abbrev pub BusyAnswersRequests : Type 0
 BusyAnswersRequests =
-    (l : Listening) (peer : Peer) (iss : ℕ) (bytes : List ℕ) → IsBusy l peer (Arrives iss bytes)
+    (l : ListenerState) (peer : Peer) (iss : ℕ) (bytes : List ℕ) → IsBusy l peer (Arrives iss bytes)
     → (request : IsRequest bytes)
     × (busy_frame (config_for l.config peer iss bytes) (decoded bytes) ≡ Some (busy_reset (config_for l.config peer iss bytes) request.number))

@@ -7,7 +7,7 @@ use Rattle.dccp_endpoint.specs.Strangers.{stays_in}
 use Rattle.dccp_states.specs.declared.outcome.Outcome.{Outcome}
 use Rattle.dccp_listener.specs.Chain.{Arrives, fresh_end}
 use Rattle.dccp_listener.specs.Listens.{is_table_full, listens}
-use Rattle.dccp_listener.specs.Peers.{Listening, end_of_peer}
+use Rattle.dccp_listener.specs.Peers.{ListenerState, end_of_peer}
 use Rattle.dccp_listener.specs.declared.config.ListenConfig.{ListenConfig}
 use Rattle.dccp_listener.specs.declared.peer.Peer.{Peer}
 
@@ -16,14 +16,14 @@ abbrev pub greets_by : ListenConfig → Peer → ℕ → List ℕ → EndStep Bo
 greets_by config peer iss bytes = receiving kinds_control (fresh_end config peer iss bytes) bytes
 
 -- the same of a listener
-abbrev pub greets : Listening → Peer → ℕ → List ℕ → EndStep Both Outcome
+abbrev pub greets : ListenerState → Peer → ℕ → List ℕ → EndStep Both Outcome
 greets l peer iss bytes = greets_by l.config peer iss bytes
 
 -- What a fresh end is and sends that has heard a datagram and gone is what the peer's flow is and sends, once that
 -- datagram opens one: where the peer has none, that end would stay and there is room.
 abbrev pub GreetingsOpen : Type 0
 GreetingsOpen =
-    (l : Listening) (peer : Peer) (iss : ℕ) (bytes : List ℕ) → end_of_peer l.flows peer ≡ None → is_table_full l ≡ false
+    (l : ListenerState) (peer : Peer) (iss : ℕ) (bytes : List ℕ) → end_of_peer l.flows peer ≡ None → is_table_full l ≡ false
     → stays_in (greets l peer iss bytes).after.state.phase ≡ true
     → ((listens l peer (Arrives iss bytes)).frame ≡ (greets l peer iss bytes).frame)
     × (end_of_peer (listens l peer (Arrives iss bytes)).flows peer ≡ Some (greets l peer iss bytes).after)

@@ -12,7 +12,7 @@ use Rattle.dccp_packets.specs.Outgoing.{Outgoing}
 use Rattle.dccp_endpoint.specs.Strangers.{stays_in}
 use Rattle.dccp_listener.specs.Calls.{busy_frame}
 use Rattle.dccp_listener.specs.Chain.{Arrives, Calls, Deed, config_for, flow_step, fresh_end, is_given_up}
-use Rattle.dccp_listener.specs.Peers.{FlowEnd, Flows, Listening, end_of_peer, is_peer, peer_cmp}
+use Rattle.dccp_listener.specs.Peers.{FlowEnd, Flows, ListenerState, end_of_peer, is_peer, peer_cmp}
 use Rattle.dccp_listener.specs.Runs.{IsRunOfTurns, Stepped, CallTold, CallTurn, WasBusy}
 use Rattle.dccp_listener.specs.declared.peer.Peer.{Peer}
 
@@ -31,18 +31,18 @@ abbrev pub flow_answered : Flows → EndStep Both EndAnswer → Listened
 flow_answered flows step = record { flows = flows; frame = step.frame; told = Stepped (Some (seen_of step.answer)) }
 
 -- A fresh end has met a datagram. Unless it stays nothing else changes; if it would, there has to be room.
-abbrev pub fresh_met : Listening → Peer → ℕ → List ℕ → EndStep Both EndAnswer → (stays full : Bool) → Listened
+abbrev pub fresh_met : ListenerState → Peer → ℕ → List ℕ → EndStep Both EndAnswer → (stays full : Bool) → Listened
 fresh_met l peer iss bytes step false full = flow_answered l.flows step
 fresh_met l peer iss bytes step true true =
     record { flows = l.flows; frame = busy_frame (config_for l.config peer iss bytes) (decoded bytes); told = WasBusy }
 fresh_met l peer iss bytes step true false = flow_answered (insert_entry peer_cmp l.flows peer step.after) step
 
 -- as many flows stand as may
-abbrev pub is_table_full : Listening → Bool
+abbrev pub is_table_full : ListenerState → Bool
 is_table_full l = nat_le l.config.most (length l.flows)
 
 -- a deed of a peer that has this end or none
-abbrev pub listens_by : Listening → Peer → Option FlowEnd → Deed → Listened
+abbrev pub listens_by : ListenerState → Peer → Option FlowEnd → Deed → Listened
 listens_by l peer (Some e) deed = flow_answered (with_end l.flows peer (flow_step e deed).after) (flow_step e deed)
 listens_by l peer None (Arrives iss bytes) =
     fresh_met l peer iss bytes (flow_step (fresh_end l.config peer iss bytes) (Arrives iss bytes))
@@ -50,24 +50,24 @@ listens_by l peer None (Arrives iss bytes) =
 listens_by l peer None (Calls call) = record { flows = l.flows; frame = None; told = Stepped None }
 
 -- a deed of a peer, where memory is found
-abbrev pub listens : Listening → Peer → Deed → Listened
+abbrev pub listens : ListenerState → Peer → Deed → Listened
 listens l peer deed = listens_by l peer (end_of_peer l.flows peer) deed
 
 -- the listener after it
-abbrev pub listening_after : Listening → Peer → Deed → Listening
+abbrev pub listening_after : ListenerState → Peer → Deed → ListenerState
 listening_after l peer deed = record l { flows = (listens l peer deed).flows }
 
 -- it as one turn
-abbrev pub computed_turn : Listening → Peer → Deed → CallTurn
+abbrev pub computed_turn : ListenerState → Peer → Deed → CallTurn
 computed_turn l peer deed = record { peer = peer; deed = deed; frame = (listens l peer deed).frame; told = (listens l peer deed).told }
 
 -- deeds one after another
-abbrev pub listening_through : Listening → List (Peer × Deed) → Listening
+abbrev pub listening_through : ListenerState → List (Peer × Deed) → ListenerState
 listening_through l [] = l
 listening_through l (now ∷ later) = listening_through (listening_after l now.0 now.1) later
 
 -- what is computed of each of them, as turns
-abbrev pub turns_of : Listening → List (Peer × Deed) → List CallTurn
+abbrev pub turns_of : ListenerState → List (Peer × Deed) → List CallTurn
 turns_of l [] = []
 turns_of l (now ∷ later) = computed_turn l now.0 now.1 ∷ turns_of (listening_after l now.0 now.1) later
 
@@ -78,7 +78,7 @@ AreInOrder flows = IsStrictlySortedBy peer_cmp (keys_of flows)
 -- What is computed of a list of deeds is a run of the listener, and leaves the peers in order.
 abbrev pub WhatIsComputedIsARun : Type 0
 WhatIsComputedIsARun =
-    (l : Listening) (deeds : List (Peer × Deed)) → AreInOrder l.flows
+    (l : ListenerState) (deeds : List (Peer × Deed)) → AreInOrder l.flows
     → IsRunOfTurns l (listening_through l deeds) (turns_of l deeds) × AreInOrder (listening_through l deeds).flows
 
 -- the peer at a place has the end that is there

@@ -31,6 +31,6 @@ abbrev pub end_of_peer : Flows → Peer → Option FlowEnd
 end_of_peer flows peer = lookup (is_peer peer) flows
 
 -- a listener: what it was made from, and its flows
-pub record Listening : Type 0 where
+pub record ListenerState : Type 0 where
   pub config : ListenConfig
   pub flows : List (Peer × End Both)

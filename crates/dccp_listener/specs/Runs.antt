@@ -6,7 +6,7 @@ use Rattle.dccp_states.specs.declared.seen.Seen.TheVariants as seen
 use Rattle.dccp_packets.specs.Outgoing.{Outgoing}
 use Rattle.dccp_listener.specs.Calls.{IsStep, seen_if}
 use Rattle.dccp_listener.specs.Chain.{Deed, Arrives, Calls, FlowCall, chain_step}
-use Rattle.dccp_listener.specs.Peers.{FlowEnd, Listening, end_of_peer, is_peer}
+use Rattle.dccp_listener.specs.Peers.{FlowEnd, ListenerState, end_of_peer, is_peer}
 use Rattle.dccp_listener.specs.declared.calls.NoFlow.{NoFlow}
 use Rattle.dccp_listener.specs.declared.config.ListenConfig.{ListenConfig}
 use Rattle.dccp_listener.specs.declared.calls.Heard.{Heard}
@@ -40,19 +40,19 @@ abbrev pub call_turn : Peer → FlowCall → Option Outgoing → Result Seen NoF
 call_turn peer call frame result = record { peer = peer; deed = Calls call; frame = frame; told = Stepped (seen_if result) }
 
 -- by what was told, the turn is a step, or nothing changes
-abbrev pub IsTurnSo : Listening → Listening → CallTurn → CallTold → Type 0
+abbrev pub IsTurnSo : ListenerState → ListenerState → CallTurn → CallTold → Type 0
 IsTurnSo before after turn (Stepped it) = IsStep before after turn.peer turn.deed turn.frame it
 IsTurnSo before after turn WasBusy = after ≡ before
 IsTurnSo before after turn HadNoMemory = after ≡ before
 
 -- one call leads from the listener before to the one after
-abbrev pub IsTurn : Listening → Listening → CallTurn → Type 0
+abbrev pub IsTurn : ListenerState → ListenerState → CallTurn → Type 0
 IsTurn before after turn = IsTurnSo before after turn turn.told
 
 -- all calls do, one after another
-abbrev pub IsRunOfTurns : Listening → Listening → List CallTurn → Type 0
+abbrev pub IsRunOfTurns : ListenerState → ListenerState → List CallTurn → Type 0
 IsRunOfTurns before after [] = after ≡ before
-IsRunOfTurns before after (turn ∷ turns) = (between : Listening) × IsTurn before between turn × IsRunOfTurns between after turns
+IsRunOfTurns before after (turn ∷ turns) = (between : ListenerState) × IsTurn before between turn × IsRunOfTurns between after turns
 
 -- what one peer sees of a turn that was not busy and had memory
 pub record PeerTurn : Type 0 where
@@ -82,5 +82,5 @@ IsChain config peer before after (now ∷ later) =
 -- Whatever the calls, each peer's answers and frames are the chain of that peer's calls alone.
 abbrev pub EachPeerHasItsChain : Type 0
 EachPeerHasItsChain =
-    (before after : Listening) (turns : List CallTurn) → IsRunOfTurns before after turns
+    (before after : ListenerState) (turns : List CallTurn) → IsRunOfTurns before after turns
     → (peer : Peer) → IsChain before.config peer (end_of_peer before.flows peer) (end_of_peer after.flows peer) (peer_turns peer turns)

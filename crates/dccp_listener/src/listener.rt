@@ -39,10 +39,10 @@ pub struct Listener {
 }
 
 impl Model for Listener {
-    ghost use Rattle.dccp_listener.specs.Peers.{Listening};
+    ghost use Rattle.dccp_listener.specs.Peers.{ListenerState};
     ghost use Rattle.dccp_listener.specs.Standing.{IsSoundListener};
 
-    ghost Value = { Listening };
+    ghost Value = { ListenerState };
 
     ghost view = { λ l. record { config = l.config; flows = l.flows.entries } };
 

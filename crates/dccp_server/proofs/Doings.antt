@@ -4,7 +4,7 @@ use Rattle.std.specs.Prelude.{IfOk}
 use Rattle.dccp_packets.specs.Outgoing.{Outgoing}
 use Rattle.dccp_listener.specs.Chain.{Arrives}
 use Rattle.dccp_listener.specs.Listens.{Listened, listens}
-use Rattle.dccp_listener.specs.Peers.{Flows, Listening}
+use Rattle.dccp_listener.specs.Peers.{Flows, ListenerState}
 use Rattle.dccp_listener.specs.Runs.{CallTold, CallTurn, IsTurn, IsTurnSo, Stepped, WasBusy, HadNoMemory, arrival, told_of}
 use Rattle.dccp_listener.specs.declared.calls.Heard.{Heard}
 use Rattle.dccp_listener.specs.declared.config.ListenConfig.{ListenConfig}
@@ -13,15 +13,15 @@ use Rattle.seq_circle.specs.declared.memory.NoMemory.{NoMemory}
 use Rattle.dccp_server.specs.Serving.{IsDone}
 
 -- no call changes what the listener was made from
-same-config : (before after : Listening) (turn : CallTurn) (told : CallTold) → IsTurnSo before after turn told → after.config ≡ before.config
+same-config : (before after : ListenerState) (turn : CallTurn) (told : CallTold) → IsTurnSo before after turn told → after.config ≡ before.config
 same-config before after turn (Stepped it) is = is.same_config
-same-config before after turn WasBusy is = ap (λ (l : Listening). l.config) is
-same-config before after turn HadNoMemory is = ap (λ (l : Listening). l.config) is
+same-config before after turn WasBusy is = ap (λ (l : ListenerState). l.config) is
+same-config before after turn HadNoMemory is = ap (λ (l : ListenerState). l.config) is
 
-abbrev listening : ListenConfig → Flows → Listening
+abbrev listening : ListenConfig → Flows → ListenerState
 listening config flows = record { config = config; flows = flows }
 
-pub done_as : (before after : Listening) (turn : CallTurn) (frame : Option Outgoing) (told : CallTold) → IsTurn before after turn
+pub done_as : (before after : ListenerState) (turn : CallTurn) (frame : Option Outgoing) (told : CallTold) → IsTurn before after turn
     → record { flows = after.flows; frame = frame; told = told } ≡ listens before turn.peer turn.deed → IsDone before after turn.peer turn.deed frame told
 done_as before after turn frame told turned is = (
   ap (λ (config : ListenConfig). listening config after.flows) (same-config before after turn turn.told turned)
@@ -30,7 +30,7 @@ done_as before after turn frame told turned is = (
   ap (λ (x : Listened). x.told) is,
 )
 
-pub heard_as : (before after : Listening) (peer : Peer) (iss : ℕ) (bytes : List ℕ) (frame : Option Outgoing) (result : Result Heard NoMemory)
+pub heard_as : (before after : ListenerState) (peer : Peer) (iss : ℕ) (bytes : List ℕ) (frame : Option Outgoing) (result : Result Heard NoMemory)
     → IsTurn before after (arrival peer iss bytes frame result)
     → IfOk result (λ heard. record { flows = after.flows; frame = frame; told = told_of (Ok heard) } ≡ listens before peer (Arrives iss bytes))
     → IfOk result (λ heard. IsDone before after peer (Arrives iss bytes) frame (told_of (Ok heard)))

@@ -14,7 +14,7 @@ use Rattle.dccp_listener.proofs.Computing.{computed_runs}
 use Rattle.dccp_listener.proofs.OnePeer.{peers_total}
 use Rattle.dccp_listener.specs.Chain.{Calls, ChainStep, Fires, FlowCall, chain_step, flow_step, is_given_up}
 use Rattle.dccp_listener.specs.Listens.{listening_after, listens, listens_by}
-use Rattle.dccp_listener.specs.Peers.{FlowEnd, Listening, end_of_peer, is_peer, peer_cmp}
+use Rattle.dccp_listener.specs.Peers.{FlowEnd, ListenerState, end_of_peer, is_peer, peer_cmp}
 use Rattle.dccp_listener.specs.Runs.{CallTold, HadNoMemory, IsTurnSo, Stepped, WasBusy}
 use Rattle.dccp_listener.specs.declared.peer.Peer.{Peer}
 use Rattle.dccp_states.specs.declared.calls.Timer.{Timer}
@@ -263,7 +263,7 @@ module _ (now : ℕ) where
   is-stepped WasBusy = false
   is-stepped HadNoMemory = false
 
-  end-then : (l after : Listening) (peer : Peer) (call : FlowCall) (e : FlowEnd) (frame : Option Outgoing) (turned told : CallTold)
+  end-then : (l after : ListenerState) (peer : Peer) (call : FlowCall) (e : FlowEnd) (frame : Option Outgoing) (turned told : CallTold)
       → end_of_peer l.flows peer ≡ Some e → is-stepped told ≡ true
       → IsTurnSo l after (record { peer = peer; deed = Calls call; frame = frame; told = turned }) told
       → end_of_peer after.flows peer
@@ -297,7 +297,7 @@ module _ (now : ℕ) where
         let stepped : is-stepped (listens s.listening peer (Calls call)).told ≡ true =
         ap (λ (x : Option FlowEnd). is-stepped (listens_by s.listening peer x (Calls call)).told) found
         in
-        ap (λ (l : Listening). end_of_peer l.flows peer) run.0.2
+        ap (λ (l : ListenerState). end_of_peer l.flows peer) run.0.2
         ∙ end-then s.listening run.0.0 peer call e _ (listens s.listening peer (Calls call)).told
         (listens s.listening peer (Calls call)).told found stepped run.0.1
 

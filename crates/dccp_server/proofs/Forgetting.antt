@@ -13,7 +13,7 @@ use Rattle.dccp_listener.proofs.EndsStand.{ends_stand}
 use Rattle.dccp_listener.proofs.OnePeer.{peers_alike}
 use Rattle.dccp_listener.specs.Chain.{Aborts, Calls, Fires, FlowCall, chain_step, flow_step, is_given_up}
 use Rattle.dccp_listener.specs.Listens.{AreInOrder, listening_after, listens_by, turns_of}
-use Rattle.dccp_listener.specs.Peers.{FlowEnd, Flows, Listening, end_of_peer, is_peer, peer_cmp}
+use Rattle.dccp_listener.specs.Peers.{FlowEnd, Flows, ListenerState, end_of_peer, is_peer, peer_cmp}
 use Rattle.dccp_listener.specs.Runs.{IsChain, PeerTurn, peer_turns}
 use Rattle.dccp_listener.specs.Standing.{IsFlowOf}
 use Rattle.dccp_listener.specs.declared.config.ListenConfig.{ListenConfig}
@@ -51,10 +51,10 @@ unfolding fires
 fired e in_flight is = rw is refl
 
 module _ (peer : Peer) where
-  abbrev called : Listening → FlowCall → Listening
+  abbrev called : ListenerState → FlowCall → ListenerState
   called l call = listening_after l peer (Calls call)
 
-  abbrev end_at : Listening → Option FlowEnd
+  abbrev end_at : ListenerState → Option FlowEnd
   end_at l = end_of_peer l.flows peer
 
   removed : (flows : Flows) → AreInOrder flows → end_of_peer (remove_entry (is_peer peer) flows) peer ≡ None
@@ -68,11 +68,11 @@ module _ (peer : Peer) where
       ∙ ap (λ (b : Bool). cond b (Some e) (end_of_peer flows peer)) (peers_alike.refl peer)
 
   -- a peer that has none has none after a call
-  none-stays : (l : Listening) (call : FlowCall) → end_at l ≡ None → end_at (called l call) ≡ None
+  none-stays : (l : ListenerState) (call : FlowCall) → end_at l ≡ None → end_at (called l call) ≡ None
   none-stays l call none = ap (λ (found : Option FlowEnd). end_of_peer (listens_by l peer found (Calls call)).flows peer) none ∙ none
 
   -- one that is over goes, and any other stays
-  step-by : (l : Listening) (e : FlowEnd) (call : FlowCall) (over : Bool) → end_at l ≡ Some e → is_given_up (flow_step e (Calls call)).after.state.phase ≡ over
+  step-by : (l : ListenerState) (e : FlowEnd) (call : FlowCall) (over : Bool) → end_at l ≡ Some e → is_given_up (flow_step e (Calls call)).after.state.phase ≡ over
       → end_at (called l call)
       ≡ end_of_peer (if over then remove_entry (is_peer peer) l.flows else set_value (is_peer peer) l.flows (flow_step e (Calls call)).after) peer
   step-by l e call over is is-over =
@@ -81,14 +81,14 @@ module _ (peer : Peer) where
       (λ (b : Bool). end_of_peer (if b then remove_entry (is_peer peer) l.flows else set_value (is_peer peer) l.flows (flow_step e (Calls call)).after) peer)
       is-over
 
-  over-goes : (l : Listening) (e : FlowEnd) (call : FlowCall) → AreInOrder l.flows → end_at l ≡ Some e
+  over-goes : (l : ListenerState) (e : FlowEnd) (call : FlowCall) → AreInOrder l.flows → end_at l ≡ Some e
       → (flow_step e (Calls call)).after.state.phase ≡ phases.Closed → end_at (called l call) ≡ None
   over-goes l e call ordered is closed = step-by l e call true is (ap is_given_up closed) ∙ removed l.flows ordered
 
-  in-order : (l : Listening) (call : FlowCall) → AreInOrder l.flows → AreInOrder (called l call).flows
+  in-order : (l : ListenerState) (call : FlowCall) → AreInOrder l.flows → AreInOrder (called l call).flows
   in-order l call ordered = (computed_runs l ((peer, Calls call) ∷ []) ordered).1
 
-  waits-goes : (l : Listening) (e : FlowEnd) → AreInOrder l.flows → end_at l ≡ Some e
+  waits-goes : (l : ListenerState) (e : FlowEnd) → AreInOrder l.flows → end_at l ≡ Some e
       → (flow_step e (Calls Aborts)).after.state.phase ≡ phases.TimeWait → end_at (called (called l Aborts) (Fires timers.TimeWait)) ≡ None
   waits-goes l e ordered is waits =
       let next : FlowEnd = (flow_step e (Calls Aborts)).after in
@@ -96,12 +96,12 @@ module _ (peer : Peer) where
       step-by l e Aborts false is (ap is_given_up waits) ∙ replaced l.flows next (ap is_some is) in
       over-goes (called l Aborts) next (Fires timers.TimeWait) (in-order l Aborts ordered) stays (fired next.state _ waits)
 
-  gone-so : (l : Listening) (e : FlowEnd) → AreInOrder l.flows → end_at l ≡ Some e → IsOverOrWaits (aborts e.state).after.phase
+  gone-so : (l : ListenerState) (e : FlowEnd) → AreInOrder l.flows → end_at l ≡ Some e → IsOverOrWaits (aborts e.state).after.phase
       → end_at (called (called l Aborts) (Fires timers.TimeWait)) ≡ None
   gone-so l e ordered is (inl closed) = none-stays (called l Aborts) (Fires timers.TimeWait) (over-goes l e Aborts ordered is closed)
   gone-so l e ordered is (inr waits) = waits-goes l e ordered is waits
 
-  gone-by : (l : Listening) (config : ListenConfig) (found : Option FlowEnd) → AreInOrder l.flows → end_at l ≡ found → IfSome found (IsFlowOf config peer)
+  gone-by : (l : ListenerState) (config : ListenConfig) (found : Option FlowEnd) → AreInOrder l.flows → end_at l ≡ found → IfSome found (IsFlowOf config peer)
       → end_at (called (called l Aborts) (Fires timers.TimeWait)) ≡ None
   gone-by l config None ordered is stands = none-stays (called l Aborts) (Fires timers.TimeWait) (none-stays l Aborts is)
   gone-by l config (Some e) ordered is stands = gone-so l e ordered is (aborted-by e.state e.state.phase refl stands.phase_is)

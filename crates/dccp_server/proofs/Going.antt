@@ -3,7 +3,7 @@ use Rattle.std.proofs.Common.{◌≡◌, ap, ◌∙◌, ℕ, Bool, List, Option,
 use Rattle.dccp_packets.specs.Outgoing.{Outgoing}
 use Rattle.dccp_listener.specs.Chain.{Arrives, Calls, Deed, FlowCall}
 use Rattle.dccp_listener.specs.Listens.{listening_after, listens}
-use Rattle.dccp_listener.specs.Peers.{FlowEnd, Listening, end_of_peer}
+use Rattle.dccp_listener.specs.Peers.{FlowEnd, ListenerState, end_of_peer}
 use Rattle.dccp_listener.specs.Runs.{CallTold}
 use Rattle.dccp_listener.specs.declared.peer.Peer.{Peer}
 use Rattle.dccp_uses.specs.Rules.{due_rule}
@@ -18,30 +18,30 @@ use Rattle.dccp_server.specs.declared.happening.FlowHappening.TheVariants as hap
 use Rattle.dccp_server.specs.declared.upkeep.Upkeep.{Upkeep}
 use Rattle.dccp_server.proofs.Placing.{then_placed}
 
-module _ (fresh : Upkeep) (now : ℕ) (had : Bool) (before : Listening) (pace : Pace) (kept placed then' : Upkeeps) (peer : Peer) where
+module _ (fresh : Upkeep) (now : ℕ) (had : Bool) (before : ListenerState) (pace : Pace) (kept placed then' : Upkeeps) (peer : Peer) where
   abbrev s : Served
   s = served before pace kept
 
   -- the listener is this, and what is kept went on from a place
-  pub goes_on : (after next : Listening) (u : Upkeep) (it happening : FlowHappening) → IsPlaced fresh had kept placed peer → after ≡ next
+  pub goes_on : (after next : ListenerState) (u : Upkeep) (it happening : FlowHappening) → IsPlaced fresh had kept placed peer → after ≡ next
       → then' ≡ upkeeps_then now pace placed peer (end_of_peer after.flows peer) u it → u ≡ upkeep_at pace kept peer → it ≡ happening
       → served after pace then' ≡ serves_on now s next peer happening
   goes_on after next u it happening is-placed is-next is-then is-u is-it =
       ap (λ (t : Upkeeps). served after pace t)
       (is-then ∙ then_placed fresh had kept placed peer (next_upkeep now pace u it) (end_of_peer after.flows peer) is-placed)
-      ∙ ap (λ (l : Listening). served l pace (upkeeps_then now pace kept peer (end_of_peer l.flows peer) u it)) is-next
+      ∙ ap (λ (l : ListenerState). served l pace (upkeeps_then now pace kept peer (end_of_peer l.flows peer) u it)) is-next
       ∙ ap (λ (v : Upkeep). served next pace (upkeeps_then now pace kept peer (end_of_peer next.flows peer) v it)) is-u
       ∙ ap (λ (h : FlowHappening). serves_on now s next peer h) is-it
 
   -- a deed was done
-  pub deed_goes_on : (after : Listening) (deed : Deed) (frame : Option Outgoing) (told : CallTold) (u : Upkeep) (it : FlowHappening)
+  pub deed_goes_on : (after : ListenerState) (deed : Deed) (frame : Option Outgoing) (told : CallTold) (u : Upkeep) (it : FlowHappening)
       → IsPlaced fresh had kept placed peer → IsDone before after peer deed frame told
       → then' ≡ upkeeps_then now pace placed peer (end_of_peer after.flows peer) u it → u ≡ upkeep_at pace kept peer → it ≡ happening_by s peer deed
       → served after pace then' ≡ deed_served now s peer deed
   deed_goes_on after deed frame told u it is-placed done is-then is-u is-it =
       goes_on after (listening_after before peer deed) u it (happening_by s peer deed) is-placed done.0 is-then is-u is-it
 
-  pub arrival_goes_on : (after : Listening) (iss : ℕ) (bytes : List ℕ) (frame : Option Outgoing) (told : CallTold) (u : Upkeep) (it : FlowHappening)
+  pub arrival_goes_on : (after : ListenerState) (iss : ℕ) (bytes : List ℕ) (frame : Option Outgoing) (told : CallTold) (u : Upkeep) (it : FlowHappening)
       (was : Option Sight) (silent : Bool)
       → IsPlaced fresh had kept placed peer → IsDone before after peer (Arrives iss bytes) frame told
       → then' ≡ upkeeps_then now pace placed peer (end_of_peer after.flows peer) u it → u ≡ upkeep_at pace kept peer
@@ -54,7 +54,7 @@ module _ (fresh : Upkeep) (now : ℕ) (had : Bool) (before : Listening) (pace : 
       ∙ ap (λ (b : Bool). arrived_so (sight_if (end_of_peer before.flows peer)) (listens before peer (Arrives iss bytes)).told b)
       (is-silent ∙ ap (λ (f : Option Outgoing). not (is_some f)) done.1))
 
-  pub call_goes_on : (after : Listening) (call : FlowCall) (frame : Option Outgoing) (told : CallTold) (u : Upkeep) (it : FlowHappening)
+  pub call_goes_on : (after : ListenerState) (call : FlowCall) (frame : Option Outgoing) (told : CallTold) (u : Upkeep) (it : FlowHappening)
       → IsPlaced fresh had kept placed peer → IsDone before after peer (Calls call) frame told
       → then' ≡ upkeeps_then now pace placed peer (end_of_peer after.flows peer) u it → u ≡ upkeep_at pace kept peer
       → it ≡ called_so call (is_refusal told)
@@ -72,7 +72,7 @@ module _ (fresh : Upkeep) (now : ℕ) (had : Bool) (before : Listening) (pace : 
   same-call u rule is-u is-rule =
       ap (λ (r : Rule). call_for_rule r u.path.aim found) is-rule ∙ ap (λ (v : Upkeep). call_by_rule now v found) is-u
 
-  pub rule_goes_on : (after : Listening) (u : Upkeep) (rule : Rule) → IsPlaced fresh had kept placed peer
+  pub rule_goes_on : (after : ListenerState) (u : Upkeep) (rule : Rule) → IsPlaced fresh had kept placed peer
       → after ≡ listening_if before peer (call_for_rule rule u.path.aim found)
       → then' ≡ upkeeps_then now pace placed peer (end_of_peer after.flows peer) u (happening.Ruled rule) → u ≡ upkeep_at pace kept peer
       → rule ≡ due_rule u.path now → served after pace then' ≡ rule_followed now s peer
@@ -82,7 +82,7 @@ module _ (fresh : Upkeep) (now : ℕ) (had : Bool) (before : Listening) (pace : 
       (is-after ∙ ap (listening_if before peer) (same-call u rule is-u is-rule)) is-then is-u
       (ap (λ (r : Rule). happening.Ruled r) is-rule ∙ ap (λ (v : Upkeep). happening.Ruled (due_rule v.path now)) is-u)
 
-pub rule_sends : (now : ℕ) (before : Listening) (pace : Pace) (kept : Upkeeps) (peer : Peer) (frame : Option Outgoing) (u : Upkeep) (rule : Rule)
+pub rule_sends : (now : ℕ) (before : ListenerState) (pace : Pace) (kept : Upkeeps) (peer : Peer) (frame : Option Outgoing) (u : Upkeep) (rule : Rule)
     → frame ≡ frame_if before peer (call_for_rule rule u.path.aim (end_of_peer before.flows peer)) → u ≡ upkeep_at pace kept peer
     → rule ≡ due_rule u.path now → frame ≡ frame_if before peer (call_due now (served before pace kept) peer)
 rule_sends now before pace kept peer frame u rule is is-u is-rule =

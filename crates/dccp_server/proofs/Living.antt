@@ -3,7 +3,7 @@ use Rattle.std.proofs.Common.{◌≡◌, refl, sym, ap, ◌∙◌, subst, ℕ, [
 use Rattle.std.specs.Map.{keys_of}
 use Rattle.dccp_listener.specs.Chain.{Calls, FlowCall}
 use Rattle.dccp_listener.specs.Listens.{AreInOrder, listens_by}
-use Rattle.dccp_listener.specs.Peers.{FlowEnd, Listening, end_of_peer}
+use Rattle.dccp_listener.specs.Peers.{FlowEnd, ListenerState, end_of_peer}
 use Rattle.dccp_listener.specs.declared.config.ListenConfig.{ListenConfig}
 use Rattle.dccp_listener.specs.declared.peer.Peer.{Peer}
 use Rattle.dccp_uses.specs.declared.pace.Pace.{Pace}
@@ -18,15 +18,15 @@ use Rattle.dccp_server.proofs.Through.{spent_same}
 use Rattle.dccp_server.proofs.Tying.{begun_tied, has_place, kept_same, place_if, tied_by, tied_does}
 
 -- the peers that have a life, once a call that there may be was done
-called-lives : (now : ℕ) (l : Listening) (lives : Lives) (peer : Peer) (call : Option FlowCall) (signs : Signs) (life : Life) (r : Room) → r.served.listening ≡ l
+called-lives : (now : ℕ) (l : ListenerState) (lives : Lives) (peer : Peer) (call : Option FlowCall) (signs : Signs) (life : Life) (r : Room) → r.served.listening ≡ l
     → IsLiving r → keys_of lives ≡ keys_of l.flows
     → keys_of (life_then now lives peer (end_of_peer (listening_if l peer call).flows peer) signs life) ≡ keys_of (listening_if l peer call).flows
 called-lives now l lives peer None signs life r same is tied =
     kept_same peer lives (λ e. lives_on now e signs life) l.flows (end_of_peer l.flows peer) refl tied
-    (subst (λ (x : Listening). AreInOrder x.flows) same is.tied.ordered)
+    (subst (λ (x : ListenerState). AreInOrder x.flows) same is.tied.ordered)
 called-lives now l lives peer (Some call) signs life r same is tied =
     tied_by peer lives (λ e. lives_on now e signs life) l (end_of_peer l.flows peer) (Calls call) refl tied
-    (subst (λ (x : Listening). AreInOrder x.flows) same is.tied.ordered)
+    (subst (λ (x : ListenerState). AreInOrder x.flows) same is.tied.ordered)
 
 pub living_does : (now : ℕ) (r : Room) (peer : Peer) (doing : Doing) → IsLiving r → IsLiving (room_does now r peer doing)
 living_does now r peer (Does deed) is =
@@ -41,7 +41,7 @@ living_does now r peer (Spends bytes) is =
       tied = tied_does now r.served peer (Spends bytes) is.tied;
       same_peers =
           is.same_peers
-          ∙ sym (ap (λ (l : Listening). keys_of l.flows)
+          ∙ sym (ap (λ (l : ListenerState). keys_of l.flows)
           (spent_same now r.served peer bytes (upkeep_at r.served.pace r.served.upkeeps peer) (end_of_peer r.served.listening.flows peer)));
     }
 living_does now r peer Follows is =

@@ -32,7 +32,7 @@ use Rattle.dccp_listener.proofs.Computing.{computed_runs}
 use Rattle.dccp_listener.proofs.OnePeer.{one_peer}
 use Rattle.dccp_listener.specs.Chain.{Aborts, Arrives, Calls, ChainStep, Closes, Deed, Fires, FlowCall, Opens, Prefers, Sends, SendsEarly, chain_step, flow_step, fresh_end, is_given_up}
 use Rattle.dccp_listener.specs.Listens.{AreInOrder, listening_after, listens, listens_by, with_end}
-use Rattle.dccp_listener.specs.Peers.{FlowEnd, Flows, Listening, end_of_peer, is_peer, peer_cmp}
+use Rattle.dccp_listener.specs.Peers.{FlowEnd, Flows, ListenerState, end_of_peer, is_peer, peer_cmp}
 use Rattle.dccp_listener.specs.Runs.{CallTold, HadNoMemory, IsTurnSo, Stepped, WasBusy}
 use Rattle.dccp_listener.specs.declared.config.ListenConfig.{ListenConfig}
 use Rattle.dccp_listener.specs.declared.peer.Peer.{Peer}
@@ -150,7 +150,7 @@ found-so None none is = absurd (false≢true is)
 abbrev IsLive : FlowEnd → Type 0
 IsLive e = is_given_up e.state.phase ≡ false
 
-abbrev pub AllLive : Listening → Type 0
+abbrev pub AllLive : ListenerState → Type 0
 AllLive l = (q : Peer) → IfSome (end_of_peer l.flows q) (λ e. is_given_up e.state.phase ≡ false)
 
 live-until : (e : FlowEnd) (over : Bool) → is_given_up e.state.phase ≡ over → IfSome (if over then None else Some e) IsLive
@@ -181,30 +181,30 @@ chain-lives config peer None (Arrives iss bytes) =
     live-if next (stays_in next.state.phase) refl
 chain-lives config peer None (Calls call) = tt
 
-module _ (peer : Peer) (l : Listening) where
-  by-peer : AllLive l → (after : Listening) → IfSome (end_of_peer after.flows peer) IsLive
+module _ (peer : Peer) (l : ListenerState) where
+  by-peer : AllLive l → (after : ListenerState) → IfSome (end_of_peer after.flows peer) IsLive
       → ((q : Peer) → is_peer peer q ≡ false → end_of_peer after.flows q ≡ end_of_peer l.flows q)
       → (q : Peer) (same : Bool) → is_peer peer q ≡ same → IfSome (end_of_peer after.flows q) IsLive
   by-peer all after own others q true is = subst (λ (p : Peer). IfSome (end_of_peer after.flows p) IsLive) (one_peer peer q is) own
   by-peer all after own others q false is = subst (λ (x : Option FlowEnd). IfSome x IsLive) (sym (others q is)) (all q)
 
-  turn-lives : AllLive l → (after : Listening) (deed : Deed) (frame : Option Outgoing) (turned told : CallTold)
+  turn-lives : AllLive l → (after : ListenerState) (deed : Deed) (frame : Option Outgoing) (turned told : CallTold)
       → IsTurnSo l after (record { peer = peer; deed = deed; frame = frame; told = turned }) told → AllLive after
   turn-lives all after deed frame turned (Stepped it) step q =
       by-peer all after
       (subst (λ (x : Option FlowEnd). IfSome x IsLive) (sym (ap (λ (s : ChainStep). s.after) step.own))
       (chain-lives l.config peer (end_of_peer l.flows peer) deed))
       step.others q (is_peer peer q) refl
-  turn-lives all after deed frame turned WasBusy same q = subst (λ (x : Listening). IfSome (end_of_peer x.flows q) IsLive) (sym same) (all q)
-  turn-lives all after deed frame turned HadNoMemory same q = subst (λ (x : Listening). IfSome (end_of_peer x.flows q) IsLive) (sym same) (all q)
+  turn-lives all after deed frame turned WasBusy same q = subst (λ (x : ListenerState). IfSome (end_of_peer x.flows q) IsLive) (sym same) (all q)
+  turn-lives all after deed frame turned HadNoMemory same q = subst (λ (x : ListenerState). IfSome (end_of_peer x.flows q) IsLive) (sym same) (all q)
 
-deed-lives : (l : Listening) (peer : Peer) (deed : Deed) → AllLive l → AreInOrder l.flows → AllLive (listening_after l peer deed)
+deed-lives : (l : ListenerState) (peer : Peer) (deed : Deed) → AllLive l → AreInOrder l.flows → AllLive (listening_after l peer deed)
 deed-lives l peer deed all ordered =
     let run = computed_runs l ((peer, deed) ∷ []) ordered in
     subst AllLive (sym run.0.2)
     (turn-lives peer l all run.0.0 deed (listens l peer deed).frame (listens l peer deed).told (listens l peer deed).told run.0.1)
 
-call-lives : (l : Listening) (peer : Peer) (call : Option FlowCall) → AllLive l → AreInOrder l.flows → AllLive (listening_if l peer call)
+call-lives : (l : ListenerState) (peer : Peer) (call : Option FlowCall) → AllLive l → AreInOrder l.flows → AllLive (listening_if l peer call)
 call-lives l peer None all ordered = all
 call-lives l peer (Some call) all ordered = deed-lives l peer (Calls call) all ordered
 

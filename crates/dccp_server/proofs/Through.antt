@@ -3,7 +3,7 @@ use Rattle.std.proofs.Common.{◌≡◌, refl, sym, ap, ◌∙◌, subst, ℕ, L
 use Rattle.std.specs.List.Sorted.{IsStrictlySortedBy}
 use Rattle.dccp_listener.proofs.Computing.{computed_runs}
 use Rattle.dccp_listener.specs.Listens.{AreInOrder, listening_through, turns_of}
-use Rattle.dccp_listener.specs.Peers.{FlowEnd, Listening, end_of_peer}
+use Rattle.dccp_listener.specs.Peers.{FlowEnd, ListenerState, end_of_peer}
 use Rattle.dccp_listener.specs.Runs.{IsRunOfTurns}
 use Rattle.dccp_listener.specs.Chain.{Deed, FlowCall}
 use Rattle.dccp_listener.specs.declared.peer.Peer.{Peer}
@@ -15,7 +15,7 @@ pub spent_same : (now : ℕ) (s : Served) (peer : Peer) (bytes : List ℕ) (u : 
 spent_same now s peer bytes u None = refl
 spent_same now s peer bytes u (Some e) = refl
 
-called-if : (l : Listening) (peer : Peer) (call : Option FlowCall) (rest : List (Peer × Deed))
+called-if : (l : ListenerState) (peer : Peer) (call : Option FlowCall) (rest : List (Peer × Deed))
     → listening_through (listening_if l peer call) rest ≡ listening_through l (deed_if peer call ++ rest)
 called-if l peer None rest = refl
 called-if l peer (Some call) rest = refl
@@ -24,7 +24,7 @@ done-so : (s : Served) (it : TimedDoing) (doing : Doing) (rest : List (Peer × D
     → listening_through (served_by it.now s it.peer doing).listening rest ≡ listening_through s.listening (deeds_by s it doing ++ rest)
 done-so s it (Does deed) rest = refl
 done-so s it (Spends bytes) rest =
-    ap (λ (l : Listening). listening_through l rest)
+    ap (λ (l : ListenerState). listening_through l rest)
     (spent_same it.now s it.peer bytes (upkeep_at s.pace s.upkeeps it.peer) (end_of_peer s.listening.flows it.peer))
 done-so s it Follows rest = called-if s.listening it.peer (call_due it.now s it.peer) rest
 
@@ -40,5 +40,5 @@ none_in_order = tt
 pub run_through : CallsAreARun
 run_through config pace all =
     let begun : Served = serving_begins config pace in
-    subst (λ (after : Listening). IsRunOfTurns begun.listening after (turns_of begun.listening (deeds_through begun all))) (sym (through begun all))
+    subst (λ (after : ListenerState). IsRunOfTurns begun.listening after (turns_of begun.listening (deeds_through begun all))) (sym (through begun all))
     (computed_runs begun.listening (deeds_through begun all) none_in_order).0

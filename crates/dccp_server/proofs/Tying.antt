@@ -19,7 +19,7 @@ use Rattle.dccp_listener.proofs.OnePeer.{peers_alike, peers_total}
 use Rattle.dccp_listener.specs.Calls.{Arrived}
 use Rattle.dccp_listener.specs.Chain.{Arrives, Calls, Deed, FlowCall, flow_step, fresh_end, is_given_up}
 use Rattle.dccp_listener.specs.Listens.{AreInOrder, fresh_met, is_table_full, listens_by}
-use Rattle.dccp_listener.specs.Peers.{FlowEnd, Flows, Listening, end_of_peer, is_peer, peer_cmp}
+use Rattle.dccp_listener.specs.Peers.{FlowEnd, Flows, ListenerState, end_of_peer, is_peer, peer_cmp}
 use Rattle.dccp_listener.specs.declared.calls.Heard.{Heard}
 use Rattle.dccp_listener.specs.declared.config.ListenConfig.{ListenConfig}
 use Rattle.dccp_listener.specs.declared.peer.Peer.{Peer}
@@ -148,7 +148,7 @@ module _ {V : Type 0} (peer : Peer) (kept : List (Peer × V)) (value : FlowEnd �
       put e ∙ ap (λ (ks : List Peer). with-peer ks peer) tied
       ∙ once peer (keys_of flows) ordered (sym (found_among (is_peer peer) flows) ∙ ap is_some is)
 
-  met : (l : Listening) (iss : ℕ) (bytes : List ℕ) (step : EndStep Both EndAnswer) (stays full : Bool) → keys_of kept ≡ keys_of l.flows
+  met : (l : ListenerState) (iss : ℕ) (bytes : List ℕ) (step : EndStep Both EndAnswer) (stays full : Bool) → keys_of kept ≡ keys_of l.flows
       → end_of_peer l.flows peer ≡ None
       → then' (end_of_peer (fresh_met l peer iss bytes step stays full).flows peer) ≡ keys_of (fresh_met l peer iss bytes step stays full).flows
   met l iss bytes step false full tied none = untouched l.flows tied none
@@ -158,7 +158,7 @@ module _ {V : Type 0} (peer : Peer) (kept : List (Peer × V)) (value : FlowEnd �
       (found_insert peer peer step.after l.flows ∙ ap (λ (b : Bool). cond b (Some step.after) (end_of_peer l.flows peer)) (peers_alike.refl peer))
       ∙ put step.after ∙ ap (λ (ks : List Peer). with-peer ks peer) tied ∙ sym (keys-with peer step.after l.flows)
 
-  pub tied_by : (l : Listening) (found : Option FlowEnd) (deed : Deed) → end_of_peer l.flows peer ≡ found → keys_of kept ≡ keys_of l.flows → AreInOrder l.flows
+  pub tied_by : (l : ListenerState) (found : Option FlowEnd) (deed : Deed) → end_of_peer l.flows peer ≡ found → keys_of kept ≡ keys_of l.flows → AreInOrder l.flows
       → then' (end_of_peer (listens_by l peer found deed).flows peer) ≡ keys_of (listens_by l peer found deed).flows
   tied_by l (Some e) deed is tied ordered =
       stepped l.flows (flow_step e deed).after (is_given_up (flow_step e deed).after.state.phase) tied ordered (ap is_some is)
@@ -271,16 +271,16 @@ pub place_there_if : {V : Type 0} (found : Option FlowEnd) (e : FlowEnd) (kept :
 place_there_if {V} found e kept peer is has = subst (λ (x : Option FlowEnd). HasPlaceIf x kept peer) is has
 
 -- memory for a datagram is wanting where it would open a flow
-pub stranger_from_arrived : (before after : Listening) (peer : Peer) (iss : ℕ) (bytes : List ℕ) (frame : Option Outgoing) (result : Result Heard NoMemory)
+pub stranger_from_arrived : (before after : ListenerState) (peer : Peer) (iss : ℕ) (bytes : List ℕ) (frame : Option Outgoing) (result : Result Heard NoMemory)
     → Arrived before after peer iss bytes frame result → OnErr result (end_of_peer before.flows peer ≡ None)
 stranger_from_arrived before after peer iss bytes frame (Ok heard) is = tt
 stranger_from_arrived before after peer iss bytes frame (Err fault) is = is.0.has_none
 
 -- at first there are none
-pub tied_begins : (config : ListenConfig) (pace : Pace) (l : Listening) (kept : Upkeeps) → l ≡ record { config = config; flows = [] } → kept ≡ []
+pub tied_begins : (config : ListenConfig) (pace : Pace) (l : ListenerState) (kept : Upkeeps) → l ≡ record { config = config; flows = [] } → kept ≡ []
     → IsTied (served l pace kept)
 tied_begins config pace l kept begun none =
-    subst (λ (x : Listening). IsTied (served x pace kept)) (sym begun)
+    subst (λ (x : ListenerState). IsTied (served x pace kept)) (sym begun)
     (subst (λ (t : Upkeeps). IsTied (served (record { config = config; flows = [] }) pace t)) (sym none) (begun_tied config pace))
 
 -- so it stays where memory was wanting and nothing has changed

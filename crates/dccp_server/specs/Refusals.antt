@@ -7,7 +7,7 @@ use Rattle.dccp_endpoint.specs.Steps.{reset_of, without_detail}
 use Rattle.dccp_endpoint.specs.Strangers.{stays_in}
 use Rattle.dccp_endpoint.specs.declared.config.Config.{Config}
 use Rattle.dccp_listener.specs.Chain.{config_for}
-use Rattle.dccp_listener.specs.Peers.{Listening, end_of_peer}
+use Rattle.dccp_listener.specs.Peers.{ListenerState, end_of_peer}
 use Rattle.dccp_listener.specs.declared.peer.Peer.{Peer}
 use Rattle.dccp_packets.specs.Grammar.{Parts, decoded}
 use Rattle.dccp_packets.specs.Outgoing.{Outgoing}
@@ -41,7 +41,7 @@ abbrev pub service_opened : Config → List ℕ → Option ℕ
 service_opened config bytes = if opens_by config bytes then Some config.service else None
 
 -- The Service Code of the flow that a datagram of a peer would open, where the peer has none.
-abbrev pub flow_asked : Listening → Peer → List ℕ → Option ℕ
+abbrev pub flow_asked : ListenerState → Peer → List ℕ → Option ℕ
 flow_asked l peer bytes = if is_some (end_of_peer l.flows peer) then None else service_opened (config_for l.config peer 0 bytes) bytes
 
 -- The server once its owner has refused a datagram: what would open a flow takes one of the answers to strangers.

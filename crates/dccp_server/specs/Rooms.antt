@@ -5,7 +5,7 @@ use Rattle.std.specs.Map.{keys_of}
 use Rattle.dccp_packets.specs.Outgoing.{Outgoing}
 use Rattle.dccp_listener.specs.Chain.{Deed, Arrives, Calls, Aborts, Fires}
 use Rattle.dccp_listener.specs.Listens.{listens}
-use Rattle.dccp_listener.specs.Peers.{Listening, end_of_peer}
+use Rattle.dccp_listener.specs.Peers.{ListenerState, end_of_peer}
 use Rattle.dccp_listener.specs.Runs.{CallTold, Stepped, WasBusy, HadNoMemory, told_of}
 use Rattle.dccp_listener.specs.declared.calls.Heard.{Heard}
 use Rattle.dccp_listener.specs.declared.calls.Heard.TheVariants as heard
@@ -52,7 +52,7 @@ abbrev pub room_begins : ListenConfig → Pace → Room
 room_begins config pace = as_room (serving_begins config pace) []
 
 -- what a deed tells of its peer, as far as it is kept
-abbrev pub signs_by : Listening → Peer → Deed → Signs
+abbrev pub signs_by : ListenerState → Peer → Deed → Signs
 signs_by l peer (Arrives iss bytes) = signs_noted bytes (signs_of (listens l peer (Arrives iss bytes)).told)
 signs_by l peer (Calls call) = signs_of (listens l peer (Calls call)).told
 

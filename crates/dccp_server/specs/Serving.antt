@@ -9,7 +9,7 @@ use Rattle.dccp_endpoint.specs.Controlled.{in_flight_of}
 use Rattle.dccp_packets.specs.Outgoing.{Outgoing}
 use Rattle.dccp_listener.specs.Chain.{Deed, Arrives, Calls, FlowCall}
 use Rattle.dccp_listener.specs.Listens.{AreInOrder, listening_after, listens, turns_of}
-use Rattle.dccp_listener.specs.Peers.{FlowEnd, Listening, end_of_peer, is_peer, peer_cmp}
+use Rattle.dccp_listener.specs.Peers.{FlowEnd, ListenerState, end_of_peer, is_peer, peer_cmp}
 use Rattle.dccp_listener.specs.Runs.{CallTold, IsRunOfTurns, Stepped}
 use Rattle.dccp_listener.specs.declared.config.ListenConfig.{ListenConfig}
 use Rattle.dccp_listener.specs.declared.peer.Peer.{Peer}
@@ -36,12 +36,12 @@ Upkeeps = List (Peer × Upkeep)
 
 -- a listener, the rules that the paths of its flows follow, and what is kept of each flow
 pub record Served : Type 0 where
-  pub listening : Listening
+  pub listening : ListenerState
   pub pace : Pace
   pub upkeeps : List (Peer × Upkeep)
 
 -- the three of them
-abbrev pub served : Listening → Pace → Upkeeps → Served
+abbrev pub served : ListenerState → Pace → Upkeeps → Served
 served listening pace upkeeps = record { listening = listening; pace = pace; upkeeps = upkeeps }
 
 -- a listener without flows
@@ -70,7 +70,7 @@ happening_by s peer (Arrives iss bytes) =
 happening_by s peer (Calls call) = called_so call (is_refusal (listens s.listening peer (Calls call)).told)
 
 -- once the listener is this, and that has happened to the peer's end
-abbrev pub serves_on : ℕ → Served → Listening → Peer → FlowHappening → Served
+abbrev pub serves_on : ℕ → Served → ListenerState → Peer → FlowHappening → Served
 serves_on now s after peer it =
     served after s.pace (upkeeps_then now s.pace s.upkeeps peer (end_of_peer after.flows peer) (upkeep_at s.pace s.upkeeps peer) it)
 
@@ -119,12 +119,12 @@ abbrev pub call_due : ℕ → Served → Peer → Option FlowCall
 call_due now s peer = call_by_rule now (upkeep_at s.pace s.upkeeps peer) (end_of_peer s.listening.flows peer)
 
 -- the listener after a call that there may be
-abbrev pub listening_if : Listening → Peer → Option FlowCall → Listening
+abbrev pub listening_if : ListenerState → Peer → Option FlowCall → ListenerState
 listening_if l peer None = l
 listening_if l peer (Some call) = listening_after l peer (Calls call)
 
 -- and the frame that then goes to the peer
-abbrev pub frame_if : Listening → Peer → Option FlowCall → Option Outgoing
+abbrev pub frame_if : ListenerState → Peer → Option FlowCall → Option Outgoing
 frame_if l peer None = None
 frame_if l peer (Some call) = (listens l peer (Calls call)).frame
 
@@ -190,7 +190,7 @@ abbrev pub least_wait : ℕ → Upkeeps → ℕ
 least_wait now upkeeps = wait_until now (soonest upkeeps)
 
 -- The listener has done what is computed of a deed.
-abbrev pub IsDone : Listening → Listening → Peer → Deed → Option Outgoing → CallTold → Type 0
+abbrev pub IsDone : ListenerState → ListenerState → Peer → Deed → Option Outgoing → CallTold → Type 0
 IsDone before after peer deed frame told =
     (after ≡ listening_after before peer deed) × (frame ≡ (listens before peer deed).frame) × (told ≡ (listens before peer deed).told)
 

@@ -6,7 +6,7 @@ ghost use Rattle.dccp_io.specs.Lines.{lines_of};
 ghost use Rattle.dccp_listener.specs.Calls.{IsBusy};
 ghost use Rattle.dccp_listener.specs.Chain.{Deed};
 ghost use Rattle.dccp_listener.specs.Listens.{AreInOrder, listens};
-ghost use Rattle.dccp_listener.specs.Peers.{Listening, end_of_peer};
+ghost use Rattle.dccp_listener.specs.Peers.{ListenerState, end_of_peer};
 ghost use Rattle.dccp_listener.specs.Runs.{IsChain, WasBusy, peer_turns};
 ghost use Rattle.dccp_listener.specs.declared.peer.Peer.{Peer};
 ghost use Rattle.tool_forms.specs.Words.{form_of};
@@ -78,7 +78,7 @@ pub fn a_listener_answers_each_peer_by_its_own_lines()
     ensures lines { (most : ℕ) (input : List ℕ) → listen_refused most input ≡ false
         → map exchange_said (listened most input).deeds ≡ said_by_lines 1 0 (lines_of input) }
     ensures ordered { (most : ℕ) (input : List ℕ) → AreInOrder (listened most input).last.listener.flows }
-    ensures busy { (l : Listening) (peer : Peer) (deed : Deed) → ((listens l peer deed).told ≡ WasBusy) ↔ IsBusy l peer deed }
+    ensures busy { (l : ListenerState) (peer : Peer) (deed : Deed) → ((listens l peer deed).told ≡ WasBusy) ↔ IsBusy l peer deed }
 {
     each_peer_is_answered_by_its_chain();
 }

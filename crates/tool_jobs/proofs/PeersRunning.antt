@@ -4,7 +4,7 @@ use Rattle.std.specs.Prelude.{map}
 use Rattle.std.specs.List.Sorted.{IsStrictlySortedBy}
 use Rattle.dccp_io.specs.Lines.{Next, End, Line, Long, Much, lines_of, next_in_lines, text_of}
 use Rattle.dccp_listener.specs.Listens.{AreInOrder, computed_turn, listening_after}
-use Rattle.dccp_listener.specs.Peers.{Listening}
+use Rattle.dccp_listener.specs.Peers.{ListenerState}
 use Rattle.dccp_listener.specs.Runs.{CallTurn, IsRunOfTurns, IsTurn}
 use Rattle.dccp_listener.specs.declared.peer.Peer.{Peer}
 use Rattle.dccp_listener.proofs.Chains.{each_has_its_chain}
@@ -27,10 +27,10 @@ one-turn : (x : Exchange) → AreInOrder x.before.flows
     → IsTurn x.before (listening_after x.before x.peer x.deed) (turned x) × AreInOrder (listening_after x.before x.peer x.deed).flows
 one-turn x ordered =
     let run = computed_runs x.before ((x.peer, x.deed) ∷ []) ordered in
-    (subst (λ (l : Listening). IsTurn x.before l (turned x)) (sym run.0.2) run.0.1, run.1)
+    (subst (λ (l : ListenerState). IsTurn x.before l (turned x)) (sym run.0.2) run.0.1, run.1)
 
 -- a verdict leads the listener on as its exchange does
-abbrev Leads : Listening → LineVerdict Exchange Serving → Type 0
+abbrev Leads : ListenerState → LineVerdict Exchange Serving → Type 0
 Leads l (Accepted None next) = next.listener ≡ l
 Leads l (Accepted (Some x) next) = (x.before ≡ l) × (next.listener ≡ listening_after x.before x.peer x.deed)
 Leads l (Refused fault) = Unit {0}
@@ -55,7 +55,7 @@ next-leads s number (Long front) = tt
 next-leads s number Much = tt
 next-leads s number End = refl
 
-abbrev RunsFrom : Listening → Gone Exchange Serving → Type 0
+abbrev RunsFrom : ListenerState → Gone Exchange Serving → Type 0
 RunsFrom l gone = IsRunOfTurns l gone.last.listener (map turned gone.deeds)
 
 runs-by : (s : Serving) (number given : ℕ) (verdict : LineVerdict Exchange Serving) (rest : Serving → Gone Exchange Serving) → AreInOrder s.listener.flows
@@ -63,12 +63,12 @@ runs-by : (s : Serving) (number given : ℕ) (verdict : LineVerdict Exchange Ser
     → RunsFrom s.listener (gone_by s number given verdict rest)
 runs-by s number given (Refused fault) rest ordered leads runs = refl
 runs-by s number given (Accepted None next) rest ordered leads runs =
-    subst (λ (l : Listening). RunsFrom l (rest next)) leads (runs next (subst (λ (l : Listening). AreInOrder l.flows) (sym leads) ordered))
+    subst (λ (l : ListenerState). RunsFrom l (rest next)) leads (runs next (subst (λ (l : ListenerState). AreInOrder l.flows) (sym leads) ordered))
 runs-by s number given (Accepted (Some x) next) rest ordered leads runs =
-    let turn = one-turn x (subst (λ (l : Listening). AreInOrder l.flows) (sym leads.0) ordered) in
+    let turn = one-turn x (subst (λ (l : ListenerState). AreInOrder l.flows) (sym leads.0) ordered) in
     let here : IsTurn s.listener next.listener (turned x) =
-    subst (λ (l : Listening). IsTurn l next.listener (turned x)) leads.0 (subst (λ (l : Listening). IsTurn x.before l (turned x)) (sym leads.1) turn.0) in
-    (next.listener, here, runs next (subst (λ (l : Listening). AreInOrder l.flows) (sym leads.1) turn.1))
+    subst (λ (l : ListenerState). IsTurn l next.listener (turned x)) leads.0 (subst (λ (l : ListenerState). IsTurn x.before l (turned x)) (sym leads.1) turn.0) in
+    (next.listener, here, runs next (subst (λ (l : ListenerState). AreInOrder l.flows) (sym leads.1) turn.1))
 
 runs-on : (s : Serving) (number given : ℕ) (lines : List (List ℕ)) → AreInOrder s.listener.flows
     → RunsFrom s.listener (gone_from listen_job s number given lines)
@@ -89,10 +89,10 @@ ordered-by : (s : Serving) (number given : ℕ) (verdict : LineVerdict Exchange 
     → AreInOrder (gone_by s number given verdict rest).last.listener.flows
 ordered-by s number given (Refused fault) rest ordered leads on = ordered
 ordered-by s number given (Accepted None next) rest ordered leads on =
-    on next (subst (λ (l : Listening). AreInOrder l.flows) (sym leads) ordered)
+    on next (subst (λ (l : ListenerState). AreInOrder l.flows) (sym leads) ordered)
 ordered-by s number given (Accepted (Some x) next) rest ordered leads on =
-    let turn = one-turn x (subst (λ (l : Listening). AreInOrder l.flows) (sym leads.0) ordered) in
-    on next (subst (λ (l : Listening). AreInOrder l.flows) (sym leads.1) turn.1)
+    let turn = one-turn x (subst (λ (l : ListenerState). AreInOrder l.flows) (sym leads.0) ordered) in
+    on next (subst (λ (l : ListenerState). AreInOrder l.flows) (sym leads.1) turn.1)
 
 ordered-on : (s : Serving) (number given : ℕ) (lines : List (List ℕ)) → AreInOrder s.listener.flows
     → AreInOrder (gone_from listen_job s number given lines).last.listener.flows

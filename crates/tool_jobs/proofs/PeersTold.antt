@@ -10,7 +10,7 @@ use Rattle.dccp_io.specs.Lines.{Next, End, Line, Long, Much, lines_of, next_in_l
 use Rattle.dccp_listener.specs.Calls.{IsBusy}
 use Rattle.dccp_listener.specs.Chain.{Arrives, Calls, Deed, chain_step, fresh_end, flow_step}
 use Rattle.dccp_listener.specs.Listens.{AreInOrder, fresh_met, is_table_full, listens, listens_by}
-use Rattle.dccp_listener.specs.Peers.{FlowEnd, Listening, end_of_peer}
+use Rattle.dccp_listener.specs.Peers.{FlowEnd, ListenerState, end_of_peer}
 use Rattle.dccp_listener.specs.Runs.{CallTold, WasBusy}
 use Rattle.dccp_listener.specs.declared.peer.Peer.{Peer}
 use Rattle.tool_text.specs.Jobs.{Accepted, Gone, Refused, LineVerdict, by_next, deeds_of, gone_by, gone_from, last_lines, most_events}
@@ -86,7 +86,7 @@ input-text most input none =
 
 -- the table is full, and a fresh end would stay
 
-met-busy : (l : Listening) (peer : Peer) (iss : ℕ) (bytes : List ℕ) → end_of_peer l.flows peer ≡ None → (stays full : Bool)
+met-busy : (l : ListenerState) (peer : Peer) (iss : ℕ) (bytes : List ℕ) → end_of_peer l.flows peer ≡ None → (stays full : Bool)
     → stays_in (flow_step (fresh_end l.config peer iss bytes) (Arrives iss bytes)).after.state.phase ≡ stays → is_table_full l ≡ full
     → (fresh_met l peer iss bytes (flow_step (fresh_end l.config peer iss bytes) (Arrives iss bytes)) stays full).told ≡ WasBusy
     → IsBusy l peer (Arrives iss bytes)
@@ -100,7 +100,7 @@ met-busy l peer iss bytes none true true stays_is full_is told =
       would_stay = ap (λ (b : Bool). is_some (if b then Some step.after else None)) stays_is;
     }
 
-busy-so : (l : Listening) (peer : Peer) (found : Option FlowEnd) (deed : Deed) → end_of_peer l.flows peer ≡ found
+busy-so : (l : ListenerState) (peer : Peer) (found : Option FlowEnd) (deed : Deed) → end_of_peer l.flows peer ≡ found
     → (listens_by l peer found deed).told ≡ WasBusy → IsBusy l peer deed
 busy-so l peer (Some e) deed is told = cc told
 busy-so l peer None (Calls call) is told = cc told
@@ -111,14 +111,14 @@ kept-stays : (b : Bool) (e : FlowEnd) → IsSome (if b then Some e else None) �
 kept-stays true e some = refl
 kept-stays false e some = cc some
 
-told-busy : (l : Listening) (peer : Peer) (deed : Deed) → IsBusy l peer deed → (listens_by l peer None deed).told ≡ WasBusy
+told-busy : (l : ListenerState) (peer : Peer) (deed : Deed) → IsBusy l peer deed → (listens_by l peer None deed).told ≡ WasBusy
 told-busy l peer (Calls call) busy = (let some = busy.would_stay in cc some)
 told-busy l peer (Arrives iss bytes) busy =
     let step = flow_step (fresh_end l.config peer iss bytes) (Arrives iss bytes) in
     ap (λ (b : Bool). (fresh_met l peer iss bytes step b (is_table_full l)).told) (kept-stays (stays_in step.after.state.phase) step.after busy.would_stay)
     ∙ ap (λ (b : Bool). (fresh_met l peer iss bytes step true b).told) (le-leb l.config.most (length l.flows) busy.is_table_full)
 
-pub busy-exactly : (l : Listening) (peer : Peer) (deed : Deed) → ((listens l peer deed).told ≡ WasBusy) ↔ IsBusy l peer deed
+pub busy-exactly : (l : ListenerState) (peer : Peer) (deed : Deed) → ((listens l peer deed).told ≡ WasBusy) ↔ IsBusy l peer deed
 busy-exactly l peer deed = (
   λ told. busy-so l peer (end_of_peer l.flows peer) deed refl told,
   λ busy. ap (λ (found : Option FlowEnd). (listens_by l peer found deed).told) busy.has_none ∙ told-busy l peer deed busy,

@@ -11,7 +11,7 @@ use Rattle.dccp_endpoint.specs.Controlled.{EndStep}
 use Rattle.dccp_endpoint.specs.Inputs.{EndAnswer}
 use Rattle.dccp_listener.specs.Chain.{Deed, Arrives, Calls, Opens, Sends, SendsEarly, Fires, Closes, Aborts, Prefers, flow_step, fresh_end}
 use Rattle.dccp_listener.specs.Listens.{Listened, fresh_met, is_table_full, listening_after, listens, listens_by}
-use Rattle.dccp_listener.specs.Peers.{FlowEnd, Flows, Listening, end_of_peer}
+use Rattle.dccp_listener.specs.Peers.{FlowEnd, Flows, ListenerState, end_of_peer}
 use Rattle.dccp_listener.specs.Runs.{CallTold, CallTurn, IsTurn, IsTurnSo, Stepped, WasBusy, HadNoMemory, arrival, told_of}
 use Rattle.dccp_listener.specs.declared.calls.Heard.{Heard}
 use Rattle.dccp_listener.specs.declared.config.ListenConfig.{ListenConfig}
@@ -41,13 +41,13 @@ step-told e (Calls Opens) = call-told (λ fault. refusal.NotFresh) (opens e.stat
 step-told e (Calls (SendsEarly payload)) = call-told send_refusal_of (sends_early e.state payload (may_send kinds_control e.congestion)).answer
 step-told e (Calls (Prefers feature place values)) = call-told refusal_of (prefers e.state (feature, place) values).answer
 
-met-told : (l : Listening) (peer : Peer) (iss : ℕ) (bytes : List ℕ) (step : EndStep Both EndAnswer) (stays full : Bool) → IsSeenOf bytes (seen_of step.answer)
+met-told : (l : ListenerState) (peer : Peer) (iss : ℕ) (bytes : List ℕ) (step : EndStep Both EndAnswer) (stays full : Bool) → IsSeenOf bytes (seen_of step.answer)
     → CanBeTold bytes (fresh_met l peer iss bytes step stays full).told
 met-told l peer iss bytes step false full told = told
 met-told l peer iss bytes step true true told = tt
 met-told l peer iss bytes step true false told = told
 
-listens-told : (l : Listening) (peer : Peer) (found : Option FlowEnd) (deed : Deed) → CanBeTold (arriving_bytes deed) (listens_by l peer found deed).told
+listens-told : (l : ListenerState) (peer : Peer) (found : Option FlowEnd) (deed : Deed) → CanBeTold (arriving_bytes deed) (listens_by l peer found deed).told
 listens-told l peer (Some e) deed = step-told e deed
 listens-told l peer None (Arrives iss bytes) =
     let step : EndStep Both EndAnswer = flow_step (fresh_end l.config peer iss bytes) (Arrives iss bytes) in
@@ -55,21 +55,21 @@ listens-told l peer None (Arrives iss bytes) =
 listens-told l peer None (Calls call) = tt
 
 -- what is told as it is computed can be told
-pub told_as : (l : Listening) (peer : Peer) (deed : Deed) (flows : Flows) (frame : Option Outgoing) (told : CallTold)
+pub told_as : (l : ListenerState) (peer : Peer) (deed : Deed) (flows : Flows) (frame : Option Outgoing) (told : CallTold)
     → record { flows = flows; frame = frame; told = told } ≡ listens l peer deed → CanBeTold (arriving_bytes deed) told
 told_as l peer deed flows frame told is =
     subst (CanBeTold (arriving_bytes deed)) (sym (ap (λ (x : Listened). x.told) is)) (listens-told l peer (end_of_peer l.flows peer) deed)
 
 -- no call changes what the listener was made from
-same-config : (before after : Listening) (turn : CallTurn) (told : CallTold) → IsTurnSo before after turn told → after.config ≡ before.config
+same-config : (before after : ListenerState) (turn : CallTurn) (told : CallTold) → IsTurnSo before after turn told → after.config ≡ before.config
 same-config before after turn (Stepped it) is = is.same_config
-same-config before after turn WasBusy is = ap (λ (l : Listening). l.config) is
-same-config before after turn HadNoMemory is = ap (λ (l : Listening). l.config) is
+same-config before after turn WasBusy is = ap (λ (l : ListenerState). l.config) is
+same-config before after turn HadNoMemory is = ap (λ (l : ListenerState). l.config) is
 
-abbrev listening : ListenConfig → Flows → Listening
+abbrev listening : ListenConfig → Flows → ListenerState
 listening config flows = record { config = config; flows = flows }
 
-pub left_as : (before after : Listening) (turn : CallTurn) (frame : Option Outgoing) (told : CallTold) → IsTurn before after turn
+pub left_as : (before after : ListenerState) (turn : CallTurn) (frame : Option Outgoing) (told : CallTold) → IsTurn before after turn
     → record { flows = after.flows; frame = frame; told = told } ≡ listens before turn.peer turn.deed → after ≡ listening_after before turn.peer turn.deed
 left_as before after turn frame told turned is =
     ap (λ (config : ListenConfig). listening config after.flows) (same-config before after turn turn.told turned)
@@ -77,28 +77,28 @@ left_as before after turn frame told turned is =
 
 -- the four of them, of a datagram that was heard
 
-abbrev AsComputed : Listening → Listening → Peer → ℕ → List ℕ → Option Outgoing → Result Heard NoMemory → Type 0
+abbrev AsComputed : ListenerState → ListenerState → Peer → ℕ → List ℕ → Option Outgoing → Result Heard NoMemory → Type 0
 AsComputed before after peer iss bytes frame result =
     IfOk result (λ heard. record { flows = after.flows; frame = frame; told = told_of (Ok heard) } ≡ listens before peer (Arrives iss bytes))
 
-pub heard-after : (before after : Listening) (peer : Peer) (iss : ℕ) (bytes : List ℕ) (frame : Option Outgoing) (result : Result Heard NoMemory)
+pub heard-after : (before after : ListenerState) (peer : Peer) (iss : ℕ) (bytes : List ℕ) (frame : Option Outgoing) (result : Result Heard NoMemory)
     → IsTurn before after (arrival peer iss bytes frame result) → AsComputed before after peer iss bytes frame result
     → OnOk result (after ≡ listening_after before peer (Arrives iss bytes))
 heard-after before after peer iss bytes frame (Ok heard) turned is =
     left_as before after (arrival peer iss bytes frame (Ok heard)) frame (told_of (Ok heard)) turned is
 heard-after before after peer iss bytes frame (Err fault) turned is = tt
 
-pub heard-sent : (before after : Listening) (peer : Peer) (iss : ℕ) (bytes : List ℕ) (frame : Option Outgoing) (result : Result Heard NoMemory)
+pub heard-sent : (before after : ListenerState) (peer : Peer) (iss : ℕ) (bytes : List ℕ) (frame : Option Outgoing) (result : Result Heard NoMemory)
     → AsComputed before after peer iss bytes frame result → OnOk result (frame ≡ (listens before peer (Arrives iss bytes)).frame)
 heard-sent before after peer iss bytes frame (Ok heard) is = ap (λ (x : Listened). x.frame) is
 heard-sent before after peer iss bytes frame (Err fault) is = tt
 
-pub heard-told : (before after : Listening) (peer : Peer) (iss : ℕ) (bytes : List ℕ) (frame : Option Outgoing) (result : Result Heard NoMemory)
+pub heard-told : (before after : ListenerState) (peer : Peer) (iss : ℕ) (bytes : List ℕ) (frame : Option Outgoing) (result : Result Heard NoMemory)
     → AsComputed before after peer iss bytes frame result → IfOk result (λ heard. told_of (Ok heard) ≡ (listens before peer (Arrives iss bytes)).told)
 heard-told before after peer iss bytes frame (Ok heard) is = ap (λ (x : Listened). x.told) is
 heard-told before after peer iss bytes frame (Err fault) is = tt
 
-pub heard-tellable : (before after : Listening) (peer : Peer) (iss : ℕ) (bytes : List ℕ) (frame : Option Outgoing) (result : Result Heard NoMemory)
+pub heard-tellable : (before after : ListenerState) (peer : Peer) (iss : ℕ) (bytes : List ℕ) (frame : Option Outgoing) (result : Result Heard NoMemory)
     → AsComputed before after peer iss bytes frame result → IfOk result (λ heard. CanBeTold bytes (told_of (Ok heard)))
 heard-tellable before after peer iss bytes frame (Ok heard) is = told_as before peer (Arrives iss bytes) after.flows frame (told_of (Ok heard)) is
 heard-tellable before after peer iss bytes frame (Err fault) is = tt

@@ -2,7 +2,7 @@
 use Rattle.std.specs.Prelude.{ℕ, ◌+◌, nat_lt, Bool, if◌then◌else◌, is_some, List, [], ◌∷◌, map, Option, Some, None, Result, Ok, Err}
 use Rattle.dccp_listener.specs.Chain.{Deed, Arrives, Calls, Sends, Fires, Closes, Aborts}
 use Rattle.dccp_listener.specs.Listens.{computed_turn, listening_after}
-use Rattle.dccp_listener.specs.Peers.{Listening, end_of_peer}
+use Rattle.dccp_listener.specs.Peers.{ListenerState, end_of_peer}
 use Rattle.dccp_listener.specs.Runs.{CallTurn, IsChain, IsRunOfTurns, peer_turns}
 use Rattle.dccp_listener.specs.Standing.{unoffering}
 use Rattle.dccp_listener.specs.declared.config.ListenConfig.{ListenConfig}
@@ -35,7 +35,7 @@ listen_config most =
     record { own_address = own_address; own_port = 5001; services = record { items = 42 ∷ 43 ∷ [] }; lists = usual_lists; most = most }
 
 -- Before the first line: there are no flows, and their ends will make no offers.
-abbrev pub first_listening : ℕ → Listening
+abbrev pub first_listening : ℕ → ListenerState
 first_listening most = record { config = unoffering (listen_config most); flows = [] }
 
 -- and nothing has happened
@@ -55,7 +55,7 @@ deed_of peer call.Close = Calls Closes
 deed_of peer call.Abort = Calls Aborts
 
 -- what happens to a peer by the line of this number
-abbrev pub exchange_at : Listening → ℕ → Peer → Deed → Exchange
+abbrev pub exchange_at : ListenerState → ℕ → Peer → Deed → Exchange
 exchange_at l number peer deed = record { number = number; before = l; peer = peer; deed = deed }
 
 -- it happens: one line more counts, and the listener is as it leaves it

@@ -4,7 +4,7 @@ use Rattle.hex.specs.Hex.{encode_lower}
 use Rattle.dccp_packets.specs.Outgoing.{Outgoing}
 use Rattle.dccp_listener.specs.Chain.{Deed, Arrives, Calls}
 use Rattle.dccp_listener.specs.Listens.{listens}
-use Rattle.dccp_listener.specs.Peers.{FlowEnd, Flows, Listening}
+use Rattle.dccp_listener.specs.Peers.{FlowEnd, Flows, ListenerState}
 use Rattle.dccp_listener.specs.Runs.{CallTold, Stepped, WasBusy, HadNoMemory}
 use Rattle.dccp_listener.specs.declared.peer.Peer.{Peer}
 use Rattle.dccp_states.specs.declared.phase.Phase.{Phase}
@@ -40,7 +40,7 @@ arriving_bytes (Calls call) = []
 -- Something that happens to a peer, under the number of its line, at this listener.
 pub record Exchange : Type 0 where
   pub number : ℕ
-  pub before : Listening
+  pub before : ListenerState
   pub peer : Peer
   pub deed : Deed
 

@@ -4,7 +4,7 @@ ghost use Rattle.dccp_io.specs.Lines.{lines_of};
 ghost use Rattle.dccp_listener.specs.Calls.{IsBusy};
 ghost use Rattle.dccp_listener.specs.Chain.{Deed};
 ghost use Rattle.dccp_listener.specs.Listens.{AreInOrder, listens};
-ghost use Rattle.dccp_listener.specs.Peers.{Listening};
+ghost use Rattle.dccp_listener.specs.Peers.{ListenerState};
 ghost use Rattle.dccp_listener.specs.Runs.{WasBusy};
 ghost use Rattle.dccp_listener.specs.declared.peer.Peer.{Peer};
 ghost use Rattle.tool_text.specs.Lines.{IsIdle, IsSpokenLine, first_fault};
@@ -29,7 +29,7 @@ pub fn each_peer_is_answered_by_its_chain()
     ensures lines { (most : ℕ) (input : List ℕ) → listen_refused most input ≡ false
         → map exchange_said (listened most input).deeds ≡ said_by_lines 1 0 (lines_of input) }
     ensures ordered { (most : ℕ) (input : List ℕ) → AreInOrder (listened most input).last.listener.flows }
-    ensures busy { (l : Listening) (peer : Peer) (deed : Deed) → ((listens l peer deed).told ≡ WasBusy) ↔ IsBusy l peer deed }
+    ensures busy { (l : ListenerState) (peer : Peer) (deed : Deed) → ((listens l peer deed).told ≡ WasBusy) ↔ IsBusy l peer deed }
 {}
 
 /// A line is accepted exactly if it is the words of what it says, parted by one space: a peer in its only spelling, and

@@ -1,5 +1,5 @@
 use Rattle.std.proofs.Common.{ap, ◌∙◌, Ok}
-use Rattle.dccp_listener.specs.Peers.{Listening}
+use Rattle.dccp_listener.specs.Peers.{ListenerState}
 use Rattle.dccp_listener.specs.Runs.{told_of}
 use Rattle.dccp_server.specs.Serving.{Upkeeps, served}
 use Rattle.dccp_server.proofs.Going.{arrival_goes_on}
@@ -20,6 +20,6 @@ returns-in-Ok-clause-after c =
 -- the place is taken back
 pub returns-in-Err-clause-unchanged : goal.returns-in-Err-clause-unchanged
 returns-in-Err-clause-unchanged c =
-    ap (λ (l : Listening). served l c.args.pace c.take_back.new.self) c.in-Err.ensures.unchanged
+    ap (λ (l : ListenerState). served l c.args.pace c.take_back.new.self) c.in-Err.ensures.unchanged
     ∙ ap (λ (t : Upkeeps). served c.args.listener.now c.args.pace t)
     (c.take_back.ensures ∙ taken_back _ c.in_ok-had.had c.args.upkeeps.now c.place.new.upkeeps c.args.peer c.in_ok-had.ensures.placed)
