@@ -6,7 +6,7 @@ use Rattle.dccp_endpoint.specs.Inputs.{EndAnswer}
 use Rattle.dccp_endpoint.specs.Strangers.{stays_in}
 use Rattle.dccp_listener.specs.Chain.{Arrives, flow_step, fresh_end}
 use Rattle.dccp_listener.specs.Greeting.{GreetingsOpen}
-use Rattle.dccp_listener.specs.Listens.{Listened, fresh_met, is_table_full, listens, listens_by}
+use Rattle.dccp_listener.specs.Listens.{ListenerStep, fresh_met, is_table_full, listens, listens_by}
 use Rattle.dccp_listener.specs.Peers.{FlowEnd, ListenerState, end_of_peer}
 use Rattle.dccp_listener.specs.declared.peer.Peer.{Peer}
 use Rattle.dccp_listener.proofs.InOrder.{found_insert}
@@ -27,8 +27,8 @@ module _ (l : ListenerState) (peer : Peer) (iss : ℕ) (bytes : List ℕ) where
 pub greeted_opens : GreetingsOpen
 greeted_opens l peer iss bytes none room stays =
     let is = opened l peer iss bytes none room stays in (
-      ap (λ (it : Listened). it.frame) is,
-      ap (λ (it : Listened). end_of_peer it.flows peer) is
+      ap (λ (it : ListenerStep). it.frame) is,
+      ap (λ (it : ListenerStep). end_of_peer it.flows peer) is
           ∙ found_insert peer peer (step l peer iss bytes).after l.flows
           ∙ ap (λ (here : Bool). cond here (Some (step l peer iss bytes).after) (end_of_peer l.flows peer)) (peers_alike.refl peer),
     )

@@ -17,7 +17,7 @@ use Rattle.dccp_listener.specs.Runs.{IsRunOfTurns, Stepped, CallTold, CallTurn, 
 use Rattle.dccp_listener.specs.declared.peer.Peer.{Peer}
 
 -- the flows after a call, the frame that goes to the peer, and what was told
-pub record Listened : Type 0 where
+pub record ListenerStep : Type 0 where
   pub flows : Flows
   pub frame : Option Outgoing
   pub told : CallTold
@@ -27,11 +27,11 @@ abbrev pub with_end : Flows → Peer → FlowEnd → Flows
 with_end flows peer e = if is_given_up e.state.phase then remove_entry (is_peer peer) flows else set_value (is_peer peer) flows e
 
 -- an end has flow_answered, and these are the flows then
-abbrev pub flow_answered : Flows → EndStep Both EndAnswer → Listened
+abbrev pub flow_answered : Flows → EndStep Both EndAnswer → ListenerStep
 flow_answered flows step = record { flows = flows; frame = step.frame; told = Stepped (Some (seen_of step.answer)) }
 
 -- A fresh end has met a datagram. Unless it stays nothing else changes; if it would, there has to be room.
-abbrev pub fresh_met : ListenerState → Peer → ℕ → List ℕ → EndStep Both EndAnswer → (stays full : Bool) → Listened
+abbrev pub fresh_met : ListenerState → Peer → ℕ → List ℕ → EndStep Both EndAnswer → (stays full : Bool) → ListenerStep
 fresh_met l peer iss bytes step false full = flow_answered l.flows step
 fresh_met l peer iss bytes step true true =
     record { flows = l.flows; frame = busy_frame (config_for l.config peer iss bytes) (decoded bytes); told = WasBusy }
@@ -42,7 +42,7 @@ abbrev pub is_table_full : ListenerState → Bool
 is_table_full l = nat_le l.config.most (length l.flows)
 
 -- a deed of a peer that has this end or none
-abbrev pub listens_by : ListenerState → Peer → Option FlowEnd → Deed → Listened
+abbrev pub listens_by : ListenerState → Peer → Option FlowEnd → Deed → ListenerStep
 listens_by l peer (Some e) deed = flow_answered (with_end l.flows peer (flow_step e deed).after) (flow_step e deed)
 listens_by l peer None (Arrives iss bytes) =
     fresh_met l peer iss bytes (flow_step (fresh_end l.config peer iss bytes) (Arrives iss bytes))
@@ -50,7 +50,7 @@ listens_by l peer None (Arrives iss bytes) =
 listens_by l peer None (Calls call) = record { flows = l.flows; frame = None; told = Stepped None }
 
 -- a deed of a peer, where memory is found
-abbrev pub listens : ListenerState → Peer → Deed → Listened
+abbrev pub listens : ListenerState → Peer → Deed → ListenerStep
 listens l peer deed = listens_by l peer (end_of_peer l.flows peer) deed
 
 -- the listener after it

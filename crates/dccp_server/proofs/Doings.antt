@@ -3,7 +3,7 @@ use Rattle.std.proofs.Common.{◌≡◌, ap, ◌∙◌, ℕ, List, Option, Resul
 use Rattle.std.specs.Prelude.{IfOk}
 use Rattle.dccp_packets.specs.Outgoing.{Outgoing}
 use Rattle.dccp_listener.specs.Chain.{Arrives}
-use Rattle.dccp_listener.specs.Listens.{Listened, listens}
+use Rattle.dccp_listener.specs.Listens.{ListenerStep, listens}
 use Rattle.dccp_listener.specs.Peers.{Flows, ListenerState}
 use Rattle.dccp_listener.specs.Runs.{CallTold, CallTurn, IsTurn, IsTurnSo, Stepped, WasBusy, HadNoMemory, arrival, told_of}
 use Rattle.dccp_listener.specs.declared.calls.Heard.{Heard}
@@ -25,9 +25,9 @@ pub done_as : (before after : ListenerState) (turn : CallTurn) (frame : Option O
     → record { flows = after.flows; frame = frame; told = told } ≡ listens before turn.peer turn.deed → IsDone before after turn.peer turn.deed frame told
 done_as before after turn frame told turned is = (
   ap (λ (config : ListenConfig). listening config after.flows) (same-config before after turn turn.told turned)
-      ∙ ap (λ (x : Listened). listening before.config x.flows) is,
-  ap (λ (x : Listened). x.frame) is,
-  ap (λ (x : Listened). x.told) is,
+      ∙ ap (λ (x : ListenerStep). listening before.config x.flows) is,
+  ap (λ (x : ListenerStep). x.frame) is,
+  ap (λ (x : ListenerStep). x.told) is,
 )
 
 pub heard_as : (before after : ListenerState) (peer : Peer) (iss : ℕ) (bytes : List ℕ) (frame : Option Outgoing) (result : Result Heard NoMemory)

@@ -10,7 +10,7 @@ use Rattle.dccp_endpoint.specs.Early.{sends_early}
 use Rattle.dccp_endpoint.specs.Controlled.{EndStep}
 use Rattle.dccp_endpoint.specs.Inputs.{EndAnswer}
 use Rattle.dccp_listener.specs.Chain.{Deed, Arrives, Calls, Opens, Sends, SendsEarly, Fires, Closes, Aborts, Prefers, flow_step, fresh_end}
-use Rattle.dccp_listener.specs.Listens.{Listened, fresh_met, is_table_full, listening_after, listens, listens_by}
+use Rattle.dccp_listener.specs.Listens.{ListenerStep, fresh_met, is_table_full, listening_after, listens, listens_by}
 use Rattle.dccp_listener.specs.Peers.{FlowEnd, Flows, ListenerState, end_of_peer}
 use Rattle.dccp_listener.specs.Runs.{CallTold, CallTurn, IsTurn, IsTurnSo, Stepped, WasBusy, HadNoMemory, arrival, told_of}
 use Rattle.dccp_listener.specs.declared.calls.Heard.{Heard}
@@ -58,7 +58,7 @@ listens-told l peer None (Calls call) = tt
 pub told_as : (l : ListenerState) (peer : Peer) (deed : Deed) (flows : Flows) (frame : Option Outgoing) (told : CallTold)
     → record { flows = flows; frame = frame; told = told } ≡ listens l peer deed → CanBeTold (arriving_bytes deed) told
 told_as l peer deed flows frame told is =
-    subst (CanBeTold (arriving_bytes deed)) (sym (ap (λ (x : Listened). x.told) is)) (listens-told l peer (end_of_peer l.flows peer) deed)
+    subst (CanBeTold (arriving_bytes deed)) (sym (ap (λ (x : ListenerStep). x.told) is)) (listens-told l peer (end_of_peer l.flows peer) deed)
 
 -- no call changes what the listener was made from
 same-config : (before after : ListenerState) (turn : CallTurn) (told : CallTold) → IsTurnSo before after turn told → after.config ≡ before.config
@@ -73,7 +73,7 @@ pub left_as : (before after : ListenerState) (turn : CallTurn) (frame : Option O
     → record { flows = after.flows; frame = frame; told = told } ≡ listens before turn.peer turn.deed → after ≡ listening_after before turn.peer turn.deed
 left_as before after turn frame told turned is =
     ap (λ (config : ListenConfig). listening config after.flows) (same-config before after turn turn.told turned)
-    ∙ ap (λ (x : Listened). listening before.config x.flows) is
+    ∙ ap (λ (x : ListenerStep). listening before.config x.flows) is
 
 -- the four of them, of a datagram that was heard
 
@@ -90,12 +90,12 @@ heard-after before after peer iss bytes frame (Err fault) turned is = tt
 
 pub heard-sent : (before after : ListenerState) (peer : Peer) (iss : ℕ) (bytes : List ℕ) (frame : Option Outgoing) (result : Result Heard NoMemory)
     → AsComputed before after peer iss bytes frame result → OnOk result (frame ≡ (listens before peer (Arrives iss bytes)).frame)
-heard-sent before after peer iss bytes frame (Ok heard) is = ap (λ (x : Listened). x.frame) is
+heard-sent before after peer iss bytes frame (Ok heard) is = ap (λ (x : ListenerStep). x.frame) is
 heard-sent before after peer iss bytes frame (Err fault) is = tt
 
 pub heard-told : (before after : ListenerState) (peer : Peer) (iss : ℕ) (bytes : List ℕ) (frame : Option Outgoing) (result : Result Heard NoMemory)
     → AsComputed before after peer iss bytes frame result → IfOk result (λ heard. told_of (Ok heard) ≡ (listens before peer (Arrives iss bytes)).told)
-heard-told before after peer iss bytes frame (Ok heard) is = ap (λ (x : Listened). x.told) is
+heard-told before after peer iss bytes frame (Ok heard) is = ap (λ (x : ListenerStep). x.told) is
 heard-told before after peer iss bytes frame (Err fault) is = tt
 
 pub heard-tellable : (before after : ListenerState) (peer : Peer) (iss : ℕ) (bytes : List ℕ) (frame : Option Outgoing) (result : Result Heard NoMemory)

@@ -2,7 +2,7 @@
 use Rattle.std.proofs.Common.{ap}
 use Rattle.dccp_listener.specs.Chain.{Calls, call_of}
 use Rattle.dccp_listener.specs.Calls.{seen_if}
-use Rattle.dccp_listener.specs.Listens.{Listened}
+use Rattle.dccp_listener.specs.Listens.{ListenerStep}
 use Rattle.dccp_listener.specs.Runs.{Stepped, call_turn}
 use Rattle.tool_jobs.proofs.Tellable.{left_as, told_as}
 use Rattle.tool_jobs.proofs.listen.exchanges.ask.Goals as goal
@@ -14,10 +14,10 @@ returns-clause-after c =
     c.act.ensures.turn c.act.ensures.computed
 
 pub returns-clause-sent : goal.returns-clause-sent
-returns-clause-sent c = ap (λ (x : Listened). x.frame) c.act.ensures.computed
+returns-clause-sent c = ap (λ (x : ListenerStep). x.frame) c.act.ensures.computed
 
 pub returns-clause-told : goal.returns-clause-told
-returns-clause-told c = ap (λ (x : Listened). x.told) c.act.ensures.computed
+returns-clause-told c = ap (λ (x : ListenerStep). x.told) c.act.ensures.computed
 
 pub returns-clause-tellable : goal.returns-clause-tellable
 returns-clause-tellable c =
