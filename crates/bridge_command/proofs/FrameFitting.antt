@@ -6,7 +6,7 @@ use Rattle.std.proofs.lemmas.List.{append-nil}
 use Rattle.std.proofs.lemmas.List.Elements.{All-append, All-cons, All-head, All-nil, All-tail}
 use Rattle.std.specs.Str.{bytes_eq}
 use Rattle.dccp_io.specs.Lines.{Next, End, Line, Long, Much, next_in_lines, lines_of, text_of}
-use Rattle.tool_text.specs.Jobs.{Accepted, Gone, Refused, LineVerdict, by_next, deeds_of, gone_by, gone_from, last_in}
+use Rattle.tool_text.specs.Jobs.{Accepted, LinesResult, Refused, LineVerdict, by_next, deeds_of, gone_by, gone_from, last_in}
 use Rattle.tool_text.specs.Numbers.{number_below}
 use Rattle.tool_text.proofs.Numerals.{number-spelled}
 use Rattle.tool_text.specs.Kinds.{found_or, hex_kind, read_at, word_read}
@@ -180,7 +180,7 @@ next-fits clock number (Line line) time = judged-fits clock number (text_of line
 next-fits clock number (Long front) time = tt
 next-fits clock number Much time = tt
 
-gone-fits : (clock : Clock) (number given : ℕ) (verdict : LineVerdict TimedFrame Clock) (rest : Clock → Gone TimedFrame Clock) → FitsVerdict verdict
+gone-fits : (clock : Clock) (number given : ℕ) (verdict : LineVerdict TimedFrame Clock) (rest : Clock → LinesResult TimedFrame Clock) → FitsVerdict verdict
     → ((next : Clock) → next.seconds < 2 ^ 32 → All FitsFrame (rest next).deeds) → All FitsFrame (gone_by clock number given verdict rest).deeds
 gone-fits clock number given (Accepted deed next) rest fits others = All-append FitsFrame (deeds_of deed) (rest next).deeds fits.0 (others next fits.1)
 gone-fits clock number given (Refused fault) rest fits others = All-nil FitsFrame

@@ -19,7 +19,7 @@ use Rattle.schedule_text.specs.declared.line.Line as words
 use Rattle.schedule_text.specs.declared.line.Line.TheVariants as line
 use Rattle.schedule_text.proofs.LineForms.{event-read, spelled-line}
 use Rattle.schedule_text.proofs.RowsAre.{number-length, side-length}
-use Rattle.tool_text.specs.Jobs.{Gone, LineVerdict, Accepted, Refused, gone_by, gone_from, most_events}
+use Rattle.tool_text.specs.Jobs.{LinesResult, LineVerdict, Accepted, Refused, gone_by, gone_from, most_events}
 use Rattle.tool_jobs.proofs.SchedulesRunning.{every-run, run-last, run-text}
 use Rattle.tool_jobs.specs.Scenes.{Scene, scene_events, scene_text}
 use Rattle.tool_jobs.specs.Transcript.{by_line, by_scene, by_step, event_shown, first_play, is_refused, judged_line, performed, run_job, says_event, starts, transcript, with_header, with_iss, world_at_first, world_of, world_or_start}
@@ -62,7 +62,7 @@ line-goes play number given text rest said reads few =
     (λ (next : Play). gone_from run_job next (number + 1) (given + (length text + 1)) (lines_of rest))) reads
 
 -- So many lines of a play were gone through as these events, from what was counted before to this run.
-pub record Follows (before : Report) (last : RunState) (events : List Event) (play : Play) (whole : Gone Scene Play) : Type 0 where
+pub record Follows (before : Report) (last : RunState) (events : List Event) (play : Play) (whole : LinesResult Scene Play) : Type 0 where
   pub refusal : whole.refusal ≡ None
   pub told : scene_events whole.deeds ≡ events
   pub world : world_of whole.last ≡ last.world
@@ -256,7 +256,7 @@ schedule-follows opens nexts seed events some most =
 -- ---- what the law says
 
 module _ (opens : OpenHappens) (nexts : NextHappens) (seed events : ℕ) (some : 1 ≤ events) (most : events ≤ 4096) where
-  abbrev whole : Gone Scene Play
+  abbrev whole : LinesResult Scene Play
   whole = performed (seed_text seed events)
 
   follows : Follows (begun_run (generator seed)).report (seeded seed events) (seeded_events seed events) (configured seed) whole

@@ -4,7 +4,7 @@ use Rattle.bridge_records.specs.Writing.{file_header, raw_record}
 use Rattle.dccp_listener.specs.declared.peer.Peer.{Peer}
 use Rattle.schedule_text.specs.declared.line.FrameLine.{FrameLine}
 use Rattle.tool_jobs.specs.Ends.{arriving}
-use Rattle.tool_text.specs.Jobs.{Accepted, Gone, Job, Refused, LineVerdict, gone_through, refusal_told, text_apart}
+use Rattle.tool_text.specs.Jobs.{Accepted, LinesResult, Job, Refused, LineVerdict, gone_through, refusal_told, text_apart}
 use Rattle.tool_text.specs.declared.lines.refusals.LineRefusal.{LineRefusal}
 use Rattle.tool_text.specs.declared.words.faults.LineFault.{LineFault}
 use Rattle.world_events.specs.Actors.{other}
@@ -53,7 +53,7 @@ abbrev pub capture_job : Job TimedFrame Clock
 capture_job = record { judged = transcript_judged; told = λ f. raw_record (frame_record f); ending = λ clock. [] }
 
 -- what the lines of a transcript come to
-abbrev pub transcript_gone : List ℕ → Gone TimedFrame Clock
+abbrev pub transcript_gone : List ℕ → LinesResult TimedFrame Clock
 transcript_gone input = gone_through capture_job first_clock input
 
 -- What `capture` writes of an input: the file header, and the records.

@@ -4,7 +4,7 @@ use Rattle.ccid_two.specs.Kinds.{Both}
 use Rattle.tool_jobs.specs.Scenes.{Scene}
 use Rattle.tool_jobs.specs.Transcript.{first_play, run_job}
 use Rattle.tool_jobs.specs.declared.run.play.Play.{Play}
-use Rattle.tool_text.specs.Jobs.{Accepted, Gone, Job, Refused, LineVerdict, gone_through, line_text, refusal_told, text_apart}
+use Rattle.tool_text.specs.Jobs.{Accepted, LinesResult, Job, Refused, LineVerdict, gone_through, line_text, refusal_told, text_apart}
 use Rattle.tool_text.specs.declared.lines.refusals.LineRefusal.{LineRefusal}
 use Rattle.two_ends.specs.Controlled.{ControlledWorld, end_of_side}
 use Rattle.two_ends.specs.World.{half_of}
@@ -91,7 +91,7 @@ abbrev pub windows_job : Job (Unit {0}) Played
 windows_job = record { judged = λ p number line. played_by p (run_job.judged p.play number line); told = λ _. []; ending = played_picture }
 
 -- what the lines of a schedule come to
-abbrev pub windows_gone : List ℕ → Gone (Unit {0}) Played
+abbrev pub windows_gone : List ℕ → LinesResult (Unit {0}) Played
 windows_gone input = gone_through windows_job first_played input
 
 -- What `windows` writes of a schedule: the picture, or nothing where a line is refused.

@@ -7,7 +7,7 @@ use Rattle.dccp_packets.specs.declared.reading.Malformed.{Malformed}
 use Rattle.packet_show.specs.Lines.{words_text}
 use Rattle.schedule_text.specs.Printing.{side_letter}
 use Rattle.tool_jobs.specs.Peers.{peer_text}
-use Rattle.tool_text.specs.Jobs.{Accepted, Gone, Job, Refused, LineVerdict, gone_through, refusal_told, text_apart}
+use Rattle.tool_text.specs.Jobs.{Accepted, LinesResult, Job, Refused, LineVerdict, gone_through, refusal_told, text_apart}
 use Rattle.tool_text.specs.Names.{malformed_name}
 use Rattle.tool_text.specs.declared.lines.refusals.LineRefusal.{LineRefusal}
 use Rattle.tool_text.specs.declared.words.faults.LineFault.{LineFault}
@@ -101,7 +101,7 @@ abbrev pub ladder_job : Job (Unit {0}) Drawing
 ladder_job = record { judged = line_judged; told = λ _. []; ending = picture }
 
 -- what the lines of a transcript come to
-abbrev pub ladder_gone : List ℕ → Gone (Unit {0}) Drawing
+abbrev pub ladder_gone : List ℕ → LinesResult (Unit {0}) Drawing
 ladder_gone input = gone_through ladder_job first_drawing input
 
 -- What `ladder` writes of a transcript: the picture, or nothing where a line is refused.

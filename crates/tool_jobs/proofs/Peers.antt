@@ -22,7 +22,7 @@ use Rattle.schedule_text.proofs.LineForms.{line-spelled}
 use Rattle.schedule_text.specs.Reading.{read_line}
 use Rattle.schedule_text.specs.declared.line.Line as words
 use Rattle.schedule_text.specs.declared.line.Line.TheVariants as line
-use Rattle.tool_text.specs.Jobs.{Gone, LineVerdict, Accepted, Refused, by_next, gone_by, gone_from, most_events}
+use Rattle.tool_text.specs.Jobs.{LinesResult, LineVerdict, Accepted, Refused, by_next, gone_by, gone_from, most_events}
 use Rattle.tool_text.specs.Refusals.{whole_line}
 use Rattle.tool_text.specs.declared.words.faults.LineFault.{LineFault}
 use Rattle.tool_text.specs.declared.words.faults.LineWhy.TheVariants as why
@@ -215,7 +215,7 @@ next-peers play number End peers = peers
 
 -- what the lines of an input come to
 
-peers-by : (rest : Play → Gone Scene Play) (number given : ℕ) → ((next : Play) → HasPeers next → HasPeers (rest next).last) → (play : Play)
+peers-by : (rest : Play → LinesResult Scene Play) (number given : ℕ) → ((next : Play) → HasPeers next → HasPeers (rest next).last) → (play : Play)
     → HasPeers play → (verdict : LineVerdict Scene Play) → PeersAfter verdict → HasPeers (gone_by play number given verdict rest).last
 peers-by rest number given later play peers (Accepted scene next) following = later next following
 peers-by rest number given later play peers (Refused fault) following = peers

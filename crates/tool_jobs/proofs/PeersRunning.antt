@@ -9,7 +9,7 @@ use Rattle.dccp_listener.specs.Runs.{CallTurn, IsRunOfTurns, IsTurn}
 use Rattle.dccp_listener.specs.declared.peer.Peer.{Peer}
 use Rattle.dccp_listener.proofs.Chains.{each_has_its_chain}
 use Rattle.dccp_listener.proofs.Computing.{computed_runs}
-use Rattle.tool_text.specs.Jobs.{Accepted, Gone, Refused, LineVerdict, by_next, gone_by, gone_from, most_events}
+use Rattle.tool_text.specs.Jobs.{Accepted, LinesResult, Refused, LineVerdict, by_next, gone_by, gone_from, most_events}
 use Rattle.tool_text.specs.Refusals.{whole_line}
 use Rattle.tool_text.specs.declared.words.faults.LineFault.{LineFault}
 use Rattle.tool_text.specs.declared.words.faults.LineWhy.TheVariants as why
@@ -55,10 +55,10 @@ next-leads s number (Long front) = tt
 next-leads s number Much = tt
 next-leads s number End = refl
 
-abbrev RunsFrom : ListenerState → Gone Exchange Serving → Type 0
+abbrev RunsFrom : ListenerState → LinesResult Exchange Serving → Type 0
 RunsFrom l gone = IsRunOfTurns l gone.last.listener (map turned gone.deeds)
 
-runs-by : (s : Serving) (number given : ℕ) (verdict : LineVerdict Exchange Serving) (rest : Serving → Gone Exchange Serving) → AreInOrder s.listener.flows
+runs-by : (s : Serving) (number given : ℕ) (verdict : LineVerdict Exchange Serving) (rest : Serving → LinesResult Exchange Serving) → AreInOrder s.listener.flows
     → Leads s.listener verdict → ((next : Serving) → AreInOrder next.listener.flows → RunsFrom next.listener (rest next))
     → RunsFrom s.listener (gone_by s number given verdict rest)
 runs-by s number given (Refused fault) rest ordered leads runs = refl
@@ -83,7 +83,7 @@ unfolding IsStrictlySortedBy
 every_input_runs most input = runs-on (first_serving most) 1 0 (lines_of input) tt
 
 -- the flows stay in order
-ordered-by : (s : Serving) (number given : ℕ) (verdict : LineVerdict Exchange Serving) (rest : Serving → Gone Exchange Serving)
+ordered-by : (s : Serving) (number given : ℕ) (verdict : LineVerdict Exchange Serving) (rest : Serving → LinesResult Exchange Serving)
     → AreInOrder s.listener.flows → Leads s.listener verdict
     → ((next : Serving) → AreInOrder next.listener.flows → AreInOrder (rest next).last.listener.flows)
     → AreInOrder (gone_by s number given verdict rest).last.listener.flows

@@ -13,7 +13,7 @@ use Rattle.dccp_listener.specs.Listens.{AreInOrder, fresh_met, is_table_full, li
 use Rattle.dccp_listener.specs.Peers.{FlowEnd, ListenerState, end_of_peer}
 use Rattle.dccp_listener.specs.Runs.{CallTold, WasBusy}
 use Rattle.dccp_listener.specs.declared.peer.Peer.{Peer}
-use Rattle.tool_text.specs.Jobs.{Accepted, Gone, Refused, LineVerdict, by_next, deeds_of, gone_by, gone_from, last_lines, most_events}
+use Rattle.tool_text.specs.Jobs.{Accepted, LinesResult, Refused, LineVerdict, by_next, deeds_of, gone_by, gone_from, last_lines, most_events}
 use Rattle.tool_text.specs.Refusals.{whole_line}
 use Rattle.tool_text.specs.declared.words.faults.LineFault.{LineFault}
 use Rattle.tool_text.specs.declared.words.faults.LineWhy.TheVariants as why
@@ -50,7 +50,7 @@ next-does s number (Long front) = tt
 next-does s number Much = tt
 next-does s number End = refl
 
-does-by : (s : Serving) (number given : ℕ) (verdict : LineVerdict Exchange Serving) (rest : Serving → Gone Exchange Serving)
+does-by : (s : Serving) (number given : ℕ) (verdict : LineVerdict Exchange Serving) (rest : Serving → LinesResult Exchange Serving)
     (said later : List (ℕ × Peer × Deed)) → Does said verdict
     → ((next : Serving) → is_some (rest next).refusal ≡ false → map exchange_said (rest next).deeds ≡ later)
     → is_some (gone_by s number given verdict rest).refusal ≡ false → map exchange_said (gone_by s number given verdict rest).deeds ≡ said ++ later

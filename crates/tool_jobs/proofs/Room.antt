@@ -8,7 +8,7 @@ use Rattle.dccp_endpoint.specs.Inputs.{Input, end_stepped}
 use Rattle.dccp_endpoint.specs.Inputs as input
 use Rattle.dccp_endpoint.specs.declared.config.Config.{Config}
 use Rattle.dccp_io.specs.Lines.{lines_of, next_in_lines}
-use Rattle.tool_text.specs.Jobs.{Gone, LineVerdict, Accepted, Refused, by_next, gone_by, gone_from, most_events}
+use Rattle.tool_text.specs.Jobs.{LinesResult, LineVerdict, Accepted, Refused, by_next, gone_by, gone_from, most_events}
 use Rattle.tool_text.specs.declared.words.faults.LineFault.{LineFault}
 use Rattle.dccp_endpoint.specs.Drafts.{Fits}
 use Rattle.tool_jobs.proofs.Peers.{peers-last}
@@ -163,7 +163,7 @@ room-after play (Accepted (Some scene) next) turns room =
     }
 room-after play (Refused why) turns room = tt
 
-room-by : (rest : Play → Gone Scene Play) (number given : ℕ) → ((next : Play) → Room next → Room (rest next).last) → (play : Play) → Room play
+room-by : (rest : Play → LinesResult Scene Play) (number given : ℕ) → ((next : Play) → Room next → Room (rest next).last) → (play : Play) → Room play
     → (verdict : LineVerdict Scene Play) → Turns play verdict → Room (gone_by play number given verdict rest).last
 room-by rest number given later play room (Accepted scene next) turns = later next (room-after play (Accepted scene next) turns room)
 room-by rest number given later play room (Refused why) turns = room

@@ -12,7 +12,7 @@ use Rattle.dccp_states.specs.declared.phase.Role.TheVariants as role
 use Rattle.schedule_text.specs.Reading.{read_line}
 use Rattle.schedule_text.specs.declared.line.Line as words
 use Rattle.schedule_text.specs.declared.line.Line.TheVariants as line
-use Rattle.tool_text.specs.Jobs.{Gone, LineVerdict, Accepted, Refused, by_next, gone_by, gone_from, gone_through, last_lines, most_events}
+use Rattle.tool_text.specs.Jobs.{LinesResult, LineVerdict, Accepted, Refused, by_next, gone_by, gone_from, gone_through, last_lines, most_events}
 use Rattle.tool_text.specs.Refusals.{whole_line}
 use Rattle.tool_text.specs.declared.words.faults.LineFault.{LineFault}
 use Rattle.tool_text.specs.declared.words.faults.LineWhy.TheVariants as why
@@ -113,10 +113,10 @@ next-turns play number Much = tt
 next-turns play number End = record { world = refl; events = refl; configured = λ _. (refl, refl) }
 
 -- once there is a world
-abbrev RunsOn : ControlledWorld Both → Play → Gone Scene Play → Type 0
+abbrev RunsOn : ControlledWorld Both → Play → LinesResult Scene Play → Type 0
 RunsOn w play whole = IsRun w whole.deeds (world_of whole.last) × Configured play whole.last
 
-runs-by : (rest : Play → Gone Scene Play) (number given : ℕ) → ((next : Play) (w : ControlledWorld Both) → next.world ≡ Some w → RunsOn w next (rest next))
+runs-by : (rest : Play → LinesResult Scene Play) (number given : ℕ) → ((next : Play) (w : ControlledWorld Both) → next.world ≡ Some w → RunsOn w next (rest next))
     → (play : Play) (w : ControlledWorld Both) → play.world ≡ Some w → (verdict : LineVerdict Scene Play) → Turns play verdict
     → RunsOn w play (gone_by play number given verdict rest)
 runs-by rest number given on play w is (Accepted None next) turns =
@@ -139,10 +139,10 @@ runs-on (line ∷ lines) number given play w is =
     (by_next run_job play number (next_in_lines given (line ∷ lines))) (next-turns play number (next_in_lines given (line ∷ lines)))
 
 -- until there is one
-abbrev RunsFirst : Gone Scene Play → Type 0
+abbrev RunsFirst : LinesResult Scene Play → Type 0
 RunsFirst whole = IsRun (world_at_first whole) whole.deeds (world_of whole.last)
 
-first-by : (rest : Play → Gone Scene Play) (number given : ℕ) → ((next : Play) (w : ControlledWorld Both) → next.world ≡ Some w → RunsOn w next (rest next))
+first-by : (rest : Play → LinesResult Scene Play) (number given : ℕ) → ((next : Play) (w : ControlledWorld Both) → next.world ≡ Some w → RunsOn w next (rest next))
     → ((next : Play) → next.world ≡ None → RunsFirst (rest next)) → (play : Play) → play.world ≡ None → (verdict : LineVerdict Scene Play) → Turns play verdict
     → RunsFirst (gone_by play number given verdict rest)
 first-by rest number given on first play is (Accepted None next) turns = first next (turns.world ∙ is)

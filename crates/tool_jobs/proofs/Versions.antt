@@ -17,7 +17,7 @@ use Rattle.feature_machine.specs.Lists.{with_offer}
 use Rattle.schedule_text.specs.Reading.{read_line}
 use Rattle.schedule_text.specs.declared.line.Line as words
 use Rattle.schedule_text.specs.declared.line.Line.TheVariants as line
-use Rattle.tool_text.specs.Jobs.{Gone, LineVerdict, Accepted, Refused, by_next, gone_by, gone_from, most_events}
+use Rattle.tool_text.specs.Jobs.{LinesResult, LineVerdict, Accepted, Refused, by_next, gone_by, gone_from, most_events}
 use Rattle.tool_jobs.specs.Scenes.{Scene}
 use Rattle.tool_jobs.specs.Transcript.{by_line, by_scene, config_of, configures, event_shown, first_play, judged_line, offering, performed, run_job, says_event, says_plain, says_version, vectors_of, wishing, with_config, with_header, with_iss, with_offered, with_set, with_vectors, world_of}
 use Rattle.tool_jobs.specs.Versions.{HaveVectors, vectors_by, vectors_next, vectors_said}
@@ -122,7 +122,7 @@ next-stays play number (Long front) settled = tt
 next-stays play number Much settled = tt
 next-stays play number End settled = (settled, λ vectors have. have)
 
-stays-by : (rest : Play → Gone Scene Play) (number given : ℕ) (vectors : Vectors)
+stays-by : (rest : Play → LinesResult Scene Play) (number given : ℕ) (vectors : Vectors)
     → ((next : Play) → IsSettled next → HaveVectors vectors next → HaveVectors vectors (rest next).last) → (play : Play) → HaveVectors vectors play
     → (verdict : LineVerdict Scene Play) → Stays play verdict → HaveVectors vectors (gone_by play number given verdict rest).last
 stays-by rest number given vectors on play have (Accepted deed next) stays = on next stays.0 (stays.1 vectors have)
@@ -199,7 +199,7 @@ next-opens play number End unsaid = Waits (λ later. refl)
 have-by : (one other : Vectors) (play : Play) → one ≡ other → HaveVectors other play → HaveVectors one play
 have-by one other play same have = record { client = have.client ∙ sym same; server = have.server ∙ sym same }
 
-opens-by : (rest : Play → Gone Scene Play) (number given : ℕ) (later : Vectors) (vectors : Vectors → Vectors)
+opens-by : (rest : Play → LinesResult Scene Play) (number given : ℕ) (later : Vectors) (vectors : Vectors → Vectors)
     → ((next : Play) (own : Vectors) → IsSettled next → HaveVectors own next → HaveVectors own (rest next).last)
     → ((next : Play) → IsUnsaid next → HaveVectors later (rest next).last) → (play : Play) → IsUnsaid play
     → (verdict : LineVerdict Scene Play) → Opens play vectors verdict → HaveVectors (vectors later) (gone_by play number given verdict rest).last

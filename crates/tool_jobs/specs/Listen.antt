@@ -10,7 +10,7 @@ use Rattle.dccp_listener.specs.declared.peer.Peer.{Peer}
 use Rattle.dccp_sum.specs.declared.pseudo_header.Pseudo.{Pseudo}
 use Rattle.dccp_sum.specs.declared.pseudo_header.Pseudo.TheVariants.{V4}
 use Rattle.feature_machine.specs.Lists.{usual_lists}
-use Rattle.tool_text.specs.Jobs.{Accepted, Gone, Job, Refused, LineVerdict, gone_through, text_of_job, most_events}
+use Rattle.tool_text.specs.Jobs.{Accepted, LinesResult, Job, Refused, LineVerdict, gone_through, text_of_job, most_events}
 use Rattle.tool_jobs.specs.Ends.{arriving}
 use Rattle.tool_text.specs.Refusals.{whole_line}
 use Rattle.tool_text.specs.declared.words.faults.LineFault.{LineFault}
@@ -82,7 +82,7 @@ abbrev pub listen_job : Job Exchange Serving
 listen_job = record { judged = peer_line_judged; told = exchange_text; ending = λ s. flow_lines s.listener.flows }
 
 -- the result of an input, from a listener without flows that may have so many
-abbrev pub listened : ℕ → List ℕ → Gone Exchange Serving
+abbrev pub listened : ℕ → List ℕ → LinesResult Exchange Serving
 listened most input = gone_through listen_job (first_serving most) input
 
 -- What `listen` writes of an input.

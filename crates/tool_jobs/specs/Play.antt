@@ -9,7 +9,7 @@ use Rattle.tool_text.specs.declared.words.faults.LineFault.{LineFault}
 use Rattle.tool_text.specs.declared.words.faults.LineWhy.TheVariants as why
 use Rattle.tool_text.specs.Refusals.{fault_at, whole_line}
 use Rattle.tool_text.specs.Words.{word_at, words_of}
-use Rattle.tool_text.specs.Jobs.{Accepted, Gone, Job, Refused, LineVerdict, gone_through, text_of_job, most_events}
+use Rattle.tool_text.specs.Jobs.{Accepted, LinesResult, Job, Refused, LineVerdict, gone_through, text_of_job, most_events}
 use Rattle.tool_jobs.specs.declared.ecn.play.EcnPlay.{EcnPlay}
 use Rattle.tool_jobs.specs.Forms.{read_ecn_line}
 use Rattle.tool_jobs.specs.SeenText.{ecn_ending, ecn_event_line}
@@ -50,7 +50,7 @@ abbrev pub ecn_job : Job (List ℕ) EcnPlay
 ecn_job = record { judged = ecn_judged; told = λ text. text; ending = λ play. ecn_ending play.world }
 
 -- the result of an input
-abbrev pub ecn_of_input : List ℕ → Gone (List ℕ) EcnPlay
+abbrev pub ecn_of_input : List ℕ → LinesResult (List ℕ) EcnPlay
 ecn_of_input input = gone_through ecn_job first_ecn_play input
 
 -- What `ecn` writes of an input.

@@ -14,7 +14,7 @@ use Rattle.schedule_text.specs.declared.line.FrameLine.{FrameLine}
 use Rattle.tool_text.specs.declared.words.faults.LineFault.{LineFault}
 use Rattle.tool_jobs.specs.EndLines.{bytes_line, end_line}
 use Rattle.tool_jobs.specs.Ends.{arriving, config_without_offers, role_of}
-use Rattle.tool_text.specs.Jobs.{Accepted, Gone, Job, Refused, LineVerdict, gone_through, text_of_job}
+use Rattle.tool_text.specs.Jobs.{Accepted, LinesResult, Job, Refused, LineVerdict, gone_through, text_of_job}
 
 -- The state of a replay: how many frames its end has sent, whose end it is, and the end.
 pub record ReplayState (E : Type 0) : Type 0 where
@@ -112,7 +112,7 @@ abbrev pub replay_job : {E : Type 0} → Acts E → Job (List ℕ) (ReplayState 
 replay_job acts = record { judged = replay_judged acts; told = λ text. text; ending = λ replay. end_line replay.side (acts.standing replay.end) }
 
 -- the result of an input whose frames arrive at this new end of this side
-abbrev pub replay_of_input : {E : Type 0} → Acts E → Side → E → List ℕ → Gone (List ℕ) (ReplayState E)
+abbrev pub replay_of_input : {E : Type 0} → Acts E → Side → E → List ℕ → LinesResult (List ℕ) (ReplayState E)
 replay_of_input acts side end input = gone_through (replay_job acts) (begun_replay acts side end).replay input
 
 -- What is written of an input: the text before the first line, and that of the lines.

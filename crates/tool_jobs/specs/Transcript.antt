@@ -33,7 +33,7 @@ use Rattle.tool_text.specs.declared.words.faults.LineWhy.{LineWhy}
 use Rattle.tool_text.specs.declared.words.faults.LineWhy.TheVariants as why
 use Rattle.tool_jobs.specs.declared.run.play.Play.{Play}
 use Rattle.tool_jobs.specs.Ends.{config_without_offers}
-use Rattle.tool_text.specs.Jobs.{Gone, Job, LineVerdict, Accepted, Refused, gone_through, text_of_job, most_events}
+use Rattle.tool_text.specs.Jobs.{LinesResult, Job, LineVerdict, Accepted, Refused, gone_through, text_of_job, most_events}
 use Rattle.tool_jobs.specs.Scenes.{Scene, scene_text}
 use Rattle.tool_jobs.specs.WorldLines.{end_lines}
 
@@ -193,7 +193,7 @@ pub record IsPlayable (play : Play) : Type 0 where
   pub few : IfSome play.world (λ w. SentFew w play.events)
 
 -- The result of an input, played from the two usual ends.
-abbrev pub performed : List ℕ → Gone Scene Play
+abbrev pub performed : List ℕ → LinesResult Scene Play
 performed input = gone_through run_job first_play input
 
 -- What `run` writes of an input.
@@ -210,7 +210,7 @@ accepted_bytes input = (performed input).accepted
 
 -- Each event took place in a safe world and left a safe one, and the schedule ends in a safe one: the worlds of which
 -- the lines are made.
-abbrev pub IsSafeThroughout : Gone Scene Play → Type 0
+abbrev pub IsSafeThroughout : LinesResult Scene Play → Type 0
 IsSafeThroughout whole =
     All (λ scene. Safe kinds_control scene.before × Safe kinds_control scene.step.after) whole.deeds × Safe kinds_control (world_of whole.last)
 
@@ -219,5 +219,5 @@ abbrev pub SafeThroughout : List ℕ → Type 0
 SafeThroughout input = IsSafeThroughout (performed input)
 
 -- The two ends as they are configured at last, to which nothing has happened.
-abbrev pub world_at_first : Gone Scene Play → ControlledWorld Both
+abbrev pub world_at_first : LinesResult Scene Play → ControlledWorld Both
 world_at_first whole = starts whole.last.client whole.last.server

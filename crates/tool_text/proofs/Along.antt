@@ -6,7 +6,7 @@ use Rattle.std.specs.Io.KnownBytes.{append_known, prepend_known}
 use Rattle.std.specs.Prelude.{flat_map, is_some}
 use Rattle.dccp_io.specs.Fronts.{GivesAtMost}
 use Rattle.dccp_io.specs.Lines.{Line, first_line, lines_of, next_in_bytes, text_of}
-use Rattle.tool_text.specs.Jobs.{Job, LineVerdict, Accepted, Refused, Judges, Gone, GoesIn, by_next, deeds_of, gone_by, gone_from, gone_so_far, gone_through, last_in, line_text, onto, refusal_at, refusal_in, refusal_told, text_in}
+use Rattle.tool_text.specs.Jobs.{Job, LineVerdict, Accepted, Refused, Judges, LinesResult, GoesIn, by_next, deeds_of, gone_by, gone_from, gone_so_far, gone_through, last_in, line_text, onto, refusal_at, refusal_in, refusal_told, text_in}
 use Rattle.tool_text.specs.Turns.{Leaves}
 use Rattle.tool_text.proofs.FirstLine.{gone-cut, is-line}
 use Rattle.tool_text.specs.Ends.{HasBegun, IsCutOff, IsMovedOut}
@@ -53,7 +53,7 @@ module _ {P V : Type 0} (job : Job P V) (first : V) where
     told = append_assoc along.written moved kept ∙ ap (λ (more : List ℕ). along.written ++ more) (sym parts) ∙ along.told;
   }
 
-  onto-onto : (deeds more : List P) (rest : Gone P V) → onto deeds (onto more rest) ≡ onto (deeds ++ more) rest
+  onto-onto : (deeds more : List P) (rest : LinesResult P V) → onto deeds (onto more rest) ≡ onto (deeds ++ more) rest
   onto-onto deeds more rest = ap (λ (all : List P). record rest { deeds = all }) (sym (append_assoc deeds more rest.deeds))
 
   line-told : (deed : Option P) → line_text job deed ≡ flat_map job.told (deeds_of deed)
@@ -122,7 +122,7 @@ module _ {P V : Type 0} (job : Job P V) (first : V) where
       (here.1 ∙ ap Some moved) refl goes judges
 
   -- the text of what is left follows that of what was done
-  text-onto : (apart : Bool) (front : List ℕ) (deeds : List P) (rest : Gone P V)
+  text-onto : (apart : Bool) (front : List ℕ) (deeds : List P) (rest : LinesResult P V)
       → front ++ text_in apart job (onto deeds rest) ≡ (front ++ flat_map job.told deeds) ++ text_in apart job rest
   text-onto apart front deeds rest =
       let last = last_in apart job rest.last rest.number rest.refusal in
@@ -130,12 +130,12 @@ module _ {P V : Type 0} (job : Job P V) (first : V) where
       ∙ ap (λ (more : List ℕ). front ++ more) (append_assoc (flat_map job.told deeds) (flat_map job.told rest.deeds) last)
       ∙ sym (append_assoc front (flat_map job.told deeds) (text_in apart job rest))
 
-  whole-text : (apart : Bool) (rest : Gone P V) (state : V) (number given : ℕ) (left : Option (List ℕ)) (front text : List ℕ) (before after : Option (List ℕ)) (input : List ℕ)
+  whole-text : (apart : Bool) (rest : LinesResult P V) (state : V) (number given : ℕ) (left : Option (List ℕ)) (front text : List ℕ) (before after : Option (List ℕ)) (input : List ℕ)
       (along : Along job first state number given left front text before after input)
       → gone_from job state number given (lines_of (drop given input)) ≡ rest
       → front ++ text_in apart job (gone_through job first input) ≡ along.written ++ (text ++ text_in apart job rest)
   whole-text apart rest state number given left front text before after input along is =
-      ap (λ (gone : Gone P V). front ++ text_in apart job gone) (along.whole ∙ ap (onto along.deeds) is)
+      ap (λ (gone : LinesResult P V). front ++ text_in apart job gone) (along.whole ∙ ap (onto along.deeds) is)
       ∙ text-onto apart front along.deeds rest
       ∙ ap (λ (told : List ℕ). told ++ text_in apart job rest) (sym along.told)
       ∙ append_assoc along.written text (text_in apart job rest)
@@ -168,7 +168,7 @@ module _ {P V : Type 0} (job : Job P V) (first : V) where
         let rest = gone_so_far state number given refusal in
         let whole : gone_through job first input ≡ onto along.deeds rest = along.whole ∙ ap (onto along.deeds) is in
         let parts = whole-text apart rest state number given left front text before after input along is in
-        let refused : is_some (gone_through job first input).refusal ≡ is_some refusal = ap (λ (gone : Gone P V). is_some gone.refusal) whole in
+        let refused : is_some (gone_through job first input).refusal ≡ is_some refusal = ap (λ (gone : LinesResult P V). is_some gone.refusal) whole in
         record {
           answers = record {
             whole = λ answered.
@@ -179,9 +179,9 @@ module _ {P V : Type 0} (job : Job P V) (first : V) where
             done = λ done. (refused ∙ leaves.done done, none done);
             input = λ is_input. refused ∙ leaves.input is_input;
           };
-          past = λ is_input. subst (λ (n : ℕ). GivesAtMost 16384 (Some (drop n input)) known) (sym (ap (λ (gone : Gone P V). gone.accepted) whole))
+          past = λ is_input. subst (λ (n : ℕ). GivesAtMost 16384 (Some (drop n input)) known) (sym (ap (λ (gone : LinesResult P V). gone.accepted) whole))
               (far is_input);
-          kept = λ _. (number, subst (λ (last : V). Keeps last number) (sym (ap (λ (gone : Gone P V). gone.last) whole)) kept);
+          kept = λ _. (number, subst (λ (last : V). Keeps last number) (sym (ap (λ (gone : LinesResult P V). gone.last) whole)) kept);
           refused = λ _. told ∙ sym (ap refusal_told whole);
         }
 

@@ -54,7 +54,7 @@ by_next job state number End = Accepted None state
 
 -- The result of the lines of an input: what they did, the state after them, the number of the line after the last that
 -- was accepted, how many bytes the accepted ones have, and why the line after them is refused, if it is.
-pub record Gone (P V : Type 0) : Type 0 where
+pub record LinesResult (P V : Type 0) : Type 0 where
   pub deeds : List P
   pub last : V
   pub number : ℕ
@@ -67,26 +67,26 @@ deeds_of None = []
 deeds_of (Some deed) = deed ∷ []
 
 -- deeds before those of the lines that follow
-abbrev pub onto : {P V : Type 0} → List P → Gone P V → Gone P V
+abbrev pub onto : {P V : Type 0} → List P → LinesResult P V → LinesResult P V
 onto deeds rest = record rest { deeds = deeds ++ rest.deeds }
 
 -- no further line counts
-abbrev pub gone_so_far : {P V : Type 0} → V → ℕ → ℕ → Option LineFault → Gone P V
+abbrev pub gone_so_far : {P V : Type 0} → V → ℕ → ℕ → Option LineFault → LinesResult P V
 gone_so_far state number given refusal = record { deeds = []; last = state; number = number; accepted = given; refusal = refusal }
 
 -- the lines that follow count after an accepted line; a refused one is the last
-abbrev pub gone_by : {P V : Type 0} → V → ℕ → ℕ → LineVerdict P V → (V → Gone P V) → Gone P V
+abbrev pub gone_by : {P V : Type 0} → V → ℕ → ℕ → LineVerdict P V → (V → LinesResult P V) → LinesResult P V
 gone_by state number given (Accepted deed next) rest = onto (deeds_of deed) (rest next)
 gone_by state number given (Refused fault) rest = gone_so_far state number given (Some fault)
 
 -- The result of these lines, after so many bytes that were given; the first has this number.
-abbrev pub gone_from : {P V : Type 0} → Job P V → V → ℕ → ℕ → List (List ℕ) → Gone P V
+abbrev pub gone_from : {P V : Type 0} → Job P V → V → ℕ → ℕ → List (List ℕ) → LinesResult P V
 gone_from job state number given [] = gone_so_far state number given None
 gone_from job state number given (line ∷ lines) =
     gone_by state number given (by_next job state number (next_in_lines given (line ∷ lines))) (λ next. gone_from job next (number + 1) (given + length line) lines)
 
 -- The result of a whole input, from the job's first state.
-abbrev pub gone_through : {P V : Type 0} → Job P V → V → List ℕ → Gone P V
+abbrev pub gone_through : {P V : Type 0} → Job P V → V → List ℕ → LinesResult P V
 gone_through job first input = gone_from job first 1 0 (lines_of input)
 
 -- the line of a refusal, if refusals are written to the output
@@ -105,16 +105,16 @@ last_lines job last number refusal = last_in false job last number refusal
 
 -- What is written of an input, if refusals are written to the output or not: the text of each deed, and what comes
 -- last.
-abbrev pub text_in : {P V : Type 0} → Bool → Job P V → Gone P V → List ℕ
+abbrev pub text_in : {P V : Type 0} → Bool → Job P V → LinesResult P V → List ℕ
 text_in apart job gone = flat_map job.told gone.deeds ++ last_in apart job gone.last gone.number gone.refusal
 
 -- What is written of an input: the text of each deed, and the last lines.
-abbrev pub text_of_job : {P V : Type 0} → Job P V → Gone P V → List ℕ
+abbrev pub text_of_job : {P V : Type 0} → Job P V → LinesResult P V → List ℕ
 text_of_job job gone = text_in false job gone
 
 -- What is written of an input if refusals are not written to the output: the text of each deed, and the text at the
 -- input's end.
-abbrev pub text_apart : {P V : Type 0} → Job P V → Gone P V → List ℕ
+abbrev pub text_apart : {P V : Type 0} → Job P V → LinesResult P V → List ℕ
 text_apart job gone = text_in true job gone
 
 -- the refusal of the line of this number, if it is refused
@@ -123,7 +123,7 @@ refusal_at number None = None
 refusal_at number (Some fault) = Some (record { number = number; fault = fault })
 
 -- The refusal of an input, if it has one.
-abbrev pub refusal_told : {P V : Type 0} → Gone P V → Option LineRefusal
+abbrev pub refusal_told : {P V : Type 0} → LinesResult P V → Option LineRefusal
 refusal_told gone = refusal_at gone.number gone.refusal
 
 -- The lines of an input were gone through, after a text that comes first: what was written and how the job ended, how
