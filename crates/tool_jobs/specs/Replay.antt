@@ -74,17 +74,17 @@ abbrev pub after_act : {E : Type 0} → ReplayState E → ReplayStep E → Repla
 after_act replay act = record { sent = replay.sent + count act.frame; side = replay.side; end = act.after }
 
 -- What comes before the first line: its text, and the state of the replay after it.
-pub record Begun (E : Type 0) : Type 0 where
+pub record ReplayStart (E : Type 0) : Type 0 where
   pub text : List ℕ
   pub replay : ReplayState E
 
 -- A client opens first; a server waits.
-abbrev pub begun_from : {E : Type 0} → Acts E → ReplayState E → Side → Begun E
+abbrev pub begun_from : {E : Type 0} → Acts E → ReplayState E → Side → ReplayStart E
 begun_from acts replay Client = record { text = act_lines replay (acts.opening replay.end); replay = after_act replay (acts.opening replay.end) }
 begun_from acts replay Server = record { text = []; replay = replay }
 
 -- what comes before the first line of a replay of this side, at this new end
-abbrev pub begun_replay : {E : Type 0} → Acts E → Side → E → Begun E
+abbrev pub begun_replay : {E : Type 0} → Acts E → Side → E → ReplayStart E
 begun_replay acts side end = begun_from acts (first_replay side end) side
 
 -- a line whose frame arrived is accepted, whatever its end made of the frame
