@@ -21,13 +21,13 @@ abbrev pub parts_by : Packet → Parts
 parts_by p = record { header = p.header; options = p.options.now; payload = p.payload.now }
 
 -- the result of a record: the text that is written, whether there is a line, and the flows that were seen
-pub record Showing : Type 0 where
+pub record ShowStep : Type 0 where
   pub text : List ℕ
   pub shown : Shown
   pub flows : List Flow
 
 -- the text was written after what stood there, the flows are those, and that was answered
-pub record Shows (showing : Showing) (old new : List ℕ) (seen : List Flow) (answer : Shown) : Type 0 where
+pub record Shows (showing : ShowStep) (old new : List ℕ) (seen : List Flow) (answer : Shown) : Type 0 where
   pub written : new ≡ old ++ showing.text
   pub noted : seen ≡ showing.flows
   pub answered : answer ≡ showing.shown
@@ -77,30 +77,30 @@ abbrev pub malformed_line : RecordParts → Malformed → List ℕ
 malformed_line entry why = stamp_text entry ++ codes " malform" ++ codes "ed " ++ malformed_name why ++ codes "\n"
 
 -- no line
-abbrev pub skips : List Flow → Showing
+abbrev pub skips : List Flow → ShowStep
 skips seen = record { text = []; shown = Skipped; flows = seen }
 
 -- a packet's line, which numbers its flow
-abbrev pub shows_packet : List Flow → RecordParts → DatagramParts → Parts → Flow → Showing
+abbrev pub shows_packet : List Flow → RecordParts → DatagramParts → Parts → Flow → ShowStep
 shows_packet seen entry there packet flow =
     record { text = packet_line entry there packet (flow_number flow seen); shown = Line; flows = with_flow flow seen }
 
 -- bytes that are complete but no packet have a line too, and no flow; if bytes are missing, the record is skipped
-abbrev pub shows_malformed : List Flow → RecordParts → Bool → Malformed → Showing
+abbrev pub shows_malformed : List Flow → RecordParts → Bool → Malformed → ShowStep
 shows_malformed seen entry true why = record { text = malformed_line entry why; shown = Line; flows = seen }
 shows_malformed seen entry false why = skips seen
 
 -- the result of DCCP bytes, which may be a packet or not
-abbrev pub shows_decoded : List Flow → RecordParts → DatagramParts → Result Parts Malformed → Showing
+abbrev pub shows_decoded : List Flow → RecordParts → DatagramParts → Result Parts Malformed → ShowStep
 shows_decoded seen entry there (Ok packet) =
     shows_packet seen entry there packet (flow_of there.pseudo packet.header.from packet.header.to)
 shows_decoded seen entry there (Err why) = shows_malformed seen entry there.whole why
 
 -- a record that carries no DCCP is skipped
-abbrev pub shows_carried : List Flow → RecordParts → Option DatagramParts → Showing
+abbrev pub shows_carried : List Flow → RecordParts → Option DatagramParts → ShowStep
 shows_carried seen entry None = skips seen
 shows_carried seen entry (Some there) = shows_decoded seen entry there (decoded there.bytes)
 
 -- the result of a record, after these flows were seen
-abbrev pub shows : List Flow → RecordParts → Showing
+abbrev pub shows : List Flow → RecordParts → ShowStep
 shows seen entry = shows_carried seen entry (carried entry.link entry.bytes)

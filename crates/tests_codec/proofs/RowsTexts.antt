@@ -3,7 +3,7 @@
 use Rattle.std.proofs.Common.{◌≡◌, refl, ℕ, false, [], length, codes}
 use Rattle.std.specs.Fmt.{digits}
 use Rattle.capture_reader.specs.Records.{RecordParts}
-use Rattle.packet_show.specs.Lines.{Showing, shows}
+use Rattle.packet_show.specs.Lines.{ShowStep, shows}
 use Rattle.packet_show.specs.declared.flows.Shown.TheVariants.{Line, Skipped}
 use Rattle.tests_codec.proofs.RowsSeen.{bytes}
 
@@ -20,7 +20,7 @@ shortest link = record {
 }
 
 -- the line in raw IP, and of one flow
-abbrev in_raw_ip : Showing
+abbrev in_raw_ip : ShowStep
 in_raw_ip = shows [] (shortest 101)
 
 -- A line in raw IP, which notes its flow; and nothing on a link that is neither, whatever flows were seen
