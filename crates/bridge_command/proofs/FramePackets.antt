@@ -13,7 +13,7 @@ use Rattle.capture_reader.specs.Records.{RecordParts}
 use Rattle.packet_show.specs.Flows.{AddressAndPort, Flow, flow_number, flow_of, from_end, with_flow}
 use Rattle.bridge_pictures.specs.Walk.{record_after_link, side_from}
 use Rattle.packet_show.specs.Network.{DatagramParts, after_v4, after_v6, in_ip, in_v4, in_v6, is_v4, is_v6, v4_header, v4_total, v6_payload}
-use Rattle.bridge_records.specs.Pieces.{Goes, Judgement, Piece, PieceNext, PieceWork, PieceWrong, Stops, Taken, by_next_piece, most_piece_bytes, next_piece, pieces_from, taken_by}
+use Rattle.bridge_records.specs.Pieces.{Goes, Judgement, Piece, PieceNext, PieceWork, PieceWrong, Stops, PiecesResult, by_next_piece, most_piece_bytes, next_piece, pieces_from, taken_by}
 use Rattle.bridge_records.specs.declared.pieces.fault.PieceFault.TheVariants as why
 use Rattle.bridge_records.specs.Reading.{FileState, bytes_held, file_judged, next_length}
 use Rattle.bridge_records.specs.Recording.{RecordStep, RecordsState, by_judged, first_reading, numbered_entry, records_work}
@@ -202,7 +202,7 @@ next-reads s given byte bytes are =
     (either (λ (next : PieceNext). IsJudgedBack (by_next_piece job s next)) (nat_lt (length (byte ∷ bytes)) wanted) (PieceWrong why.CutShort)
     (Piece piece) tt judged)
 
-taken-reads : (s : Reading) (given : ℕ) (judged : Judgement FlowPacket Reading) (rest : Reading → Taken FlowPacket Reading) → IsJudgedBack judged
+taken-reads : (s : Reading) (given : ℕ) (judged : Judgement FlowPacket Reading) (rest : Reading → PiecesResult FlowPacket Reading) → IsJudgedBack judged
     → ((next : Reading) → All IsReadBack (rest next).deeds) → All IsReadBack (taken_by s given judged rest).deeds
 taken-reads s given (Goes None next) rest back more = more next
 taken-reads s given (Goes (Some packet) next) rest back more = All-cons IsReadBack packet (rest next).deeds back (more next)

@@ -2,7 +2,7 @@
 use Rattle.std.proofs.Common.{◌≡◌, refl, ap, Bool, false, ℕ, zero, suc, ◌+◌, ◌-◌, List, [], ◌∷◌, map, Some, None}
 use Rattle.capture_reader.specs.Records.{RecordParts}
 use Rattle.bridge_records.specs.Writing.{RawRecord}
-use Rattle.bridge_records.specs.Pieces.{Goes, Judgement, Piece, PieceEnd, PieceNext, PieceWrong, Stops, Taken, by_next_piece, next_piece, pieces_from, taken_by}
+use Rattle.bridge_records.specs.Pieces.{Goes, Judgement, Piece, PieceEnd, PieceNext, PieceWrong, Stops, PiecesResult, by_next_piece, next_piece, pieces_from, taken_by}
 use Rattle.bridge_records.specs.Reading.{FileState, bytes_held, file_judged, first_file, next_length}
 use Rattle.bridge_records.specs.Recording.{RecordsState, by_judged, numbered_entry, reading_at, records_work}
 use Rattle.bridge_records.specs.declared.content.Content.{Content}
@@ -25,11 +25,11 @@ abbrev with : FileState → Bool → ℕ → JsonParts → Knowing
 with file nanos n s = reading_at file nanos n s
 
 -- the records that were made are those that were told, and both end alike
-record AreSame (made : Taken CapturePart State) (told : Taken RecordTold Knowing) : Type 0 where
+record AreSame (made : PiecesResult CapturePart State) (told : PiecesResult RecordTold Knowing) : Type 0 where
   records : records_among made.deeds ≡ map (λ t. unwrapped_entry t.entry) told.deeds
   refusal : made.refusal ≡ told.refusal
 
-module _ (file : FileState) (nanos : Bool) (n given : ℕ) (s : JsonParts) (made : State → Taken CapturePart State) (told : Knowing → Taken RecordTold Knowing)
+module _ (file : FileState) (nanos : Bool) (n given : ℕ) (s : JsonParts) (made : State → PiecesResult CapturePart State) (told : Knowing → PiecesResult RecordTold Knowing)
     (later : (next : FileState) (nanos : Bool) (n : ℕ) (s : JsonParts) → AreSame (made (at next nanos n)) (told (with next nanos n s))) where
   -- what a piece holds
   abbrev both : Judgement CapturePart State → Judgement RecordTold Knowing → Type 0

@@ -11,7 +11,7 @@ use Rattle.packet_show.specs.Flows.{AddressAndPort, Flow, flow_number, flow_of, 
 use Rattle.bridge_pictures.specs.Walk.{ends_by, record_after_link, side_from}
 use Rattle.packet_show.specs.Lines.{packet_line}
 use Rattle.packet_show.specs.Network.{DatagramParts, carried}
-use Rattle.bridge_records.specs.Pieces.{Taken, text_of_pieces}
+use Rattle.bridge_records.specs.Pieces.{PiecesResult, text_of_pieces}
 use Rattle.bridge_records.specs.Recording.{RecordStep, RecordWork, RecordsState, records_of, records_work}
 use Rattle.schedule_text.specs.Frames.{frame_line, read_frame}
 use Rattle.schedule_text.specs.declared.line.FrameLine.{FrameLine}
@@ -131,7 +131,7 @@ frames_work = record {
 }
 
 -- what the pieces of an input come to, for this flow and side
-abbrev pub frames_pieces : ℕ → Side → List ℕ → Taken FlowPacket (RecordsState FlowSearch)
+abbrev pub frames_pieces : ℕ → Side → List ℕ → PiecesResult FlowPacket (RecordsState FlowSearch)
 frames_pieces flow side input = records_of frames_work (first_framing flow side) input
 
 -- What `frames` writes of an input.

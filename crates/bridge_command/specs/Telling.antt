@@ -3,7 +3,7 @@ use Rattle.std.specs.Prelude.{ℕ, Bool, is_some, List, [], ◌∷◌, codes, Op
 use Rattle.capture_reader.specs.Records.{RecordParts}
 use Rattle.packet_show.specs.Flows.{Flow}
 use Rattle.bridge_links.specs.Links.{ip_bytes}
-use Rattle.bridge_records.specs.Pieces.{Taken, text_of_pieces}
+use Rattle.bridge_records.specs.Pieces.{PiecesResult, text_of_pieces}
 use Rattle.bridge_records.specs.declared.pieces.fault.PieceFault.{PieceFault}
 use Rattle.bridge_records.specs.Recording.{RecordWork, RecordsState, records_of, records_work}
 use Rattle.bridge_command.specs.Unwrapping.{piece_fault_name}
@@ -71,7 +71,7 @@ json_work = record {
 }
 
 -- what the pieces of an input come to
-abbrev pub json_pieces : Bool → List ℕ → Taken RecordTold (RecordsState JsonParts)
+abbrev pub json_pieces : Bool → List ℕ → PiecesResult RecordTold (RecordsState JsonParts)
 json_pieces payload input = records_of json_work (first_telling payload) input
 
 -- What `json` writes of an input.

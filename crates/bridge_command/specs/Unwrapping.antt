@@ -2,7 +2,7 @@
 use Rattle.std.specs.Prelude.{ℕ, ◌-◌, ◌==◌, Bool, false, is_some, if◌then◌else◌, List, [], ◌∷◌, length, map, codes, Option, Some, None}
 use Rattle.capture_reader.specs.Records.{RecordParts}
 use Rattle.bridge_records.specs.Writing.{RawRecord, file_header, raw_record}
-use Rattle.bridge_records.specs.Pieces.{Taken, text_of_pieces}
+use Rattle.bridge_records.specs.Pieces.{PiecesResult, text_of_pieces}
 use Rattle.bridge_records.specs.declared.pieces.fault.PieceFault.{PieceFault}
 use Rattle.bridge_records.specs.declared.pieces.fault.PieceFault.TheVariants as why
 use Rattle.bridge_records.specs.Recording.{RecordWork, RecordsState, records_of, records_work}
@@ -70,7 +70,7 @@ unwrap_work = record {
 }
 
 -- what the pieces of an input come to
-abbrev pub unwrapped_pieces : List ℕ → Taken CapturePart (RecordsState (Unit {0}))
+abbrev pub unwrapped_pieces : List ℕ → PiecesResult CapturePart (RecordsState (Unit {0}))
 unwrapped_pieces input = records_of unwrap_work tt input
 
 -- What `unwrap` writes of an input.

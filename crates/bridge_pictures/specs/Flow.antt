@@ -1,6 +1,6 @@
 -- What `ladder --flow` draws of a capture, classic or pcapng: the packets of one flow (own).
 use Rattle.std.specs.Prelude.{ℕ, ◌==◌, Bool, is_some, if◌then◌else◌, List, codes}
-use Rattle.bridge_records.specs.Pieces.{Taken, text_of_pieces}
+use Rattle.bridge_records.specs.Pieces.{PiecesResult, text_of_pieces}
 use Rattle.bridge_records.specs.Recording.{RecordsState, records_of, records_work}
 use Rattle.capture_reader.specs.Records.{RecordParts}
 use Rattle.dccp_packets.specs.Grammar.{Parts, packet_type}
@@ -40,7 +40,7 @@ abbrev pub ladder_kind : PictureKind Drawing
 ladder_kind = record { drawn = step_drawn; text = picture }
 
 -- what the pieces of an input come to
-abbrev pub flow_ladder_pieces : ℕ → List ℕ → Taken (Unit {0}) (RecordsState (FlowDrawing Drawing))
+abbrev pub flow_ladder_pieces : ℕ → List ℕ → PiecesResult (Unit {0}) (RecordsState (FlowDrawing Drawing))
 flow_ladder_pieces flow input = records_of (flow_work ladder_kind) (drawing_of flow first_drawing) input
 
 -- What `ladder --flow` writes of an input.

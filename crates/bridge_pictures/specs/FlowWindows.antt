@@ -1,6 +1,6 @@
 -- What `windows --flow` draws of a capture, classic or pcapng: the windows of one flow (own).
 use Rattle.std.specs.Prelude.{ℕ, ◌==◌, ◌||◌, ◌++◌, nat_lt, Bool, is_some, if◌then◌else◌, List, [], length, flat_map, codes, Result, Ok, Err}
-use Rattle.bridge_records.specs.Pieces.{Taken, text_of_pieces}
+use Rattle.bridge_records.specs.Pieces.{PiecesResult, text_of_pieces}
 use Rattle.bridge_records.specs.Recording.{RecordsState, records_of, records_work}
 use Rattle.capture_reader.specs.Records.{RecordParts}
 use Rattle.ccid_two.specs.Window.{State, first_state}
@@ -83,7 +83,7 @@ abbrev pub windows_kind : PictureKind FlowWindowsParts
 windows_kind = record { drawn = step_charted; text = λ f. graph_picture f.graph confirms_heading [] [] }
 
 -- what the pieces of an input come to
-abbrev pub flow_windows_pieces : ℕ → List ℕ → Taken (Unit {0}) (RecordsState (FlowDrawing FlowWindowsParts))
+abbrev pub flow_windows_pieces : ℕ → List ℕ → PiecesResult (Unit {0}) (RecordsState (FlowDrawing FlowWindowsParts))
 flow_windows_pieces flow input = records_of (flow_work windows_kind) (drawing_of flow first_flow_windows) input
 
 -- What `windows --flow` writes of an input.

@@ -10,7 +10,7 @@ use Rattle.tool_text.specs.Ends.{HasBegun, IsCutOff, IsMovedOut}
 use Rattle.tool_text.specs.declared.output.status.JobEnd.TheVariants as ended
 use Rattle.tool_text.proofs.Ending.{answers-early, append-none, append-twice, begun-after, begun-longer, not-both}
 use Rattle.capture_reader.proofs.Opening.{passed-ahead}
-use Rattle.bridge_records.specs.Pieces.{Goes, GoesThroughPieces, Judgement, JudgesPiece, Piece, PieceWork, Stops, Taken, by_next_piece, done_by, unended, in_front, most_piece_bytes, next_piece, piece_text, pieces_from, pieces_of, taken_by, taken_so_far, text_of_pieces, end_piece}
+use Rattle.bridge_records.specs.Pieces.{Goes, GoesThroughPieces, Judgement, JudgesPiece, Piece, PieceWork, Stops, PiecesResult, by_next_piece, done_by, unended, in_front, most_piece_bytes, next_piece, piece_text, pieces_from, pieces_of, taken_by, taken_so_far, text_of_pieces, end_piece}
 use Rattle.bridge_records.specs.Turns.{LeavesText}
 use Rattle.bridge_records.specs.declared.pieces.fault.PieceFault.{PieceFault}
 use Rattle.bridge_records.specs.declared.pieces.fault.PieceFault.TheVariants.{CutShort}
@@ -51,7 +51,7 @@ module _ {P V : Type 0} (job : PieceWork P V) (first : V) where
     told = append_assoc along.written moved kept ∙ ap (λ (more : List ℕ). along.written ++ more) (sym parts) ∙ along.told;
   }
 
-  front-twice : (deeds more : List P) (rest : Taken P V) → in_front deeds (in_front more rest) ≡ in_front (deeds ++ more) rest
+  front-twice : (deeds more : List P) (rest : PiecesResult P V) → in_front deeds (in_front more rest) ≡ in_front (deeds ++ more) rest
   front-twice deeds more rest = ap (λ (all : List P). record rest { deeds = all }) (sym (append_assoc deeds more rest.deeds))
 
   piece-told : (deed : Option P) → piece_text job deed ≡ flat_map job.told (done_by deed)
@@ -126,13 +126,13 @@ module _ {P V : Type 0} (job : PieceWork P V) (first : V) where
       (ap Some (sym following ∙ moved)) goes judges
 
   -- the text of what is left follows that of what was done
-  text-after : (deeds : List P) (rest : Taken P V) → text_of_pieces job (in_front deeds rest) ≡ flat_map job.told deeds ++ text_of_pieces job rest
+  text-after : (deeds : List P) (rest : PiecesResult P V) → text_of_pieces job (in_front deeds rest) ≡ flat_map job.told deeds ++ text_of_pieces job rest
   text-after deeds rest =
       let last = job.closing rest.last rest.refusal in
       ap (λ (told : List ℕ). told ++ last) (flat_map-append job.told deeds rest.deeds)
       ∙ append_assoc (flat_map job.told deeds) (flat_map job.told rest.deeds) last
 
-  whole-text : (rest : Taken P V) (state : V) (given : ℕ) (left : Option (List ℕ)) (text : List ℕ) (before after : Option (List ℕ)) (input : List ℕ)
+  whole-text : (rest : PiecesResult P V) (state : V) (given : ℕ) (left : Option (List ℕ)) (text : List ℕ) (before after : Option (List ℕ)) (input : List ℕ)
       (along : Along job first state given left text before after input) → pieces_from job 0 state given (drop given input) ≡ rest
       → text_of_pieces job (pieces_of job first input) ≡ along.written ++ (text ++ text_of_pieces job rest)
   whole-text rest state given left text before after input along is =
@@ -172,7 +172,7 @@ module _ {P V : Type 0} (job : PieceWork P V) (first : V) where
         let rest = taken_so_far state given refusal in
         let whole : pieces_of job first input ≡ in_front along.deeds rest = along.whole ∙ ap (in_front along.deeds) is in
         let parts = whole-text rest state given left text before after input along is in
-        let refused : is_some (pieces_of job first input).refusal ≡ is_some refusal = ap (λ (taken : Taken P V). is_some taken.refusal) whole in
+        let refused : is_some (pieces_of job first input).refusal ≡ is_some refusal = ap (λ (taken : PiecesResult P V). is_some taken.refusal) whole in
         let far = passed-ahead 524288 pending known (Some (drop given input)) fits (held ∙ along.rest_is) in
         record {
           answers = record {
@@ -184,9 +184,9 @@ module _ {P V : Type 0} (job : PieceWork P V) (first : V) where
             done = λ done. (refused ∙ leaves.done done, none done);
             input = λ is_input. refused ∙ leaves.input is_input;
           };
-          past = λ is_input. subst (λ (n : ℕ). GivesAtMost 524288 (Some (drop n input)) known) (sym (ap (λ (taken : Taken P V). taken.accepted) whole)) far;
-          refused = λ _. told ∙ sym (ap (λ (taken : Taken P V). taken.refusal) whole);
-          last_is = λ _. stays ∙ sym (ap (λ (taken : Taken P V). taken.last) whole);
+          past = λ is_input. subst (λ (n : ℕ). GivesAtMost 524288 (Some (drop n input)) known) (sym (ap (λ (taken : PiecesResult P V). taken.accepted) whole)) far;
+          refused = λ _. told ∙ sym (ap (λ (taken : PiecesResult P V). taken.refusal) whole);
+          last_is = λ _. stays ∙ sym (ap (λ (taken : PiecesResult P V). taken.last) whole);
         }
 
     pub refused-here : (bytes : List ℕ) (why : PieceFault) → 1 ≤ job.wanted state → by_next_piece job state (next_piece job state given bytes) ≡ Stops why

@@ -1,6 +1,6 @@
 -- What comes next in an input, and the pieces after it.
 use Rattle.std.proofs.Common.{arith, ◌≡◌, refl, sym, ap, ◌∙◌, ℕ, zero, suc, ◌+◌, ◌-◌, ◌≤◌, ◌<◌, List, [], ◌∷◌, length, drop}
-use Rattle.bridge_records.specs.Pieces.{Goes, Judgement, PieceWork, Stops, Taken, by_next_piece, done_by, in_front, next_piece, pieces_from, taken_by}
+use Rattle.bridge_records.specs.Pieces.{Goes, Judgement, PieceWork, Stops, PiecesResult, by_next_piece, done_by, in_front, next_piece, pieces_from, taken_by}
 
 -- the first bytes belong to the piece before
 skipped-bytes : {P V : Type 0} (job : PieceWork P V) (skip : ℕ) (state : V) (given : ℕ) (bytes : List ℕ)
@@ -10,7 +10,7 @@ skipped-bytes job (suc skip) state given [] = refl
 skipped-bytes job (suc skip) state given (byte ∷ bytes) = skipped-bytes job skip state given bytes
 
 -- what follows an accepted piece may be said otherwise
-followed-by : {P V : Type 0} (state : V) (given : ℕ) (judgement : Judgement P V) (rest other : V → Taken P V) → ((next : V) → rest next ≡ other next)
+followed-by : {P V : Type 0} (state : V) (given : ℕ) (judgement : Judgement P V) (rest other : V → PiecesResult P V) → ((next : V) → rest next ≡ other next)
     → taken_by state given judgement rest ≡ taken_by state given judgement other
 followed-by state given (Goes deed next) rest other same = ap (in_front (done_by deed)) (same next)
 followed-by state given (Stops why) rest other same = refl

@@ -15,7 +15,7 @@ use Rattle.capture_reader.specs.declared.format.Order.{Order}
 use Rattle.capture_reader.specs.declared.format.Order.TheVariants.{Big, Little}
 use Rattle.capture_reader.proofs.Capture.{read-capture}
 use Rattle.capture_reader.specs.declared.record.RecordHeader.{RecordHeader}
-use Rattle.bridge_records.specs.Pieces.{Goes, GoesThroughPieces, Judgement, PieceNext, PieceWork, Taken, by_next_piece, done_by, in_front, pieces_from, taken_by}
+use Rattle.bridge_records.specs.Pieces.{Goes, GoesThroughPieces, Judgement, PieceNext, PieceWork, PiecesResult, by_next_piece, done_by, in_front, pieces_from, taken_by}
 use Rattle.bridge_records.proofs.Along.{piece-there}
 use Rattle.bridge_records.proofs.FirstPiece.{pieces-cut}
 use Rattle.bridge_records.specs.declared.pieces.fault.PieceFault.{PieceFault}
@@ -100,7 +100,7 @@ abbrev head-of : ℕ → ℕ → ℕ → ℕ → RecordHeader
 head-of seconds fraction captured original = record { seconds = seconds; fraction = fraction; captured = captured; original = original }
 
 -- what pieces come to that are these records, each handed to the job, and nothing is refused
-record ArePassed {P V : Type 0} (work : RecordWork P V) (job : V) (entries : List RecordParts) (taken : Taken P (RecordsState V)) : Type 0 where
+record ArePassed {P V : Type 0} (work : RecordWork P V) (job : V) (entries : List RecordParts) (taken : PiecesResult P (RecordsState V)) : Type 0 where
   refusal : taken.refusal ≡ None
   deeds : taken.deeds ≡ deeds_along work job entries
 
@@ -125,11 +125,11 @@ module _ {P V : Type 0} (work : RecordWork P V) (format : Format) where
   entry-after n head bytes = numbered_entry (one_more n) format.nanos format.link head bytes
 
   -- the pieces after a header, and what they come to
-  abbrev onward : ℕ → RecordsState V → List ℕ → Taken P (RecordsState V)
+  abbrev onward : ℕ → RecordsState V → List ℕ → PiecesResult P (RecordsState V)
   onward given next bytes = pieces_from pieces 0 next given bytes
 
   -- the same after a record
-  abbrev passing : ℕ → V → RecordParts → ℕ → List ℕ → Taken P (RecordsState V)
+  abbrev passing : ℕ → V → RecordParts → ℕ → List ℕ → PiecesResult P (RecordsState V)
   passing n job entry given bytes = in_front (done_by (work.passed job entry).deed) (onward given (here (one_more n) (work.passed job entry).next) bytes)
 
   -- a header's numbers, read from its piece
@@ -196,7 +196,7 @@ module _ {P V : Type 0} (work : RecordWork P V) (format : Format) where
       ∙ ap (λ (k : ℕ). passing n job (entry-after n head body) (given + k) rest) (sym size)
 
   -- nothing in front
-  same-front : (taken : Taken P (RecordsState V)) → in_front [] taken ≡ taken
+  same-front : (taken : PiecesResult P (RecordsState V)) → in_front [] taken ≡ taken
   same-front taken = refl
 
   -- a record
@@ -304,8 +304,8 @@ module _ {P V : Type 0} (work : RecordWork P V) (format : Format) where
       let here_has : HasRecords format 0 24 (drop 24 input) records None = subst (λ (f : Format). HasRecords f 0 24 (drop 24 input) records None) same has in
       let are = all-passed records 0 24 (work.begun first format.nanos).next (drop 24 input) (omega arith) here_has in
       let begun = input-begun first input (header-taken input format told_so) in (
-        ap (λ (t : Taken P (RecordsState V)). t.refusal) begun ∙ are.refusal,
-        ap (λ (t : Taken P (RecordsState V)). t.deeds) begun ∙ ap (λ (deeds : List P). done_by (work.begun first format.nanos).deed ++ deeds) are.deeds,
+        ap (λ (t : PiecesResult P (RecordsState V)). t.refusal) begun ∙ are.refusal,
+        ap (λ (t : PiecesResult P (RecordsState V)). t.deeds) begun ∙ ap (λ (deeds : List P). done_by (work.begun first format.nanos).deed ++ deeds) are.deeds,
       )
 
 -- Of a capture that a reader of captures takes, which has no fault, each record that it finds is handed to the job, in

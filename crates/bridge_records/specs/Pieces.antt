@@ -68,7 +68,7 @@ by_next_piece job state (PieceWrong why) = Stops why
 
 -- What the pieces of an input come to: what they did, the state after them, how many bytes they have, and why the
 -- input is refused after them, if it is.
-pub record Taken (P V : Type 0) : Type 0 where
+pub record PiecesResult (P V : Type 0) : Type 0 where
   pub deeds : List P
   pub last : V
   pub accepted : ℕ
@@ -80,15 +80,15 @@ done_by None = []
 done_by (Some deed) = deed ∷ []
 
 -- deeds in front of those of the pieces that follow
-abbrev pub in_front : {P V : Type 0} → List P → Taken P V → Taken P V
+abbrev pub in_front : {P V : Type 0} → List P → PiecesResult P V → PiecesResult P V
 in_front deeds rest = record rest { deeds = deeds ++ rest.deeds }
 
 -- no further piece counts
-abbrev pub taken_so_far : {P V : Type 0} → V → ℕ → Option PieceFault → Taken P V
+abbrev pub taken_so_far : {P V : Type 0} → V → ℕ → Option PieceFault → PiecesResult P V
 taken_so_far state given refusal = record { deeds = []; last = state; accepted = given; refusal = refusal }
 
 -- the pieces that follow count after an accepted one; a refused one is the last
-abbrev pub taken_by : {P V : Type 0} → V → ℕ → Judgement P V → (V → Taken P V) → Taken P V
+abbrev pub taken_by : {P V : Type 0} → V → ℕ → Judgement P V → (V → PiecesResult P V) → PiecesResult P V
 taken_by state given (Goes deed next) rest = in_front (done_by deed) (rest next)
 taken_by state given (Stops why) rest = taken_so_far state given (Some why)
 
@@ -97,7 +97,7 @@ abbrev pub unended : Bool → Option PieceFault
 unended may = if may then None else Some CutShort
 
 -- What the pieces come to after `given` bytes; the first `skip` bytes belong to the piece before.
-abbrev pub pieces_from : {P V : Type 0} → PieceWork P V → ℕ → V → ℕ → List ℕ → Taken P V
+abbrev pub pieces_from : {P V : Type 0} → PieceWork P V → ℕ → V → ℕ → List ℕ → PiecesResult P V
 pieces_from job skip state given [] = taken_so_far state given (unended (job.may_end state))
 pieces_from job (suc skip) state given (byte ∷ bytes) = pieces_from job skip state given bytes
 pieces_from job zero state given (byte ∷ bytes) =
@@ -105,11 +105,11 @@ pieces_from job zero state given (byte ∷ bytes) =
     (λ next. pieces_from job (job.wanted state - 1) next (given + job.wanted state) bytes)
 
 -- What a whole input comes to, from the job's first state.
-abbrev pub pieces_of : {P V : Type 0} → PieceWork P V → V → List ℕ → Taken P V
+abbrev pub pieces_of : {P V : Type 0} → PieceWork P V → V → List ℕ → PiecesResult P V
 pieces_of job first input = pieces_from job 0 first 0 input
 
 -- What is written of an input: the text of each deed, and the text after the last piece.
-abbrev pub text_of_pieces : {P V : Type 0} → PieceWork P V → Taken P V → List ℕ
+abbrev pub text_of_pieces : {P V : Type 0} → PieceWork P V → PiecesResult P V → List ℕ
 text_of_pieces job taken = flat_map job.told taken.deeds ++ job.closing taken.last taken.refusal
 
 -- The pieces of an input were gone through: what was written and how it ended, how far the input was read past the last

@@ -3,7 +3,7 @@ use Rattle.std.specs.Prelude.{◌≡◌, ℕ, Bool, false, is_some, List, Option
 use Rattle.capture_reader.specs.Records.{RecordParts}
 use Rattle.capture_reader.specs.declared.record.RecordHeader.{RecordHeader}
 use Rattle.tool_text.specs.Ends.{Answers, IsAnswered, StopsWithin}
-use Rattle.bridge_records.specs.Pieces.{Goes, Judgement, PieceWork, Stops, Taken, pieces_of, text_of_pieces}
+use Rattle.bridge_records.specs.Pieces.{Goes, Judgement, PieceWork, Stops, PiecesResult, pieces_of, text_of_pieces}
 use Rattle.bridge_records.specs.declared.pieces.fault.PieceFault.{PieceFault}
 use Rattle.bridge_records.specs.Reading.{FileState, bytes_held, file_judged, first_file, is_between, is_untold, next_length}
 use Rattle.bridge_records.specs.declared.content.Content.{Content}
@@ -80,7 +80,7 @@ records_work work = record {
 }
 
 -- What the records of an input come to, from the job's first state.
-abbrev pub records_of : {P V : Type 0} → RecordWork P V → V → List ℕ → Taken P (RecordsState V)
+abbrev pub records_of : {P V : Type 0} → RecordWork P V → V → List ℕ → PiecesResult P (RecordsState V)
 records_of work first input = pieces_of (records_work work) (first_reading first) input
 
 -- a capture that is refused after so many records
@@ -89,11 +89,11 @@ refusal_after records None = None
 refusal_after records (Some fault) = Some (record { fault = fault; records = records })
 
 -- Why a capture is refused, if it is, and after how many records.
-abbrev pub capture_refusal : {P V : Type 0} → Taken P (RecordsState V) → Option CaptureRefusal
+abbrev pub capture_refusal : {P V : Type 0} → PiecesResult P (RecordsState V) → Option CaptureRefusal
 capture_refusal taken = refusal_after taken.last.records taken.refusal
 
 -- What of a capture is skipped.
-abbrev pub capture_skips : {P V : Type 0} → Taken P (RecordsState V) → Skips
+abbrev pub capture_skips : {P V : Type 0} → PiecesResult P (RecordsState V) → Skips
 capture_skips taken = taken.last.file.skips
 
 -- The records of an input were gone over: what was written and how it ended, how far the input was read past the last
