@@ -22,7 +22,7 @@ use Rattle.packet_show.specs.Network.{DatagramParts}
 use Rattle.tool_text.specs.Names.{malformed_name}
 use Rattle.bridge_records.specs.declared.pieces.fault.PieceFault.{PieceFault}
 use Rattle.bridge_links.specs.Links.{ip_bytes}
-use Rattle.bridge_command.specs.Judging.{HoldsMalformed, HoldsNone, HoldsPacket, Judged, judged_ip}
+use Rattle.bridge_command.specs.Judging.{HoldsMalformed, HoldsNone, HoldsPacket, RecordReading, judged_ip}
 use Rattle.bridge_command.specs.Members.{with_list_named, with_number_named, with_text_named, with_truth_named}
 use Rattle.bridge_command.specs.Objects.{destination_text, ecn_of, hops_of, nanoseconds_of, number_written, record_members, source_text, verdict_name, with_ack, with_code, with_header_fields, with_ip, with_judged, with_kind, with_options, with_packet_fields, with_payload, with_ports, with_rest, with_service, with_stamp}
 use Rattle.bridge_command.specs.OptionObjects.{byte_values, drop_block, drop_blocks, feature_values, number_after, number_name, option_members, option_values, vector_run, vector_runs, with_bytes, with_drops, with_echo, with_feature, with_fields, with_number_or_bytes, with_vector}
@@ -225,7 +225,7 @@ packet-kept payload there packet =
     after (ports-kept packet.header) (after (header-kept packet.header) (after (kind-kept packet.header.kind)
     (after (options-kept packet) (after (rest-kept there packet) (payload-kept payload packet.payload)))))
 
-judged-kept : (payload : Bool) (flow : ℕ) (ip : List ℕ) (judged : Judged) → Keeps (with_judged payload flow ip judged)
+judged-kept : (payload : Bool) (flow : ℕ) (ip : List ℕ) (judged : RecordReading) → Keeps (with_judged payload flow ip judged)
 judged-kept payload flow ip (HoldsPacket there packet) =
     after (ip-kept there ip) (after (numbered (codes "flow") flow) (packet-kept payload there packet))
 judged-kept payload flow ip (HoldsMalformed there why) = after (ip-kept there ip) (worded (codes "malformed") (malformed_name why))

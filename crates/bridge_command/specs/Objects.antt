@@ -22,7 +22,7 @@ use Rattle.packet_show.specs.Names.{sum_name, type_name}
 use Rattle.packet_show.specs.Network.{DatagramParts}
 use Rattle.tool_text.specs.Names.{malformed_name}
 use Rattle.bridge_links.specs.Links.{ip_bytes}
-use Rattle.bridge_command.specs.Judging.{HoldsMalformed, HoldsNone, HoldsPacket, Judged, judged_ip}
+use Rattle.bridge_command.specs.Judging.{HoldsMalformed, HoldsNone, HoldsPacket, RecordReading, judged_ip}
 use Rattle.bridge_command.specs.Members.{with_list_named, with_number_named, with_text_named, with_truth_named}
 use Rattle.bridge_command.specs.OptionObjects.{option_values}
 use Rattle.bridge_command.specs.Skips.{skip_name}
@@ -139,7 +139,7 @@ abbrev pub with_malformed : DatagramParts → List ℕ → Malformed → Members
 with_malformed there ip why members = with_text_named (codes "malformed") (malformed_name why) (with_ip there ip members)
 
 -- what a record holds: a packet of this flow, why its bytes are none, or why it is skipped
-abbrev pub with_judged : Bool → ℕ → List ℕ → Judged → Members → Members
+abbrev pub with_judged : Bool → ℕ → List ℕ → RecordReading → Members → Members
 with_judged payload flow ip (HoldsPacket there packet) members =
     with_packet_fields payload there packet (with_number_named (codes "flow") flow (with_ip there ip members))
 with_judged payload flow ip (HoldsMalformed there why) members = with_malformed there ip why members

@@ -7,7 +7,7 @@ use Rattle.bridge_records.specs.Pieces.{PiecesResult, text_of_pieces}
 use Rattle.bridge_records.specs.declared.pieces.fault.PieceFault.{PieceFault}
 use Rattle.bridge_records.specs.Recording.{RecordWork, RecordsState, records_of, records_work}
 use Rattle.bridge_command.specs.Unwrapping.{piece_fault_name}
-use Rattle.bridge_command.specs.Judging.{Judged, flow_number_of, judged_ip, flows_after}
+use Rattle.bridge_command.specs.Judging.{RecordReading, flow_number_of, judged_ip, flows_after}
 use Rattle.bridge_command.specs.Members.{object_line, with_number_named, with_text_named}
 use Rattle.bridge_command.specs.Objects.{record_members}
 use Rattle.serde_json.specs.Data.{Members, no_members}
@@ -49,7 +49,7 @@ abbrev pub record_told : JsonParts → RecordParts → RecordTold
 record_told s e = record { payload = s.payload; flow = flow_number_of s.seen (judged_ip (ip_bytes e.link e.bytes)); entry = e }
 
 -- what is known after what a record holds
-abbrev pub telling_with : JsonParts → Judged → JsonParts
+abbrev pub telling_with : JsonParts → RecordReading → JsonParts
 telling_with s judged = record { payload = s.payload; seen = flows_after s.seen judged }
 
 -- what is known after a record
