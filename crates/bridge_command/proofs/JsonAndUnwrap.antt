@@ -8,7 +8,7 @@ use Rattle.bridge_records.specs.Recording.{RecordsState, by_judged, numbered_ent
 use Rattle.bridge_records.specs.declared.content.Content.{Content}
 use Rattle.bridge_records.specs.declared.content.Content.TheVariants as found
 use Rattle.bridge_command.specs.Unwrapping.{CapturePart, records_among, unwrap_work, unwrapped_entry, unwrapped_pieces}
-use Rattle.bridge_command.specs.Telling.{RecordTold, JsonParts, first_telling, json_pieces, json_work, telling_after}
+use Rattle.bridge_command.specs.Telling.{JsonRecord, JsonParts, first_telling, json_pieces, json_work, telling_after}
 use Rattle.dccp_io.specs.Counts.{one_more}
 
 -- where reading stands, of either
@@ -25,14 +25,14 @@ abbrev with : FileState → Bool → ℕ → JsonParts → Knowing
 with file nanos n s = reading_at file nanos n s
 
 -- the records that were made are those that were told, and both end alike
-record AreSame (made : PiecesResult CapturePart State) (told : PiecesResult RecordTold Knowing) : Type 0 where
+record AreSame (made : PiecesResult CapturePart State) (told : PiecesResult JsonRecord Knowing) : Type 0 where
   records : records_among made.deeds ≡ map (λ t. unwrapped_entry t.entry) told.deeds
   refusal : made.refusal ≡ told.refusal
 
-module _ (file : FileState) (nanos : Bool) (n given : ℕ) (s : JsonParts) (made : State → PiecesResult CapturePart State) (told : Knowing → PiecesResult RecordTold Knowing)
+module _ (file : FileState) (nanos : Bool) (n given : ℕ) (s : JsonParts) (made : State → PiecesResult CapturePart State) (told : Knowing → PiecesResult JsonRecord Knowing)
     (later : (next : FileState) (nanos : Bool) (n : ℕ) (s : JsonParts) → AreSame (made (at next nanos n)) (told (with next nanos n s))) where
   -- what a piece holds
-  abbrev both : Judgement CapturePart State → Judgement RecordTold Knowing → Type 0
+  abbrev both : Judgement CapturePart State → Judgement JsonRecord Knowing → Type 0
   both one other = AreSame (taken_by (at file nanos n) given one made) (taken_by (with file nanos n s) given other told)
 
   judged-same : (piece : List ℕ) (judged : Judgement Content FileState)

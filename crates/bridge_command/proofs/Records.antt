@@ -5,7 +5,7 @@ use Rattle.capture_reader.specs.Format.{opened}
 use Rattle.capture_reader.specs.Records.{RecordParts, captured}
 use Rattle.capture_reader.specs.declared.format.Format.{Format}
 use Rattle.bridge_records.proofs.Passing.{deeds_along, records-passed}
-use Rattle.bridge_command.specs.Telling.{RecordTold, JsonParts, all_told, first_telling, json_pieces, json_work, telling_after, record_told}
+use Rattle.bridge_command.specs.Telling.{JsonRecord, JsonParts, all_told, first_telling, json_pieces, json_work, telling_after, record_told}
 use Rattle.bridge_command.specs.Unwrapping.{Begins, CapturePart, Holds, unwrap_work, unwrapped_entry, unwrapped_parts, unwrapped_pieces}
 
 all-unwrapped : (entries : List RecordParts) → deeds_along unwrap_work tt entries ≡ map (λ e. Holds (unwrapped_entry e)) entries
@@ -20,7 +20,7 @@ records-unwrapped input format told whole =
 
 are-told : (s : JsonParts) (entries : List RecordParts) → deeds_along json_work s entries ≡ all_told s entries
 are-told s [] = refl
-are-told s (entry ∷ entries) = ap (λ (more : List RecordTold). record_told s entry ∷ more) (are-told (telling_after s entry) entries)
+are-told s (entry ∷ entries) = ap (λ (more : List JsonRecord). record_told s entry ∷ more) (are-told (telling_after s entry) entries)
 
 pub records-told : (payload : Bool) (input : List ℕ) (format : Format) → opened input ≡ Ok format → (captured input).end ≡ None
     → ((json_pieces payload input).refusal ≡ None) × ((json_pieces payload input).deeds ≡ all_told (first_telling payload) (captured input).records)

@@ -22,17 +22,17 @@ json_closing records None = []
 json_closing records (Some fault) = object_line (fault_members records fault)
 
 -- A record as it is told: with the bytes of data or without them, and the number of its flow.
-pub record RecordTold : Type 0 where
+pub record JsonRecord : Type 0 where
   pub payload : Bool
   pub flow : ℕ
   pub entry : RecordParts
 
 -- its members
-abbrev pub told_members : RecordTold → Members
+abbrev pub told_members : JsonRecord → Members
 told_members t = record_members t.payload t.flow t.entry
 
 -- its line
-abbrev pub told_line : RecordTold → List ℕ
+abbrev pub told_line : JsonRecord → List ℕ
 told_line t = object_line (told_members t)
 
 -- What is known while records are told: whether the bytes of data are asked for, and the flows that were seen.
@@ -45,7 +45,7 @@ abbrev pub first_telling : Bool → JsonParts
 first_telling payload = record { payload = payload; seen = [] }
 
 -- a record as it is told then
-abbrev pub record_told : JsonParts → RecordParts → RecordTold
+abbrev pub record_told : JsonParts → RecordParts → JsonRecord
 record_told s e = record { payload = s.payload; flow = flow_number_of s.seen (judged_ip (ip_bytes e.link e.bytes)); entry = e }
 
 -- what is known after what a record holds
@@ -57,12 +57,12 @@ abbrev pub telling_after : JsonParts → RecordParts → JsonParts
 telling_after s e = telling_with s (judged_ip (ip_bytes e.link e.bytes))
 
 -- records as they are told, one after the other
-abbrev pub all_told : JsonParts → List RecordParts → List RecordTold
+abbrev pub all_told : JsonParts → List RecordParts → List JsonRecord
 all_told s [] = []
 all_told s (e ∷ entries) = record_told s e ∷ all_told (telling_after s e) entries
 
 -- What `json` makes of the records of a capture: it tells each, and keeps the flows.
-abbrev pub json_work : RecordWork RecordTold JsonParts
+abbrev pub json_work : RecordWork JsonRecord JsonParts
 json_work = record {
   begun = λ s nanos. record { deed = None; next = s };
   passed = λ s e. record { deed = Some (record_told s e); next = telling_after s e };
@@ -71,7 +71,7 @@ json_work = record {
 }
 
 -- what the pieces of an input come to
-abbrev pub json_pieces : Bool → List ℕ → PiecesResult RecordTold (RecordsState JsonParts)
+abbrev pub json_pieces : Bool → List ℕ → PiecesResult JsonRecord (RecordsState JsonParts)
 json_pieces payload input = records_of json_work (first_telling payload) input
 
 -- What `json` writes of an input.

@@ -39,9 +39,9 @@ fn put_fault(
 }
 
 impl RecordJob for JsonJob {
-    ghost use Rattle.bridge_command.specs.Telling.{RecordTold, json_work};
+    ghost use Rattle.bridge_command.specs.Telling.{JsonRecord, json_work};
 
-    ghost Deed = { RecordTold };
+    ghost Deed = { JsonRecord };
 
     ghost work = { json_work };
 
