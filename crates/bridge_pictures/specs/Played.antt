@@ -19,7 +19,7 @@ pub record WorldDrawing : Type 0 where
   pub server : TraceParts
 
 -- A schedule while its windows are drawn: where it stands, and what is drawn.
-pub record Played : Type 0 where
+pub record PlayState : Type 0 where
   pub play : Play
   pub drawn : WorldDrawing
 
@@ -28,7 +28,7 @@ abbrev pub first_world_drawing : WorldDrawing
 first_world_drawing = record { graph = first_graph; client = first_trace; server = first_trace }
 
 -- before the first line
-abbrev pub first_played : Played
+abbrev pub first_played : PlayState
 first_played = record { play = first_play; drawn = first_world_drawing }
 
 -- the column of an event that left this world
@@ -50,20 +50,20 @@ unfoldable pub world_drawn : WorldDrawing → ControlledWorld Both → List ℕ 
 world_drawn d world said = both_watched (record d { graph = column_in_world d world said }) world
 
 -- an event is drawn by the world that it left
-abbrev pub drawn_in : Played → Option (ControlledWorld Both) → List ℕ → Played
+abbrev pub drawn_in : PlayState → Option (ControlledWorld Both) → List ℕ → PlayState
 drawn_in p None said = p
 drawn_in p (Some world) said = record p { drawn = world_drawn p.drawn world said }
 
 -- What a line said is drawn, if it said something: what `run` writes of it.
-unfoldable pub event_drawn : Played → List ℕ → Played
+unfoldable pub event_drawn : PlayState → List ℕ → PlayState
 event_drawn p said = if nat_lt 0 (length said) then drawn_in p p.play.world said else p
 
 -- the same, where the schedule goes on from there
-abbrev pub after_line : Played → Play → List ℕ → Played
+abbrev pub after_line : PlayState → Play → List ℕ → PlayState
 after_line p next said = event_drawn (record p { play = next }) said
 
 -- what a line comes to, by what it comes to in `run`
-abbrev pub played_by : Played → LineVerdict Scene Play → LineVerdict (Unit {0}) Played
+abbrev pub played_by : PlayState → LineVerdict Scene Play → LineVerdict (Unit {0}) PlayState
 played_by p (Refused fault) = Refused fault
 played_by p (Accepted deed next) = Accepted None (after_line p next (line_text run_job deed))
 
@@ -83,15 +83,15 @@ picture_in d None = graph_picture d.graph notes_heading [] []
 picture_in d (Some world) = world_picture d world
 
 -- the whole picture
-unfoldable pub played_picture : Played → List ℕ
+unfoldable pub played_picture : PlayState → List ℕ
 played_picture p = picture_in p.drawn p.play.world
 
 -- What `windows` makes of the lines: each is played, and at the end stands the picture.
-abbrev pub windows_job : Job (Unit {0}) Played
+abbrev pub windows_job : Job (Unit {0}) PlayState
 windows_job = record { judged = λ p number line. played_by p (run_job.judged p.play number line); told = λ _. []; ending = played_picture }
 
 -- what the lines of a schedule come to
-abbrev pub windows_gone : List ℕ → LinesResult (Unit {0}) Played
+abbrev pub windows_gone : List ℕ → LinesResult (Unit {0}) PlayState
 windows_gone input = gone_through windows_job first_played input
 
 -- What `windows` writes of a schedule: the picture, or nothing where a line is refused.
