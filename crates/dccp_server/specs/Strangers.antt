@@ -9,7 +9,7 @@ use Rattle.dccp_states.specs.declared.seen.Seen.TheVariants.{Received}
 use Rattle.path_rules.specs.Limits.{full, resets_to_strangers, token_taken}
 use Rattle.path_rules.specs.declared.limits.Bucket.{Bucket}
 use Rattle.path_rules.specs.declared.limits.Limit.{Limit}
-use Rattle.path_rules.specs.declared.limits.Taking.{Taking}
+use Rattle.path_rules.specs.declared.limits.TokenGrant.{TokenGrant}
 use Rattle.dccp_server.specs.Rules.{answers_to_strangers}
 use Rattle.dccp_server.specs.declared.rules.Rules.{Rules}
 use Rattle.dccp_server.specs.declared.strangers.StrangerAnswer.{StrangerAnswer}
@@ -20,7 +20,7 @@ abbrev pub strangers_begin : Strangers
 strangers_begin = record { answers = full answers_to_strangers 0; resets = full resets_to_strangers 0 }
 
 -- a token is taken, or none is wanted where there is no limit
-abbrev pub taken_if : Option Limit → Bucket → ℕ → Taking
+abbrev pub taken_if : Option Limit → Bucket → ℕ → TokenGrant
 taken_if None bucket now = record { granted = true; bucket = bucket }
 taken_if (Some limit) bucket now = token_taken limit bucket now
 
@@ -30,7 +30,7 @@ is_no_connection (Some (Stepped (Some (Received (SentReset code detail))))) = co
 is_no_connection _ = false
 
 -- with what is left of the limit on all answers
-abbrev pub answers_spared : Strangers → Taking → StrangerAnswer
+abbrev pub answers_spared : Strangers → TokenGrant → StrangerAnswer
 answers_spared it taking = record { goes = taking.granted; strangers = record it { answers = taking.bucket } }
 
 -- an answer takes one token
@@ -38,7 +38,7 @@ abbrev pub answer_spared : ℕ → Rules → Strangers → StrangerAnswer
 answer_spared now rules it = answers_spared it (taken_if rules.answers it.answers now)
 
 -- a Reset without a connection takes one of its own first, and where there is none does not go out
-abbrev pub reset_spared : ℕ → Rules → Strangers → Taking → StrangerAnswer
+abbrev pub reset_spared : ℕ → Rules → Strangers → TokenGrant → StrangerAnswer
 reset_spared now rules it taking =
     if taking.granted then answer_spared now rules (record it { resets = taking.bucket })
     else record { goes = false; strangers = record it { resets = taking.bucket } }

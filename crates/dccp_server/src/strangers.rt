@@ -6,7 +6,7 @@ ghost use Rattle.dccp_server.specs.Strangers.{answer_spared, frame_if_goes, is_n
 use crate::rules::{Rules, answers_to_strangers};
 use dccp_endpoint::{NoMemory, Outbox, Outcome, ResetCode};
 use dccp_listener::Heard;
-use path_rules::{Bucket, Limit, Taking, resets_to_strangers};
+use path_rules::{Bucket, Limit, TokenGrant, resets_to_strangers};
 
 /// What is left of the limits on answers to strangers.
 #[derive(Clone, Copy, Debug, PartialEq, Eq)]
@@ -41,12 +41,12 @@ impl Strangers {
     }
 }
 
-fn taken_if(limit: Option<Limit>, bucket: &Bucket, now: u64) -> Taking
+fn taken_if(limit: Option<Limit>, bucket: &Bucket, now: u64) -> TokenGrant
     ensures { result ≡ taken_if limit bucket.now now }
 {
     match limit {
         Some(limit) => bucket.take(&limit, now),
-        None => Taking {
+        None => TokenGrant {
             granted: true,
             bucket: *bucket,
         },

@@ -12,7 +12,7 @@ use Rattle.dccp_endpoint.specs.End.{EndState}
 use Rattle.dccp_states.specs.declared.phase.Phase.{Phase}
 use Rattle.dccp_states.specs.declared.phase.Phase.TheVariants as phases
 use Rattle.path_rules.specs.Limits.{far_syncs, is_near_greatest, near_syncs, token_taken}
-use Rattle.path_rules.specs.declared.limits.Taking.{Taking}
+use Rattle.path_rules.specs.declared.limits.TokenGrant.{TokenGrant}
 use Rattle.dccp_uses.specs.Notice.{no_notice, notice_read}
 use Rattle.dccp_uses.specs.Numbers.{whole_number}
 use Rattle.dccp_uses.specs.declared.notice.Notice.{Notice}
@@ -65,11 +65,11 @@ pub record Admission : Type 0 where
   pub path : Path
 
 -- one with the token that was taken
-abbrev pub near_taken : Path → Taking → Admission
+abbrev pub near_taken : Path → TokenGrant → Admission
 near_taken path taking = record { heard = taking.granted; path = record path { near = taking.bucket } }
 
 -- and far from the numbers of the peer
-abbrev pub far_taken : Path → Taking → Admission
+abbrev pub far_taken : Path → TokenGrant → Admission
 far_taken path taking = record { heard = taking.granted; path = record path { far = taking.bucket } }
 
 -- a token for a Sync is taken, if there is one

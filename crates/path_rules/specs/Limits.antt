@@ -3,7 +3,7 @@ use Rattle.std.specs.Prelude.{ℕ, ◌+◌, ◌-◌, ◌*◌, ◌^◌, ◌≤◌
 use Rattle.seq_circle.specs.Circle.{distance}
 use Rattle.path_rules.specs.declared.limits.Bucket.{Bucket}
 use Rattle.path_rules.specs.declared.limits.Limit.{Limit}
-use Rattle.path_rules.specs.declared.limits.Taking.{Taking}
+use Rattle.path_rules.specs.declared.limits.TokenGrant.{TokenGrant}
 
 -- 20 Syncs a second to numbers near the greatest received (own)
 abbrev pub near_syncs : Limit
@@ -40,7 +40,7 @@ tokens_for true = 1
 tokens_for false = 0
 
 -- A token is a thousand thousandths, and is granted if the bucket holds so many.
-abbrev pub token_taken_from : ℕ → ℕ → Taking
+abbrev pub token_taken_from : ℕ → ℕ → TokenGrant
 token_taken_from held since =
     record {
       granted = nat_le 1000 held;
@@ -48,7 +48,7 @@ token_taken_from held since =
     }
 
 -- the result of asking for a token
-abbrev pub token_taken : Limit → Bucket → ℕ → Taking
+abbrev pub token_taken : Limit → Bucket → ℕ → TokenGrant
 token_taken limit bucket now = token_taken_from (refilled limit bucket now) (max bucket.since now)
 
 -- how many of those that ask at these times are granted a token

@@ -24,7 +24,7 @@ pub use crate::laws::{
     ack_ratios_fit_the_window, allowances_are_kept, limits_hold, timeouts_are_bounded,
 };
 pub use crate::limits::{
-    Bucket, Limit, Taking, far_syncs, is_near_greatest, near_syncs, resets_to_strangers,
+    Bucket, Limit, TokenGrant, far_syncs, is_near_greatest, near_syncs, resets_to_strangers,
 };
 pub use crate::round_trip::{RoundTrip, longest_timeout, timeout, with_sample};
 pub use crate::waits::{

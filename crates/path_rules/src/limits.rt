@@ -24,7 +24,7 @@ pub struct Bucket {
 
 /// The result of asking for a token.
 #[derive(Clone, Copy, Debug, PartialEq, Eq)]
-pub struct Taking {
+pub struct TokenGrant {
     /// Whether there was one.
     pub granted: bool,
     /// The bucket afterwards.
@@ -100,12 +100,12 @@ impl Bucket {
     }
 
     /// Takes a token at `now`, if there is one. If there is none, the bucket goes on filling.
-    pub fn take(&self, limit: &Limit, now: u64) -> Taking
+    pub fn take(&self, limit: &Limit, now: u64) -> TokenGrant
         ensures { result ≡ token_taken limit.now self.now now }
     {
         let held = self.refilled(limit, now);
         let granted = 1_000 <= held;
-        Taking {
+        TokenGrant {
             granted,
             bucket: Bucket {
                 thousandths: held.saturating_sub(price(granted)),
