@@ -19,7 +19,7 @@ use dccp_sum::Pseudo;
 use seq_circle::Seq48;
 
 // A full Data Dropped option and Slow Receiver.
-type Said = ArrayVec<u8, 256>;
+type ReportBytes = ArrayVec<u8, 256>;
 
 // An option area with what is said after it.
 type Area = ArrayVec<u8, 1264>;
@@ -42,7 +42,7 @@ fn acknowledged_by(kind: &Kind, told: &Option<Seq48>) -> Option<Seq48>
 }
 
 // Writes the Data Dropped option of a report, if that has a byte.
-fn put_drops(out: &mut Said, bytes: &[u8])
+fn put_drops(out: &mut ReportBytes, bytes: &[u8])
     requires empty { out.old.items ≡ [] }
     requires fits { length bytes.now ≤ 253 }
     ensures value { out.new.items ≡ drops_said bytes.now }
@@ -57,7 +57,7 @@ fn put_drops(out: &mut Said, bytes: &[u8])
 }
 
 // Writes what the inbox has to say at this acknowledgement number.
-fn put_said<const MOST: usize>(out: &mut Said, inbox: &BoundedInbox<MOST>, ack: Seq48)
+fn put_said<const MOST: usize>(out: &mut ReportBytes, inbox: &BoundedInbox<MOST>, ack: Seq48)
     requires { out.old.items ≡ [] }
     ensures { out.new.items ≡ said inbox.now ack }
 {
@@ -110,7 +110,7 @@ fn write_buffered<const MOST: usize>(
     let Some(ack) = acknowledged_by(&packet.header.kind, told) else {
         return false;
     };
-    let mut more = Said::new();
+    let mut more = ReportBytes::new();
     put_said(&mut more, inbox, ack);
     lengthen(&packet, more.as_slice(), pseudo, longer)
 }
