@@ -100,7 +100,7 @@ impl OngoingRun {
         (next_word(&mut self.words), next_word(&mut self.words))
     }
 
-    fn go_on(&mut self, again: &mut Again) -> Result<(), NoMemory>
+    fn go_on(&mut self, again: &mut EventKit) -> Result<(), NoMemory>
         requires { size self.old.report < 2 ^ 62 }
         ensures { OnOk result (self.new ≡ goes_on self.old) }
     {
@@ -108,7 +108,7 @@ impl OngoingRun {
         self.play_drawn(again, a, b)
     }
 
-    fn go_on_with(&mut self, again: &mut Again, more: u32) -> Result<(), NoMemory>
+    fn go_on_with(&mut self, again: &mut EventKit, more: u32) -> Result<(), NoMemory>
         requires { size self.old.report + 2 * more < 2 ^ 62 }
         ensures { OnOk result (self.new ≡ goes_on_for more self.old) }
     {
@@ -123,7 +123,7 @@ impl OngoingRun {
         requires { size self.old.report + 2 * more < 2 ^ 62 }
         ensures { OnOk result (self.new ≡ goes_on_for more self.old) }
     {
-        let mut again = Again {
+        let mut again = EventKit {
             delivery: Event::Open,
             timer: Event::Open,
             sending: Event::Open,
@@ -141,7 +141,7 @@ impl OngoingRun {
 
     // Plays the event of two words. An event is changed where it is played, since it would move with its room for data.
     #[tactic(auto, unfolding(crate::specs::Draws::drawn))]
-    fn play_drawn(&mut self, again: &mut Again, a: u32, b: u32) -> Result<(), NoMemory>
+    fn play_drawn(&mut self, again: &mut EventKit, a: u32, b: u32) -> Result<(), NoMemory>
         requires { size self.old.report < 2 ^ 62 }
         ensures { OnOk result (self.new ≡ played self.old (drawn a b (frames_of self.old Side.Client) (frames_of self.old Side.Server))) }
     {
@@ -160,7 +160,7 @@ impl OngoingRun {
     }
 
     // A frame of this side arrives; where there is none, the client's timer runs out.
-    fn deliver(&mut self, again: &mut Again, from: Side, b: u32) -> Result<(), NoMemory>
+    fn deliver(&mut self, again: &mut EventKit, from: Side, b: u32) -> Result<(), NoMemory>
         requires { size self.old.report < 2 ^ 62 }
         ensures { OnOk result (self.new ≡ played self.old (drawn_delivery from (frames_of self.old from) b)) }
     {
@@ -173,7 +173,7 @@ impl OngoingRun {
         self.play(&again.delivery)
     }
 
-    fn send(&mut self, again: &mut Again, side: Side, b: u32) -> Result<(), NoMemory>
+    fn send(&mut self, again: &mut EventKit, side: Side, b: u32) -> Result<(), NoMemory>
         requires { size self.old.report < 2 ^ 62 }
         ensures { OnOk result (self.new ≡ played self.old (sending side b)) }
     {
@@ -183,7 +183,7 @@ impl OngoingRun {
 
     fn prefer(
         &mut self,
-        again: &mut Again,
+        again: &mut EventKit,
         side: Side,
         which: u32,
         rest: u32,
@@ -195,7 +195,7 @@ impl OngoingRun {
         self.play(&again.preference)
     }
 
-    fn fire(&mut self, again: &mut Again, side: Side, timer: Timer) -> Result<(), NoMemory>
+    fn fire(&mut self, again: &mut EventKit, side: Side, timer: Timer) -> Result<(), NoMemory>
         requires { size self.old.report < 2 ^ 62 }
         ensures { OnOk result (self.new ≡ played self.old (Event.Timer side timer)) }
     {
@@ -204,7 +204,7 @@ impl OngoingRun {
     }
 
     // An end of the connection is seldom, so its event is not kept.
-    fn end(&mut self, again: &mut Again, which: u32) -> Result<(), NoMemory>
+    fn end(&mut self, again: &mut EventKit, which: u32) -> Result<(), NoMemory>
         requires { size self.old.report < 2 ^ 62 }
         ensures { OnOk result (self.new ≡ played self.old (ending which)) }
     {
@@ -243,7 +243,7 @@ impl OngoingRun {
 // An event of each kind, played again and again with other parts. An event is large, for it has room for data: making
 // one anew clears that room.
 #[derive(Drop)]
-struct Again {
+struct EventKit {
     delivery: Event,
     timer: Event,
     sending: Event,
