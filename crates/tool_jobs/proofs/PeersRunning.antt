@@ -17,7 +17,7 @@ use Rattle.tool_jobs.specs.Calls.{read_call}
 use Rattle.tool_jobs.specs.Listen.{EachPeerOfAnInputHasItsChain, EveryInputIsARun, by_exchange, by_peer_line, deed_of, exchange_at, first_listening, first_serving, listen_job, listened, peer_line_judged, turns_of_input}
 use Rattle.tool_jobs.specs.Telling.{Exchange}
 use Rattle.tool_jobs.specs.declared.listen.calls.PeerCall.{PeerCall}
-use Rattle.tool_jobs.specs.declared.listen.serving.Serving.{Serving}
+use Rattle.tool_jobs.specs.declared.listen.serving.ListenLines.{ListenLines}
 
 abbrev turned : Exchange → CallTurn
 turned x = computed_turn x.before x.peer x.deed
@@ -30,36 +30,36 @@ one-turn x ordered =
     (subst (λ (l : ListenerState). IsTurn x.before l (turned x)) (sym run.0.2) run.0.1, run.1)
 
 -- a verdict leads the listener on as its exchange does
-abbrev Leads : ListenerState → LineVerdict Exchange Serving → Type 0
+abbrev Leads : ListenerState → LineVerdict Exchange ListenLines → Type 0
 Leads l (Accepted None next) = next.listener ≡ l
 Leads l (Accepted (Some x) next) = (x.before ≡ l) × (next.listener ≡ listening_after x.before x.peer x.deed)
 Leads l (Refused fault) = Unit {0}
 
-call-leads : (s : Serving) (x : Exchange) (few : Bool) → x.before ≡ s.listener
+call-leads : (s : ListenLines) (x : Exchange) (few : Bool) → x.before ≡ s.listener
     → Leads s.listener (if few then by_exchange s x else Refused (whole_line why.TooManyEvents))
 call-leads s x true is = (is, refl)
 call-leads s x false is = tt
 
-said-leads : (s : Serving) (number : ℕ) (said : Result (Option (Peer × PeerCall)) LineFault) → Leads s.listener (by_peer_line s number said)
+said-leads : (s : ListenLines) (number : ℕ) (said : Result (Option (Peer × PeerCall)) LineFault) → Leads s.listener (by_peer_line s number said)
 said-leads s number (Err fault) = tt
 said-leads s number (Ok None) = refl
 said-leads s number (Ok (Some said)) = call-leads s (exchange_at s.listener number said.0 (deed_of said.0 said.1)) (nat_lt s.events most_events) refl
 
-line-leads : (s : Serving) (number : ℕ) (line : List ℕ) → Leads s.listener (peer_line_judged s number line)
+line-leads : (s : ListenLines) (number : ℕ) (line : List ℕ) → Leads s.listener (peer_line_judged s number line)
 unfolding peer_line_judged
 line-leads s number line = said-leads s number (read_call line)
 
-next-leads : (s : Serving) (number : ℕ) (next : Next) → Leads s.listener (by_next listen_job s number next)
+next-leads : (s : ListenLines) (number : ℕ) (next : Next) → Leads s.listener (by_next listen_job s number next)
 next-leads s number (Line line) = line-leads s number (text_of line)
 next-leads s number (Long front) = tt
 next-leads s number Much = tt
 next-leads s number End = refl
 
-abbrev RunsFrom : ListenerState → LinesResult Exchange Serving → Type 0
+abbrev RunsFrom : ListenerState → LinesResult Exchange ListenLines → Type 0
 RunsFrom l gone = IsRunOfTurns l gone.last.listener (map turned gone.deeds)
 
-runs-by : (s : Serving) (number given : ℕ) (verdict : LineVerdict Exchange Serving) (rest : Serving → LinesResult Exchange Serving) → AreInOrder s.listener.flows
-    → Leads s.listener verdict → ((next : Serving) → AreInOrder next.listener.flows → RunsFrom next.listener (rest next))
+runs-by : (s : ListenLines) (number given : ℕ) (verdict : LineVerdict Exchange ListenLines) (rest : ListenLines → LinesResult Exchange ListenLines) → AreInOrder s.listener.flows
+    → Leads s.listener verdict → ((next : ListenLines) → AreInOrder next.listener.flows → RunsFrom next.listener (rest next))
     → RunsFrom s.listener (gone_by s number given verdict rest)
 runs-by s number given (Refused fault) rest ordered leads runs = refl
 runs-by s number given (Accepted None next) rest ordered leads runs =
@@ -70,7 +70,7 @@ runs-by s number given (Accepted (Some x) next) rest ordered leads runs =
     subst (λ (l : ListenerState). IsTurn l next.listener (turned x)) leads.0 (subst (λ (l : ListenerState). IsTurn x.before l (turned x)) (sym leads.1) turn.0) in
     (next.listener, here, runs next (subst (λ (l : ListenerState). AreInOrder l.flows) (sym leads.1) turn.1))
 
-runs-on : (s : Serving) (number given : ℕ) (lines : List (List ℕ)) → AreInOrder s.listener.flows
+runs-on : (s : ListenLines) (number given : ℕ) (lines : List (List ℕ)) → AreInOrder s.listener.flows
     → RunsFrom s.listener (gone_from listen_job s number given lines)
 runs-on s number given [] ordered = refl
 runs-on s number given (line ∷ lines) ordered =
@@ -83,9 +83,9 @@ unfolding IsStrictlySortedBy
 every_input_runs most input = runs-on (first_serving most) 1 0 (lines_of input) tt
 
 -- the flows stay in order
-ordered-by : (s : Serving) (number given : ℕ) (verdict : LineVerdict Exchange Serving) (rest : Serving → LinesResult Exchange Serving)
+ordered-by : (s : ListenLines) (number given : ℕ) (verdict : LineVerdict Exchange ListenLines) (rest : ListenLines → LinesResult Exchange ListenLines)
     → AreInOrder s.listener.flows → Leads s.listener verdict
-    → ((next : Serving) → AreInOrder next.listener.flows → AreInOrder (rest next).last.listener.flows)
+    → ((next : ListenLines) → AreInOrder next.listener.flows → AreInOrder (rest next).last.listener.flows)
     → AreInOrder (gone_by s number given verdict rest).last.listener.flows
 ordered-by s number given (Refused fault) rest ordered leads on = ordered
 ordered-by s number given (Accepted None next) rest ordered leads on =
@@ -94,7 +94,7 @@ ordered-by s number given (Accepted (Some x) next) rest ordered leads on =
     let turn = one-turn x (subst (λ (l : ListenerState). AreInOrder l.flows) (sym leads.0) ordered) in
     on next (subst (λ (l : ListenerState). AreInOrder l.flows) (sym leads.1) turn.1)
 
-ordered-on : (s : Serving) (number given : ℕ) (lines : List (List ℕ)) → AreInOrder s.listener.flows
+ordered-on : (s : ListenLines) (number given : ℕ) (lines : List (List ℕ)) → AreInOrder s.listener.flows
     → AreInOrder (gone_from listen_job s number given lines).last.listener.flows
 ordered-on s number given [] ordered = ordered
 ordered-on s number given (line ∷ lines) ordered =

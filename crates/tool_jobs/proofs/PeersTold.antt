@@ -22,37 +22,37 @@ use Rattle.tool_jobs.specs.Listen.{by_exchange, by_peer_line, deed_of, exchange_
 use Rattle.tool_jobs.specs.PeerLines.{exchange_said, said_by_line, said_by_lines, said_next}
 use Rattle.tool_jobs.specs.Telling.{Exchange, exchange_text, flow_lines}
 use Rattle.tool_jobs.specs.declared.listen.calls.PeerCall.{PeerCall}
-use Rattle.tool_jobs.specs.declared.listen.serving.Serving.{Serving}
+use Rattle.tool_jobs.specs.declared.listen.serving.ListenLines.{ListenLines}
 use Rattle.tool_jobs.proofs.PeersRunning.{input-ordered}
 
 -- an accepted line does what it says
-abbrev Does : List (ℕ × Peer × Deed) → LineVerdict Exchange Serving → Type 0
+abbrev Does : List (ℕ × Peer × Deed) → LineVerdict Exchange ListenLines → Type 0
 Does said (Accepted deed next) = map exchange_said (deeds_of deed) ≡ said
 Does said (Refused fault) = Unit {0}
 
-call-does : (s : Serving) (number : ℕ) (peer : Peer) (deed : Deed) (few : Bool)
+call-does : (s : ListenLines) (number : ℕ) (peer : Peer) (deed : Deed) (few : Bool)
     → Does ((number, peer, deed) ∷ []) (if few then by_exchange s (exchange_at s.listener number peer deed) else Refused (whole_line why.TooManyEvents))
 call-does s number peer deed true = refl
 call-does s number peer deed false = tt
 
-said-does : (s : Serving) (number : ℕ) (said : Result (Option (Peer × PeerCall)) LineFault) → Does (said_by_line number said) (by_peer_line s number said)
+said-does : (s : ListenLines) (number : ℕ) (said : Result (Option (Peer × PeerCall)) LineFault) → Does (said_by_line number said) (by_peer_line s number said)
 said-does s number (Err fault) = tt
 said-does s number (Ok None) = refl
 said-does s number (Ok (Some said)) = call-does s number said.0 (deed_of said.0 said.1) (nat_lt s.events most_events)
 
-line-does : (s : Serving) (number : ℕ) (line : List ℕ) → Does (said_by_line number (read_call line)) (peer_line_judged s number line)
+line-does : (s : ListenLines) (number : ℕ) (line : List ℕ) → Does (said_by_line number (read_call line)) (peer_line_judged s number line)
 unfolding peer_line_judged
 line-does s number line = said-does s number (read_call line)
 
-next-does : (s : Serving) (number : ℕ) (next : Next) → Does (said_next number next) (by_next listen_job s number next)
+next-does : (s : ListenLines) (number : ℕ) (next : Next) → Does (said_next number next) (by_next listen_job s number next)
 next-does s number (Line line) = line-does s number (text_of line)
 next-does s number (Long front) = tt
 next-does s number Much = tt
 next-does s number End = refl
 
-does-by : (s : Serving) (number given : ℕ) (verdict : LineVerdict Exchange Serving) (rest : Serving → LinesResult Exchange Serving)
+does-by : (s : ListenLines) (number given : ℕ) (verdict : LineVerdict Exchange ListenLines) (rest : ListenLines → LinesResult Exchange ListenLines)
     (said later : List (ℕ × Peer × Deed)) → Does said verdict
-    → ((next : Serving) → is_some (rest next).refusal ≡ false → map exchange_said (rest next).deeds ≡ later)
+    → ((next : ListenLines) → is_some (rest next).refusal ≡ false → map exchange_said (rest next).deeds ≡ later)
     → is_some (gone_by s number given verdict rest).refusal ≡ false → map exchange_said (gone_by s number given verdict rest).deeds ≡ said ++ later
 does-by s number given (Refused fault) rest said later does on none = cc none
 does-by s number given (Accepted deed next) rest said later does on none =
@@ -60,7 +60,7 @@ does-by s number given (Accepted deed next) rest said later does on none =
     ∙ ap (λ (xs : List (ℕ × Peer × Deed)). xs ++ map exchange_said (rest next).deeds) does
     ∙ ap (λ (xs : List (ℕ × Peer × Deed)). said ++ xs) (on next none)
 
-lines-do : (s : Serving) (number given : ℕ) (lines : List (List ℕ)) → is_some (gone_from listen_job s number given lines).refusal ≡ false
+lines-do : (s : ListenLines) (number given : ℕ) (lines : List (List ℕ)) → is_some (gone_from listen_job s number given lines).refusal ≡ false
     → map exchange_said (gone_from listen_job s number given lines).deeds ≡ said_by_lines number given lines
 lines-do s number given [] none = refl
 lines-do s number given (line ∷ lines) none =

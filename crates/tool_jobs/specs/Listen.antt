@@ -19,7 +19,7 @@ use Rattle.tool_jobs.specs.Calls.{read_call}
 use Rattle.tool_jobs.specs.Telling.{Exchange, exchange_text, flow_lines}
 use Rattle.tool_jobs.specs.declared.listen.calls.PeerCall.{PeerCall}
 use Rattle.tool_jobs.specs.declared.listen.calls.PeerCall.TheVariants as call
-use Rattle.tool_jobs.specs.declared.listen.serving.Serving.{Serving}
+use Rattle.tool_jobs.specs.declared.listen.serving.ListenLines.{ListenLines}
 
 -- the initial sequence number of each end
 abbrev pub first_number : ℕ
@@ -39,7 +39,7 @@ abbrev pub first_listening : ℕ → ListenerState
 first_listening most = record { config = unoffering (listen_config most); flows = [] }
 
 -- and nothing has happened
-abbrev pub first_serving : ℕ → Serving
+abbrev pub first_serving : ℕ → ListenLines
 first_serving most = record { listener = first_listening most; events = 0 }
 
 -- the addresses of a frame that a peer sends
@@ -59,30 +59,30 @@ abbrev pub exchange_at : ListenerState → ℕ → Peer → Deed → Exchange
 exchange_at l number peer deed = record { number = number; before = l; peer = peer; deed = deed }
 
 -- it happens: one line more counts, and the listener is as it leaves it
-abbrev pub by_exchange : Serving → Exchange → LineVerdict Exchange Serving
+abbrev pub by_exchange : ListenLines → Exchange → LineVerdict Exchange ListenLines
 by_exchange s x = Accepted (Some x) (record { listener = listening_after x.before x.peer x.deed; events = s.events + 1 })
 
 -- a line by which something happens is refused once there were as many as are allowed
-abbrev pub by_call : Serving → ℕ → Peer → PeerCall → LineVerdict Exchange Serving
+abbrev pub by_call : ListenLines → ℕ → Peer → PeerCall → LineVerdict Exchange ListenLines
 by_call s number peer said =
     if nat_lt s.events most_events then by_exchange s (exchange_at s.listener number peer (deed_of peer said)) else Refused (whole_line why.TooManyEvents)
 
 -- a line that says nothing is accepted and does nothing
-abbrev pub by_peer_line : Serving → ℕ → Result (Option (Peer × PeerCall)) LineFault → LineVerdict Exchange Serving
+abbrev pub by_peer_line : ListenLines → ℕ → Result (Option (Peer × PeerCall)) LineFault → LineVerdict Exchange ListenLines
 by_peer_line s number (Err fault) = Refused fault
 by_peer_line s number (Ok None) = Accepted None s
 by_peer_line s number (Ok (Some said)) = by_call s number said.0 said.1
 
 -- a line without its newline
-unfoldable pub peer_line_judged : Serving → ℕ → List ℕ → LineVerdict Exchange Serving
+unfoldable pub peer_line_judged : ListenLines → ℕ → List ℕ → LineVerdict Exchange ListenLines
 peer_line_judged s number line = by_peer_line s number (read_call line)
 
 -- What a line does is an exchange, and the flows are the last.
-abbrev pub listen_job : Job Exchange Serving
+abbrev pub listen_job : Job Exchange ListenLines
 listen_job = record { judged = peer_line_judged; told = exchange_text; ending = λ s. flow_lines s.listener.flows }
 
 -- the result of an input, from a listener without flows that may have so many
-abbrev pub listened : ℕ → List ℕ → LinesResult Exchange Serving
+abbrev pub listened : ℕ → List ℕ → LinesResult Exchange ListenLines
 listened most input = gone_through listen_job (first_serving most) input
 
 -- What `listen` writes of an input.

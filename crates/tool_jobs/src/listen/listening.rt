@@ -4,7 +4,7 @@ ghost use Rattle.dccp_io.specs.Counts.{Rose};
 ghost use Rattle.tool_jobs.specs.Listen.{listen_accepted, listen_refused, listen_text};
 ghost use Rattle.tool_text.specs.Ends.{Answers, SinkFails, StopsWithin, EndsForCause};
 
-use crate::listen::serving::Serving;
+use crate::listen::serving::ListenLines;
 use dccp_io::{Sink, Source};
 use std::alloc::Global;
 use tool_text::{JobEnd, run_lines};
@@ -28,7 +28,7 @@ pub fn listen_to_peers<S: Source, K: Sink>(
         → StopsWithin 16384 (listen_accepted most bytes) bytes result (S.left input.new) }
     ensures cause { EndsForCause result (Rose (S.faults input.old) (S.faults input.new)) (SinkFails K.faults K.empty_takes output.old output.new) }
 {
-    let mut serving = Serving::new(alloc, most);
+    let mut serving = ListenLines::new(alloc, most);
     let mut text = Vec::new(alloc);
     run_lines(alloc, &mut serving, &mut text, input, output)
 }

@@ -40,21 +40,21 @@ fn listen_config(most: u16) -> ListenConfig
 
 /// The state of the lines.
 #[derive(Drop)]
-pub(crate) struct Serving {
+pub(crate) struct ListenLines {
     /// The listener that serves the peers.
     pub(crate) listener: Listener,
     /// By how many lines something happened.
     pub(crate) events: u32,
 }
 
-impl Serving {
+impl ListenLines {
     /// Before the first line: there may be at most so many flows, and there are none.
-    pub(crate) fn new(alloc: Global, most: u16) -> Serving
+    pub(crate) fn new(alloc: Global, most: u16) -> ListenLines
         requires least { 1 ≤ most }
         requires most { most ≤ 1024 }
         ensures { result ≡ first_serving most }
     {
-        Serving {
+        ListenLines {
             listener: Listener::new(alloc, listen_config(most)),
             events: 0,
         }
@@ -82,7 +82,7 @@ impl Serving {
     }
 }
 
-impl LineJob for Serving {
+impl LineJob for ListenLines {
     ghost Deed = { Exchange };
 
     ghost job = { listen_job };
