@@ -27,7 +27,7 @@ use Rattle.dccp_uses.specs.Reader.{reader_begins, reader_heard, reader_timed_out
 use Rattle.dccp_uses.specs.declared.alarms.Alarm.{Alarm}
 use Rattle.dccp_uses.specs.declared.pace.Pace.{Pace}
 use Rattle.dccp_uses.specs.declared.path.Path.{Path}
-use Rattle.dccp_uses.specs.declared.path.Timed.{Timed}
+use Rattle.dccp_uses.specs.declared.path.TimedPacket.{TimedPacket}
 use Rattle.dccp_uses.specs.declared.reader.Reader.{Reader}
 use Rattle.dccp_uses.specs.declared.sight.Sight.{Sight}
 use Rattle.dccp_uses.specs.declared.waits.Waits.{Waits}
@@ -129,7 +129,7 @@ path_waits path =
     }
 
 -- the packet that was timed first
-abbrev pub first_sent : Option Timed → Timed → Option Timed
+abbrev pub first_sent : Option TimedPacket → TimedPacket → Option TimedPacket
 first_sent None sent = Some sent
 first_sent (Some old) sent = Some old
 
@@ -145,7 +145,7 @@ abbrev pub data_timed : Path → ℕ → ℕ → Path
 data_timed path number now = if path.pace.measures then record path { timed = first_sent path.timed (record { number = number; at = now }) } else path
 
 -- how long ago the packet was sent that is acknowledged
-abbrev pub since_sent : Option Timed → ℕ → ℕ → Option ℕ
+abbrev pub since_sent : Option TimedPacket → ℕ → ℕ → Option ℕ
 since_sent None gar now = None
 since_sent (Some sent) gar now = if sent.number == gar then Some (now - sent.at) else None
 
@@ -168,7 +168,7 @@ abbrev pub handshake_over : Path → ℕ → ℕ → Path
 handshake_over path gar now = sampled_if (none_timed path) (either_of (since_sent path.first gar now) (since_sent path.timed gar now))
 
 -- what acknowledges the timed packet, or a later one, gives a sample
-abbrev pub acked_sample : Path → Option Timed → ℕ → ℕ → Path
+abbrev pub acked_sample : Path → Option TimedPacket → ℕ → ℕ → Path
 acked_sample path None gar now = path
 acked_sample path (Some sent) gar now = if is_from sent.number gar then sampled_if (none_timed path) (Some (now - sent.at)) else path
 

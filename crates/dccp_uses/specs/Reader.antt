@@ -6,7 +6,7 @@ use Rattle.path_rules.specs.declared.allowance.Allowance.{Allowance}
 use Rattle.path_rules.specs.declared.round_trip.RoundTrip.{RoundTrip}
 use Rattle.seq_circle.specs.Circle.{is_before, is_from}
 use Rattle.dccp_uses.specs.declared.notice.Notice.{Notice}
-use Rattle.dccp_uses.specs.declared.path.Timed.{Timed}
+use Rattle.dccp_uses.specs.declared.path.TimedPacket.{TimedPacket}
 use Rattle.dccp_uses.specs.declared.reader.Reader.{Reader}
 use Rattle.dccp_uses.specs.declared.reader.Restraint.{Restraint}
 use Rattle.dccp_uses.specs.declared.reader.Restraint.TheVariants as restraint
@@ -53,7 +53,7 @@ reader_slowed reader notice old new now =
     record reader { allowance = Some (allowed_after_drops reader.allowance old.window notice.drops.full); hold = Some (record { number = new.gss; at = now }) }
 
 -- less than a round trip has gone by since the sender was to go slower
-abbrev pub is_held : Option RoundTrip → Option Timed → ℕ → ℕ → Bool
+abbrev pub is_held : Option RoundTrip → Option TimedPacket → ℕ → ℕ → Bool
 is_held trip None gar now = false
 is_held trip (Some hold) gar now = is_within_round_trip trip (now - hold.at) (is_from hold.number gar)
 

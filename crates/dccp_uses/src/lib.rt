@@ -53,7 +53,7 @@ pub use crate::notice::{Drops, Notice, new_reach};
 pub use crate::offers::widened;
 pub use crate::one_at_a_time::OneAtATime;
 pub use crate::pace::Pace;
-pub use crate::path::{Path, Timed};
+pub use crate::path::{Path, TimedPacket};
 pub use crate::reader::{Reader, Restraint, SendRefusal, restraint_of};
 pub use crate::rule::{Rule, due_rule, obey};
 pub use crate::session::Session;

@@ -14,7 +14,7 @@ use path_rules::{
 
 /// A packet that was sent, and when.
 #[derive(Clone, Copy, Debug, PartialEq, Eq)]
-pub struct Timed {
+pub struct TimedPacket {
     /// Its number.
     pub number: Seq48,
     /// When it was sent, in milliseconds.
@@ -29,9 +29,9 @@ pub struct Path {
     /// What samples of the round trip have come to.
     pub round_trip: Option<RoundTrip>,
     /// The first packet of the handshake.
-    pub first: Option<Timed>,
+    pub first: Option<TimedPacket>,
     /// The packet whose acknowledgement gives the next sample.
-    pub timed: Option<Timed>,
+    pub timed: Option<TimedPacket>,
     /// The most data packets that were in flight in this period.
     pub most: u32,
     /// The most of the period before.
@@ -122,7 +122,7 @@ impl Path {
     }
 }
 
-fn first_sent(old: Option<Timed>, sent: Timed) -> Option<Timed>
+fn first_sent(old: Option<TimedPacket>, sent: TimedPacket) -> Option<TimedPacket>
     ensures { result ≡ first_sent old sent }
 {
     match old {
@@ -132,7 +132,7 @@ fn first_sent(old: Option<Timed>, sent: Timed) -> Option<Timed>
 }
 
 // How long ago this packet was sent, where it is the one that is acknowledged.
-fn since_sent(timed: Option<Timed>, gar: Seq48, now: u64) -> Option<u64>
+fn since_sent(timed: Option<TimedPacket>, gar: Seq48, now: u64) -> Option<u64>
     ensures { result ≡ since_sent timed gar now }
 {
     match timed {
@@ -159,8 +159,8 @@ impl Path {
         if !self.pace.measures {
             return;
         }
-        self.first = first_sent(self.first, Timed { number, at: now });
-        self.timed = Some(Timed { number, at: now });
+        self.first = first_sent(self.first, TimedPacket { number, at: now });
+        self.timed = Some(TimedPacket { number, at: now });
     }
 
     /// Data with this number were sent at `now`: one packet at a time is timed (RFC 6298, section 3).
@@ -168,7 +168,7 @@ impl Path {
         ensures { self.new ≡ data_timed self.old number now }
     {
         if self.pace.measures {
-            self.timed = first_sent(self.timed, Timed { number, at: now });
+            self.timed = first_sent(self.timed, TimedPacket { number, at: now });
         }
     }
 

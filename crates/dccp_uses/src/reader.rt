@@ -2,7 +2,7 @@
 ghost use Rattle.std.specs.Prelude.{◌≡◌};
 ghost use Rattle.dccp_uses.specs.Reader.{asks_slower, counted_after, counted_up_to, halved_if_any, is_used_up, is_held, narrows, opened_if_any, reader_begins, reader_congested, reader_heard, reader_moved, reader_opened, reader_slowed, reader_timed_out, reader_told, restraint_of, shrunk_if_any};
 
-use crate::{Notice, Sight, Timed};
+use crate::{Notice, Sight, TimedPacket};
 use dccp_endpoint::{SendFault, Seq48};
 use path_rules::{
     Allowance, RoundTrip, allowed_after_acks, allowed_after_congestion, allowed_after_drops,
@@ -18,7 +18,7 @@ pub struct Reader {
     /// What its reports leave of the window.
     pub allowance: Option<Allowance>,
     /// GSS when the sender was last to go slower: it goes no faster for a round trip.
-    pub hold: Option<Timed>,
+    pub hold: Option<TimedPacket>,
     /// GSS when the window was last halved: what was sent by then halves it no second time.
     pub mark: Option<Seq48>,
     /// Data were dropped because of the protocol: Drop Code 0.
@@ -84,7 +84,7 @@ fn halved_if_any(allowance: Option<Allowance>, window: u32) -> Option<Allowance>
     }
 }
 
-fn is_held(trip: Option<RoundTrip>, hold: Option<Timed>, gar: Seq48, now: u64) -> bool
+fn is_held(trip: Option<RoundTrip>, hold: Option<TimedPacket>, gar: Seq48, now: u64) -> bool
     ensures { result ≡ is_held trip hold gar now }
 {
     match hold {
@@ -147,7 +147,7 @@ impl Reader {
     {
         let allowance = allowed_after_drops(self.allowance, old.window, notice.drops.full);
         self.allowance = Some(allowance);
-        self.hold = Some(Timed {
+        self.hold = Some(TimedPacket {
             number: new.gss,
             at: now,
         });
