@@ -28,7 +28,7 @@ pub(crate) struct Judgement {
 
 // What the windows say of a packet.
 #[derive(Clone, Copy)]
-struct Placing {
+struct Placement {
     // Its number, where it would be answered by a Sync.
     unanswered: Option<Seq48>,
     // The number that it reports from.
@@ -75,27 +75,27 @@ fn reported_from(marks: &Marks, kind: &Kind) -> Option<Seq48>
 }
 
 // A packet of this type with this number in full, if the end takes it.
-fn place(marks: &Marks, kind: &Kind, number: Option<Seq48>) -> Placing
+fn place(marks: &Marks, kind: &Kind, number: Option<Seq48>) -> Placement
     requires { InRange marks.now }
     ensures unanswered { result.unanswered ≡ unanswered marks.now kind.now number }
     ensures base { result.base ≡ report_base marks.now kind.now number }
 {
     let Some(number) = number else {
-        return Placing {
+        return Placement {
             unanswered: None,
             base: None,
         };
     };
     match marks.check(kind.packet_type(), number, kind.ack_near(marks.gss)) {
-        Verdict::Valid => Placing {
+        Verdict::Valid => Placement {
             unanswered: None,
             base: reported_from(marks, kind),
         },
-        Verdict::SyncFor(_) => Placing {
+        Verdict::SyncFor(_) => Placement {
             unanswered: Some(number),
             base: None,
         },
-        Verdict::Drop => Placing {
+        Verdict::Drop => Placement {
             unanswered: None,
             base: None,
         },
