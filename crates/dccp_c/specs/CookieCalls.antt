@@ -6,8 +6,8 @@ use Rattle.dccp_options.specs.Written.{spelled}
 use Rattle.dccp_packets.specs.Grammar.{decoded}
 use Rattle.dccp_packets.specs.Outgoing.{Outgoing}
 use Rattle.dccp_server.specs.Meeting.{asking_of, cookie_read, opening_in}
-use Rattle.dccp_server.specs.declared.asking.Asking.{Asking}
-use Rattle.dccp_server.specs.declared.asking.Asking.TheVariants.{Nothing, TooLong, This}
+use Rattle.dccp_server.specs.declared.asking.DatagramRequest.{DatagramRequest}
+use Rattle.dccp_server.specs.declared.asking.DatagramRequest.TheVariants.{Nothing, TooLong, This}
 use Rattle.dccp_states.specs.declared.outcome.Outcome.{Outcome}
 use Rattle.dccp_sum.specs.declared.pseudo_header.Pseudo.{Pseudo}
 use Rattle.dccp_sum.specs.declared.pseudo_header.Pseudo.TheVariants.{V4, V6}
@@ -59,7 +59,7 @@ GreetsBy keys route o step left code =
     ⊎ ((left ≡ handed_of (greeting_of keys route o step)) × (code ≡ (if is_heard_so step.answer.heard then 0 else 13)))
 
 -- by what is asked for: no connection by 13, one with too many options by 5
-abbrev pub GreetsAsked : CookieKeys → Route → ℕ → Care → Config → Asking → Handed → ℕ → Type 0
+abbrev pub GreetsAsked : CookieKeys → Route → ℕ → Care → Config → DatagramRequest → Handed → ℕ → Type 0
 GreetsAsked keys route now care config Nothing left code = (left ≡ nothing_handed) × (code ≡ 13)
 GreetsAsked keys route now care config TooLong left code = (left ≡ nothing_handed) × (code ≡ 5)
 GreetsAsked keys route now care config (This o) left code =

@@ -16,7 +16,7 @@ use crate::sizes::SETTINGS_BYTES;
 use crate::steps::{new_end, receive};
 use crate::{Key, Settings, Wish};
 use dccp_endpoint::{Config, MOST_FRAME_BYTES, Outcome, Pseudo};
-use dccp_server::{Asking, append_cookie, asking_of, opening_of};
+use dccp_server::{DatagramRequest, append_cookie, asking_of, opening_of};
 use dccp_uses::is_taken;
 use init_cookies::{CookieKeys, FirstRequest, Route, put_request};
 use std::alloc::Global;
@@ -127,7 +127,7 @@ fn greet_asked(
     care: &Care,
     keys: &CookieKeys,
     route: &Route,
-    asking: Asking,
+    asking: DatagramRequest,
     now: u64,
     frame: &mut Frame,
 ) -> u32
@@ -136,9 +136,11 @@ fn greet_asked(
 {
     frame.clear();
     match asking {
-        Asking::Nothing => NO_CONNECTION,
-        Asking::TooLong => TOO_LONG,
-        Asking::This(opening) => greet(alloc, config, care, keys, route, &opening, now, frame),
+        DatagramRequest::Nothing => NO_CONNECTION,
+        DatagramRequest::TooLong => TOO_LONG,
+        DatagramRequest::This(opening) => greet(
+            alloc, config, care, keys, route, &opening, now, frame,
+        ),
     }
 }
 

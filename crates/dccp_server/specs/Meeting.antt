@@ -35,8 +35,8 @@ use Rattle.seq_circle.specs.declared.memory.NoMemory.{NoMemory}
 use Rattle.dccp_server.specs.Lives.{life_of}
 use Rattle.dccp_server.specs.Rooms.{IsServed, Ruled, forgets, is_crowded, is_to_be_heard, received_at, unreceived_at, with_user}
 use Rattle.dccp_server.specs.Serving.{TimedDoing, served_through}
-use Rattle.dccp_server.specs.declared.asking.Asking.{Asking}
-use Rattle.dccp_server.specs.declared.asking.Asking.TheVariants.{Nothing, TooLong, This}
+use Rattle.dccp_server.specs.declared.asking.DatagramRequest.{DatagramRequest}
+use Rattle.dccp_server.specs.declared.asking.DatagramRequest.TheVariants.{Nothing, TooLong, This}
 use Rattle.dccp_server.specs.declared.meeting.DatagramKind.{DatagramKind}
 use Rattle.dccp_server.specs.declared.meeting.DatagramKind.TheVariants as entry
 use Rattle.dccp_server.specs.declared.meeting.Way.{Way}
@@ -58,12 +58,12 @@ abbrev pub flow_at : Ruled → Peer → Option FlowEnd
 flow_at s peer = end_of_peer s.room.served.listening.flows peer
 
 -- a Request with this area, number and service, answered now under this number
-abbrev pub asking_this : ℕ → ℕ → List ℕ → ℕ → ℕ → Asking
+abbrev pub asking_this : ℕ → ℕ → List ℕ → ℕ → ℕ → DatagramRequest
 asking_this now iss area number service =
     if nat_le (length area) 220 then This (record { time = now; iss = iss; number = number; service = service; options = area }) else TooLong
 
 -- what a packet of this type and number asks for (section 5.2)
-abbrev pub asking_by : ℕ → ℕ → List ℕ → Kind → Number → Asking
+abbrev pub asking_by : ℕ → ℕ → List ℕ → Kind → Number → DatagramRequest
 asking_by now iss area (kind.Request service) (Long number) = asking_this now iss area number service
 asking_by now iss area _ _ = Nothing
 
@@ -77,13 +77,13 @@ abbrev pub travels_by : Route → List ℕ → Header → Bool
 travels_by route bytes h = is_summed (checked route.pseudo bytes) && (h.from == route.from && h.to == route.to)
 
 -- what a datagram asks for, by what was read of it
-abbrev pub asking_read : ℕ → ℕ → Route → List ℕ → Result Parts Malformed → Asking
+abbrev pub asking_read : ℕ → ℕ → Route → List ℕ → Result Parts Malformed → DatagramRequest
 asking_read now iss route bytes (Ok p) =
     if travels_by route bytes p.header then asking_by now iss p.options p.header.kind p.header.number else Nothing
 asking_read now iss route bytes (Err fault) = Nothing
 
 -- What a datagram asks for that came by this route: a Request whose checksum and ports are right.
-abbrev pub asking_of : ℕ → ℕ → Route → List ℕ → Asking
+abbrev pub asking_of : ℕ → ℕ → Route → List ℕ → DatagramRequest
 asking_of now iss route bytes = asking_read now iss route bytes (decoded bytes)
 
 -- the first Init Cookie of a packet
@@ -137,7 +137,7 @@ needs_no_flow now s peer bytes (Some e) =
     is_ever_in_use s.cookies && (is_half_open e.state.phase && not (is_to_be_heard now s.rules s.room peer bytes))
 
 -- what a Request is, by what it asks for
-abbrev pub entry_by : Asking → DatagramKind
+abbrev pub entry_by : DatagramRequest → DatagramKind
 entry_by Nothing = entry.Plain
 entry_by TooLong = entry.TooLong
 entry_by (This o) = entry.Asks o

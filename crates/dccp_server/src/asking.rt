@@ -14,7 +14,7 @@ use init_cookies::{CookieKeys, FirstRequest, Route, first_cookie};
 
 /// What a datagram asks for.
 #[derive(Clone, Debug, Drop)]
-pub enum Asking {
+pub enum DatagramRequest {
     /// No connection.
     Nothing,
     /// A connection, by options that are too long for a cookie.
@@ -39,16 +39,16 @@ pub(crate) fn route_of(config: &ListenConfig, peer: Peer) -> Route
     }
 }
 
-fn asking_this(now: u64, iss: Seq48, area: &[u8], number: Seq48, service: u32) -> Asking
+fn asking_this(now: u64, iss: Seq48, area: &[u8], number: Seq48, service: u32) -> DatagramRequest
     ensures { result ≡ asking_this now iss area.now number service }
 {
     match FirstRequest::new(now, iss, number, service, area) {
-        Some(opening) => Asking::This(opening),
-        None => Asking::TooLong,
+        Some(opening) => DatagramRequest::This(opening),
+        None => DatagramRequest::TooLong,
     }
 }
 
-fn asking_by(now: u64, iss: Seq48, area: &[u8], kind: &Kind, number: &Number) -> Asking
+fn asking_by(now: u64, iss: Seq48, area: &[u8], kind: &Kind, number: &Number) -> DatagramRequest
     ensures { result ≡ asking_by now iss area.now kind.now number.now }
 {
     match (*kind, *number) {
@@ -71,11 +71,11 @@ fn asking_by(now: u64, iss: Seq48, area: &[u8], kind: &Kind, number: &Number) ->
             | Kind::Sync { ack: _ }
             | Kind::SyncAck { ack: _ },
             _,
-        ) => Asking::Nothing,
+        ) => DatagramRequest::Nothing,
     }
 }
 
-fn asking_in(now: u64, iss: Seq48, packet: &Packet<'_>) -> Asking
+fn asking_in(now: u64, iss: Seq48, packet: &Packet<'_>) -> DatagramRequest
     ensures { result ≡ asking_by now iss packet.now.options.now packet.now.header.kind packet.now.header.number }
 {
     asking_by(
@@ -104,7 +104,7 @@ fn travels_by(route: &Route, bytes: &[u8], header: &Header) -> bool
 }
 
 /// What a datagram of at most 2,044 bytes asks for that came by this route, and would be answered now under this number.
-pub fn asking_of(now: u64, iss: Seq48, route: &Route, bytes: &[u8]) -> Asking
+pub fn asking_of(now: u64, iss: Seq48, route: &Route, bytes: &[u8]) -> DatagramRequest
     requires { length bytes.now ≤ 2044 }
     ensures { result ≡ asking_of now iss route.now bytes.now }
 {
@@ -113,10 +113,10 @@ pub fn asking_of(now: u64, iss: Seq48, route: &Route, bytes: &[u8]) -> Asking
             if travels_by(route, bytes, &packet.header) {
                 asking_in(now, iss, &packet)
             } else {
-                Asking::Nothing
+                DatagramRequest::Nothing
             }
         }
-        Err(_) => Asking::Nothing,
+        Err(_) => DatagramRequest::Nothing,
     }
 }
 

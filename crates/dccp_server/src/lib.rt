@@ -31,7 +31,7 @@ mod strangers;
 mod timed_listener;
 mod upkeep;
 
-pub use crate::asking::{Asking, asking_of, opening_of};
+pub use crate::asking::{DatagramRequest, asking_of, opening_of};
 pub use crate::duty::Duty;
 pub use crate::event_server::{EventServer, NoNewFlows};
 pub use crate::first_number::keyed_number;

@@ -8,7 +8,7 @@ ghost use Rattle.init_cookies.specs.Openings.{request_bytes};
 ghost use Rattle.init_cookies.specs.Routes.{back};
 ghost use Rattle.dccp_options.specs.Written.{spelled};
 
-use crate::asking::{Asking, route_of};
+use crate::asking::{DatagramRequest, route_of};
 use crate::room::ArrivalResult;
 use crate::rules::Rules;
 use crate::timed_listener::TimedListener;
@@ -150,13 +150,13 @@ pub(crate) fn rekeyed(keys: &Option<CookieKeys>, key: [u8; 32], now: u64) -> Coo
 }
 
 /// What a Request is, by what it asks for.
-pub(crate) fn entry_by(asking: Asking) -> DatagramKind
+pub(crate) fn entry_by(asking: DatagramRequest) -> DatagramKind
     ensures { result ≡ entry_by asking }
 {
     match asking {
-        Asking::Nothing => DatagramKind::Plain,
-        Asking::TooLong => DatagramKind::TooLong,
-        Asking::This(opening) => DatagramKind::Asks(opening),
+        DatagramRequest::Nothing => DatagramKind::Plain,
+        DatagramRequest::TooLong => DatagramKind::TooLong,
+        DatagramRequest::This(opening) => DatagramKind::Asks(opening),
     }
 }
 

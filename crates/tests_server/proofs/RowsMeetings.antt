@@ -14,7 +14,7 @@ use Rattle.dccp_server.specs.FirstNumbers.{named_ends}
 use Rattle.dccp_server.specs.Meeting.{asking_by, asking_this, entry_by, entry_or, hurried, is_ever_in_use, is_half_open, is_in_use, may_meet, rekeyed}
 use Rattle.dccp_server.specs.Queues.{count_in, first_in, of_class, ticket, ticket_cmp, unqueued}
 use Rattle.dccp_server.specs.Rules.{usual_rules}
-use Rattle.dccp_server.specs.declared.asking.Asking.TheVariants as asking
+use Rattle.dccp_server.specs.declared.asking.DatagramRequest.TheVariants as asking
 use Rattle.dccp_server.specs.declared.meeting.CookieUse.TheVariants as cookies
 use Rattle.dccp_server.specs.declared.meeting.DatagramKind.TheVariants as entry
 use Rattle.dccp_server.specs.declared.meeting.Way.TheVariants as way
