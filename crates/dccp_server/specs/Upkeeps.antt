@@ -28,7 +28,7 @@ use Rattle.dccp_uses.specs.declared.timed_end.Due.{Due}
 use Rattle.dccp_uses.specs.declared.timed_end.Due.TheVariants as due
 use Rattle.dccp_server.specs.declared.happening.FlowHappening.{FlowHappening}
 use Rattle.dccp_server.specs.declared.happening.FlowHappening.TheVariants as happening
-use Rattle.dccp_server.specs.declared.happening.Hearing.{Hearing}
+use Rattle.dccp_server.specs.declared.happening.HeardDatagram.{HeardDatagram}
 use Rattle.dccp_server.specs.declared.upkeep.Upkeep.{Upkeep}
 
 -- a flow as an end with its timers and the rules of its path
@@ -60,12 +60,12 @@ abbrev pub kept_opened : ℕ → Pace → FlowEnd → Upkeep
 kept_opened now pace e = kept_on now 0 no_alarms (handshake_timed (path_begins pace) e.state.marks.gss now) e
 
 -- its end has heard a datagram, which leaves this path
-abbrev pub kept_with_path : ℕ → Upkeep → Hearing → Path → FlowEnd → Upkeep
+abbrev pub kept_with_path : ℕ → Upkeep → HeardDatagram → Path → FlowEnd → Upkeep
 kept_with_path now u it path e =
     kept_on now 0 (alarms_heard (path_waits path) u.path u.alarms it.was (sight_of kinds_control e) it.delivered it.silent now) path e
 
 -- by what there was to see of the end before, and is now
-abbrev pub kept_heard : ℕ → Upkeep → Hearing → FlowEnd → Upkeep
+abbrev pub kept_heard : ℕ → Upkeep → HeardDatagram → FlowEnd → Upkeep
 kept_heard now u it e = kept_with_path now u it (path_heard u.path it.was (sight_of kinds_control e) it.taken now) e
 
 -- data went out

@@ -12,7 +12,7 @@ use dccp_uses::{Rule, Sight, is_delivery, is_taken};
 
 /// A datagram that a flow's end has heard.
 #[derive(Clone, Copy, Debug, PartialEq, Eq)]
-pub struct Hearing {
+pub struct HeardDatagram {
     /// What there was to see of the end before.
     pub was: Sight,
     /// The packet was taken.
@@ -29,7 +29,7 @@ pub enum FlowHappening {
     /// It was made, and has answered a Request.
     Opened,
     /// It has heard a datagram.
-    Heard(Hearing),
+    Heard(HeardDatagram),
     /// Data went out.
     Sent,
     /// It was told this timer.
@@ -72,7 +72,7 @@ pub(crate) fn arrived_so(was: Option<Sight>, heard: &Heard, silent: bool) -> Flo
     let delivered = tells_data(heard);
     match was {
         None => FlowHappening::Opened,
-        Some(was) => FlowHappening::Heard(Hearing {
+        Some(was) => FlowHappening::Heard(HeardDatagram {
             was,
             taken,
             delivered,

@@ -38,7 +38,7 @@ pub use crate::first_number::keyed_number;
 pub use crate::flow_drops::{FlowDrop, FlowDropRecord};
 pub use crate::flow_event::{EndCause, EndReason, EventKind, FlowEvent, FlowEvents, FlowState};
 pub use crate::flow_inboxes::{FlowInboxes, event_kept};
-pub use crate::happening::{FlowHappening, Hearing};
+pub use crate::happening::{FlowHappening, HeardDatagram};
 pub use crate::laws::{
     calls_are_a_run, flows_are_timed_ends, forgotten_peers_have_no_flow, inboxes_stay_few,
     meetings_are_deeds, no_flow_is_passed_over, only_strangers_want_memory,

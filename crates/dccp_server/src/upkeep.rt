@@ -4,7 +4,7 @@ ghost use Rattle.dccp_uses.specs.Alarms.{has_run_out};
 ghost use Rattle.dccp_uses.specs.Timed.{every_due};
 ghost use Rattle.dccp_server.specs.Upkeeps.{first_due, kept_alarm, kept_closed, kept_heard, kept_on, kept_opened, kept_preferred, kept_ruled, kept_rung, kept_seen, kept_sent, next_upkeep, upkeep_begins, upkeep_moment, earlier, alarm_end, first_end};
 
-use crate::happening::{FlowHappening, Hearing};
+use crate::happening::{FlowHappening, HeardDatagram};
 use crate::register::Moment;
 use ccid_two::Kinds;
 use dccp_endpoint::{Endpoint, Timer};
@@ -156,7 +156,7 @@ impl Upkeep {
         self.go_on(end, now);
     }
 
-    fn hear(&mut self, hearing: &Hearing, end: &Endpoint<Kinds>, now: u64)
+    fn hear(&mut self, hearing: &HeardDatagram, end: &Endpoint<Kinds>, now: u64)
         ensures { self.new ≡ kept_heard now self.old hearing.now end.now }
     {
         let is = Sight::of(end);
