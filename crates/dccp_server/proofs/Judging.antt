@@ -6,7 +6,7 @@ use Rattle.dccp_listener.specs.Runs.{CallTold, HadNoMemory, Stepped, WasBusy}
 use Rattle.dccp_listener.specs.declared.peer.Peer.{Peer}
 use Rattle.dccp_states.specs.declared.calls.Timer.TheVariants as timers
 use Rattle.dccp_server.specs.Lives.{life_of, signs_of}
-use Rattle.dccp_server.specs.Rooms.{Coming, LivesChangeNothing, Room, Ruled, RulesAreDeeds, begun_anew, comes_by, comes_if, does_all, duty_done, heard_plainly, is_to_be_heard, room_does, room_made, who_leaves}
+use Rattle.dccp_server.specs.Rooms.{RoomStep, LivesChangeNothing, Room, Ruled, RulesAreDeeds, begun_anew, comes_by, comes_if, does_all, duty_done, heard_plainly, is_to_be_heard, room_does, room_made, who_leaves}
 use Rattle.dccp_server.specs.Rules.{begins_anew, refuses_last_sync}
 use Rattle.dccp_server.specs.Serving.{Does, Doing, Follows, Served, Spends, TimedDoing, served_by, served_through}
 use Rattle.dccp_server.specs.declared.duty.Duty.{Duty}
@@ -25,7 +25,7 @@ module _ (now : ℕ) (rules : Rules) (peer : Peer) (iss : ℕ) (bytes : List ℕ
   heard = does peer (Arrives iss bytes)
 
   module _ (r : Room) where
-    abbrev plain : Coming
+    abbrev plain : RoomStep
     plain = heard_plainly now r peer iss bytes None
 
     by-leaving : (leaving : Option Peer) → IsByDoings r (room_made now plain.room peer iss bytes leaving plain).room

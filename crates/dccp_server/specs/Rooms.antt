@@ -90,7 +90,7 @@ who_is_over now rules r = first_given_up rules (is_crowded r) now r.lives
 
 -- What comes of a datagram: the room after it, the frame that is for its peer, what was told, if it was heard, whose flow
 -- made room, and whether the peer's old flow was ended.
-pub record Coming : Type 0 where
+pub record RoomStep : Type 0 where
   pub room : Room
   pub frame : Option Outgoing
   pub told : Option CallTold
@@ -98,7 +98,7 @@ pub record Coming : Type 0 where
   pub anew : Bool
 
 -- the datagram is heard, and no rule applies
-abbrev pub heard_plainly : ℕ → Room → Peer → ℕ → List ℕ → Option Peer → Coming
+abbrev pub heard_plainly : ℕ → Room → Peer → ℕ → List ℕ → Option Peer → RoomStep
 heard_plainly now r peer iss bytes evicted =
     record {
       room = room_does now r peer (Does (Arrives iss bytes));
@@ -109,29 +109,29 @@ heard_plainly now r peer iss bytes evicted =
     }
 
 -- The listener was busy, and is this then. The flow that leaves is forgotten, and the datagram is heard once more.
-abbrev pub room_made : ℕ → Room → Peer → ℕ → List ℕ → Option Peer → Coming → Coming
+abbrev pub room_made : ℕ → Room → Peer → ℕ → List ℕ → Option Peer → RoomStep → RoomStep
 room_made now r peer iss bytes None busy = busy
 room_made now r peer iss bytes (Some leaving) busy = heard_plainly now (forgets now r leaving) peer iss bytes (Some leaving)
 
 -- The peer has begun anew: its old flow is forgotten, and the Sync is not sent, so that the peer asks again.
-abbrev pub begun_anew : ℕ → Peer → Coming → Bool → Coming
+abbrev pub begun_anew : ℕ → Peer → RoomStep → Bool → RoomStep
 begun_anew now peer plain false = plain
 begun_anew now peer plain true = record plain { room = forgets now plain.room peer; frame = None; anew = true }
 
 -- what comes of a datagram that was heard, by what was told
-abbrev pub comes_by : ℕ → Rules → Room → Peer → ℕ → List ℕ → Coming → CallTold → Coming
+abbrev pub comes_by : ℕ → Rules → Room → Peer → ℕ → List ℕ → RoomStep → CallTold → RoomStep
 comes_by now rules r peer iss bytes plain WasBusy = room_made now plain.room peer iss bytes (who_leaves now rules plain.room) plain
 comes_by now rules r peer iss bytes plain HadNoMemory = plain
 comes_by now rules r peer iss bytes plain (Stepped it) =
     begun_anew now peer plain (begins_anew rules (life_of r.lives peer) bytes (signs_of (Stepped it)))
 
 -- What comes of a datagram that is heard, where memory is found.
-abbrev pub comes_heard : ℕ → Rules → Room → Peer → ℕ → List ℕ → Coming
+abbrev pub comes_heard : ℕ → Rules → Room → Peer → ℕ → List ℕ → RoomStep
 comes_heard now rules r peer iss bytes =
     comes_by now rules r peer iss bytes (heard_plainly now r peer iss bytes None) (listens r.served.listening peer (Arrives iss bytes)).told
 
 -- a datagram is left out: nothing is sent, and no number is used
-abbrev pub left_out : Room → Coming
+abbrev pub left_out : Room → RoomStep
 left_out r = record { room = r; frame = None; told = None; evicted = None; anew = false }
 
 -- the room once a datagram was counted; one that refuses the last Sync is not
@@ -143,12 +143,12 @@ abbrev pub is_to_be_heard : ℕ → Rules → Room → Peer → List ℕ → Boo
 is_to_be_heard now rules r peer bytes = refuses_last_sync rules (life_of r.lives peer) bytes || is_admitted now r.served peer bytes
 
 -- it is heard, or left out
-abbrev pub comes_if : ℕ → Rules → Room → Peer → ℕ → List ℕ → Bool → Coming
+abbrev pub comes_if : ℕ → Rules → Room → Peer → ℕ → List ℕ → Bool → RoomStep
 comes_if now rules r peer iss bytes true = comes_heard now rules r peer iss bytes
 comes_if now rules r peer iss bytes false = left_out r
 
 -- What comes of a datagram, where memory is found.
-abbrev pub comes : ℕ → Rules → Room → Peer → ℕ → List ℕ → Coming
+abbrev pub comes : ℕ → Rules → Room → Peer → ℕ → List ℕ → RoomStep
 comes now rules r peer iss bytes =
     comes_if now rules (counted_room now rules r peer bytes) peer iss bytes (is_to_be_heard now rules r peer bytes)
 
@@ -290,7 +290,7 @@ abbrev pub moved_on : Ruled → Room → Strangers → Ruled
 moved_on s room strangers = record s { room = room; strangers = strangers }
 
 -- what came of the datagram, except that its frame may be one too many for a stranger
-abbrev pub reception_of : ℕ → Ruled → Peer → Coming → Reception
+abbrev pub reception_of : ℕ → Ruled → Peer → RoomStep → Reception
 reception_of now s peer coming =
     record {
       server = moved_on s coming.room (reply_spared now s peer coming.room coming.frame coming.told).strangers;
