@@ -6,7 +6,7 @@ use Rattle.dccp_endpoint.specs.Controlled.{End}
 use Rattle.dccp_listener.specs.Peers.{end_of_peer}
 use Rattle.dccp_listener.specs.declared.peer.Peer.{Peer}
 use Rattle.dccp_server.specs.FlowInboxes.{Inboxes, flow_most_said}
-use Rattle.dccp_server.specs.Rooms.{Ruled}
+use Rattle.dccp_server.specs.Rooms.{RuledRoom}
 use Rattle.dccp_server.specs.Serving.{upkeep_at}
 use Rattle.dccp_server.specs.declared.upkeep.Upkeep.{Upkeep}
 use Rattle.dccp_states.specs.declared.calls.Timer.TheVariants as timers
@@ -16,7 +16,7 @@ use Rattle.dccp_c.specs.Seeing.{trip_seen}
 use Rattle.dccp_c.specs.declared.readers.RoundTripView.{RoundTripView}
 
 -- the end of a peer, where there is a listener and it has one
-abbrev pub flow_end : Option Ruled → Peer → Option (End Both)
+abbrev pub flow_end : Option RuledRoom → Peer → Option (End Both)
 flow_end None peer = None
 flow_end (Some s) peer = end_of_peer s.room.served.listening.flows peer
 
@@ -25,7 +25,7 @@ abbrev pub upkeep_seen : Upkeep → RoundTripView
 upkeep_seen it = trip_seen it.path.round_trip (starting_wait_by (path_waits it.path) it.alarms timers.Rto)
 
 -- the same where there is a listener, and the peer has a flow
-abbrev pub flow_path : Option Ruled → Peer → Option RoundTripView
+abbrev pub flow_path : Option RuledRoom → Peer → Option RoundTripView
 flow_path None peer = None
 flow_path (Some s) peer =
     option_map (λ e. upkeep_seen (upkeep_at s.room.served.pace s.room.served.upkeeps peer)) (end_of_peer s.room.served.listening.flows peer)

@@ -4,7 +4,7 @@ use Rattle.std.specs.Option.{option_map}
 use Rattle.dccp_listener.specs.Chain.{Prefers}
 use Rattle.dccp_listener.specs.Peers.{end_of_peer}
 use Rattle.dccp_listener.specs.declared.peer.Peer.{Peer}
-use Rattle.dccp_server.specs.Rooms.{Ruled}
+use Rattle.dccp_server.specs.Rooms.{RuledRoom}
 use Rattle.feature_lists.specs.declared.features.Feature.{Feature}
 use Rattle.feature_lists.specs.declared.features.Place.{Place}
 use Rattle.dccp_c.specs.Framing.{Handed}
@@ -19,16 +19,16 @@ PrefersAt now before after peer None place values frame code = IsUnserved before
 PrefersAt now before after peer (Some feature) place values frame code = Serves now before after peer (Prefers feature place values) frame code
 
 -- what the end of a peer holds for a feature, where there is a listener and the peer has an end
-abbrev pub feature_at_peer : Feature → Place → Option Ruled → Peer → Option FeatureState
+abbrev pub feature_at_peer : Feature → Place → Option RuledRoom → Peer → Option FeatureState
 feature_at_peer feature place None peer = None
 feature_at_peer feature place (Some s) peer = option_map (seen_feature feature place) (end_of_peer s.room.served.listening.flows peer)
 
 -- where the feature has this number
-abbrev pub flow_feature : Option Feature → Place → Option Ruled → Peer → Option FeatureState
+abbrev pub flow_feature : Option Feature → Place → Option RuledRoom → Peer → Option FeatureState
 flow_feature None place held peer = None
 flow_feature (Some feature) place held peer = feature_at_peer feature place held peer
 
 -- the code of reading a feature of a flow
-abbrev pub flow_feature_code : Option Feature → Place → Option Ruled → Peer → ℕ
+abbrev pub flow_feature_code : Option Feature → Place → Option RuledRoom → Peer → ℕ
 flow_feature_code None place held peer = 11
 flow_feature_code (Some feature) place held peer = flow_code held (feature_at_peer feature place held peer)

@@ -17,7 +17,7 @@ use Rattle.dccp_server.specs.Lives.{life_of}
 use Rattle.dccp_server.specs.Meeting.{IsMet, may_meet, rekeyed}
 use Rattle.dccp_server.specs.Places.{peer_after}
 use Rattle.dccp_server.specs.Refusals.{refused_frame}
-use Rattle.dccp_server.specs.Rooms.{Room, Ruled, duty_done, duty_frame, duty_in, duty_peer, forgets, room_does, room_waits, told_of_arrival}
+use Rattle.dccp_server.specs.Rooms.{Room, RuledRoom, duty_done, duty_frame, duty_in, duty_peer, forgets, room_does, room_waits, told_of_arrival}
 use Rattle.dccp_server.specs.Serving.{Does, flow_restraint, upkeep_at}
 use Rattle.dccp_uses.specs.declared.reader.Restraint.{Restraint}
 use Rattle.dccp_uses.specs.declared.rule.Rule.{Rule}
@@ -59,7 +59,7 @@ watched_in None = None
 watched_in (Some held) = Some held.server
 
 -- the same without what is to be told
-abbrev pub served_in : Option InnerListener → Option Ruled
+abbrev pub served_in : Option InnerListener → Option RuledRoom
 served_in None = None
 served_in (Some held) = Some held.server.server
 
@@ -90,7 +90,7 @@ flow_drops_in None = []
 flow_drops_in (Some held) = held.drops
 
 -- what was counted of the reports of a peer, with what is kept of its flow
-abbrev pub counted_of : Ruled → Peer → Option ℕ
+abbrev pub counted_of : RuledRoom → Peer → Option ℕ
 counted_of s peer = (upkeep_at s.room.served.pace s.room.served.upkeeps peer).path.reader.counted
 
 -- whom C names by an address and a port
@@ -136,7 +136,7 @@ abbrev pub IsUnserved : Option Holding → Option Holding → Handed → Type 0
 IsUnserved before after frame = (after ≡ before) × (frame ≡ nothing_handed)
 
 -- the server with this in its room
-abbrev pub with_room : Ruled → Room → Ruled
+abbrev pub with_room : RuledRoom → Room → RuledRoom
 with_room s room = record s { room = room }
 
 -- A peer's flow has led the server to this one: its inbox goes with it, unless data wait there.
@@ -166,7 +166,7 @@ FiresAt now before after peer None frame code = IsUnserved before after frame ×
 FiresAt now before after peer (Some timer) frame code = Serves now before after peer (Fires timer) frame code
 
 -- why data to a peer have to wait, where there is a listener and it has a flow
-abbrev pub restraint_in : Option Ruled → Peer → Option Restraint
+abbrev pub restraint_in : Option RuledRoom → Peer → Option Restraint
 restraint_in None peer = None
 restraint_in (Some s) peer = flow_restraint s.room.served peer
 
@@ -193,14 +193,14 @@ HandsHeard (Ok it) kept frame left code old new =
 HandsHeard (Err _) kept frame left code old new = (left ≡ nothing_handed) × (code ≡ 2) × (new ≡ old)
 
 -- the inboxes once a datagram of a peer has led the server to this one: a flow that it has opened begins without any
-abbrev pub inboxes_begun : Holding → Ruled → Peer → Inboxes
+abbrev pub inboxes_begun : Holding → RuledRoom → Peer → Inboxes
 inboxes_begun s after peer =
     begun_fresh s.inboxes peer (is_some (end_of_peer s.watched.server.room.served.listening.flows peer))
     (end_of_peer after.room.served.listening.flows peer)
 
 -- Data of a datagram that has led the server to this one came into the peer's inbox, if any did; or no memory for one was
 -- found, or no place: then they are in the datagram alone.
-abbrev pub MayDeliver : Inboxes → Ruled → Peer → List ℕ → Option CallTold → FlowDelivery → Type 0
+abbrev pub MayDeliver : Inboxes → RuledRoom → Peer → List ℕ → Option CallTold → FlowDelivery → Type 0
 MayDeliver inboxes after peer bytes told it = (it ≡ flow_delivers inboxes after peer bytes told) ⊎ (it ≡ no_flow_delivery inboxes)
 
 -- a datagram has led the server to this one, its data came so, and these flows made room for it, if any did
@@ -330,28 +330,28 @@ Forgets now (Some s) after peer code =
     × (code ≡ (if is_some (end_of_peer s.watched.server.room.served.listening.flows peer) then 0 else 15))
 
 -- how long it is until a timer of a listener runs out or a flow is given up, if any does
-abbrev pub listener_waits : ℕ → Option Ruled → ℕ
+abbrev pub listener_waits : ℕ → Option RuledRoom → ℕ
 listener_waits now None = never
 listener_waits now (Some s) = room_waits now s.rules s.room
 
 -- what is read of the end of a peer, where there is a listener and it has one
-abbrev pub flow_in : Option Ruled → Peer → Option View
+abbrev pub flow_in : Option RuledRoom → Peer → Option View
 flow_in None peer = None
 flow_in (Some s) peer =
     option_map (seen_within (upkeep_at s.room.served.pace s.room.served.upkeeps peer).path.reader.allowance) (end_of_peer s.room.served.listening.flows peer)
 
 -- the first peer that has a flow
-abbrev pub first_peer_in : Option Ruled → Option PeerAddress
+abbrev pub first_peer_in : Option RuledRoom → Option PeerAddress
 first_peer_in None = None
 first_peer_in (Some s) = option_map address_of (slice_get (keys_of s.room.served.listening.flows) 0)
 
 -- the first that comes after a peer
-abbrev pub next_peer_in : Option Ruled → Peer → Option PeerAddress
+abbrev pub next_peer_in : Option RuledRoom → Peer → Option PeerAddress
 next_peer_in None peer = None
 next_peer_in (Some s) peer = option_map address_of (peer_after peer (keys_of s.room.served.listening.flows))
 
 -- the code of reading a flow, or of naming its peer: 1 where there is no listener, 15 where there is no flow
-abbrev pub flow_code : {Read : Type 0} → Option Ruled → Option Read → ℕ
+abbrev pub flow_code : {Read : Type 0} → Option RuledRoom → Option Read → ℕ
 flow_code None found = 1
 flow_code (Some s) None = 15
 flow_code (Some s) (Some it) = 0
@@ -375,7 +375,7 @@ way_number way.Reopened = 3
 way_number way.Unopened = 4
 
 -- how many flows stand
-abbrev pub flows_in : Option Ruled → ℕ
+abbrev pub flows_in : Option RuledRoom → ℕ
 flows_in None = 0
 flows_in (Some s) = length s.room.served.listening.flows
 
@@ -425,7 +425,7 @@ life_if None life = None
 life_if (Some e) life = Some life
 
 -- the same where there is a server, and the peer a flow
-abbrev pub life_in : Option Ruled → Peer → Option FlowLife
+abbrev pub life_in : Option RuledRoom → Peer → Option FlowLife
 life_in None peer = None
 life_in (Some s) peer = option_map known_of (life_if (end_of_peer s.room.served.listening.flows peer) (life_of s.room.lives peer))
 

@@ -6,7 +6,7 @@ use Rattle.dccp_listener.specs.Runs.{CallTold, HadNoMemory, Stepped, WasBusy}
 use Rattle.dccp_listener.specs.declared.peer.Peer.{Peer}
 use Rattle.dccp_states.specs.declared.calls.Timer.TheVariants as timers
 use Rattle.dccp_server.specs.Lives.{life_of, signs_of}
-use Rattle.dccp_server.specs.Rooms.{RoomStep, LivesChangeNothing, Room, Ruled, RulesAreDeeds, begun_anew, comes_by, comes_if, does_all, duty_done, heard_plainly, is_to_be_heard, room_does, room_made, who_leaves}
+use Rattle.dccp_server.specs.Rooms.{RoomStep, LivesChangeNothing, Room, RuledRoom, RulesAreDeeds, begun_anew, comes_by, comes_if, does_all, duty_done, heard_plainly, is_to_be_heard, room_does, room_made, who_leaves}
 use Rattle.dccp_server.specs.Rules.{begins_anew, refuses_last_sync}
 use Rattle.dccp_server.specs.Serving.{Does, Doing, Follows, Served, Spends, TimedDoing, served_by, served_through}
 use Rattle.dccp_server.specs.declared.duty.Duty.{Duty}
@@ -68,6 +68,6 @@ lives_change_nothing r (it ∷ later) =
     ∙ ap (λ (s : Served). served_through s later) (served-same it.now r it.peer it.doing)
 
 -- to do a duty by which a rule is followed is to follow it
-pub duty_as : (now : ℕ) (s after : Ruled) (duty : Duty) (peer : Peer) (rule : Rule) → duty ≡ Follow peer rule
+pub duty_as : (now : ℕ) (s after : RuledRoom) (duty : Duty) (peer : Peer) (rule : Rule) → duty ≡ Follow peer rule
     → after ≡ record s { room = room_does now s.room peer Follows } → after ≡ record s { room = duty_done now s.room (Some duty) }
 duty_as now s after duty peer rule is does = does ∙ ap (λ (d : Duty). record s { room = duty_done now s.room (Some d) }) (sym is)

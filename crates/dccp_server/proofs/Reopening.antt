@@ -12,7 +12,7 @@ use Rattle.init_cookies.specs.Openings.{OpeningState}
 use Rattle.init_cookies.specs.declared.cookie.CookieKeys.{CookieKeys}
 use Rattle.seq_circle.specs.declared.memory.NoMemory.{NoMemory}
 use Rattle.dccp_server.specs.Meeting.{IsGreeted, IsMet, MovesNobody, cleared, entry_met, going_by, greeting_frame, hurrying, received_hurrying, request_at, unreceived_hurrying, unreopened}
-use Rattle.dccp_server.specs.Rooms.{IsServed, Reception, Ruled, received_at, unreceived_at}
+use Rattle.dccp_server.specs.Rooms.{IsServed, Reception, RuledRoom, received_at, unreceived_at}
 use Rattle.dccp_server.specs.declared.meeting.DatagramKind.{DatagramKind}
 use Rattle.dccp_server.specs.declared.meeting.DatagramKind.TheVariants as entry
 use Rattle.dccp_server.specs.declared.meeting.Way.{Way}
@@ -20,39 +20,39 @@ use Rattle.dccp_server.specs.declared.meeting.Way.TheVariants as way
 
 -- a Request has arrived in haste, at a server whose rules were these before and are these again
 
-module _ (now : ℕ) (s mid after last : Ruled) (peer : Peer) (iss : ℕ) (bytes : List ℕ) (frame : Option Outgoing) (evicted : Option Peer) (anew : Bool)
+module _ (now : ℕ) (s mid after last : RuledRoom) (peer : Peer) (iss : ℕ) (bytes : List ℕ) (frame : Option Outgoing) (evicted : Option Peer) (anew : Bool)
     (mid-is : mid ≡ hurrying s) (last-is : last ≡ going_by s.rules after) where
   pub hurried_open : (told : Result (Option Heard) NoMemory) → IsServed now mid after peer iss bytes frame told evicted anew
       → IfOk told (λ _. last ≡ received_hurrying now s peer iss bytes)
   hurried_open (Ok it) is =
-      last-is ∙ ap (λ (x : Reception). going_by s.rules x.server) is ∙ ap (λ (x : Ruled). going_by s.rules (received_at now x peer iss bytes).server) mid-is
+      last-is ∙ ap (λ (x : Reception). going_by s.rules x.server) is ∙ ap (λ (x : RuledRoom). going_by s.rules (received_at now x peer iss bytes).server) mid-is
   hurried_open (Err fault) is = tt
 
   pub hurried_maker : (told : Result (Option Heard) NoMemory) → IsServed now mid after peer iss bytes frame told evicted anew
       → IfOk told (λ _. evicted ≡ (received_at now (hurrying s) peer iss bytes).evicted)
-  hurried_maker (Ok it) is = ap (λ (x : Reception). x.evicted) is ∙ ap (λ (x : Ruled). (received_at now x peer iss bytes).evicted) mid-is
+  hurried_maker (Ok it) is = ap (λ (x : Reception). x.evicted) is ∙ ap (λ (x : RuledRoom). (received_at now x peer iss bytes).evicted) mid-is
   hurried_maker (Err fault) is = tt
 
   pub hurried_shut : (told : Result (Option Heard) NoMemory) → IsServed now mid after peer iss bytes frame told evicted anew
       → OnErr told (last ≡ unreceived_hurrying now s peer iss bytes evicted)
   hurried_shut (Ok it) is = tt
   hurried_shut (Err fault) is =
-      last-is ∙ ap (going_by s.rules) is.0 ∙ ap (λ (x : Ruled). going_by s.rules (unreceived_at now x peer iss bytes evicted)) mid-is
+      last-is ∙ ap (going_by s.rules) is.0 ∙ ap (λ (x : RuledRoom). going_by s.rules (unreceived_at now x peer iss bytes evicted)) mid-is
 
 -- the Request of an opening has arrived again, and no memory was found
-pub unopened : (now : ℕ) (s mid last : Ruled) (peer : Peer) (o : OpeningState) (time iss : ℕ) (bytes : List ℕ) (told : Result (Option Heard) NoMemory)
+pub unopened : (now : ℕ) (s mid last : RuledRoom) (peer : Peer) (o : OpeningState) (time iss : ℕ) (bytes : List ℕ) (told : Result (Option Heard) NoMemory)
     (evicted : Option Peer) → OnErr told (last ≡ unreceived_hurrying time mid peer iss bytes evicted) → time ≡ o.time → mid ≡ cleared now s peer
     → iss ≡ o.iss → bytes ≡ request_at s peer o → OnErr told (last ≡ unreopened now s peer o evicted)
 unopened now s mid last peer o time iss bytes (Ok it) evicted is time-is mid-is iss-is bytes-is = tt
 unopened now s mid last peer o time iss bytes (Err fault) evicted is time-is mid-is iss-is bytes-is =
     is
     ∙ ap (λ (x : ℕ). unreceived_hurrying x mid peer iss bytes evicted) time-is
-    ∙ ap (λ (x : Ruled). unreceived_hurrying o.time x peer iss bytes evicted) mid-is
+    ∙ ap (λ (x : RuledRoom). unreceived_hurrying o.time x peer iss bytes evicted) mid-is
     ∙ ap (λ (x : ℕ). unreceived_hurrying o.time (cleared now s peer) peer x bytes evicted) iss-is
     ∙ ap (λ (x : List ℕ). unreceived_hurrying o.time (cleared now s peer) peer o.iss x evicted) bytes-is
 
 -- a Request was greeted
-pub greeted : (now : ℕ) (s : Ruled) (peer : Peer) (iss : ℕ) (bytes : List ℕ) (frame : Option Outgoing) (told : Result (Option Heard) NoMemory)
+pub greeted : (now : ℕ) (s : RuledRoom) (peer : Peer) (iss : ℕ) (bytes : List ℕ) (frame : Option Outgoing) (told : Result (Option Heard) NoMemory)
     (evicted : Option Peer) (anew : Bool) (made_room : Option Peer) (w : Way) (keys : CookieKeys) (o : OpeningState) (outcome : Outcome)
     → w ≡ way.Greeted → s.keys ≡ Some keys → entry_met now s peer iss bytes ≡ entry.Asks o → frame ≡ greeting_frame keys s peer o
     → told ≡ Ok (Some (heard.Flow outcome)) → outcome ≡ (greets s.room.served.listening peer o.iss (request_at s peer o)).answer

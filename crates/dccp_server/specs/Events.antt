@@ -20,7 +20,7 @@ use Rattle.dccp_uses.specs.declared.reader.Restraint.{Restraint}
 use Rattle.dccp_server.specs.Lives.{Lives, life_of}
 use Rattle.dccp_server.specs.Meeting.{entry_met, hurried, returned}
 use Rattle.dccp_server.specs.Refusals.{flow_asked, refused_server}
-use Rattle.dccp_server.specs.Rooms.{Room, Ruled, duty_peer, who_leaves}
+use Rattle.dccp_server.specs.Rooms.{Room, RuledRoom, duty_peer, who_leaves}
 use Rattle.dccp_server.specs.Serving.{flow_restraint}
 use Rattle.dccp_server.specs.declared.duty.Duty.{Duty}
 use Rattle.dccp_server.specs.declared.flow_event.EndCause.{EndCause}
@@ -185,7 +185,7 @@ rules_of_opening rules None = rules
 rules_of_opening rules (Some o) = hurried rules
 
 -- The life of the flow that would make room for one more of this peer, where it has none and all places are taken.
-abbrev pub leaver_life : ℕ → Ruled → Peer → List ℕ → Option Life
+abbrev pub leaver_life : ℕ → RuledRoom → Peer → List ℕ → Option Life
 leaver_life now s peer bytes =
     if is_some (end_of_peer s.room.served.listening.flows peer) || not (is_table_full s.room.served.listening) then None
     else option_map (life_of s.room.lives) (who_leaves (time_of_opening now (returned now s peer bytes)) (rules_of_opening s.rules (returned now s peer bytes)) s.room)
@@ -216,31 +216,31 @@ told_of_duty was after None = no_events
 told_of_duty was after (Some duty) = events_between (duty_peer duty) was (flow_state after (duty_peer duty)) None (aborted_end causes.Silent) None
 
 -- what is told of a datagram of a peer that led from one server to the other
-abbrev pub events_arrived : ℕ → Ruled → Ruled → Peer → List ℕ → Option CallTold → Option Peer → Bool → FlowEvents
+abbrev pub events_arrived : ℕ → RuledRoom → RuledRoom → Peer → List ℕ → Option CallTold → Option Peer → Bool → FlowEvents
 events_arrived now s after peer bytes told maker anew =
     events_between peer (flow_state s.room peer) (flow_state after.room peer) (data_told told) (ending_heard (flow_state s.room peer) told anew)
     (evicted_event (leaver_life now s peer bytes) maker)
 
 -- what is told of a call of a peer's flow that led from one to the other: it ends a connection as this says
-abbrev pub events_called : Ruled → Ruled → Peer → EndReason → FlowEvents
+abbrev pub events_called : RuledRoom → RuledRoom → Peer → EndReason → FlowEvents
 events_called s after peer ending = events_between peer (flow_state s.room peer) (flow_state after.room peer) None ending None
 
 -- a server, what is to be told of its last call, and whether it takes no new flows
 pub record Watched : Type 0 where
-  pub server : Ruled
+  pub server : RuledRoom
   pub events : FlowEvents
   pub is_shut : Bool
 
 -- Its peer's datagram has led the server to this one, and its owner is told of that.
-abbrev pub heard_on : ℕ → Watched → Ruled → Peer → List ℕ → Option CallTold → Option Peer → Bool → Watched
+abbrev pub heard_on : ℕ → Watched → RuledRoom → Peer → List ℕ → Option CallTold → Option Peer → Bool → Watched
 heard_on now s after peer bytes told maker anew = record s { server = after; events = events_arrived now s.server after peer bytes told maker anew }
 
 -- the same of a call of a peer's flow, which ends a connection as this says
-abbrev pub called_on : Watched → Ruled → Peer → EndReason → Watched
+abbrev pub called_on : Watched → RuledRoom → Peer → EndReason → Watched
 called_on s after peer ending = record s { server = after; events = events_called s.server after peer ending }
 
 -- and of what there was to do
-abbrev pub ticked_on : Watched → Ruled → Option Duty → Watched
+abbrev pub ticked_on : Watched → RuledRoom → Option Duty → Watched
 ticked_on s after duty = record s { server = after; events = told_of_duty (due_state s.server.room duty) after.room duty }
 
 -- A datagram would open a flow of a server that takes none.

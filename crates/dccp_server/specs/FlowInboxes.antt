@@ -13,7 +13,7 @@ use Rattle.dccp_listener.specs.Peers.{FlowEnd, end_of_peer, is_peer, peer_cmp}
 use Rattle.dccp_listener.specs.Runs.{CallTold}
 use Rattle.dccp_listener.specs.declared.peer.Peer.{Peer}
 use Rattle.dccp_server.specs.Events.{data_told}
-use Rattle.dccp_server.specs.Rooms.{Ruled}
+use Rattle.dccp_server.specs.Rooms.{RuledRoom}
 use Rattle.dccp_server.specs.declared.flow_event.EventKind.{EventKind}
 use Rattle.dccp_server.specs.declared.flow_event.EventKind.TheVariants as kinds
 use Rattle.dccp_server.specs.declared.flow_event.FlowEvent.{FlowEvent}
@@ -89,7 +89,7 @@ flow_delivers_by s peer bytes _ _ = no_flow_delivery s
 
 -- A datagram of a peer has led the server to this one, and that was told of it: data that it brought come into the peer's
 -- inbox, which is made for the first that come.
-abbrev pub flow_delivers : Inboxes → Ruled → Peer → List ℕ → Option CallTold → FlowDelivery
+abbrev pub flow_delivers : Inboxes → RuledRoom → Peer → List ℕ → Option CallTold → FlowDelivery
 flow_delivers s after peer bytes told = flow_delivers_by s peer bytes (data_told told) (end_of_peer after.room.served.listening.flows peer)
 
 -- data came that are there, if any did, and the peer has a flow for them, if it has one
@@ -102,7 +102,7 @@ abbrev pub finds_no_place_by : Inboxes → Peer → List ℕ → Option (ℕ × 
 finds_no_place_by s peer bytes place flow = has_data_by bytes place flow && lacks_place s peer
 
 -- the same of what a datagram has led the server to, and was told of it
-abbrev pub finds_no_place : Inboxes → Ruled → Peer → List ℕ → Option CallTold → Bool
+abbrev pub finds_no_place : Inboxes → RuledRoom → Peer → List ℕ → Option CallTold → Bool
 finds_no_place s after peer bytes told = finds_no_place_by s peer bytes (data_told told) (end_of_peer after.room.served.listening.flows peer)
 
 -- A peer that had a flow before a datagram, or had none, has this one after it: with a new flow, what waited of the one
@@ -117,7 +117,7 @@ flow_speaks_by inbox None frame = frame
 flow_speaks_by inbox (Some e) frame = spoken e.state.config.pseudo_out inbox frame
 
 -- A frame that goes to a peer, as it goes out.
-abbrev pub flow_speaks : Inboxes → Ruled → Peer → Option Outgoing → Option Outgoing
+abbrev pub flow_speaks : Inboxes → RuledRoom → Peer → Option Outgoing → Option Outgoing
 flow_speaks s server peer frame = flow_speaks_by (flow_inbox s peer) (end_of_peer server.room.served.listening.flows peer) frame
 
 -- an inbox of a flow that is over goes once it is empty
@@ -126,11 +126,11 @@ tidied_by s peer (Some e) = s
 tidied_by s peer None = if count_held (flow_inbox s peer) == 0 then without_inbox_of s peer else s
 
 -- A peer's inbox stands as long as its flow does, or data wait in it.
-abbrev pub tidied : Inboxes → Ruled → Peer → Inboxes
+abbrev pub tidied : Inboxes → RuledRoom → Peer → Inboxes
 tidied s server peer = tidied_by s peer (end_of_peer server.room.served.listening.flows peer)
 
 -- and that of a peer whose flow may have made room
-abbrev pub tidied_if : Inboxes → Ruled → Option Peer → Inboxes
+abbrev pub tidied_if : Inboxes → RuledRoom → Option Peer → Inboxes
 tidied_if s server None = s
 tidied_if s server (Some peer) = tidied s server peer
 
@@ -176,10 +176,10 @@ HasFewInboxes s = length s.entries ≤ s.most
 -- than may stand would be made.
 pub record InboxesStayFew : Type 0 where
   pub at_first : (capacity most : ℕ) → HasFewInboxes (no_inboxes capacity most)
-  pub settled : (s : Inboxes) (after : Ruled) (peer : Peer) (bytes : List ℕ) (told : Option CallTold)
+  pub settled : (s : Inboxes) (after : RuledRoom) (peer : Peer) (bytes : List ℕ) (told : Option CallTold)
       → HasFewInboxes s → finds_no_place s after peer bytes told ≡ false → HasFewInboxes (flow_delivers s after peer bytes told).inboxes
   pub stopped : (s : Inboxes) (peer : Peer) → HasFewInboxes s → lacks_place s peer ≡ false → HasFewInboxes (flow_stopped (with_place s peer) peer)
   pub begun : (s : Inboxes) (peer : Peer) (had : Bool) (flow : Option FlowEnd) → HasFewInboxes s → HasFewInboxes (begun_fresh s peer had flow)
   pub read : (s : Inboxes) (peer : Peer) → HasFewInboxes s → HasFewInboxes (flow_without_first s peer)
-  pub over : (s : Inboxes) (server : Ruled) (peer : Peer) → HasFewInboxes s → HasFewInboxes (tidied s server peer)
+  pub over : (s : Inboxes) (server : RuledRoom) (peer : Peer) → HasFewInboxes s → HasFewInboxes (tidied s server peer)
   pub forgotten : (s : Inboxes) (peer : Peer) → HasFewInboxes s → HasFewInboxes (without_inbox_of s peer)

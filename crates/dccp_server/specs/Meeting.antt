@@ -33,7 +33,7 @@ use Rattle.init_cookies.specs.declared.cookie.CookieKeys.{CookieKeys}
 use Rattle.init_cookies.specs.declared.route.Route.{Route}
 use Rattle.seq_circle.specs.declared.memory.NoMemory.{NoMemory}
 use Rattle.dccp_server.specs.Lives.{life_of}
-use Rattle.dccp_server.specs.Rooms.{IsServed, Ruled, forgets, is_crowded, is_to_be_heard, received_at, unreceived_at, with_user}
+use Rattle.dccp_server.specs.Rooms.{IsServed, RuledRoom, forgets, is_crowded, is_to_be_heard, received_at, unreceived_at, with_user}
 use Rattle.dccp_server.specs.Serving.{TimedDoing, served_through}
 use Rattle.dccp_server.specs.declared.asking.DatagramRequest.{DatagramRequest}
 use Rattle.dccp_server.specs.declared.asking.DatagramRequest.TheVariants.{Nothing, TooLong, This}
@@ -50,11 +50,11 @@ abbrev pub route_of : ListenConfig → Peer → Route
 route_of config peer = record { pseudo = V4 peer.address config.own_address; from = peer.port; to = config.own_port }
 
 -- the same of a server
-abbrev pub route_to : Ruled → Peer → Route
+abbrev pub route_to : RuledRoom → Peer → Route
 route_to s peer = route_of s.room.served.listening.config peer
 
 -- the end that a peer has at a server
-abbrev pub flow_at : Ruled → Peer → Option FlowEnd
+abbrev pub flow_at : RuledRoom → Peer → Option FlowEnd
 flow_at s peer = end_of_peer s.room.served.listening.flows peer
 
 -- a Request with this area, number and service, answered now under this number
@@ -107,14 +107,14 @@ is_unproved None = true
 is_unproved (Some e) = is_half_open e.state.phase
 
 -- what a datagram brings back, under these keys
-abbrev pub returned_by : ℕ → Ruled → Peer → List ℕ → Option CookieKeys → Option OpeningState
+abbrev pub returned_by : ℕ → RuledRoom → Peer → List ℕ → Option CookieKeys → Option OpeningState
 returned_by now s peer bytes None = None
 returned_by now s peer bytes (Some keys) =
     if is_unproved (flow_at s peer) then opening_in now keys (route_to s peer) (cookie_read (decoded bytes)) else None
 
 -- What a datagram brings back to a server: the opening of a good cookie, where the peer has no flow or one that is half
 -- open.
-abbrev pub returned : ℕ → Ruled → Peer → List ℕ → Option OpeningState
+abbrev pub returned : ℕ → RuledRoom → Peer → List ℕ → Option OpeningState
 returned now s peer bytes = returned_by now s peer bytes s.keys
 
 -- cookies are used for peers without a flow
@@ -131,7 +131,7 @@ is_ever_in_use Always = true
 
 -- a Request of a peer with this end or none needs no flow: there is none and cookies are in use, or it is half open and
 -- the answer would be one Sync too many
-abbrev pub needs_no_flow : ℕ → Ruled → Peer → List ℕ → Option FlowEnd → Bool
+abbrev pub needs_no_flow : ℕ → RuledRoom → Peer → List ℕ → Option FlowEnd → Bool
 needs_no_flow now s peer bytes None = is_in_use s.cookies (is_crowded s.room)
 needs_no_flow now s peer bytes (Some e) =
     is_ever_in_use s.cookies && (is_half_open e.state.phase && not (is_to_be_heard now s.rules s.room peer bytes))
@@ -143,7 +143,7 @@ entry_by TooLong = entry.TooLong
 entry_by (This o) = entry.Asks o
 
 -- a datagram that brings nothing back
-abbrev pub entry_without : ℕ → Ruled → Peer → ℕ → List ℕ → DatagramKind
+abbrev pub entry_without : ℕ → RuledRoom → Peer → ℕ → List ℕ → DatagramKind
 entry_without now s peer iss bytes =
     if is_some s.keys && needs_no_flow now s peer bytes (flow_at s peer) then entry_by (asking_of now iss (route_to s peer) bytes) else entry.Plain
 
@@ -153,11 +153,11 @@ entry_or other None = other
 entry_or other (Some o) = entry.Returns o
 
 -- What a datagram is to a server.
-abbrev pub entry_met : ℕ → Ruled → Peer → ℕ → List ℕ → DatagramKind
+abbrev pub entry_met : ℕ → RuledRoom → Peer → ℕ → List ℕ → DatagramKind
 entry_met now s peer iss bytes = entry_or (entry_without now s peer iss bytes) (returned now s peer bytes)
 
 -- the Request of an opening at a server, spelled again
-abbrev pub request_at : Ruled → Peer → OpeningState → List ℕ
+abbrev pub request_at : RuledRoom → Peer → OpeningState → List ℕ
 request_at s peer o = request_bytes (route_to s peer) o
 
 -- the keys with this one to write by: the one before it stays good for its cookies
@@ -166,21 +166,21 @@ rekeyed key now None = record { key = key; before = key; since = now }
 rekeyed key now (Some keys) = record { key = key; before = keys.key; since = now }
 
 -- the option that a Response has then
-abbrev pub cookie_at : CookieKeys → Ruled → Peer → OpeningState → List ℕ
+abbrev pub cookie_at : CookieKeys → RuledRoom → Peer → OpeningState → List ℕ
 cookie_at keys s peer o = spelled false init_cookie (cookie_bytes keys (route_to s peer) o)
 
 -- The frame that answers a Request without a flow: the Response of a fresh end to it, with an Init Cookie.
-abbrev pub greeting_frame : CookieKeys → Ruled → Peer → OpeningState → Option Outgoing
+abbrev pub greeting_frame : CookieKeys → RuledRoom → Peer → OpeningState → Option Outgoing
 greeting_frame keys s peer o =
     appended (back (route_to s peer).pseudo) (cookie_at keys s peer o) (greets s.room.served.listening peer o.iss (request_at s peer o)).frame
 
 -- the server without a peer's flow that is half open
-abbrev pub cleared_if : ℕ → Ruled → Peer → Option FlowEnd → Ruled
+abbrev pub cleared_if : ℕ → RuledRoom → Peer → Option FlowEnd → RuledRoom
 cleared_if now s peer None = s
 cleared_if now s peer (Some e) = record s { room = forgets now s.room peer }
 
 -- of a peer
-abbrev pub cleared : ℕ → Ruled → Peer → Ruled
+abbrev pub cleared : ℕ → RuledRoom → Peer → RuledRoom
 cleared now s peer = cleared_if now s peer (flow_at s peer)
 
 -- half-open flows are over their time at once, beside a peer that has shown where it is
@@ -188,40 +188,40 @@ abbrev pub hurried : Rules → Rules
 hurried rules = record rules { respond = Some 0; crowded = Some 0 }
 
 -- the server once it goes by these rules
-abbrev pub going_by : Rules → Ruled → Ruled
+abbrev pub going_by : Rules → RuledRoom → RuledRoom
 going_by rules s = record s { rules = rules }
 
 -- the server in that haste
-abbrev pub hurrying : Ruled → Ruled
+abbrev pub hurrying : RuledRoom → RuledRoom
 hurrying s = going_by (hurried s.rules) s
 
 -- once a Request has arrived at it in haste, where memory is found
-abbrev pub received_hurrying : ℕ → Ruled → Peer → ℕ → List ℕ → Ruled
+abbrev pub received_hurrying : ℕ → RuledRoom → Peer → ℕ → List ℕ → RuledRoom
 received_hurrying now s peer iss bytes = going_by s.rules (received_at now (hurrying s) peer iss bytes).server
 
 -- where none is found
-abbrev pub unreceived_hurrying : ℕ → Ruled → Peer → ℕ → List ℕ → Option Peer → Ruled
+abbrev pub unreceived_hurrying : ℕ → RuledRoom → Peer → ℕ → List ℕ → Option Peer → RuledRoom
 unreceived_hurrying now s peer iss bytes evicted = going_by s.rules (unreceived_at now (hurrying s) peer iss bytes evicted)
 
 -- The server once the Request of an opening has arrived again, where memory is found: at the time when it was answered,
 -- and under the number of its Response.
-abbrev pub heard_again : ℕ → Ruled → Peer → OpeningState → Ruled
+abbrev pub heard_again : ℕ → RuledRoom → Peer → OpeningState → RuledRoom
 heard_again now s peer o = received_hurrying o.time (cleared now s peer) peer o.iss (request_at s peer o)
 
 -- the server with this number beside a peer's flow, if it has one
-abbrev pub user_kept : ℕ → Peer → Ruled → Ruled
+abbrev pub user_kept : ℕ → Peer → RuledRoom → RuledRoom
 user_kept user peer s = record s { room = with_user user s.room peer }
 
 -- the same, and the number beside a flow that was half open stays
-abbrev pub reopened : ℕ → Ruled → Peer → OpeningState → Ruled
+abbrev pub reopened : ℕ → RuledRoom → Peer → OpeningState → RuledRoom
 reopened now s peer o = user_kept (life_of s.room.lives peer).user peer (heard_again now s peer o)
 
 -- the same where none is found
-abbrev pub unreopened : ℕ → Ruled → Peer → OpeningState → Option Peer → Ruled
+abbrev pub unreopened : ℕ → RuledRoom → Peer → OpeningState → Option Peer → RuledRoom
 unreopened now s peer o made_room = unreceived_hurrying o.time (cleared now s peer) peer o.iss (request_at s peer o) made_room
 
 -- whose flow makes room for the one that an opening opens
-abbrev pub maker_of : ℕ → Ruled → Peer → OpeningState → Option Peer
+abbrev pub maker_of : ℕ → RuledRoom → Peer → OpeningState → Option Peer
 maker_of now s peer o = (received_at o.time (hurrying (cleared now s peer)) peer o.iss (request_at s peer o)).evicted
 
 -- nobody's flow has made room, and none was ended
@@ -229,7 +229,7 @@ abbrev pub MovesNobody : Option Peer → Bool → Option Peer → Type 0
 MovesNobody evicted anew made_room = (evicted ≡ None) × (anew ≡ false) × (made_room ≡ None)
 
 -- A Request was answered without a flow: nothing is kept.
-abbrev pub IsGreeted : Option CookieKeys → DatagramKind → Ruled → Ruled → Peer → Option Outgoing → Result (Option Heard) NoMemory → Type 0
+abbrev pub IsGreeted : Option CookieKeys → DatagramKind → RuledRoom → RuledRoom → Peer → Option Outgoing → Result (Option Heard) NoMemory → Type 0
 IsGreeted (Some keys) (entry.Asks o) s after peer frame told =
     (after ≡ s) × (frame ≡ greeting_frame keys s peer o)
     × (told ≡ Ok (Some (heard.Flow (greets s.room.served.listening peer o.iss (request_at s peer o)).answer)))
@@ -237,21 +237,21 @@ IsGreeted (Some keys) (entry.Asks o) s after peer frame told =
 IsGreeted _ _ s after peer frame told = ⊥
 
 -- An opening came back, but there is no room or no memory for its flow: nothing is sent.
-abbrev pub IsUnopened : ℕ → DatagramKind → Ruled → Ruled → Peer → Option Outgoing → Result (Option Heard) NoMemory → Option Peer → Type 0
+abbrev pub IsUnopened : ℕ → DatagramKind → RuledRoom → RuledRoom → Peer → Option Outgoing → Result (Option Heard) NoMemory → Option Peer → Type 0
 IsUnopened now (entry.Returns o) s after peer frame (Ok it) made_room =
     (after ≡ reopened now s peer o) × (frame ≡ None) × (it ≡ None) × (made_room ≡ maker_of now s peer o)
 IsUnopened now (entry.Returns o) s after peer frame (Err _) made_room = (after ≡ unreopened now s peer o made_room) × (frame ≡ None)
 IsUnopened now _ s after peer frame told made_room = ⊥
 
 -- An opening came back, and its flow stands: the datagram was served then.
-abbrev pub IsReopened : ℕ → DatagramKind → Ruled → Ruled → Peer → ℕ → List ℕ → Option Outgoing → Result (Option Heard) NoMemory → Option Peer → Bool → Option Peer
+abbrev pub IsReopened : ℕ → DatagramKind → RuledRoom → RuledRoom → Peer → ℕ → List ℕ → Option Outgoing → Result (Option Heard) NoMemory → Option Peer → Bool → Option Peer
     → Type 0
 IsReopened now (entry.Returns o) s after peer iss bytes frame told evicted anew made_room =
     IsServed now (reopened now s peer o) after peer iss bytes frame told evicted anew × (made_room ≡ maker_of now s peer o)
 IsReopened now _ s after peer iss bytes frame told evicted anew made_room = ⊥
 
 -- What a server does with a datagram, by the way in which it was met.
-abbrev pub IsMet : ℕ → Ruled → Ruled → Peer → ℕ → List ℕ → Option Outgoing → Result (Option Heard) NoMemory → Option Peer → Bool → Option Peer → Way → Type 0
+abbrev pub IsMet : ℕ → RuledRoom → RuledRoom → Peer → ℕ → List ℕ → Option Outgoing → Result (Option Heard) NoMemory → Option Peer → Bool → Option Peer → Way → Type 0
 IsMet now s after peer iss bytes frame told evicted anew made_room way.Plain =
     IsServed now s after peer iss bytes frame told evicted anew × (made_room ≡ None)
 IsMet now s after peer iss bytes frame told evicted anew made_room way.Greeted =
@@ -279,6 +279,6 @@ may_meet _ _ = false
 -- might have done. The Request of an opening is done as of the time when it was answered.
 abbrev pub MeetingsAreDeeds : Type 0
 MeetingsAreDeeds =
-    (now : ℕ) (s after : Ruled) (peer : Peer) (iss : ℕ) (bytes : List ℕ) (frame : Option Outgoing) (told : Result (Option Heard) NoMemory)
+    (now : ℕ) (s after : RuledRoom) (peer : Peer) (iss : ℕ) (bytes : List ℕ) (frame : Option Outgoing) (told : Result (Option Heard) NoMemory)
     (evicted : Option Peer) (anew : Bool) (made_room : Option Peer) (way : Way) → IsMet now s after peer iss bytes frame told evicted anew made_room way
     → (all : List TimedDoing) × (after.room.served ≡ served_through s.room.served all)

@@ -14,7 +14,7 @@ use Rattle.dccp_packets.specs.Outgoing.{Outgoing}
 use Rattle.dccp_packets.specs.declared.header.Number.{Number}
 use Rattle.dccp_packets.specs.declared.header.Number.TheVariants.{Long, Short}
 use Rattle.dccp_packets.specs.declared.reading.Malformed.{Malformed}
-use Rattle.dccp_server.specs.Rooms.{Ruled}
+use Rattle.dccp_server.specs.Rooms.{RuledRoom}
 use Rattle.dccp_server.specs.Strangers.{answer_spared, frame_if_goes}
 
 -- A server that has heard nothing would stay with what the datagram opens.
@@ -45,12 +45,12 @@ abbrev pub flow_asked : ListenerState → Peer → List ℕ → Option ℕ
 flow_asked l peer bytes = if is_some (end_of_peer l.flows peer) then None else service_opened (config_for l.config peer 0 bytes) bytes
 
 -- The server once its owner has refused a datagram: what would open a flow takes one of the answers to strangers.
-abbrev pub refused_server : ℕ → Ruled → Peer → List ℕ → Ruled
+abbrev pub refused_server : ℕ → RuledRoom → Peer → List ℕ → RuledRoom
 refused_server now s peer bytes =
     if is_some (flow_asked s.room.served.listening peer bytes) then record s { strangers = (answer_spared now s.rules s.strangers).strangers } else s
 
 -- the Reset with this code that then goes out, if an answer may
-abbrev pub refused_frame : ℕ → Ruled → Peer → List ℕ → ℕ → Option Outgoing
+abbrev pub refused_frame : ℕ → RuledRoom → Peer → List ℕ → ℕ → Option Outgoing
 refused_frame now s peer bytes code =
     if is_some (flow_asked s.room.served.listening peer bytes)
     then frame_if_goes (answer_spared now s.rules s.strangers).goes

@@ -205,7 +205,7 @@ does_all r (it ∷ later) = does_all (room_does it.now r it.peer it.doing) later
 
 -- a room with its rules, what is left of the limits for strangers, and when cookies are used, with their keys, if there
 -- are any
-pub record Ruled : Type 0 where
+pub record RuledRoom : Type 0 where
   pub room : Room
   pub rules : Rules
   pub strangers : Strangers
@@ -213,7 +213,7 @@ pub record Ruled : Type 0 where
   pub keys : Option CookieKeys
 
 -- a room without flows that goes by these rules
-abbrev pub ruled_begins : ListenConfig → Pace → Rules → Ruled
+abbrev pub ruled_begins : ListenConfig → Pace → Rules → RuledRoom
 ruled_begins config pace rules = record { room = room_begins config pace; rules = rules; strangers = strangers_begin; cookies = InACrowd; keys = None }
 
 -- The listener was busy with a datagram, and is this then, and a frame was left. Who leaves is forgotten, and the
@@ -273,24 +273,24 @@ is_to_stranger before after peer frame =
     && (not (is_some (end_of_peer after.served.listening.flows peer)) && is_some frame)
 
 -- whether the frame that was left goes out, and what is left of the limits
-abbrev pub reply_spared : ℕ → Ruled → Peer → Room → Option Outgoing → Option CallTold → StrangerAnswer
+abbrev pub reply_spared : ℕ → RuledRoom → Peer → Room → Option Outgoing → Option CallTold → StrangerAnswer
 reply_spared now s peer after left told = spared_if now s.rules s.strangers (is_to_stranger s.room after peer left) told
 
 -- What a server makes of a datagram: itself after it, the frame that goes to the peer, what was told, if it was heard,
 -- whose flow made room, and whether the peer's old flow was ended.
 pub record Reception : Type 0 where
-  pub server : Ruled
+  pub server : RuledRoom
   pub frame : Option Outgoing
   pub told : Option CallTold
   pub evicted : Option Peer
   pub anew : Bool
 
 -- the server with this room, and this left of its limits
-abbrev pub moved_on : Ruled → Room → Strangers → Ruled
+abbrev pub moved_on : RuledRoom → Room → Strangers → RuledRoom
 moved_on s room strangers = record s { room = room; strangers = strangers }
 
 -- what came of the datagram, except that its frame may be one too many for a stranger
-abbrev pub reception_of : ℕ → Ruled → Peer → RoomStep → Reception
+abbrev pub reception_of : ℕ → RuledRoom → Peer → RoomStep → Reception
 reception_of now s peer coming =
     record {
       server = moved_on s coming.room (reply_spared now s peer coming.room coming.frame coming.told).strangers;
@@ -301,16 +301,16 @@ reception_of now s peer coming =
     }
 
 -- What a server makes of a datagram, where memory is found.
-abbrev pub received_at : ℕ → Ruled → Peer → ℕ → List ℕ → Reception
+abbrev pub received_at : ℕ → RuledRoom → Peer → ℕ → List ℕ → Reception
 received_at now s peer iss bytes = reception_of now s peer (comes now s.rules s.room peer iss bytes)
 
 -- where none is found
-abbrev pub unreceived_at : ℕ → Ruled → Peer → ℕ → List ℕ → Option Peer → Ruled
+abbrev pub unreceived_at : ℕ → RuledRoom → Peer → ℕ → List ℕ → Option Peer → RuledRoom
 unreceived_at now s peer iss bytes evicted =
     moved_on s (left_without_memory now (counted_room now s.rules s.room peer bytes) peer iss bytes evicted) s.strangers
 
 -- What a datagram does at a server, by its answer.
-abbrev pub IsServed : ℕ → Ruled → Ruled → Peer → ℕ → List ℕ → Option Outgoing → Result (Option Heard) NoMemory → Option Peer → Bool → Type 0
+abbrev pub IsServed : ℕ → RuledRoom → RuledRoom → Peer → ℕ → List ℕ → Option Outgoing → Result (Option Heard) NoMemory → Option Peer → Bool → Type 0
 IsServed now s after peer iss bytes frame (Ok it) evicted anew =
     record { server = after; frame = frame; told = told_of_arrival (Ok it); evicted = evicted; anew = anew } ≡ received_at now s peer iss bytes
 IsServed now s after peer iss bytes frame (Err _) evicted anew =

@@ -43,9 +43,9 @@ pub struct Server {
 }
 
 impl Model for Server {
-    ghost use Rattle.dccp_server.specs.Rooms.{IsLiving, Ruled, as_room};
+    ghost use Rattle.dccp_server.specs.Rooms.{IsLiving, RuledRoom, as_room};
 
-    ghost Value = { Ruled };
+    ghost Value = { RuledRoom };
 
     ghost view = { λ s. record { room = as_room s.timed s.lives; rules = s.rules; strangers = s.strangers; cookies = s.cookies; keys = s.keys } };
 

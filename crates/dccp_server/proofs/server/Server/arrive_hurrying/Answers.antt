@@ -1,13 +1,13 @@
 use Rattle.std.proofs.Common.{◌≡◌, ap, ◌∙◌}
 use Rattle.dccp_server.specs.Meeting.{going_by, hurried, hurrying}
-use Rattle.dccp_server.specs.Rooms.{Ruled}
+use Rattle.dccp_server.specs.Rooms.{RuledRoom}
 use Rattle.dccp_server.specs.declared.rules.Rules.{Rules}
 use Rattle.dccp_server.proofs.Reopening.{hurried_maker, hurried_open, hurried_shut}
 use Rattle.dccp_server.proofs.server.Server.arrive_hurrying.Goals as goal
 
 pub returns-clause-opened : goal.returns-clause-opened
 returns-clause-opened c =
-    let rules-are : c.self.inside.rules ≡ c.args.self.now.rules = ap (λ (x : Ruled). x.rules) c.self.view_is in
+    let rules-are : c.self.inside.rules ≡ c.args.self.now.rules = ap (λ (x : RuledRoom). x.rules) c.self.view_is in
     let mid-is : c.set_rules.new.self ≡ hurrying c.args.self.now =
     c.set_rules.ensures ∙ ap (λ (r : Rules). going_by r c.args.self.now) (c.hurried.ensures ∙ ap hurried rules-are) in
     let last-is : c.set_rules-2.new.self ≡ going_by c.args.self.now.rules c.arrive-arrival.new.self =
@@ -18,7 +18,7 @@ returns-clause-opened c =
 
 pub returns-clause-evicted : goal.returns-clause-evicted
 returns-clause-evicted c =
-    let rules-are : c.self.inside.rules ≡ c.args.self.now.rules = ap (λ (x : Ruled). x.rules) c.self.view_is in
+    let rules-are : c.self.inside.rules ≡ c.args.self.now.rules = ap (λ (x : RuledRoom). x.rules) c.self.view_is in
     let mid-is : c.set_rules.new.self ≡ hurrying c.args.self.now =
     c.set_rules.ensures ∙ ap (λ (r : Rules). going_by r c.args.self.now) (c.hurried.ensures ∙ ap hurried rules-are) in
     let last-is : c.set_rules-2.new.self ≡ going_by c.args.self.now.rules c.arrive-arrival.new.self =
@@ -29,7 +29,7 @@ returns-clause-evicted c =
 
 pub returns-clause-unopened : goal.returns-clause-unopened
 returns-clause-unopened c =
-    let rules-are : c.self.inside.rules ≡ c.args.self.now.rules = ap (λ (x : Ruled). x.rules) c.self.view_is in
+    let rules-are : c.self.inside.rules ≡ c.args.self.now.rules = ap (λ (x : RuledRoom). x.rules) c.self.view_is in
     let mid-is : c.set_rules.new.self ≡ hurrying c.args.self.now =
     c.set_rules.ensures ∙ ap (λ (r : Rules). going_by r c.args.self.now) (c.hurried.ensures ∙ ap hurried rules-are) in
     let last-is : c.set_rules-2.new.self ≡ going_by c.args.self.now.rules c.arrive-arrival.new.self =

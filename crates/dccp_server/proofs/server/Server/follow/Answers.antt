@@ -1,5 +1,5 @@
 use Rattle.std.proofs.Common.{◌≡◌, ap, subst}
-use Rattle.dccp_server.specs.Rooms.{Room, Ruled, as_room, room_does}
+use Rattle.dccp_server.specs.Rooms.{Room, RuledRoom, as_room, room_does}
 use Rattle.dccp_server.specs.Serving.{Follows}
 use Rattle.dccp_server.proofs.server.Server.follow.Goals as goal
 
@@ -8,7 +8,7 @@ invariant_of-self c = c.follow.ensures.living
 
 pub returns-clause-after : goal.returns-clause-after
 returns-clause-after c =
-    let s : Ruled =
+    let s : RuledRoom =
     record {
       room = as_room c.self.inside.timed c.self.inside.lives;
       rules = c.self.inside.rules;
@@ -16,5 +16,5 @@ returns-clause-after c =
       cookies = c.self.inside.cookies;
       keys = c.self.inside.keys;
     } in
-    subst (λ (x : Ruled). record s { room = as_room c.follow.new.timed c.follow.new.lives } ≡ record x { room = room_does c.args.now x.room c.args.peer Follows })
+    subst (λ (x : RuledRoom). record s { room = as_room c.follow.new.timed c.follow.new.lives } ≡ record x { room = room_does c.args.now x.room c.args.peer Follows })
     c.self.view_is (ap (λ (r : Room). record s { room = r }) c.follow.ensures.after)

@@ -3,7 +3,7 @@ use Rattle.dccp_listener.specs.declared.config.ListenConfig.{ListenConfig}
 use Rattle.init_cookies.specs.Openings.{request_bytes}
 use Rattle.init_cookies.specs.declared.route.Route.{Route}
 use Rattle.dccp_server.specs.Meeting.{request_at, route_of, route_to}
-use Rattle.dccp_server.specs.Rooms.{Ruled}
+use Rattle.dccp_server.specs.Rooms.{RuledRoom}
 use Rattle.dccp_server.proofs.Reopening.{unopened}
 use Rattle.dccp_server.proofs.server.Server.hear_again.Goals as goal
 
@@ -14,7 +14,7 @@ returns-clause-unopened c =
     ∙ c.put_request.ensures
     ∙ ap (λ (r : Route). request_bytes r c.args.opening.now)
     (c.route_of.ensures ∙ ap (λ (config : ListenConfig). route_of config c.args.peer) c.config.ensures
-    ∙ ap (λ (x : Ruled). route_to x c.args.peer) c.self.view_is) in
+    ∙ ap (λ (x : RuledRoom). route_to x c.args.peer) c.self.view_is) in
     unopened c.args.now c.args.self.now c.clear.new.self c.arrive_hurrying.new.self c.args.peer c.args.opening.now c.time.result c.iss.result
     c.bytes.result.now c.arrive_hurrying.result.heard c.arrive_hurrying.result.evicted c.arrive_hurrying.ensures.unopened c.time.ensures c.clear.ensures
     c.iss.ensures request
