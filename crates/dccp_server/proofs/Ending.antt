@@ -28,7 +28,7 @@ use Rattle.dccp_uses.specs.declared.pace.Pace.{Pace}
 use Rattle.dccp_uses.specs.declared.timed_end.Due.{Due}
 use Rattle.dccp_uses.specs.declared.timed_end.Due.TheVariants as due
 use Rattle.dccp_server.specs.Ending.{ListenerTicksEnd, doing_due, due_served, listener_ticked}
-use Rattle.dccp_server.specs.Serving.{Served, Upkeeps, due_of_flow, due_of_ticket, first_due_flow, is_refusal, listening_if, served_by, served_through, serves_on, serving_begins, soonest, upkeep_at, upkeeps_then}
+use Rattle.dccp_server.specs.Serving.{ServedListener, Upkeeps, due_of_flow, due_of_ticket, first_due_flow, is_refusal, listening_if, served_by, served_through, serves_on, serving_begins, soonest, upkeep_at, upkeeps_then}
 use Rattle.dccp_server.specs.Timing.{flow_after}
 use Rattle.dccp_server.specs.Upkeeps.{call_for_rule, called_so, first_due, kept_alarm, next_upkeep, timed_flow, upkeep_begins, upkeep_of}
 use Rattle.dccp_server.specs.declared.happening.FlowHappening.{FlowHappening}
@@ -276,7 +276,7 @@ module _ (now : ℕ) where
 
   -- so each tick leaves less that is due
 
-  module _ (s : Served) (is : IsResting s) where
+  module _ (s : ServedListener) (is : IsResting s) where
     sorted : IsStrictlySortedBy peer_cmp (keys_of s.upkeeps)
     sorted = subst (IsStrictlySortedBy peer_cmp) (sym is.tied.same_peers) is.tied.ordered
 
@@ -345,23 +345,23 @@ module _ (now : ℕ) where
         fewer-by it.0 it.1 (end_of_peer s.listening.flows it.0) refl there
         (subst (λ (x : Upkeep). has_run_out (kept_alarm x it.1) now ≡ true) (sym same) (first-is-due first.0 it.1 every_due first.2))
 
-  none-left : (s : Served) → IsResting s → (found : Option (Peer × Due)) → first_due_flow now s.upkeeps ≡ found → total s.upkeeps ≤ 0 → found ≡ None
+  none-left : (s : ServedListener) → IsResting s → (found : Option (Peer × Due)) → first_due_flow now s.upkeeps ≡ found → total s.upkeeps ≤ 0 → found ≡ None
   none-left s is None at most = refl
   none-left s is (Some it) at most = absurd (omega (arith, fewer s is it at, most))
 
-  quiet-stays : (n : ℕ) (s : Served) → first_due_flow now s.upkeeps ≡ None → first_due_flow now (listener_ticked now n s).upkeeps ≡ None
+  quiet-stays : (n : ℕ) (s : ServedListener) → first_due_flow now s.upkeeps ≡ None → first_due_flow now (listener_ticked now n s).upkeeps ≡ None
   quiet-stays zero s none = none
   quiet-stays (suc n) s none =
       subst (λ (x : Option (Peer × Due)). first_due_flow now (listener_ticked now n (due_served now s x)).upkeeps ≡ None) (sym none) (quiet-stays n s none)
 
-  ends-by : (n : ℕ) (s : Served) → IsResting s → (found : Option (Peer × Due)) → first_due_flow now s.upkeeps ≡ found → total s.upkeeps ≤ suc n
-      → ((t : Served) → IsResting t → total t.upkeeps ≤ n → first_due_flow now (listener_ticked now n t).upkeeps ≡ None)
+  ends-by : (n : ℕ) (s : ServedListener) → IsResting s → (found : Option (Peer × Due)) → first_due_flow now s.upkeeps ≡ found → total s.upkeeps ≤ suc n
+      → ((t : ServedListener) → IsResting t → total t.upkeeps ≤ n → first_due_flow now (listener_ticked now n t).upkeeps ≡ None)
       → first_due_flow now (listener_ticked now n (due_served now s found)).upkeeps ≡ None
   ends-by n s is None at most later = quiet-stays n s at
   ends-by n s is (Some it) at most later =
       later (served_by now s it.0 (doing_due it.1)) (rests_after now s it.0 (doing_due it.1) is) (omega (arith, fewer s is it at, most))
 
-  ends : (n : ℕ) (s : Served) → IsResting s → total s.upkeeps ≤ n → first_due_flow now (listener_ticked now n s).upkeeps ≡ None
+  ends : (n : ℕ) (s : ServedListener) → IsResting s → total s.upkeeps ≤ n → first_due_flow now (listener_ticked now n s).upkeeps ≡ None
   ends zero s is most = none-left s is (first_due_flow now s.upkeeps) refl most
   ends (suc n) s is most = ends-by n s is (first_due_flow now s.upkeeps) refl most (ends n)
 
@@ -371,7 +371,7 @@ module _ (now : ℕ) where
 
 pub ticks_end : ListenerTicksEnd
 ticks_end config pace all now =
-    let s : Served = served_through (serving_begins config pace) all in
+    let s : ServedListener = served_through (serving_begins config pace) all in
     let is : IsResting s = resting config pace all in
     let same : length s.upkeeps ≡ length s.listening.flows = sym (length-keys_of s.upkeeps) ∙ ap length is.tied.same_peers ∙ length-keys_of s.listening.flows in
     ends now (13 * length s.listening.flows) s is (omega (arith, few now s.upkeeps, same))

@@ -24,7 +24,7 @@ use Rattle.dccp_states.specs.declared.phase.Phase.TheVariants as phases
 use Rattle.dccp_uses.specs.declared.pace.Pace.{Pace}
 use Rattle.feature_machine.specs.Lists.{IsLists}
 use Rattle.dccp_server.specs.Rooms.{ForgottenHaveNone, room_begins}
-use Rattle.dccp_server.specs.Serving.{Served, TimedDoing, deeds_through, served_through, serving_begins}
+use Rattle.dccp_server.specs.Serving.{ServedListener, TimedDoing, deeds_through, served_through, serving_begins}
 use Rattle.dccp_server.proofs.Judging.{lives_change_nothing}
 use Rattle.dccp_server.proofs.Through.{run_through}
 use Rattle.dccp_server.proofs.Tying.{through_tied}
@@ -116,16 +116,16 @@ module _ (peer : Peer) where
   stands-then : (config : ListenConfig) (pace : Pace) (all : List TimedDoing) → IsLists config.lists
       → IfSome (end_at (served_through (serving_begins config pace) all).listening) (IsFlowOf config peer)
   stands-then config pace all lists =
-      let begun : Served = serving_begins config pace in
+      let begun : ServedListener = serving_begins config pace in
       let turns = turns_of begun.listening (deeds_through begun all) in
       chain-stands config None (end_at (served_through begun all).listening) (peer_turns peer turns) lists tt
       (each_has_its_chain begun.listening (served_through begun all).listening turns (run_through config pace all) peer)
 
-abbrev HasNone : ℕ → Peer → Served → Type 0
+abbrev HasNone : ℕ → Peer → ServedListener → Type 0
 HasNone now peer s = end_of_peer (listening_after (listening_after s.listening peer (Calls Aborts)) peer (Calls (Fires timers.TimeWait))).flows peer ≡ None
 
 pub forgotten_have_none : ForgottenHaveNone
 forgotten_have_none config pace all now peer lists =
-    let s : Served = served_through (serving_begins config pace) all in
+    let s : ServedListener = served_through (serving_begins config pace) all in
     subst (HasNone now peer) (sym (lives_change_nothing (room_begins config pace) all))
     (gone-by peer s.listening config (end_of_peer s.listening.flows peer) (through_tied config pace all).ordered refl (stands-then peer config pace all lists))

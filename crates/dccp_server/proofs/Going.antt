@@ -11,7 +11,7 @@ use Rattle.dccp_uses.specs.declared.pace.Pace.{Pace}
 use Rattle.dccp_uses.specs.declared.rule.Rule.{Rule}
 use Rattle.dccp_uses.specs.declared.sight.Sight.{Sight}
 use Rattle.dccp_server.specs.Upkeeps.{arrived_so, call_for_rule, called_so, next_upkeep, sight_if}
-use Rattle.dccp_server.specs.Serving.{IsDone, Served, Upkeeps, call_by_rule, call_due, deed_served, rule_followed, frame_if, happening_by, is_refusal, listening_if, served, serves_on, upkeep_at, upkeeps_then}
+use Rattle.dccp_server.specs.Serving.{IsDone, ServedListener, Upkeeps, call_by_rule, call_due, deed_served, rule_followed, frame_if, happening_by, is_refusal, listening_if, served, serves_on, upkeep_at, upkeeps_then}
 use Rattle.dccp_server.specs.Places.{IsPlaced}
 use Rattle.dccp_server.specs.declared.happening.FlowHappening.{FlowHappening}
 use Rattle.dccp_server.specs.declared.happening.FlowHappening.TheVariants as happening
@@ -19,7 +19,7 @@ use Rattle.dccp_server.specs.declared.upkeep.Upkeep.{Upkeep}
 use Rattle.dccp_server.proofs.Placing.{then_placed}
 
 module _ (fresh : Upkeep) (now : ℕ) (had : Bool) (before : ListenerState) (pace : Pace) (kept placed then' : Upkeeps) (peer : Peer) where
-  abbrev s : Served
+  abbrev s : ServedListener
   s = served before pace kept
 
   -- the listener is this, and what is kept went on from a place

@@ -8,7 +8,7 @@ use Rattle.dccp_states.specs.declared.calls.Timer.TheVariants as timers
 use Rattle.dccp_server.specs.Lives.{life_of, signs_of}
 use Rattle.dccp_server.specs.Rooms.{RoomStep, LivesChangeNothing, Room, RuledRoom, RulesAreDeeds, begun_anew, comes_by, comes_if, does_all, duty_done, heard_plainly, is_to_be_heard, room_does, room_made, who_leaves}
 use Rattle.dccp_server.specs.Rules.{begins_anew, refuses_last_sync}
-use Rattle.dccp_server.specs.Serving.{Does, Doing, Follows, Served, Spends, TimedDoing, served_by, served_through}
+use Rattle.dccp_server.specs.Serving.{Does, Doing, Follows, ServedListener, Spends, TimedDoing, served_by, served_through}
 use Rattle.dccp_server.specs.declared.duty.Duty.{Duty}
 use Rattle.dccp_server.specs.declared.duty.Duty.TheVariants.{Follow}
 use Rattle.dccp_server.specs.declared.rules.Rules.{Rules}
@@ -65,7 +65,7 @@ pub lives_change_nothing : LivesChangeNothing
 lives_change_nothing r [] = refl
 lives_change_nothing r (it ∷ later) =
     lives_change_nothing (room_does it.now r it.peer it.doing) later
-    ∙ ap (λ (s : Served). served_through s later) (served-same it.now r it.peer it.doing)
+    ∙ ap (λ (s : ServedListener). served_through s later) (served-same it.now r it.peer it.doing)
 
 -- to do a duty by which a rule is followed is to follow it
 pub duty_as : (now : ℕ) (s after : RuledRoom) (duty : Duty) (peer : Peer) (rule : Rule) → duty ≡ Follow peer rule

@@ -10,7 +10,7 @@ use Rattle.dccp_uses.specs.declared.pace.Pace.{Pace}
 use Rattle.dccp_server.specs.Lives.{Lives, life_of, life_then, lives_on, no_signs, user_written}
 use Rattle.dccp_server.specs.Places.{HasPlaceIf, IsPlaced}
 use Rattle.dccp_server.specs.Rooms.{IsLiving, Room, as_room, room_does, room_then, signs_by, with_user}
-use Rattle.dccp_server.specs.Serving.{Does, Doing, Follows, Served, Spends, call_due, deed_served, rule_followed, listening_if, serving_begins, upkeep_at}
+use Rattle.dccp_server.specs.Serving.{Does, Doing, Follows, ServedListener, Spends, call_due, deed_served, rule_followed, listening_if, serving_begins, upkeep_at}
 use Rattle.dccp_server.specs.declared.life.Life.{Life}
 use Rattle.dccp_server.specs.declared.life.Signs.{Signs}
 use Rattle.dccp_server.proofs.Placing.{then_placed}
@@ -61,34 +61,34 @@ life-by r peer call (Some e) after is found same =
     has_place after r.lives peer (subst (λ (x : Option FlowEnd). HasPlaceIf x r.lives peer) found (place_if r.served.listening.flows r.lives peer is.same_peers))
 life-by r peer call None after is found same = subst (λ (x : Option FlowEnd). HasPlaceIf x r.lives peer) (sym (same ∙ found)) tt
 
-pub called_has_life : (now : ℕ) (r : Room) (after : Served) (peer : Peer) (call : FlowCall) → IsLiving r
+pub called_has_life : (now : ℕ) (r : Room) (after : ServedListener) (peer : Peer) (call : FlowCall) → IsLiving r
     → after ≡ deed_served now r.served peer (Calls call) → HasPlaceIf (end_of_peer after.listening.flows peer) r.lives peer
 called_has_life now r after peer call is same =
     life-by r peer call (end_of_peer r.served.listening.flows peer) (end_of_peer after.listening.flows peer) is refl
-    (ap (λ (s : Served). end_of_peer s.listening.flows peer) same)
+    (ap (λ (s : ServedListener). end_of_peer s.listening.flows peer) same)
 
 ruled-life : (r : Room) (peer : Peer) (call : Option FlowCall) → IsLiving r → HasPlaceIf (end_of_peer (listening_if r.served.listening peer call).flows peer) r.lives peer
 ruled-life r peer None is = place_if r.served.listening.flows r.lives peer is.same_peers
 ruled-life r peer (Some call) is =
     life-by r peer call (end_of_peer r.served.listening.flows peer) (end_of_peer (listening_if r.served.listening peer (Some call)).flows peer) is refl refl
 
-pub ruled_has_life : (now : ℕ) (r : Room) (after : Served) (peer : Peer) → IsLiving r → after ≡ rule_followed now r.served peer
+pub ruled_has_life : (now : ℕ) (r : Room) (after : ServedListener) (peer : Peer) → IsLiving r → after ≡ rule_followed now r.served peer
     → HasPlaceIf (end_of_peer after.listening.flows peer) r.lives peer
 ruled_has_life now r after peer is same =
-    subst (λ (s : Served). HasPlaceIf (end_of_peer s.listening.flows peer) r.lives peer) (sym same) (ruled-life r peer (call_due now r.served peer) is)
+    subst (λ (s : ServedListener). HasPlaceIf (end_of_peer s.listening.flows peer) r.lives peer) (sym same) (ruled-life r peer (call_due now r.served peer) is)
 
 -- The life goes on from its place as the definition says.
-pub room_as : (now : ℕ) (before after next : Served) (lives lives' : Lives) (peer : Peer) (signs wanted : Signs) (life : Life)
+pub room_as : (now : ℕ) (before after next : ServedListener) (lives lives' : Lives) (peer : Peer) (signs wanted : Signs) (life : Life)
     → after ≡ next → lives' ≡ life_then now lives peer (end_of_peer after.listening.flows peer) signs life
     → signs ≡ wanted → life ≡ life_of lives peer
     → as_room after lives' ≡ room_then now (as_room before lives) peer next wanted
 room_as now before after next lives lives' peer signs wanted life does is-lives is-signs is-life =
     ap (λ (l : Lives). as_room after l) is-lives
-    ∙ ap (λ (s : Served). as_room s (life_then now lives peer (end_of_peer s.listening.flows peer) signs life)) does
+    ∙ ap (λ (s : ServedListener). as_room s (life_then now lives peer (end_of_peer s.listening.flows peer) signs life)) does
     ∙ ap (λ (x : Signs). as_room next (life_then now lives peer (end_of_peer next.listening.flows peer) x life)) is-signs
     ∙ ap (λ (x : Life). as_room next (life_then now lives peer (end_of_peer next.listening.flows peer) wanted x)) is-life
 
-pub room_placed : (fresh : Life) (now : ℕ) (had : Bool) (before after next : Served) (lives placed lives' : Lives) (peer : Peer) (signs wanted : Signs) (life : Life)
+pub room_placed : (fresh : Life) (now : ℕ) (had : Bool) (before after next : ServedListener) (lives placed lives' : Lives) (peer : Peer) (signs wanted : Signs) (life : Life)
     → IsPlaced fresh had lives placed peer → after ≡ next
     → lives' ≡ life_then now placed peer (end_of_peer after.listening.flows peer) signs life
     → signs ≡ wanted → life ≡ life_of lives peer
@@ -98,10 +98,10 @@ room_placed fresh now had before after next lives placed lives' peer signs wante
     (is-lives ∙ then_placed fresh had lives placed peer (λ e. lives_on now e signs life) (end_of_peer after.listening.flows peer) is-placed) is-signs is-life
 
 -- there is none at first
-pub living_begins : (config : ListenConfig) (pace : Pace) (s : Served) (lives : Lives) → s ≡ serving_begins config pace → lives ≡ []
+pub living_begins : (config : ListenConfig) (pace : Pace) (s : ServedListener) (lives : Lives) → s ≡ serving_begins config pace → lives ≡ []
     → IsLiving (as_room s lives)
 living_begins config pace s lives begun none =
-    subst (λ (x : Served). IsLiving (as_room x lives)) (sym begun)
+    subst (λ (x : ServedListener). IsLiving (as_room x lives)) (sym begun)
     (subst (λ (x : Lives). IsLiving (as_room (serving_begins config pace) x)) (sym none)
     (record { tied = begun_tied config pace; same_peers = refl }))
 

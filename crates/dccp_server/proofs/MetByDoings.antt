@@ -13,7 +13,7 @@ use Rattle.dccp_server.specs.Lives.{life_of}
 use Rattle.dccp_server.specs.Meeting.{IsGreeted, IsMet, IsReopened, IsUnopened, MeetingsAreDeeds, cleared, cleared_if, entry_met, flow_at, hurrying, reopened, request_at, unreopened}
 use Rattle.dccp_server.specs.Rooms.{IsServed, Reception, Room, RuledRoom, does_all, left_without_memory, received_at, room_does, unreceived_at}
 use Rattle.dccp_server.specs.Rules.{refuses_last_sync}
-use Rattle.dccp_server.specs.Serving.{Does, Served, Spends, TimedDoing, served_by, served_through}
+use Rattle.dccp_server.specs.Serving.{Does, ServedListener, Spends, TimedDoing, served_by, served_through}
 use Rattle.dccp_server.specs.declared.meeting.DatagramKind.{DatagramKind}
 use Rattle.dccp_server.specs.declared.meeting.DatagramKind.TheVariants as entry
 use Rattle.dccp_server.specs.declared.meeting.Way.{Way}
@@ -26,13 +26,13 @@ IsByDoings r after = (all : List TimedDoing) × (after ≡ does_all r all)
 abbrev LeavesByDoings : RuledRoom → RuledRoom → Type 0
 LeavesByDoings s after = (all : List TimedDoing) × (after.room.served ≡ served_through s.room.served all)
 
-through-both : (s : Served) (first last : List TimedDoing) → served_through (served_through s first) last ≡ served_through s (first ++ last)
+through-both : (s : ServedListener) (first last : List TimedDoing) → served_through (served_through s first) last ≡ served_through s (first ++ last)
 through-both s [] last = refl
 through-both s (it ∷ later) last = through-both (served_by it.now s it.peer it.doing) later last
 
 and-then : (s mid after : RuledRoom) → LeavesByDoings s mid → LeavesByDoings mid after → LeavesByDoings s after
 and-then s mid after first last =
-    (first.0 ++ last.0, last.1 ∙ ap (λ (x : Served). served_through x last.0) first.1 ∙ through-both s.room.served first.0 last.0)
+    (first.0 ++ last.0, last.1 ∙ ap (λ (x : ServedListener). served_through x last.0) first.1 ∙ through-both s.room.served first.0 last.0)
 
 by-room : (s after : RuledRoom) → IsByDoings s.room after.room → LeavesByDoings s after
 by-room s after is = (is.0, ap (λ (r : Room). r.served) is.1 ∙ lives_change_nothing s.room is.0)

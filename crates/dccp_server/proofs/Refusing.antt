@@ -37,7 +37,7 @@ use Rattle.dccp_listener.specs.Runs.{CallTold, HadNoMemory, IsTurnSo, Stepped, W
 use Rattle.dccp_listener.specs.declared.config.ListenConfig.{ListenConfig}
 use Rattle.dccp_listener.specs.declared.peer.Peer.{Peer}
 use Rattle.dccp_uses.specs.declared.pace.Pace.{Pace}
-use Rattle.dccp_server.specs.Serving.{Does, Doing, Follows, IsTied, RefusedCallsChangeNothing, Served, Spends, TimedDoing, Upkeeps, call_due, is_refusal, listening_if, served, served_by, served_through, serving_begins, served_counted_by, upkeep_at, upkeeps_then}
+use Rattle.dccp_server.specs.Serving.{Does, Doing, Follows, IsTied, RefusedCallsChangeNothing, ServedListener, Spends, TimedDoing, Upkeeps, call_due, is_refusal, listening_if, served, served_by, served_through, serving_begins, served_counted_by, upkeep_at, upkeeps_then}
 use Rattle.dccp_server.specs.Upkeeps.{called_so, upkeep_begins}
 use Rattle.dccp_server.specs.declared.happening.FlowHappening.{FlowHappening}
 use Rattle.dccp_server.specs.declared.happening.FlowHappening.TheVariants as happening
@@ -208,26 +208,26 @@ call-lives : (l : ListenerState) (peer : Peer) (call : Option FlowCall) → AllL
 call-lives l peer None all ordered = all
 call-lives l peer (Some call) all ordered = deed-lives l peer (Calls call) all ordered
 
-spent-lives : (now : ℕ) (s : Served) (peer : Peer) (bytes : List ℕ) (u : Upkeep) (found : Option FlowEnd) → AllLive s.listening
+spent-lives : (now : ℕ) (s : ServedListener) (peer : Peer) (bytes : List ℕ) (u : Upkeep) (found : Option FlowEnd) → AllLive s.listening
     → AllLive (served_counted_by now s peer bytes u found).listening
 spent-lives now s peer bytes u None all = all
 spent-lives now s peer bytes u (Some e) all = all
 
 -- what is kept stands with the flows, in order, and none of these is over
-pub record IsResting (s : Served) : Type 0 where
+pub record IsResting (s : ServedListener) : Type 0 where
   pub tied : IsTied s
   pub live : AllLive s.listening
 
-live-does : (now : ℕ) (s : Served) (peer : Peer) (doing : Doing) → IsResting s → AllLive (served_by now s peer doing).listening
+live-does : (now : ℕ) (s : ServedListener) (peer : Peer) (doing : Doing) → IsResting s → AllLive (served_by now s peer doing).listening
 live-does now s peer (Does deed) is = deed-lives s.listening peer deed is.live is.tied.ordered
 live-does now s peer (Spends bytes) is =
     spent-lives now s peer bytes (upkeep_at s.pace s.upkeeps peer) (end_of_peer s.listening.flows peer) is.live
 live-does now s peer Follows is = call-lives s.listening peer (call_due now s peer) is.live is.tied.ordered
 
-pub rests_after : (now : ℕ) (s : Served) (peer : Peer) (doing : Doing) → IsResting s → IsResting (served_by now s peer doing)
+pub rests_after : (now : ℕ) (s : ServedListener) (peer : Peer) (doing : Doing) → IsResting s → IsResting (served_by now s peer doing)
 rests_after now s peer doing is = record { tied = tied_does now s peer doing is.tied; live = live-does now s peer doing is }
 
-pub rests_through : (s : Served) (all : List TimedDoing) → IsResting s → IsResting (served_through s all)
+pub rests_through : (s : ServedListener) (all : List TimedDoing) → IsResting s → IsResting (served_through s all)
 rests_through s [] is = is
 rests_through s (it ∷ later) is = rests_through (served_by it.now s it.peer it.doing) later (rests_after it.now s it.peer it.doing is)
 
@@ -235,17 +235,17 @@ pub resting : (config : ListenConfig) (pace : Pace) (all : List TimedDoing) → 
 resting config pace all = rests_through (serving_begins config pace) all (record { tied = begun_tied config pace; live = λ q. tt })
 
 -- what is kept of a peer that has an end
-pub kept_at : (s : Served) (peer : Peer) → IsTied s → IsSome (end_of_peer s.listening.flows peer)
+pub kept_at : (s : ServedListener) (peer : Peer) → IsTied s → IsSome (end_of_peer s.listening.flows peer)
     → lookup (is_peer peer) s.upkeeps ≡ Some (upkeep_at s.pace s.upkeeps peer)
 kept_at s peer tied there =
     found-so (lookup (is_peer peer) s.upkeeps) (upkeep_begins s.pace)
     (found_among (is_peer peer) s.upkeeps ∙ ap (list_any (is_peer peer)) tied.same_peers ∙ sym (found_among (is_peer peer) s.listening.flows) ∙ there)
 
-module _ (now : ℕ) (s : Served) (peer : Peer) (call : FlowCall) (is : IsResting s) where
+module _ (now : ℕ) (s : ServedListener) (peer : Peer) (call : FlowCall) (is : IsResting s) where
   abbrev u : Upkeep
   u = upkeep_at s.pace s.upkeeps peer
 
-  abbrev by : Flows → FlowHappening → Served
+  abbrev by : Flows → FlowHappening → ServedListener
   by flows it = served (record s.listening { flows = flows }) s.pace (upkeeps_then now s.pace s.upkeeps peer (end_of_peer flows peer) u it)
 
   none-kept : end_of_peer s.listening.flows peer ≡ None → lookup (is_peer peer) s.upkeeps ≡ None
@@ -274,5 +274,5 @@ module _ (now : ℕ) (s : Served) (peer : Peer) (call : FlowCall) (is : IsRestin
 
 pub refused_change_nothing : RefusedCallsChangeNothing
 refused_change_nothing config pace all now peer call told =
-    let s : Served = served_through (serving_begins config pace) all in
+    let s : ServedListener = served_through (serving_begins config pace) all in
     refused now s peer call (resting config pace all) (end_of_peer s.listening.flows peer) refl told

@@ -16,7 +16,7 @@ use Rattle.dccp_server.specs.Lives.{Lives, life_of, no_life, no_signs, rank_of, 
 use Rattle.dccp_server.specs.Places.{peer_after}
 use Rattle.dccp_server.specs.Rooms.{Room, as_room, doing_for, duty_in, duty_of, is_crowded, is_to_stranger, room_begins, room_waits, who_is_over, who_leaves}
 use Rattle.dccp_server.specs.Rules.{begins_anew, longest, makes_way, no_rules, over_in, queue_of_lives, refuses_last_sync, signs_noted, usual_rules}
-use Rattle.dccp_server.specs.Serving.{Does, Follows, Served, serving_begins}
+use Rattle.dccp_server.specs.Serving.{Does, Follows, ServedListener, serving_begins}
 use Rattle.dccp_server.specs.declared.duty.Duty.TheVariants.{Follow, GiveUp, Ring}
 use Rattle.dccp_server.specs.declared.life.Life.{Life}
 use Rattle.dccp_server.specs.declared.life.Signs.{Signs}
@@ -123,7 +123,7 @@ what_each_outcome_tells :
 what_each_outcome_tells = (refl, refl, refl, refl, refl)
 
 -- what is due of a flow comes before a flow that is over
-module _ (s : Served) where
+module _ (s : ServedListener) where
   what_comes_first :
       (duty_of 5 s (Some (at 1, due.Timer timers.Ack)) (Some (at 2)) ≡ Some (Ring (at 1) timers.Ack))
       × (duty_of 5 s None (Some (at 2)) ≡ Some (GiveUp (at 2)))

@@ -27,7 +27,7 @@ use Rattle.dccp_uses.specs.Rules.{due_rule}
 use Rattle.dccp_uses.specs.declared.pace.Pace.{Pace}
 use Rattle.seq_circle.specs.declared.memory.NoMemory.{NoMemory}
 use Rattle.dccp_server.specs.Places.{HasPlaceIf, kept_then}
-use Rattle.dccp_server.specs.Serving.{CallsWantNoMemory, Does, Doing, Follows, IsTied, OnlyStrangersWantMemory, Served, Spends, TimedDoing, Upkeeps, UpkeepsStandWithFlows, WantsMemory, call_due, upkeep_counted, deed_served, happening_by, listening_if, served, served_by, served_through, serves_on, serving_begins, served_counted_by, upkeep_at}
+use Rattle.dccp_server.specs.Serving.{CallsWantNoMemory, Does, Doing, Follows, IsTied, OnlyStrangersWantMemory, ServedListener, Spends, TimedDoing, Upkeeps, UpkeepsStandWithFlows, WantsMemory, call_due, upkeep_counted, deed_served, happening_by, listening_if, served, served_by, served_through, serves_on, serving_begins, served_counted_by, upkeep_at}
 use Rattle.dccp_server.specs.Upkeeps.{next_upkeep}
 use Rattle.dccp_server.specs.declared.happening.FlowHappening.{FlowHappening}
 use Rattle.dccp_server.specs.declared.happening.FlowHappening.TheVariants as happening
@@ -167,20 +167,20 @@ module _ {V : Type 0} (peer : Peer) (kept : List (Peer × V)) (value : FlowEnd �
       (stays_in (flow_step (fresh_end l.config peer iss bytes) (Arrives iss bytes)).after.state.phase) (is_table_full l) tied is
   tied_by l None (Calls call) is tied ordered = untouched l.flows tied is
 
-pub tied_after : (now : ℕ) (s : Served) (peer : Peer) (deed : Deed) → keys_of s.upkeeps ≡ keys_of s.listening.flows → AreInOrder s.listening.flows
+pub tied_after : (now : ℕ) (s : ServedListener) (peer : Peer) (deed : Deed) → keys_of s.upkeeps ≡ keys_of s.listening.flows → AreInOrder s.listening.flows
     → keys_of (deed_served now s peer deed).upkeeps ≡ keys_of (deed_served now s peer deed).listening.flows
 tied_after now s peer deed tied ordered =
     tied_by peer s.upkeeps (next_upkeep now s.pace (upkeep_at s.pace s.upkeeps peer) (happening_by s peer deed)) s.listening
     (end_of_peer s.listening.flows peer) deed refl tied ordered
 
-pub tied_deed : (now : ℕ) (s : Served) (peer : Peer) (deed : Deed) → IsTied s → IsTied (deed_served now s peer deed)
+pub tied_deed : (now : ℕ) (s : ServedListener) (peer : Peer) (deed : Deed) → IsTied s → IsTied (deed_served now s peer deed)
 tied_deed now s peer deed tied =
     record {
       same_peers = tied_after now s peer deed tied.same_peers tied.ordered;
       ordered = (computed_runs s.listening ((peer, deed) ∷ []) tied.ordered).1;
     }
 
-tied-spent : (now : ℕ) (s : Served) (peer : Peer) (bytes : List ℕ) (u : Upkeep) (found : Option FlowEnd) → end_of_peer s.listening.flows peer ≡ found
+tied-spent : (now : ℕ) (s : ServedListener) (peer : Peer) (bytes : List ℕ) (u : Upkeep) (found : Option FlowEnd) → end_of_peer s.listening.flows peer ≡ found
     → IsTied s → IsTied (served_counted_by now s peer bytes u found)
 tied-spent now s peer bytes u None is tied = tied
 tied-spent now s peer bytes u (Some e) is tied =
@@ -189,7 +189,7 @@ tied-spent now s peer bytes u (Some e) is tied =
       ordered = tied.ordered;
     }
 
-tied-called : (now : ℕ) (s : Served) (peer : Peer) (call : Option FlowCall) (it : FlowHappening) → IsTied s
+tied-called : (now : ℕ) (s : ServedListener) (peer : Peer) (call : Option FlowCall) (it : FlowHappening) → IsTied s
     → IsTied (serves_on now s (listening_if s.listening peer call) peer it)
 tied-called now s peer None it tied =
     record {
@@ -204,17 +204,17 @@ tied-called now s peer (Some call) it tied =
       ordered = (computed_runs s.listening ((peer, Calls call) ∷ []) tied.ordered).1;
     }
 
-pub tied_does : (now : ℕ) (s : Served) (peer : Peer) (doing : Doing) → IsTied s → IsTied (served_by now s peer doing)
+pub tied_does : (now : ℕ) (s : ServedListener) (peer : Peer) (doing : Doing) → IsTied s → IsTied (served_by now s peer doing)
 tied_does now s peer (Does deed) tied = tied_deed now s peer deed tied
 tied_does now s peer (Spends bytes) tied =
     tied-spent now s peer bytes (upkeep_at s.pace s.upkeeps peer) (end_of_peer s.listening.flows peer) refl tied
 tied_does now s peer Follows tied =
     tied-called now s peer (call_due now s peer) (happening.Ruled (due_rule (upkeep_at s.pace s.upkeeps peer).path now)) tied
 
-pub tied_then : (now : ℕ) (s t : Served) (peer : Peer) (doing : Doing) → t ≡ served_by now s peer doing → IsTied s → IsTied t
+pub tied_then : (now : ℕ) (s t : ServedListener) (peer : Peer) (doing : Doing) → t ≡ served_by now s peer doing → IsTied s → IsTied t
 tied_then now s t peer doing is tied = subst IsTied (sym is) (tied_does now s peer doing tied)
 
-tied-through : (s : Served) (all : List TimedDoing) → IsTied s → IsTied (served_through s all)
+tied-through : (s : ServedListener) (all : List TimedDoing) → IsTied s → IsTied (served_through s all)
 tied-through s [] tied = tied
 tied-through s (it ∷ later) tied = tied-through (served_by it.now s it.peer it.doing) later (tied_does it.now s it.peer it.doing tied)
 
@@ -227,13 +227,13 @@ through_tied config pace all = tied-through (serving_begins config pace) all (be
 pub upkeeps_tied : UpkeepsStandWithFlows
 upkeeps_tied config pace all = (through_tied config pace all).same_peers
 
-pub no_flow : (s : Served) (peer : Peer) → keys_of s.upkeeps ≡ keys_of s.listening.flows → lookup (is_peer peer) s.upkeeps ≡ None
+pub no_flow : (s : ServedListener) (peer : Peer) → keys_of s.upkeeps ≡ keys_of s.listening.flows → lookup (is_peer peer) s.upkeeps ≡ None
     → end_of_peer s.listening.flows peer ≡ None
 no_flow s peer tied none =
     none_from (end_of_peer s.listening.flows peer)
     (found_among (is_peer peer) s.listening.flows ∙ ap (list_any (is_peer peer)) (sym tied) ∙ sym (found_among (is_peer peer) s.upkeeps) ∙ ap is_some none)
 
-stranger-by : (s : Served) (peer : Peer) (iss : ℕ) (bytes : List ℕ) → keys_of s.upkeeps ≡ keys_of s.listening.flows
+stranger-by : (s : ServedListener) (peer : Peer) (iss : ℕ) (bytes : List ℕ) → keys_of s.upkeeps ≡ keys_of s.listening.flows
     → WantsMemory s peer (Arrives iss bytes) → end_of_peer s.listening.flows peer ≡ None
 stranger-by s peer iss bytes tied (inl none) = none
 stranger-by s peer iss bytes tied (inr none) = no_flow s peer tied none
@@ -243,7 +243,7 @@ strangers config pace all peer iss bytes wants =
     stranger-by (served_through (serving_begins config pace) all) peer iss bytes (upkeeps_tied config pace all) wants
 
 -- memory is wanting for no call
-pub calls_find_places : (s : Served) (peer : Peer) → IsTied s → IsSome (end_of_peer s.listening.flows peer) → lookup (is_peer peer) s.upkeeps ≡ None → ⊥
+pub calls_find_places : (s : ServedListener) (peer : Peer) → IsTied s → IsSome (end_of_peer s.listening.flows peer) → lookup (is_peer peer) s.upkeeps ≡ None → ⊥
 calls_find_places s peer tied there none = false≢true (sym (ap is_some (no_flow s peer tied.same_peers none)) ∙ there)
 
 pub calls_want_none : CallsWantNoMemory
@@ -284,7 +284,7 @@ tied_begins config pace l kept begun none =
     (subst (λ (t : Upkeeps). IsTied (served (record { config = config; flows = [] }) pace t)) (sym none) (begun_tied config pace))
 
 -- so it stays where memory was wanting and nothing has changed
-pub tied_if : {A B : Type 0} (now : ℕ) (s t : Served) (peer : Peer) (doing : Doing) (result : Result A B) → OnOk result (t ≡ served_by now s peer doing)
+pub tied_if : {A B : Type 0} (now : ℕ) (s t : ServedListener) (peer : Peer) (doing : Doing) (result : Result A B) → OnOk result (t ≡ served_by now s peer doing)
     → OnErr result (t ≡ s) → IsTied s → IsTied t
 tied_if now s t peer doing (Ok it) does same tied = tied_then now s t peer doing does tied
 tied_if now s t peer doing (Err fault) does same tied = subst IsTied (sym same) tied

@@ -13,7 +13,7 @@ use Rattle.dccp_uses.specs.declared.timed_end.Due.TheVariants as due
 use Rattle.dccp_server.specs.Due.{never}
 use Rattle.dccp_server.specs.Lives.{Lives}
 use Rattle.dccp_server.specs.Rules.{first_given_up, is_none_left, life_left}
-use Rattle.dccp_server.specs.Serving.{Doing, Does, Follows, Served, TimedDoing, Upkeeps, first_due_flow, least_wait, served_by, served_through, serving_begins}
+use Rattle.dccp_server.specs.Serving.{Doing, Does, Follows, ServedListener, TimedDoing, Upkeeps, first_due_flow, least_wait, served_by, served_through, serving_begins}
 use Rattle.dccp_server.specs.Upkeeps.{first_due}
 use Rattle.dccp_server.specs.declared.life.Life.{Life}
 use Rattle.dccp_server.specs.declared.rules.Rules.{Rules}
@@ -25,12 +25,12 @@ doing_due (due.Timer timer) = Does (Calls (Fires timer))
 doing_due due.Rules = Follows
 
 -- where something is due
-abbrev pub due_served : ℕ → Served → Option (Peer × Due) → Served
+abbrev pub due_served : ℕ → ServedListener → Option (Peer × Due) → ServedListener
 due_served now s None = s
 due_served now s (Some it) = served_by now s it.0 (doing_due it.1)
 
 -- a listener after so many ticks at one time
-abbrev pub listener_ticked : ℕ → ℕ → Served → Served
+abbrev pub listener_ticked : ℕ → ℕ → ServedListener → ServedListener
 listener_ticked now zero s = s
 listener_ticked now (suc n) s = listener_ticked now n (due_served now s (first_due_flow now s.upkeeps))
 

@@ -23,7 +23,7 @@ use Rattle.dccp_server.specs.declared.meeting.CookieUse.TheVariants.{InACrowd}
 use Rattle.init_cookies.specs.declared.cookie.CookieKeys.{CookieKeys}
 use Rattle.dccp_server.specs.Lives.{Lives, life_of, life_then, no_signs, signs_in, signs_of, user_written}
 use Rattle.dccp_server.specs.Rules.{begins_anew, first_given_up, is_crowd, makes_way, least_left, refuses_last_sync, signs_noted}
-use Rattle.dccp_server.specs.Serving.{Doing, Does, Follows, IsTied, Served, Spends, TimedDoing, first_due_flow, doing_frame, is_admitted, least_wait, served_by, served_through, serving_begins, upkeep_at}
+use Rattle.dccp_server.specs.Serving.{Doing, Does, Follows, IsTied, ServedListener, Spends, TimedDoing, first_due_flow, doing_frame, is_admitted, least_wait, served_by, served_through, serving_begins, upkeep_at}
 use Rattle.dccp_server.specs.Strangers.{frame_if_goes, spared_if, strangers_begin}
 use Rattle.dccp_server.specs.declared.duty.Duty.{Duty}
 use Rattle.dccp_server.specs.declared.duty.Duty.TheVariants.{Ring, Follow, GiveUp}
@@ -35,11 +35,11 @@ use Rattle.dccp_server.specs.declared.strangers.Strangers.{Strangers}
 
 -- the listener with the timers of its flows, and their lives
 pub record Room : Type 0 where
-  pub served : Served
+  pub served : ServedListener
   pub lives : List (Peer × Life)
 
 -- the two of them
-abbrev pub as_room : Served → Lives → Room
+abbrev pub as_room : ServedListener → Lives → Room
 as_room served lives = record { served = served; lives = lives }
 
 -- something is kept of each flow, and it has a life
@@ -57,7 +57,7 @@ signs_by l peer (Arrives iss bytes) = signs_noted bytes (signs_of (listens l pee
 signs_by l peer (Calls call) = signs_of (listens l peer (Calls call)).told
 
 -- once that was done with a peer, the life of its flow goes on
-abbrev pub room_then : ℕ → Room → Peer → Served → Signs → Room
+abbrev pub room_then : ℕ → Room → Peer → ServedListener → Signs → Room
 room_then now r peer after signs =
     as_room after (life_then now r.lives peer (end_of_peer after.listening.flows peer) signs (life_of r.lives peer))
 
@@ -162,12 +162,12 @@ abbrev pub room_waits : ℕ → Rules → Room → ℕ
 room_waits now rules r = least_left rules (is_crowded r) now (least_wait now r.served.upkeeps) r.lives
 
 -- what is due of a flow: a timer is told, or the first rule that is due is followed
-abbrev pub duty_due : ℕ → Served → Peer → Due → Duty
+abbrev pub duty_due : ℕ → ServedListener → Peer → Due → Duty
 duty_due now s peer (due.Timer timer) = Ring peer timer
 duty_due now s peer due.Rules = Follow peer (due_rule (upkeep_at s.pace s.upkeeps peer).path now)
 
 -- what there is to do first: what is due is done, or else a flow that is over is given up
-abbrev pub duty_of : ℕ → Served → Option (Peer × Due) → Option Peer → Option Duty
+abbrev pub duty_of : ℕ → ServedListener → Option (Peer × Due) → Option Peer → Option Duty
 duty_of now s (Some it) over = Some (duty_due now s it.0 it.1)
 duty_of now s None (Some peer) = Some (GiveUp peer)
 duty_of now s None None = None

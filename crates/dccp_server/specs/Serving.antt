@@ -35,17 +35,17 @@ abbrev pub Upkeeps : Type 0
 Upkeeps = List (Peer × Upkeep)
 
 -- a listener, the rules that the paths of its flows follow, and what is kept of each flow
-pub record Served : Type 0 where
+pub record ServedListener : Type 0 where
   pub listening : ListenerState
   pub pace : Pace
   pub upkeeps : List (Peer × Upkeep)
 
 -- the three of them
-abbrev pub served : ListenerState → Pace → Upkeeps → Served
+abbrev pub served : ListenerState → Pace → Upkeeps → ServedListener
 served listening pace upkeeps = record { listening = listening; pace = pace; upkeeps = upkeeps }
 
 -- a listener without flows
-abbrev pub serving_begins : ListenConfig → Pace → Served
+abbrev pub serving_begins : ListenConfig → Pace → ServedListener
 serving_begins config pace = served (record { config = config; flows = [] }) pace []
 
 -- what is kept of a peer, where nothing is known of one that has no flow
@@ -63,19 +63,19 @@ is_refusal (Stepped (Some (Called (Err fault)))) = true
 is_refusal _ = false
 
 -- what a deed is to the peer's end
-abbrev pub happening_by : Served → Peer → Deed → FlowHappening
+abbrev pub happening_by : ServedListener → Peer → Deed → FlowHappening
 happening_by s peer (Arrives iss bytes) =
     arrived_so (sight_if (end_of_peer s.listening.flows peer)) (listens s.listening peer (Arrives iss bytes)).told
     (not (is_some (listens s.listening peer (Arrives iss bytes)).frame))
 happening_by s peer (Calls call) = called_so call (is_refusal (listens s.listening peer (Calls call)).told)
 
 -- once the listener is this, and that has happened to the peer's end
-abbrev pub serves_on : ℕ → Served → ListenerState → Peer → FlowHappening → Served
+abbrev pub serves_on : ℕ → ServedListener → ListenerState → Peer → FlowHappening → ServedListener
 serves_on now s after peer it =
     served after s.pace (upkeeps_then now s.pace s.upkeeps peer (end_of_peer after.flows peer) (upkeep_at s.pace s.upkeeps peer) it)
 
 -- A deed of a peer, where memory is found: the listener does what is computed of it, and what is kept of the peer goes on.
-abbrev pub deed_served : ℕ → Served → Peer → Deed → Served
+abbrev pub deed_served : ℕ → ServedListener → Peer → Deed → ServedListener
 deed_served now s peer deed = serves_on now s (listening_after s.listening peer deed) peer (happening_by s peer deed)
 
 -- what is kept of a flow once a datagram was counted: one that its numbers would have answered by a Sync takes a token
@@ -83,13 +83,13 @@ abbrev pub upkeep_counted : ℕ → List ℕ → Upkeep → FlowEnd → Upkeep
 upkeep_counted now bytes u e = record u { path = (admitted e.state u.path bytes now).path }
 
 -- A datagram of a peer is counted.
-abbrev pub served_counted_by : ℕ → Served → Peer → List ℕ → Upkeep → Option FlowEnd → Served
+abbrev pub served_counted_by : ℕ → ServedListener → Peer → List ℕ → Upkeep → Option FlowEnd → ServedListener
 served_counted_by now s peer bytes u None = s
 served_counted_by now s peer bytes u (Some e) =
     record s { upkeeps = insert_entry peer_cmp s.upkeeps peer (upkeep_counted now bytes u e) }
 
 -- of the limits of the peer's own flow
-abbrev pub served_counted : ℕ → Served → Peer → List ℕ → Served
+abbrev pub served_counted : ℕ → ServedListener → Peer → List ℕ → ServedListener
 served_counted now s peer bytes = served_counted_by now s peer bytes (upkeep_at s.pace s.upkeeps peer) (end_of_peer s.listening.flows peer)
 
 -- a datagram is to be heard: there was a token, or none was wanted
@@ -98,7 +98,7 @@ is_admitted_by now bytes u None = true
 is_admitted_by now bytes u (Some e) = (admitted e.state u.path bytes now).heard
 
 -- by the limits of the peer's own flow
-abbrev pub is_admitted : ℕ → Served → Peer → List ℕ → Bool
+abbrev pub is_admitted : ℕ → ServedListener → Peer → List ℕ → Bool
 is_admitted now s peer bytes = is_admitted_by now bytes (upkeep_at s.pace s.upkeeps peer) (end_of_peer s.listening.flows peer)
 
 -- why data to a flow have to wait, as those to the peer of an end of its own, if there is one
@@ -107,7 +107,7 @@ flow_restraint_by u None = None
 flow_restraint_by u (Some e) = restraint_of u.path.reader (in_flight_of kinds_control e.congestion)
 
 -- by what is known of the application that reads them
-abbrev pub flow_restraint : Served → Peer → Option Restraint
+abbrev pub flow_restraint : ServedListener → Peer → Option Restraint
 flow_restraint s peer = flow_restraint_by (upkeep_at s.pace s.upkeeps peer) (end_of_peer s.listening.flows peer)
 
 -- what the rule that is due has an end do, if there is one
@@ -115,7 +115,7 @@ abbrev pub call_by_rule : ℕ → Upkeep → Option FlowEnd → Option FlowCall
 call_by_rule now u found = call_for_rule (due_rule u.path now) u.path.aim found
 
 -- and a peer's end
-abbrev pub call_due : ℕ → Served → Peer → Option FlowCall
+abbrev pub call_due : ℕ → ServedListener → Peer → Option FlowCall
 call_due now s peer = call_by_rule now (upkeep_at s.pace s.upkeeps peer) (end_of_peer s.listening.flows peer)
 
 -- the listener after a call that there may be
@@ -129,7 +129,7 @@ frame_if l peer None = None
 frame_if l peer (Some call) = (listens l peer (Calls call)).frame
 
 -- the first rule of a peer's path that is due has its end do something
-abbrev pub rule_followed : ℕ → Served → Peer → Served
+abbrev pub rule_followed : ℕ → ServedListener → Peer → ServedListener
 rule_followed now s peer =
     serves_on now s (listening_if s.listening peer (call_due now s peer)) peer (happening.Ruled (due_rule (upkeep_at s.pace s.upkeeps peer).path now))
 
@@ -140,20 +140,20 @@ pub data Doing : Type 0 where
   Follows : Doing
 
 -- that is done
-abbrev pub served_by : ℕ → Served → Peer → Doing → Served
+abbrev pub served_by : ℕ → ServedListener → Peer → Doing → ServedListener
 served_by now s peer (Does deed) = deed_served now s peer deed
 served_by now s peer (Spends bytes) = served_counted now s peer bytes
 served_by now s peer Follows = rule_followed now s peer
 
 -- the frame that then goes to the peer
-abbrev pub doing_frame : ℕ → Served → Peer → Doing → Option Outgoing
+abbrev pub doing_frame : ℕ → ServedListener → Peer → Doing → Option Outgoing
 doing_frame now s peer (Does deed) = (listens s.listening peer deed).frame
 doing_frame now s peer (Spends bytes) = None
 doing_frame now s peer Follows = frame_if s.listening peer (call_due now s peer)
 
 -- Memory is wanting for a deed: a datagram of a peer that has no flow or no place for what is kept of it, or a call of a
 -- flow that has none.
-abbrev pub WantsMemory : Served → Peer → Deed → Type 0
+abbrev pub WantsMemory : ServedListener → Peer → Deed → Type 0
 WantsMemory s peer (Arrives iss bytes) = (end_of_peer s.listening.flows peer ≡ None) ⊎ (lookup (is_peer peer) s.upkeeps ≡ None)
 WantsMemory s peer (Calls call) = IsSome (end_of_peer s.listening.flows peer) × (lookup (is_peer peer) s.upkeeps ≡ None)
 
@@ -176,7 +176,7 @@ abbrev pub first_due_flow : ℕ → Upkeeps → Option (Peer × Due)
 first_due_flow now upkeeps = due_of_ticket now upkeeps (soonest upkeeps)
 
 -- The peers of which something is kept are those that have a flow, and are in order.
-pub record IsTied (s : Served) : Type 0 where
+pub record IsTied (s : ServedListener) : Type 0 where
   pub same_peers : keys_of s.upkeeps ≡ keys_of s.listening.flows
   pub ordered : AreInOrder s.listening.flows
 
@@ -201,7 +201,7 @@ pub record TimedDoing : Type 0 where
   pub doing : Doing
 
 -- one after another, where memory is found
-abbrev pub served_through : Served → List TimedDoing → Served
+abbrev pub served_through : ServedListener → List TimedDoing → ServedListener
 served_through s [] = s
 served_through s (it ∷ later) = served_through (served_by it.now s it.peer it.doing) later
 
@@ -211,13 +211,13 @@ deed_if peer None = []
 deed_if peer (Some call) = (peer, Calls call) ∷ []
 
 -- the deeds of the listener that something done comes to
-abbrev pub deeds_by : Served → TimedDoing → Doing → List (Peer × Deed)
+abbrev pub deeds_by : ServedListener → TimedDoing → Doing → List (Peer × Deed)
 deeds_by s it (Does deed) = (it.peer, deed) ∷ []
 deeds_by s it (Spends bytes) = []
 deeds_by s it Follows = deed_if it.peer (call_due it.now s it.peer)
 
 -- all of them
-abbrev pub deeds_through : Served → List TimedDoing → List (Peer × Deed)
+abbrev pub deeds_through : ServedListener → List TimedDoing → List (Peer × Deed)
 deeds_through s [] = []
 deeds_through s (it ∷ later) = deeds_by s it it.doing ++ deeds_through (served_by it.now s it.peer it.doing) later
 

@@ -27,9 +27,9 @@ pub struct TimedListener {
 }
 
 impl Model for TimedListener {
-    ghost use Rattle.dccp_server.specs.Serving.{IsTied, Served, served};
+    ghost use Rattle.dccp_server.specs.Serving.{IsTied, ServedListener, served};
 
-    ghost Value = { Served };
+    ghost Value = { ServedListener };
 
     ghost view = { λ s. served s.listener s.pace s.upkeeps };
 

@@ -3,7 +3,7 @@ use Rattle.dccp_listener.specs.Chain.{Arrives}
 use Rattle.dccp_server.specs.Lives.{Lives, signs_of}
 use Rattle.dccp_server.specs.Rooms.{as_room, signs_by}
 use Rattle.dccp_server.specs.Rules.{signs_noted}
-use Rattle.dccp_server.specs.Serving.{Does, Served}
+use Rattle.dccp_server.specs.Serving.{Does, ServedListener}
 use Rattle.dccp_server.proofs.Living.{living_then, living_same, room_placed}
 use Rattle.dccp_server.proofs.Placing.{taken_back}
 use Rattle.dccp_server.proofs.Tying.{has_place}
@@ -32,14 +32,14 @@ returns-in-Ok-clause-living c =
 
 pub returns-in-Err-clause-unchanged : goal.returns-in-Err-clause-unchanged
 returns-in-Err-clause-unchanged c =
-    ap (λ (s : Served). as_room s c.take_back.new.self) c.in-Err.ensures.unchanged
+    ap (λ (s : ServedListener). as_room s c.take_back.new.self) c.in-Err.ensures.unchanged
     ∙ ap (λ (l : Lives). as_room c.args.timed.now l)
     (c.take_back.ensures ∙ taken_back _ c.in_ok-had.had c.args.lives.now c.place_for.new.self c.args.peer c.in_ok-had.ensures.placed)
 
 pub returns-in-Err-clause-living : goal.returns-in-Err-clause-living
 returns-in-Err-clause-living c =
     living_same _ _
-    (ap (λ (s : Served). as_room s c.take_back.new.self) c.in-Err.ensures.unchanged
+    (ap (λ (s : ServedListener). as_room s c.take_back.new.self) c.in-Err.ensures.unchanged
     ∙ ap (λ (l : Lives). as_room c.args.timed.now l)
     (c.take_back.ensures ∙ taken_back _ c.in_ok-had.had c.args.lives.now c.place_for.new.self c.args.peer c.in_ok-had.ensures.placed))
     c.requires.living

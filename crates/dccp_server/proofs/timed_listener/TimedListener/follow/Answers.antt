@@ -1,5 +1,5 @@
 use Rattle.std.proofs.Common.{◌≡◌, subst}
-use Rattle.dccp_server.specs.Serving.{Follows, Served, rule_followed, served}
+use Rattle.dccp_server.specs.Serving.{Follows, ServedListener, rule_followed, served}
 use Rattle.dccp_server.proofs.Tying.{calls_find_places, tied_then}
 use Rattle.dccp_server.proofs.timed_listener.TimedListener.follow.Goals as goal
 
@@ -8,7 +8,7 @@ unreachable-requires c = calls_find_places _ c.args.peer c.self.invariant c.in-E
 
 pub returns-clause-after : goal.returns-clause-after
 returns-clause-after c =
-    subst (λ (x : Served). served c.follow.new.listener c.self.inside.pace c.follow.new.upkeeps ≡ rule_followed c.args.now x c.args.peer)
+    subst (λ (x : ServedListener). served c.follow.new.listener c.self.inside.pace c.follow.new.upkeeps ≡ rule_followed c.args.now x c.args.peer)
     c.self.view_is c.in-Ok.ensures.after
 
 pub invariant_of-self : goal.invariant_of-self
