@@ -24,7 +24,7 @@ use Rattle.dccp_states.specs.declared.phase.Phase.TheVariants as phases
 use Rattle.dccp_uses.specs.declared.pace.Pace.{Pace}
 use Rattle.feature_machine.specs.Lists.{IsLists}
 use Rattle.dccp_server.specs.Rooms.{ForgottenHaveNone, room_begins}
-use Rattle.dccp_server.specs.Serving.{ServedListener, TimedDoing, deeds_through, served_through, serving_begins}
+use Rattle.dccp_server.specs.Serving.{ServedListener, TimedDeed, deeds_through, served_through, serving_begins}
 use Rattle.dccp_server.proofs.Judging.{lives_change_nothing}
 use Rattle.dccp_server.proofs.Through.{run_through}
 use Rattle.dccp_server.proofs.Tying.{through_tied}
@@ -113,7 +113,7 @@ module _ (peer : Peer) where
   chain-stands config before after (turn ∷ later) lists stands is =
       chain-stands config (chain_step config peer before turn.deed).after after later lists (ends_stand config peer before turn.deed lists stands) is.2
 
-  stands-then : (config : ListenConfig) (pace : Pace) (all : List TimedDoing) → IsLists config.lists
+  stands-then : (config : ListenConfig) (pace : Pace) (all : List TimedDeed) → IsLists config.lists
       → IfSome (end_at (served_through (serving_begins config pace) all).listening) (IsFlowOf config peer)
   stands-then config pace all lists =
       let begun : ServedListener = serving_begins config pace in

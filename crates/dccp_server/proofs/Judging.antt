@@ -8,20 +8,20 @@ use Rattle.dccp_states.specs.declared.calls.Timer.TheVariants as timers
 use Rattle.dccp_server.specs.Lives.{life_of, signs_of}
 use Rattle.dccp_server.specs.Rooms.{RoomStep, LivesChangeNothing, Room, RuledRoom, RulesAreDeeds, begun_anew, comes_by, comes_if, does_all, duty_done, heard_plainly, is_to_be_heard, room_does, room_made, who_leaves}
 use Rattle.dccp_server.specs.Rules.{begins_anew, refuses_last_sync}
-use Rattle.dccp_server.specs.Serving.{Does, Doing, Follows, ServedListener, Spends, TimedDoing, served_by, served_through}
+use Rattle.dccp_server.specs.Serving.{Does, PeerDeed, Follows, ServedListener, Spends, TimedDeed, served_by, served_through}
 use Rattle.dccp_server.specs.declared.duty.Duty.{Duty}
 use Rattle.dccp_server.specs.declared.duty.Duty.TheVariants.{Follow}
 use Rattle.dccp_server.specs.declared.rules.Rules.{Rules}
 use Rattle.dccp_uses.specs.declared.rule.Rule.{Rule}
 
 abbrev IsByDoings : Room → Room → Type 0
-IsByDoings r after = (all : List TimedDoing) × (after ≡ does_all r all)
+IsByDoings r after = (all : List TimedDeed) × (after ≡ does_all r all)
 
 module _ (now : ℕ) (rules : Rules) (peer : Peer) (iss : ℕ) (bytes : List ℕ) where
-  abbrev does : Peer → Deed → TimedDoing
+  abbrev does : Peer → Deed → TimedDeed
   does who deed = record { now = now; peer = who; doing = Does deed }
 
-  abbrev heard : TimedDoing
+  abbrev heard : TimedDeed
   heard = does peer (Arrives iss bytes)
 
   module _ (r : Room) where
@@ -56,7 +56,7 @@ pub rules_are_deeds : RulesAreDeeds
 rules_are_deeds now rules r peer iss bytes =
     by-counting now rules peer iss bytes r (refuses_last_sync rules (life_of r.lives peer) bytes) (is_to_be_heard now rules r peer bytes)
 
-served-same : (now : ℕ) (r : Room) (peer : Peer) (doing : Doing) → (room_does now r peer doing).served ≡ served_by now r.served peer doing
+served-same : (now : ℕ) (r : Room) (peer : Peer) (doing : PeerDeed) → (room_does now r peer doing).served ≡ served_by now r.served peer doing
 served-same now r peer (Does deed) = refl
 served-same now r peer (Spends bytes) = refl
 served-same now r peer Follows = refl

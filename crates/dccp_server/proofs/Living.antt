@@ -10,7 +10,7 @@ use Rattle.dccp_uses.specs.declared.pace.Pace.{Pace}
 use Rattle.dccp_server.specs.Lives.{Lives, life_of, life_then, lives_on, no_signs, user_written}
 use Rattle.dccp_server.specs.Places.{HasPlaceIf, IsPlaced}
 use Rattle.dccp_server.specs.Rooms.{IsLiving, Room, as_room, room_does, room_then, signs_by, with_user}
-use Rattle.dccp_server.specs.Serving.{Does, Doing, Follows, ServedListener, Spends, call_due, deed_served, rule_followed, listening_if, serving_begins, upkeep_at}
+use Rattle.dccp_server.specs.Serving.{Does, PeerDeed, Follows, ServedListener, Spends, call_due, deed_served, rule_followed, listening_if, serving_begins, upkeep_at}
 use Rattle.dccp_server.specs.declared.life.Life.{Life}
 use Rattle.dccp_server.specs.declared.life.Signs.{Signs}
 use Rattle.dccp_server.proofs.Placing.{then_placed}
@@ -28,7 +28,7 @@ called-lives now l lives peer (Some call) signs life r same is tied =
     tied_by peer lives (λ e. lives_on now e signs life) l (end_of_peer l.flows peer) (Calls call) refl tied
     (subst (λ (x : ListenerState). AreInOrder x.flows) same is.tied.ordered)
 
-pub living_does : (now : ℕ) (r : Room) (peer : Peer) (doing : Doing) → IsLiving r → IsLiving (room_does now r peer doing)
+pub living_does : (now : ℕ) (r : Room) (peer : Peer) (doing : PeerDeed) → IsLiving r → IsLiving (room_does now r peer doing)
 living_does now r peer (Does deed) is =
     record {
       tied = tied_does now r.served peer (Does deed) is.tied;
@@ -50,7 +50,7 @@ living_does now r peer Follows is =
       same_peers = called-lives now r.served.listening r.lives peer (call_due now r.served peer) no_signs (life_of r.lives peer) r refl is is.same_peers;
     }
 
-pub living_then : (now : ℕ) (r t : Room) (peer : Peer) (doing : Doing) → t ≡ room_does now r peer doing → IsLiving r → IsLiving t
+pub living_then : (now : ℕ) (r t : Room) (peer : Peer) (doing : PeerDeed) → t ≡ room_does now r peer doing → IsLiving r → IsLiving t
 living_then now r t peer doing same is = subst IsLiving (sym same) (living_does now r peer doing is)
 
 -- whom a call leaves with an end had one, and so a life

@@ -13,7 +13,7 @@ use Rattle.dccp_server.specs.Lives.{life_of}
 use Rattle.dccp_server.specs.Meeting.{IsGreeted, IsMet, IsReopened, IsUnopened, MeetingsAreDeeds, cleared, cleared_if, entry_met, flow_at, hurrying, reopened, request_at, unreopened}
 use Rattle.dccp_server.specs.Rooms.{IsServed, Reception, Room, RuledRoom, does_all, left_without_memory, received_at, room_does, unreceived_at}
 use Rattle.dccp_server.specs.Rules.{refuses_last_sync}
-use Rattle.dccp_server.specs.Serving.{Does, ServedListener, Spends, TimedDoing, served_by, served_through}
+use Rattle.dccp_server.specs.Serving.{Does, ServedListener, Spends, TimedDeed, served_by, served_through}
 use Rattle.dccp_server.specs.declared.meeting.DatagramKind.{DatagramKind}
 use Rattle.dccp_server.specs.declared.meeting.DatagramKind.TheVariants as entry
 use Rattle.dccp_server.specs.declared.meeting.Way.{Way}
@@ -21,12 +21,12 @@ use Rattle.dccp_server.specs.declared.meeting.Way.TheVariants as way
 use Rattle.dccp_server.proofs.Judging.{lives_change_nothing, rules_are_deeds}
 
 abbrev IsByDoings : Room → Room → Type 0
-IsByDoings r after = (all : List TimedDoing) × (after ≡ does_all r all)
+IsByDoings r after = (all : List TimedDeed) × (after ≡ does_all r all)
 
 abbrev LeavesByDoings : RuledRoom → RuledRoom → Type 0
-LeavesByDoings s after = (all : List TimedDoing) × (after.room.served ≡ served_through s.room.served all)
+LeavesByDoings s after = (all : List TimedDeed) × (after.room.served ≡ served_through s.room.served all)
 
-through-both : (s : ServedListener) (first last : List TimedDoing) → served_through (served_through s first) last ≡ served_through s (first ++ last)
+through-both : (s : ServedListener) (first last : List TimedDeed) → served_through (served_through s first) last ≡ served_through s (first ++ last)
 through-both s [] last = refl
 through-both s (it ∷ later) last = through-both (served_by it.now s it.peer it.doing) later last
 
@@ -40,7 +40,7 @@ by-room s after is = (is.0, ap (λ (r : Room). r.served) is.1 ∙ lives_change_n
 as-it-was : (s after : RuledRoom) → after ≡ s → LeavesByDoings s after
 as-it-was s after is = ([], ap (λ (x : RuledRoom). x.room.served) is)
 
-abbrev does : ℕ → Peer → Deed → TimedDoing
+abbrev does : ℕ → Peer → Deed → TimedDeed
 does now who deed = record { now = now; peer = who; doing = Does deed }
 
 -- where no memory was found

@@ -37,7 +37,7 @@ use Rattle.dccp_listener.specs.Runs.{CallTold, HadNoMemory, IsTurnSo, Stepped, W
 use Rattle.dccp_listener.specs.declared.config.ListenConfig.{ListenConfig}
 use Rattle.dccp_listener.specs.declared.peer.Peer.{Peer}
 use Rattle.dccp_uses.specs.declared.pace.Pace.{Pace}
-use Rattle.dccp_server.specs.Serving.{Does, Doing, Follows, IsTied, RefusedCallsChangeNothing, ServedListener, Spends, TimedDoing, Upkeeps, call_due, is_refusal, listening_if, served, served_by, served_through, serving_begins, served_counted_by, upkeep_at, upkeeps_then}
+use Rattle.dccp_server.specs.Serving.{Does, PeerDeed, Follows, IsTied, RefusedCallsChangeNothing, ServedListener, Spends, TimedDeed, Upkeeps, call_due, is_refusal, listening_if, served, served_by, served_through, serving_begins, served_counted_by, upkeep_at, upkeeps_then}
 use Rattle.dccp_server.specs.Upkeeps.{called_so, upkeep_begins}
 use Rattle.dccp_server.specs.declared.happening.FlowHappening.{FlowHappening}
 use Rattle.dccp_server.specs.declared.happening.FlowHappening.TheVariants as happening
@@ -218,20 +218,20 @@ pub record IsResting (s : ServedListener) : Type 0 where
   pub tied : IsTied s
   pub live : AllLive s.listening
 
-live-does : (now : ℕ) (s : ServedListener) (peer : Peer) (doing : Doing) → IsResting s → AllLive (served_by now s peer doing).listening
+live-does : (now : ℕ) (s : ServedListener) (peer : Peer) (doing : PeerDeed) → IsResting s → AllLive (served_by now s peer doing).listening
 live-does now s peer (Does deed) is = deed-lives s.listening peer deed is.live is.tied.ordered
 live-does now s peer (Spends bytes) is =
     spent-lives now s peer bytes (upkeep_at s.pace s.upkeeps peer) (end_of_peer s.listening.flows peer) is.live
 live-does now s peer Follows is = call-lives s.listening peer (call_due now s peer) is.live is.tied.ordered
 
-pub rests_after : (now : ℕ) (s : ServedListener) (peer : Peer) (doing : Doing) → IsResting s → IsResting (served_by now s peer doing)
+pub rests_after : (now : ℕ) (s : ServedListener) (peer : Peer) (doing : PeerDeed) → IsResting s → IsResting (served_by now s peer doing)
 rests_after now s peer doing is = record { tied = tied_does now s peer doing is.tied; live = live-does now s peer doing is }
 
-pub rests_through : (s : ServedListener) (all : List TimedDoing) → IsResting s → IsResting (served_through s all)
+pub rests_through : (s : ServedListener) (all : List TimedDeed) → IsResting s → IsResting (served_through s all)
 rests_through s [] is = is
 rests_through s (it ∷ later) is = rests_through (served_by it.now s it.peer it.doing) later (rests_after it.now s it.peer it.doing is)
 
-pub resting : (config : ListenConfig) (pace : Pace) (all : List TimedDoing) → IsResting (served_through (serving_begins config pace) all)
+pub resting : (config : ListenConfig) (pace : Pace) (all : List TimedDeed) → IsResting (served_through (serving_begins config pace) all)
 resting config pace all = rests_through (serving_begins config pace) all (record { tied = begun_tied config pace; live = λ q. tt })
 
 -- what is kept of a peer that has an end

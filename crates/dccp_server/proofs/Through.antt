@@ -7,7 +7,7 @@ use Rattle.dccp_listener.specs.Peers.{FlowEnd, ListenerState, end_of_peer}
 use Rattle.dccp_listener.specs.Runs.{IsRunOfTurns}
 use Rattle.dccp_listener.specs.Chain.{Deed, FlowCall}
 use Rattle.dccp_listener.specs.declared.peer.Peer.{Peer}
-use Rattle.dccp_server.specs.Serving.{CallsAreARun, Does, Doing, Follows, ServedListener, Spends, TimedDoing, call_due, deed_if, deeds_by, deeds_through, listening_if, served_by, served_through, serving_begins, served_counted_by, upkeep_at}
+use Rattle.dccp_server.specs.Serving.{CallsAreARun, Does, PeerDeed, Follows, ServedListener, Spends, TimedDeed, call_due, deed_if, deeds_by, deeds_through, listening_if, served_by, served_through, serving_begins, served_counted_by, upkeep_at}
 use Rattle.dccp_server.specs.declared.upkeep.Upkeep.{Upkeep}
 
 pub spent_same : (now : ℕ) (s : ServedListener) (peer : Peer) (bytes : List ℕ) (u : Upkeep) (found : Option FlowEnd)
@@ -20,7 +20,7 @@ called-if : (l : ListenerState) (peer : Peer) (call : Option FlowCall) (rest : L
 called-if l peer None rest = refl
 called-if l peer (Some call) rest = refl
 
-done-so : (s : ServedListener) (it : TimedDoing) (doing : Doing) (rest : List (Peer × Deed))
+done-so : (s : ServedListener) (it : TimedDeed) (doing : PeerDeed) (rest : List (Peer × Deed))
     → listening_through (served_by it.now s it.peer doing).listening rest ≡ listening_through s.listening (deeds_by s it doing ++ rest)
 done-so s it (Does deed) rest = refl
 done-so s it (Spends bytes) rest =
@@ -28,7 +28,7 @@ done-so s it (Spends bytes) rest =
     (spent_same it.now s it.peer bytes (upkeep_at s.pace s.upkeeps it.peer) (end_of_peer s.listening.flows it.peer))
 done-so s it Follows rest = called-if s.listening it.peer (call_due it.now s it.peer) rest
 
-through : (s : ServedListener) (all : List TimedDoing) → (served_through s all).listening ≡ listening_through s.listening (deeds_through s all)
+through : (s : ServedListener) (all : List TimedDeed) → (served_through s all).listening ≡ listening_through s.listening (deeds_through s all)
 through s [] = refl
 through s (it ∷ later) =
     through (served_by it.now s it.peer it.doing) later ∙ done-so s it it.doing (deeds_through (served_by it.now s it.peer it.doing) later)

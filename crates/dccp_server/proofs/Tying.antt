@@ -27,7 +27,7 @@ use Rattle.dccp_uses.specs.Rules.{due_rule}
 use Rattle.dccp_uses.specs.declared.pace.Pace.{Pace}
 use Rattle.seq_circle.specs.declared.memory.NoMemory.{NoMemory}
 use Rattle.dccp_server.specs.Places.{HasPlaceIf, kept_then}
-use Rattle.dccp_server.specs.Serving.{CallsWantNoMemory, Does, Doing, Follows, IsTied, OnlyStrangersWantMemory, ServedListener, Spends, TimedDoing, Upkeeps, UpkeepsStandWithFlows, WantsMemory, call_due, upkeep_counted, deed_served, happening_by, listening_if, served, served_by, served_through, serves_on, serving_begins, served_counted_by, upkeep_at}
+use Rattle.dccp_server.specs.Serving.{CallsWantNoMemory, Does, PeerDeed, Follows, IsTied, OnlyStrangersWantMemory, ServedListener, Spends, TimedDeed, Upkeeps, UpkeepsStandWithFlows, WantsMemory, call_due, upkeep_counted, deed_served, happening_by, listening_if, served, served_by, served_through, serves_on, serving_begins, served_counted_by, upkeep_at}
 use Rattle.dccp_server.specs.Upkeeps.{next_upkeep}
 use Rattle.dccp_server.specs.declared.happening.FlowHappening.{FlowHappening}
 use Rattle.dccp_server.specs.declared.happening.FlowHappening.TheVariants as happening
@@ -204,24 +204,24 @@ tied-called now s peer (Some call) it tied =
       ordered = (computed_runs s.listening ((peer, Calls call) ∷ []) tied.ordered).1;
     }
 
-pub tied_does : (now : ℕ) (s : ServedListener) (peer : Peer) (doing : Doing) → IsTied s → IsTied (served_by now s peer doing)
+pub tied_does : (now : ℕ) (s : ServedListener) (peer : Peer) (doing : PeerDeed) → IsTied s → IsTied (served_by now s peer doing)
 tied_does now s peer (Does deed) tied = tied_deed now s peer deed tied
 tied_does now s peer (Spends bytes) tied =
     tied-spent now s peer bytes (upkeep_at s.pace s.upkeeps peer) (end_of_peer s.listening.flows peer) refl tied
 tied_does now s peer Follows tied =
     tied-called now s peer (call_due now s peer) (happening.Ruled (due_rule (upkeep_at s.pace s.upkeeps peer).path now)) tied
 
-pub tied_then : (now : ℕ) (s t : ServedListener) (peer : Peer) (doing : Doing) → t ≡ served_by now s peer doing → IsTied s → IsTied t
+pub tied_then : (now : ℕ) (s t : ServedListener) (peer : Peer) (doing : PeerDeed) → t ≡ served_by now s peer doing → IsTied s → IsTied t
 tied_then now s t peer doing is tied = subst IsTied (sym is) (tied_does now s peer doing tied)
 
-tied-through : (s : ServedListener) (all : List TimedDoing) → IsTied s → IsTied (served_through s all)
+tied-through : (s : ServedListener) (all : List TimedDeed) → IsTied s → IsTied (served_through s all)
 tied-through s [] tied = tied
 tied-through s (it ∷ later) tied = tied-through (served_by it.now s it.peer it.doing) later (tied_does it.now s it.peer it.doing tied)
 
 pub begun_tied : (config : ListenConfig) (pace : Pace) → IsTied (serving_begins config pace)
 begun_tied config pace = record { same_peers = refl; ordered = none_in_order }
 
-pub through_tied : (config : ListenConfig) (pace : Pace) (all : List TimedDoing) → IsTied (served_through (serving_begins config pace) all)
+pub through_tied : (config : ListenConfig) (pace : Pace) (all : List TimedDeed) → IsTied (served_through (serving_begins config pace) all)
 through_tied config pace all = tied-through (serving_begins config pace) all (begun_tied config pace)
 
 pub upkeeps_tied : UpkeepsStandWithFlows
@@ -284,7 +284,7 @@ tied_begins config pace l kept begun none =
     (subst (λ (t : Upkeeps). IsTied (served (record { config = config; flows = [] }) pace t)) (sym none) (begun_tied config pace))
 
 -- so it stays where memory was wanting and nothing has changed
-pub tied_if : {A B : Type 0} (now : ℕ) (s t : ServedListener) (peer : Peer) (doing : Doing) (result : Result A B) → OnOk result (t ≡ served_by now s peer doing)
+pub tied_if : {A B : Type 0} (now : ℕ) (s t : ServedListener) (peer : Peer) (doing : PeerDeed) (result : Result A B) → OnOk result (t ≡ served_by now s peer doing)
     → OnErr result (t ≡ s) → IsTied s → IsTied t
 tied_if now s t peer doing (Ok it) does same tied = tied_then now s t peer doing does tied
 tied_if now s t peer doing (Err fault) does same tied = subst IsTied (sym same) tied

@@ -13,14 +13,14 @@ use Rattle.dccp_uses.specs.declared.timed_end.Due.TheVariants as due
 use Rattle.dccp_server.specs.Due.{never}
 use Rattle.dccp_server.specs.Lives.{Lives}
 use Rattle.dccp_server.specs.Rules.{first_given_up, is_none_left, life_left}
-use Rattle.dccp_server.specs.Serving.{Doing, Does, Follows, ServedListener, TimedDoing, Upkeeps, first_due_flow, least_wait, served_by, served_through, serving_begins}
+use Rattle.dccp_server.specs.Serving.{PeerDeed, Does, Follows, ServedListener, TimedDeed, Upkeeps, first_due_flow, least_wait, served_by, served_through, serving_begins}
 use Rattle.dccp_server.specs.Upkeeps.{first_due}
 use Rattle.dccp_server.specs.declared.life.Life.{Life}
 use Rattle.dccp_server.specs.declared.rules.Rules.{Rules}
 use Rattle.dccp_server.specs.declared.upkeep.Upkeep.{Upkeep}
 
 -- what is done with what is due: a timer is told to the peer's end, or a rule is followed
-abbrev pub doing_due : Due → Doing
+abbrev pub doing_due : Due → PeerDeed
 doing_due (due.Timer timer) = Does (Calls (Fires timer))
 doing_due due.Rules = Follows
 
@@ -38,7 +38,7 @@ listener_ticked now (suc n) s = listener_ticked now n (due_served now s (first_d
 -- and the rules once at first and once after each of them.
 abbrev pub ListenerTicksEnd : Type 0
 ListenerTicksEnd =
-    (config : ListenConfig) (pace : Pace) (all : List TimedDoing) (now : ℕ)
+    (config : ListenConfig) (pace : Pace) (all : List TimedDeed) (now : ℕ)
     → first_due_flow now
     (listener_ticked now (13 * length (served_through (serving_begins config pace) all).listening.flows) (served_through (serving_begins config pace) all)).upkeeps
     ≡ None

@@ -34,7 +34,7 @@ use Rattle.init_cookies.specs.declared.route.Route.{Route}
 use Rattle.seq_circle.specs.declared.memory.NoMemory.{NoMemory}
 use Rattle.dccp_server.specs.Lives.{life_of}
 use Rattle.dccp_server.specs.Rooms.{IsServed, RuledRoom, forgets, is_crowded, is_to_be_heard, received_at, unreceived_at, with_user}
-use Rattle.dccp_server.specs.Serving.{TimedDoing, served_through}
+use Rattle.dccp_server.specs.Serving.{TimedDeed, served_through}
 use Rattle.dccp_server.specs.declared.asking.DatagramRequest.{DatagramRequest}
 use Rattle.dccp_server.specs.declared.asking.DatagramRequest.TheVariants.{Nothing, TooLong, This}
 use Rattle.dccp_server.specs.declared.meeting.DatagramKind.{DatagramKind}
@@ -281,4 +281,4 @@ abbrev pub MeetingsAreDeeds : Type 0
 MeetingsAreDeeds =
     (now : ℕ) (s after : RuledRoom) (peer : Peer) (iss : ℕ) (bytes : List ℕ) (frame : Option Outgoing) (told : Result (Option Heard) NoMemory)
     (evicted : Option Peer) (anew : Bool) (made_room : Option Peer) (way : Way) → IsMet now s after peer iss bytes frame told evicted anew made_room way
-    → (all : List TimedDoing) × (after.room.served ≡ served_through s.room.served all)
+    → (all : List TimedDeed) × (after.room.served ≡ served_through s.room.served all)

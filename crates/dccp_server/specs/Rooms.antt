@@ -23,7 +23,7 @@ use Rattle.dccp_server.specs.declared.meeting.CookieUse.TheVariants.{InACrowd}
 use Rattle.init_cookies.specs.declared.cookie.CookieKeys.{CookieKeys}
 use Rattle.dccp_server.specs.Lives.{Lives, life_of, life_then, no_signs, signs_in, signs_of, user_written}
 use Rattle.dccp_server.specs.Rules.{begins_anew, first_given_up, is_crowd, makes_way, least_left, refuses_last_sync, signs_noted}
-use Rattle.dccp_server.specs.Serving.{Doing, Does, Follows, IsTied, ServedListener, Spends, TimedDoing, first_due_flow, doing_frame, is_admitted, least_wait, served_by, served_through, serving_begins, upkeep_at}
+use Rattle.dccp_server.specs.Serving.{PeerDeed, Does, Follows, IsTied, ServedListener, Spends, TimedDeed, first_due_flow, doing_frame, is_admitted, least_wait, served_by, served_through, serving_begins, upkeep_at}
 use Rattle.dccp_server.specs.Strangers.{frame_if_goes, spared_if, strangers_begin}
 use Rattle.dccp_server.specs.declared.duty.Duty.{Duty}
 use Rattle.dccp_server.specs.declared.duty.Duty.TheVariants.{Ring, Follow, GiveUp}
@@ -63,7 +63,7 @@ room_then now r peer after signs =
 
 -- Something is done with a peer, where memory is found: the listener and what is kept of the flow do it, and its life goes
 -- on. A datagram that is only counted is no part of its life.
-abbrev pub room_does : ℕ → Room → Peer → Doing → Room
+abbrev pub room_does : ℕ → Room → Peer → PeerDeed → Room
 room_does now r peer (Does deed) = room_then now r peer (served_by now r.served peer (Does deed)) (signs_by r.served.listening peer deed)
 room_does now r peer (Spends bytes) = record r { served = served_by now r.served peer (Spends bytes) }
 room_does now r peer Follows = room_then now r peer (served_by now r.served peer Follows) no_signs
@@ -183,7 +183,7 @@ duty_peer (Follow peer rule) = peer
 duty_peer (GiveUp peer) = peer
 
 -- how it is done: a flow is given up by aborting its end
-abbrev pub doing_for : Duty → Doing
+abbrev pub doing_for : Duty → PeerDeed
 doing_for (Ring peer timer) = Does (Calls (Fires timer))
 doing_for (Follow peer rule) = Follows
 doing_for (GiveUp peer) = Does (Calls Aborts)
@@ -199,7 +199,7 @@ duty_frame now r None = None
 duty_frame now r (Some duty) = doing_frame now r.served (duty_peer duty) (doing_for duty)
 
 -- what is done with peers, and its times, one after another
-abbrev pub does_all : Room → List TimedDoing → Room
+abbrev pub does_all : Room → List TimedDeed → Room
 does_all r [] = r
 does_all r (it ∷ later) = does_all (room_does it.now r it.peer it.doing) later
 
@@ -320,14 +320,14 @@ IsServed now s after peer iss bytes frame (Err _) evicted anew =
 abbrev pub RulesAreDeeds : Type 0
 RulesAreDeeds =
     (now : ℕ) (rules : Rules) (r : Room) (peer : Peer) (iss : ℕ) (bytes : List ℕ)
-    → (all : List TimedDoing) × ((comes now rules r peer iss bytes).room ≡ does_all r all)
+    → (all : List TimedDeed) × ((comes now rules r peer iss bytes).room ≡ does_all r all)
 
 -- What is done in a room leaves the listener and what is kept of its flows as it leaves them without lives.
 abbrev pub LivesChangeNothing : Type 0
-LivesChangeNothing = (r : Room) (all : List TimedDoing) → (does_all r all).served ≡ served_through r.served all
+LivesChangeNothing = (r : Room) (all : List TimedDeed) → (does_all r all).served ≡ served_through r.served all
 
 -- Whatever was done before, a peer whose flow is forgotten has none.
 abbrev pub ForgottenHaveNone : Type 0
 ForgottenHaveNone =
-    (config : ListenConfig) (pace : Pace) (all : List TimedDoing) (now : ℕ) (peer : Peer) → IsLists config.lists
+    (config : ListenConfig) (pace : Pace) (all : List TimedDeed) (now : ℕ) (peer : Peer) → IsLists config.lists
     → end_of_peer (forgets now (does_all (room_begins config pace) all) peer).served.listening.flows peer ≡ None

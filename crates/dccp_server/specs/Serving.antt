@@ -134,19 +134,19 @@ rule_followed now s peer =
     serves_on now s (listening_if s.listening peer (call_due now s peer)) peer (happening.Ruled (due_rule (upkeep_at s.pace s.upkeeps peer).path now))
 
 -- What is done with a peer: a deed; a datagram is counted that may be left out; or a rule of its path is followed.
-pub data Doing : Type 0 where
-  Does : (deed : Deed) → Doing
-  Spends : (bytes : List ℕ) → Doing
-  Follows : Doing
+pub data PeerDeed : Type 0 where
+  Does : (deed : Deed) → PeerDeed
+  Spends : (bytes : List ℕ) → PeerDeed
+  Follows : PeerDeed
 
 -- that is done
-abbrev pub served_by : ℕ → ServedListener → Peer → Doing → ServedListener
+abbrev pub served_by : ℕ → ServedListener → Peer → PeerDeed → ServedListener
 served_by now s peer (Does deed) = deed_served now s peer deed
 served_by now s peer (Spends bytes) = served_counted now s peer bytes
 served_by now s peer Follows = rule_followed now s peer
 
 -- the frame that then goes to the peer
-abbrev pub doing_frame : ℕ → ServedListener → Peer → Doing → Option Outgoing
+abbrev pub doing_frame : ℕ → ServedListener → Peer → PeerDeed → Option Outgoing
 doing_frame now s peer (Does deed) = (listens s.listening peer deed).frame
 doing_frame now s peer (Spends bytes) = None
 doing_frame now s peer Follows = frame_if s.listening peer (call_due now s peer)
@@ -195,13 +195,13 @@ IsDone before after peer deed frame told =
     (after ≡ listening_after before peer deed) × (frame ≡ (listens before peer deed).frame) × (told ≡ (listens before peer deed).told)
 
 -- something that is done with a peer at a time
-pub record TimedDoing : Type 0 where
+pub record TimedDeed : Type 0 where
   pub now : ℕ
   pub peer : Peer
-  pub doing : Doing
+  pub doing : PeerDeed
 
 -- one after another, where memory is found
-abbrev pub served_through : ServedListener → List TimedDoing → ServedListener
+abbrev pub served_through : ServedListener → List TimedDeed → ServedListener
 served_through s [] = s
 served_through s (it ∷ later) = served_through (served_by it.now s it.peer it.doing) later
 
@@ -211,13 +211,13 @@ deed_if peer None = []
 deed_if peer (Some call) = (peer, Calls call) ∷ []
 
 -- the deeds of the listener that something done comes to
-abbrev pub deeds_by : ServedListener → TimedDoing → Doing → List (Peer × Deed)
+abbrev pub deeds_by : ServedListener → TimedDeed → PeerDeed → List (Peer × Deed)
 deeds_by s it (Does deed) = (it.peer, deed) ∷ []
 deeds_by s it (Spends bytes) = []
 deeds_by s it Follows = deed_if it.peer (call_due it.now s it.peer)
 
 -- all of them
-abbrev pub deeds_through : ServedListener → List TimedDoing → List (Peer × Deed)
+abbrev pub deeds_through : ServedListener → List TimedDeed → List (Peer × Deed)
 deeds_through s [] = []
 deeds_through s (it ∷ later) = deeds_by s it it.doing ++ deeds_through (served_by it.now s it.peer it.doing) later
 
@@ -225,32 +225,32 @@ deeds_through s (it ∷ later) = deeds_by s it it.doing ++ deeds_through (served
 -- peer sees the chain of its own.
 abbrev pub CallsAreARun : Type 0
 CallsAreARun =
-    (config : ListenConfig) (pace : Pace) (all : List TimedDoing)
+    (config : ListenConfig) (pace : Pace) (all : List TimedDeed)
     → IsRunOfTurns (serving_begins config pace).listening (served_through (serving_begins config pace) all).listening
     (turns_of (serving_begins config pace).listening (deeds_through (serving_begins config pace) all))
 
 -- Whatever is done, something is kept of the peers that have a flow, and of no others.
 abbrev pub UpkeepsStandWithFlows : Type 0
 UpkeepsStandWithFlows =
-    (config : ListenConfig) (pace : Pace) (all : List TimedDoing)
+    (config : ListenConfig) (pace : Pace) (all : List TimedDeed)
     → keys_of (served_through (serving_begins config pace) all).upkeeps ≡ keys_of (served_through (serving_begins config pace) all).listening.flows
 
 -- So memory is wanting only for a datagram of a peer that has no flow.
 abbrev pub OnlyStrangersWantMemory : Type 0
 OnlyStrangersWantMemory =
-    (config : ListenConfig) (pace : Pace) (all : List TimedDoing) (peer : Peer) (iss : ℕ) (bytes : List ℕ)
+    (config : ListenConfig) (pace : Pace) (all : List TimedDeed) (peer : Peer) (iss : ℕ) (bytes : List ℕ)
     → WantsMemory (served_through (serving_begins config pace) all) peer (Arrives iss bytes)
     → end_of_peer (served_through (serving_begins config pace) all).listening.flows peer ≡ None
 
 -- And for no call.
 abbrev pub CallsWantNoMemory : Type 0
 CallsWantNoMemory =
-    (config : ListenConfig) (pace : Pace) (all : List TimedDoing) (peer : Peer) (call : FlowCall)
+    (config : ListenConfig) (pace : Pace) (all : List TimedDeed) (peer : Peer) (call : FlowCall)
     → WantsMemory (served_through (serving_begins config pace) all) peer (Calls call) → ⊥
 
 -- A call that is refused leaves the listener and what is kept of all flows as they were, whatever was done before.
 abbrev pub RefusedCallsChangeNothing : Type 0
 RefusedCallsChangeNothing =
-    (config : ListenConfig) (pace : Pace) (all : List TimedDoing) (now : ℕ) (peer : Peer) (call : FlowCall)
+    (config : ListenConfig) (pace : Pace) (all : List TimedDeed) (now : ℕ) (peer : Peer) (call : FlowCall)
     → is_refusal (listens (served_through (serving_begins config pace) all).listening peer (Calls call)).told ≡ true
     → deed_served now (served_through (serving_begins config pace) all) peer (Calls call) ≡ served_through (serving_begins config pace) all
