@@ -5,7 +5,7 @@ use Rattle.dccp_listener.specs.declared.calls.Heard.{Heard}
 use Rattle.dccp_listener.specs.Peers.{end_of_peer}
 use Rattle.dccp_listener.specs.declared.peer.Peer.{Peer}
 use Rattle.seq_circle.specs.declared.memory.NoMemory.{NoMemory}
-use Rattle.dccp_server.specs.Events.{Watched, ends_old, entry_at, heard_on, is_shut_out, room_maker}
+use Rattle.dccp_server.specs.Events.{WatchedServer, ends_old, entry_at, heard_on, is_shut_out, room_maker}
 use Rattle.dccp_server.specs.FlowInboxes.{Inboxes, begun_fresh, flow_speaks}
 use Rattle.dccp_server.specs.Meeting.{IsMet, may_meet}
 use Rattle.dccp_server.specs.Rooms.{told_of_arrival}
@@ -37,16 +37,16 @@ met_for_c now s h f peer first bytes had left out heard evicted gone made_room a
       made_room = made_room;
       anew = anew;
       delivery = taken.0;
-      met = subst (λ (w : Watched). IsMet now s.watched.server w.server peer first bytes left heard gone anew made_room met_so) (sym same) met;
+      met = subst (λ (w : WatchedServer). IsMet now s.watched.server w.server peer first bytes left heard gone anew made_room met_so) (sym same) met;
       may = may;
       watched = same ∙ told
-          ∙ ap (λ (w : Watched). heard_on now s.watched w.server peer bytes (told_of_arrival heard) (room_maker made_room gone) (ends_old anew met_so)) (sym same);
-      delivers = subst (λ (w : Watched). MayDeliver (inboxes_begun s w.server peer) w.server peer bytes (told_of_arrival heard) taken.0) (sym same)
+          ∙ ap (λ (w : WatchedServer). heard_on now s.watched w.server peer bytes (told_of_arrival heard) (room_maker made_room gone) (ends_old anew met_so)) (sym same);
+      delivers = subst (λ (w : WatchedServer). MayDeliver (inboxes_begun s w.server peer) w.server peer bytes (told_of_arrival heard) taken.0) (sym same)
           (subst (λ (b : Bool). MayDeliver (begun_fresh s.inboxes peer b (end_of_peer h.watched.server.room.served.listening.flows peer)) h.watched.server peer
           bytes (told_of_arrival heard) taken.0) had-is
           (subst (λ (i : Inboxes). MayDeliver (begun_fresh i peer had (end_of_peer h.watched.server.room.served.listening.flows peer)) h.watched.server peer
           bytes (told_of_arrival heard) taken.0) same-inboxes taken.1));
-      held = taken.2 ∙ ap (λ (w : Watched). holds_met w peer made_room gone taken.0) (sym same);
+      held = taken.2 ∙ ap (λ (w : WatchedServer). holds_met w peer made_room gone taken.0) (sym same);
       maker = maker;
       handed = subst (λ (o : Option Outgoing). HandsHeard heard f.arrival o handed code old new) sent hands;
     }))

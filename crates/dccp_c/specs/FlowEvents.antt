@@ -3,7 +3,7 @@ use Rattle.std.specs.Prelude.{ℕ, is_some, Option, Some, None, unwrap_or, if◌
 use Rattle.std.specs.Option.{option_map}
 use Rattle.dccp_listener.specs.Peers.{end_of_peer}
 use Rattle.dccp_listener.specs.declared.peer.Peer.{Peer}
-use Rattle.dccp_server.specs.Events.{Watched, events_left, first_event}
+use Rattle.dccp_server.specs.Events.{WatchedServer, events_left, first_event}
 use Rattle.dccp_server.specs.FlowInboxes.{event_kept}
 use Rattle.dccp_server.specs.Rooms.{with_user}
 use Rattle.dccp_server.specs.declared.flow_event.EndCause.{EndCause}
@@ -47,21 +47,21 @@ next_event_in None = None
 next_event_in (Some s) = option_map (event_kept s.arrival) (first_event s.watched.events)
 
 -- and what is left once it was
-abbrev pub event_after : Option Watched → Option Watched
+abbrev pub event_after : Option WatchedServer → Option WatchedServer
 event_after None = None
 event_after (Some s) = Some (record s { events = events_left s.events })
 
 -- the code of asking for it: 1 where there is no listener, 22 where nothing more is to be told
-abbrev pub event_code : Option Watched → ℕ
+abbrev pub event_code : Option WatchedServer → ℕ
 event_code None = 1
 event_code (Some s) = if is_some (first_event s.events) then 0 else 22
 
 -- the server once a number was written beside a peer's flow
-abbrev pub user_set_in : ℕ → Option Watched → Peer → Option Watched
+abbrev pub user_set_in : ℕ → Option WatchedServer → Peer → Option WatchedServer
 user_set_in user None peer = None
 user_set_in user (Some s) peer = Some (record s { server = record s.server { room = with_user user s.server.room peer } })
 
 -- the code of that: 15 where the peer has no flow, 1 where there is no listener
-abbrev pub user_code : Option Watched → Peer → ℕ
+abbrev pub user_code : Option WatchedServer → Peer → ℕ
 user_code None peer = 1
 user_code (Some s) peer = if is_some (end_of_peer s.server.room.served.listening.flows peer) then 0 else 15

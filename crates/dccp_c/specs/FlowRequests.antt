@@ -1,58 +1,58 @@
 -- What C finds of a flow before it opens (own).
 use Rattle.std.specs.Prelude.{ℕ, Bool, is_some, List, Option, Some, None, if◌then◌else◌}
 use Rattle.dccp_listener.specs.declared.peer.Peer.{Peer}
-use Rattle.dccp_server.specs.Events.{Watched, shut_out}
+use Rattle.dccp_server.specs.Events.{WatchedServer, shut_out}
 use Rattle.dccp_server.specs.Refusals.{flow_asked, refused_frame}
 use Rattle.dccp_c.specs.Framing.{Handed, handed_of, nothing_handed}
 use Rattle.dccp_c.specs.Telling.{is_short}
 
 -- the Service Code that a datagram asks for, where there is a listener
-abbrev pub asked_in : Option Watched → Peer → List ℕ → Option ℕ
+abbrev pub asked_in : Option WatchedServer → Peer → List ℕ → Option ℕ
 asked_in None peer bytes = None
 asked_in (Some s) peer bytes = flow_asked s.server.room.served.listening peer bytes
 
 -- where it is short enough
-abbrev pub service_asked : Option Watched → Peer → List ℕ → Option ℕ
+abbrev pub service_asked : Option WatchedServer → Peer → List ℕ → Option ℕ
 service_asked held peer bytes = if is_short bytes then asked_in held peer bytes else None
 
 -- The code of asking for it: 1 where there is no listener, and 13 where it opens no flow.
-abbrev pub asked_code : Option Watched → Option ℕ → ℕ
+abbrev pub asked_code : Option WatchedServer → Option ℕ → ℕ
 asked_code None asked = 1
 asked_code (Some s) None = 13
 asked_code (Some s) (Some service) = 0
 
 -- and 5 where the datagram is too long
-abbrev pub asks_code : Option Watched → Peer → List ℕ → ℕ
+abbrev pub asks_code : Option WatchedServer → Peer → List ℕ → ℕ
 asks_code held peer bytes = if is_short bytes then asked_code held (asked_in held peer bytes) else 5
 
 -- the server once it has refused a datagram
-abbrev pub refused_in : ℕ → Option Watched → Peer → List ℕ → Option Watched
+abbrev pub refused_in : ℕ → Option WatchedServer → Peer → List ℕ → Option WatchedServer
 refused_in now None peer bytes = None
 refused_in now (Some s) peer bytes = Some (shut_out now s peer bytes)
 
 -- where that is short enough
-abbrev pub refused_after : ℕ → Option Watched → Peer → List ℕ → Option Watched
+abbrev pub refused_after : ℕ → Option WatchedServer → Peer → List ℕ → Option WatchedServer
 refused_after now held peer bytes = if is_short bytes then refused_in now held peer bytes else held
 
 -- the Reset with this code that then goes out, if an answer may
-abbrev pub refused_reset : ℕ → Option Watched → Peer → List ℕ → ℕ → Handed
+abbrev pub refused_reset : ℕ → Option WatchedServer → Peer → List ℕ → ℕ → Handed
 refused_reset now None peer bytes code = nothing_handed
 refused_reset now (Some s) peer bytes code = handed_of (refused_frame now s.server peer bytes code)
 
 -- and nothing where the datagram is too long
-abbrev pub refused_left : ℕ → Option Watched → Peer → List ℕ → ℕ → Handed
+abbrev pub refused_left : ℕ → Option WatchedServer → Peer → List ℕ → ℕ → Handed
 refused_left now held peer bytes code = if is_short bytes then refused_reset now held peer bytes code else nothing_handed
 
 -- the code of refusing it, by whether it opens a flow: 13 where it opens none, and 1 where there is no listener
-abbrev pub refused_code : Option Watched → Peer → List ℕ → ℕ
+abbrev pub refused_code : Option WatchedServer → Peer → List ℕ → ℕ
 refused_code None peer bytes = 1
 refused_code (Some s) peer bytes = if is_some (flow_asked s.server.room.served.listening peer bytes) then 0 else 13
 
 -- and 5 where it is too long
-abbrev pub refuses_code : Option Watched → Peer → List ℕ → ℕ
+abbrev pub refuses_code : Option WatchedServer → Peer → List ℕ → ℕ
 refuses_code held peer bytes = if is_short bytes then refused_code held peer bytes else 5
 
 -- the server once it takes no new flows, or takes them again
-abbrev pub set_shut_in : Bool → Option Watched → Option Watched
+abbrev pub set_shut_in : Bool → Option WatchedServer → Option WatchedServer
 set_shut_in is_shut None = None
 set_shut_in is_shut (Some s) = Some (record s { is_shut = is_shut })

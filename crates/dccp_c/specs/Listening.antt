@@ -11,7 +11,7 @@ use Rattle.dccp_listener.specs.declared.calls.Heard.{Heard}
 use Rattle.seq_circle.specs.declared.memory.NoMemory.{NoMemory}
 use Rattle.dccp_packets.specs.ResetCodes.{number_of_code}
 use Rattle.dccp_packets.specs.declared.reset_code.ResetCode.TheVariants as codes
-use Rattle.dccp_server.specs.Events.{Watched, aborted_end, called_on, ends_old, entry_at, heard_on, is_shut_out, room_maker, shut_out, silent_end, ticked_on}
+use Rattle.dccp_server.specs.Events.{WatchedServer, aborted_end, called_on, ends_old, entry_at, heard_on, is_shut_out, room_maker, shut_out, silent_end, ticked_on}
 use Rattle.dccp_server.specs.FlowInboxes.{FlowDelivery, Inboxes, begun_fresh, flow_delivers, flow_speaks, no_flow_delivery, tidied, tidied_if, without_inbox_of}
 use Rattle.dccp_server.specs.Lives.{life_of}
 use Rattle.dccp_server.specs.Meeting.{IsMet, may_meet, rekeyed}
@@ -54,7 +54,7 @@ use Rattle.dccp_c.specs.declared.peer.PeerAddress.{PeerAddress}
 use Rattle.dccp_c.specs.declared.readers.View.{View}
 
 -- the server that a handle holds, if any, with what is to be told of it, and without the place for its frame
-abbrev pub watched_in : Option InnerListener → Option Watched
+abbrev pub watched_in : Option InnerListener → Option WatchedServer
 watched_in None = None
 watched_in (Some held) = Some held.server
 
@@ -66,7 +66,7 @@ served_in (Some held) = Some held.server.server
 -- a server with what is to be told of it, the data of its flows that wait, and what became of those of the last datagram,
 -- if they came into an inbox
 pub record Holding : Type 0 where
-  pub watched : Watched
+  pub watched : WatchedServer
   pub inboxes : Inboxes
   pub arrival : Option Arrival
 
@@ -140,7 +140,7 @@ abbrev pub with_room : RuledRoom → Room → RuledRoom
 with_room s room = record s { room = room }
 
 -- A peer's flow has led the server to this one: its inbox goes with it, unless data wait there.
-abbrev pub holds_on : Holding → Peer → Watched → Holding
+abbrev pub holds_on : Holding → Peer → WatchedServer → Holding
 holds_on s peer after = record s { watched = after; inboxes = tidied s.inboxes after.server peer }
 
 -- a frame that goes to a peer, as C finds it: it says what the peer's inbox has to say
@@ -204,7 +204,7 @@ abbrev pub MayDeliver : Inboxes → RuledRoom → Peer → List ℕ → Option C
 MayDeliver inboxes after peer bytes told it = (it ≡ flow_delivers inboxes after peer bytes told) ⊎ (it ≡ no_flow_delivery inboxes)
 
 -- a datagram has led the server to this one, its data came so, and these flows made room for it, if any did
-abbrev pub holds_met : Watched → Peer → Option Peer → Option Peer → FlowDelivery → Holding
+abbrev pub holds_met : WatchedServer → Peer → Option Peer → Option Peer → FlowDelivery → Holding
 holds_met after peer made_room gone it =
     record {
       watched = after;
@@ -286,7 +286,7 @@ duty_address None old = old
 duty_address (Some duty) old = address_of (duty_peer duty)
 
 -- what there was to do has led the server to this one
-abbrev pub holds_done : Holding → Watched → Option Duty → Holding
+abbrev pub holds_done : Holding → WatchedServer → Option Duty → Holding
 holds_done s after None = record s { watched = after }
 holds_done s after (Some duty) = holds_on s (duty_peer duty) after
 
@@ -406,12 +406,12 @@ abbrev pub cookies_of : ℕ → CookieUse
 cookies_of n = if n == 0 then Never else if n == 1 then InACrowd else Always
 
 -- the server once it goes by these rules, and uses cookies so
-abbrev pub ruled_by : Rules → CookieUse → Option Watched → Option Watched
+abbrev pub ruled_by : Rules → CookieUse → Option WatchedServer → Option WatchedServer
 ruled_by rules cookies None = None
 ruled_by rules cookies (Some s) = Some (record s { server = record s.server { rules = rules; cookies = cookies } })
 
 -- the server once its cookies are written by this key
-abbrev pub rekeyed_in : List ℕ → ℕ → Option Watched → Option Watched
+abbrev pub rekeyed_in : List ℕ → ℕ → Option WatchedServer → Option WatchedServer
 rekeyed_in key now None = None
 rekeyed_in key now (Some s) = Some (record s { server = record s.server { keys = Some (rekeyed key now s.server.keys) } })
 
@@ -430,6 +430,6 @@ life_in None peer = None
 life_in (Some s) peer = option_map known_of (life_if (end_of_peer s.room.served.listening.flows peer) (life_of s.room.lives peer))
 
 -- the code of a call that only wants a listener
-abbrev pub made_code : Option Watched → ℕ
+abbrev pub made_code : Option WatchedServer → ℕ
 made_code None = 1
 made_code (Some s) = 0

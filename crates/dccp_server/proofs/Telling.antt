@@ -2,7 +2,7 @@
 use Rattle.std.proofs.Common.{◌≡◌, ap, ◌∙◌, ℕ, Bool, List, Option, None}
 use Rattle.dccp_listener.specs.Runs.{CallTold}
 use Rattle.dccp_listener.specs.declared.peer.Peer.{Peer}
-use Rattle.dccp_server.specs.Events.{Watched, called_on, data_told, ending_heard, events_arrived, events_between, evicted_event, flow_state, heard_on, leaver_life}
+use Rattle.dccp_server.specs.Events.{WatchedServer, called_on, data_told, ending_heard, events_arrived, events_between, evicted_event, flow_state, heard_on, leaver_life}
 use Rattle.dccp_server.specs.Rooms.{RuledRoom}
 use Rattle.dccp_server.specs.declared.flow_event.EndReason.{EndReason}
 use Rattle.dccp_server.specs.declared.flow_event.FlowEvent.{FlowEvent}
@@ -11,7 +11,7 @@ use Rattle.dccp_server.specs.declared.flow_event.FlowState.{FlowState}
 use Rattle.dccp_server.specs.declared.life.Life.{Life}
 
 -- the server was this before, and is that then, and its owner is told by what he saw before
-pub called_as : (s t : Watched) (after aim : RuledRoom) (peer : Peer) (was : Option FlowState) (ending wanted : EndReason)
+pub called_as : (s t : WatchedServer) (after aim : RuledRoom) (peer : Peer) (was : Option FlowState) (ending wanted : EndReason)
     → t ≡ record s { server = after; events = events_between peer was (flow_state after.room peer) None ending None }
     → was ≡ flow_state s.server.room peer → ending ≡ wanted → after ≡ aim → t ≡ called_on s aim peer wanted
 called_as s t after aim peer was ending wanted is is-was is-ending is-after =
@@ -21,12 +21,12 @@ called_as s t after aim peer was ending wanted is is-was is-ending is-after =
     ∙ ap (λ (a : RuledRoom). called_on s a peer wanted) is-after
 
 -- the same of a server whose fields were lent one by one
-pub is_rejoined : (s t : Watched) (after : RuledRoom) (events : FlowEvents) (is-shut : Bool) → t ≡ record { server = after; events = events; is_shut = is-shut }
+pub is_rejoined : (s t : WatchedServer) (after : RuledRoom) (events : FlowEvents) (is-shut : Bool) → t ≡ record { server = after; events = events; is_shut = is-shut }
     → is-shut ≡ s.is_shut → t ≡ record s { server = after; events = events }
 is_rejoined s t after events is-shut is same = is ∙ ap (λ (b : Bool). record { server = after; events = events; is_shut = b }) same
 
 -- the server was this before a datagram, and is that after it; what its owner is told was put together from these
-pub heard_as : (now : ℕ) (s : Watched) (after : RuledRoom) (peer : Peer) (bytes : List ℕ) (told : Option CallTold) (maker whose : Option Peer) (anew begins : Bool)
+pub heard_as : (now : ℕ) (s : WatchedServer) (after : RuledRoom) (peer : Peer) (bytes : List ℕ) (told : Option CallTold) (maker whose : Option Peer) (anew begins : Bool)
     (was sees : Option FlowState) (place : Option (ℕ × ℕ)) (ending : EndReason) (life : Option Life) (evicted : Option FlowEvent) (events : FlowEvents)
     (is-shut : Bool) → events ≡ events_between peer was sees place ending evicted → was ≡ flow_state s.server.room peer → sees ≡ flow_state after.room peer
     → place ≡ data_told told → ending ≡ ending_heard was told begins → begins ≡ anew → evicted ≡ evicted_event life whose

@@ -226,31 +226,31 @@ abbrev pub events_called : RuledRoom → RuledRoom → Peer → EndReason → Fl
 events_called s after peer ending = events_between peer (flow_state s.room peer) (flow_state after.room peer) None ending None
 
 -- a server, what is to be told of its last call, and whether it takes no new flows
-pub record Watched : Type 0 where
+pub record WatchedServer : Type 0 where
   pub server : RuledRoom
   pub events : FlowEvents
   pub is_shut : Bool
 
 -- Its peer's datagram has led the server to this one, and its owner is told of that.
-abbrev pub heard_on : ℕ → Watched → RuledRoom → Peer → List ℕ → Option CallTold → Option Peer → Bool → Watched
+abbrev pub heard_on : ℕ → WatchedServer → RuledRoom → Peer → List ℕ → Option CallTold → Option Peer → Bool → WatchedServer
 heard_on now s after peer bytes told maker anew = record s { server = after; events = events_arrived now s.server after peer bytes told maker anew }
 
 -- the same of a call of a peer's flow, which ends a connection as this says
-abbrev pub called_on : Watched → RuledRoom → Peer → EndReason → Watched
+abbrev pub called_on : WatchedServer → RuledRoom → Peer → EndReason → WatchedServer
 called_on s after peer ending = record s { server = after; events = events_called s.server after peer ending }
 
 -- and of what there was to do
-abbrev pub ticked_on : Watched → RuledRoom → Option Duty → Watched
+abbrev pub ticked_on : WatchedServer → RuledRoom → Option Duty → WatchedServer
 ticked_on s after duty = record s { server = after; events = told_of_duty (due_state s.server.room duty) after.room duty }
 
 -- A datagram would open a flow of a server that takes none.
-abbrev pub is_shut_out : Watched → Peer → List ℕ → Bool
+abbrev pub is_shut_out : WatchedServer → Peer → List ℕ → Bool
 is_shut_out s peer bytes = s.is_shut && is_some (flow_asked s.server.room.served.listening peer bytes)
 
 -- It is refused, by a Reset with the code Connection Refused (section 5.6), and nothing is told.
-abbrev pub shut_out : ℕ → Watched → Peer → List ℕ → Watched
+abbrev pub shut_out : ℕ → WatchedServer → Peer → List ℕ → WatchedServer
 shut_out now s peer bytes = record s { server = refused_server now s.server peer bytes; events = no_events }
 
 -- What a datagram is to it: where it takes no new flows no cookie is given, and none opens a flow.
-abbrev pub entry_at : ℕ → Watched → Peer → ℕ → List ℕ → DatagramKind
+abbrev pub entry_at : ℕ → WatchedServer → Peer → ℕ → List ℕ → DatagramKind
 entry_at now s peer iss bytes = if s.is_shut then entry.Plain else entry_met now s.server peer iss bytes

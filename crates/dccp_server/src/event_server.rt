@@ -111,9 +111,9 @@ pub struct EventServer {
 }
 
 impl Model for EventServer {
-    ghost use Rattle.dccp_server.specs.Events.{Watched};
+    ghost use Rattle.dccp_server.specs.Events.{WatchedServer};
 
-    ghost Value = { Watched };
+    ghost Value = { WatchedServer };
 
     ghost view = { λ s. record { server = s.server; events = s.events; is_shut = s.is_shut } };
 }

@@ -1,6 +1,6 @@
 use Rattle.std.proofs.Common.{ap, ◌∙◌, None}
 use Rattle.dccp_listener.specs.Chain.{Calls, asked}
-use Rattle.dccp_server.specs.Events.{Watched, aborted_end, events_between, flow_state}
+use Rattle.dccp_server.specs.Events.{WatchedServer, aborted_end, events_between, flow_state}
 use Rattle.dccp_server.specs.Rooms.{room_does}
 use Rattle.dccp_server.specs.Serving.{Does}
 use Rattle.dccp_server.specs.declared.flow_event.EndCause.TheVariants as causes
@@ -14,7 +14,7 @@ returns-clause-after c =
     c.flow_state-was.result c.aborted_end.result (aborted_end causes.Own)
     (is_rejoined c.args.self.now c.tell.new.self c.ask-answer.new.self
     (events_between c.args.peer c.flow_state-was.result (flow_state c.ask-answer.new.self.room c.args.peer) None c.aborted_end.result None) c.self.inside.is_shut
-    c.tell.ensures (ap (λ (w : Watched). w.is_shut) c.self.view_is))
-    (c.flow_state-was.ensures ∙ ap (λ (w : Watched). flow_state w.server.room c.args.peer) c.self.view_is) c.aborted_end.ensures
+    c.tell.ensures (ap (λ (w : WatchedServer). w.is_shut) c.self.view_is))
+    (c.flow_state-was.ensures ∙ ap (λ (w : WatchedServer). flow_state w.server.room c.args.peer) c.self.view_is) c.aborted_end.ensures
     (c.ask-answer.ensures.after
-    ∙ ap (λ (w : Watched). record w.server { room = room_does c.args.now w.server.room c.args.peer (Does (Calls (asked c.args.call))) }) c.self.view_is)
+    ∙ ap (λ (w : WatchedServer). record w.server { room = room_does c.args.now w.server.room c.args.peer (Does (Calls (asked c.args.call))) }) c.self.view_is)

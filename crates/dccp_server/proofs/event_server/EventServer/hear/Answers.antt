@@ -1,5 +1,5 @@
 use Rattle.std.proofs.Common.{ap, ◌∙◌}
-use Rattle.dccp_server.specs.Events.{Watched, ends_old, flow_state, leaver_life, room_maker}
+use Rattle.dccp_server.specs.Events.{WatchedServer, ends_old, flow_state, leaver_life, room_maker}
 use Rattle.dccp_server.specs.Rooms.{told_of_arrival}
 use Rattle.dccp_server.proofs.Telling.{heard_as}
 use Rattle.dccp_server.proofs.event_server.EventServer.hear.Goals as goal
@@ -10,7 +10,7 @@ returns-clause-told c =
     (room_maker c.meet-meeting.result.made_room c.meet-meeting.result.arrival.evicted) c.room_maker-maker.result
     (ends_old c.meet-meeting.result.arrival.anew c.meet-meeting.result.way) c.ends_old-anew.result c.flow_state-was.result c.flow_state.result c.data_told.result
     c.ending_heard.result c.leaver_life-life.result c.evicted_event.result c.events_between-self-inside.result c.self-2.inside.is_shut
-    c.events_between-self-inside.ensures (c.flow_state-was.ensures ∙ ap (λ (w : Watched). flow_state w.server.room c.args.peer) c.self.view_is)
+    c.events_between-self-inside.ensures (c.flow_state-was.ensures ∙ ap (λ (w : WatchedServer). flow_state w.server.room c.args.peer) c.self.view_is)
     c.flow_state.ensures c.data_told.ensures c.ending_heard.ensures c.ends_old-anew.ensures c.evicted_event.ensures
-    (c.leaver_life-life.ensures ∙ ap (λ (w : Watched). leaver_life c.args.now w.server c.args.peer c.args.bytes.now) c.self.view_is) c.room_maker-maker.ensures
-    (ap (λ (w : Watched). w.is_shut) c.self-2.view_is ∙ ap (λ (w : Watched). w.is_shut) c.meet-meeting.ensures.rest)
+    (c.leaver_life-life.ensures ∙ ap (λ (w : WatchedServer). leaver_life c.args.now w.server c.args.peer c.args.bytes.now) c.self.view_is) c.room_maker-maker.ensures
+    (ap (λ (w : WatchedServer). w.is_shut) c.self-2.view_is ∙ ap (λ (w : WatchedServer). w.is_shut) c.meet-meeting.ensures.rest)
