@@ -53,7 +53,7 @@ impl Streams {
 /// How a call ended, how many bytes it wrote, and how many of its reads and writes failed. Of a text and a line: whether
 /// what was written begins with the text and the line was told, or it is a front of the text and nothing else was told.
 #[derive(Clone, Copy)]
-pub(crate) struct Ended {
+pub(crate) struct CallEnd {
     pub(crate) status: Status,
     pub(crate) written: usize,
     pub(crate) begins: bool,
@@ -62,7 +62,7 @@ pub(crate) struct Ended {
     pub(crate) failed_writes: u64,
 }
 
-impl Ended {
+impl CallEnd {
     /// So, with all of the text and nothing else.
     pub(crate) fn is(&self, status: Status) -> bool {
         self.status == status && self.begins && self.is_front
@@ -119,11 +119,11 @@ fn compared(
     input: &MemorySource,
     (output, errors): (&MemorySink, &MemorySink),
     (text, line): (&[u8], &str),
-) -> Ended {
+) -> CallEnd {
     let written = output.taken();
     let told = errors.taken();
     let all_is_told = is_told_line(told, line);
-    Ended {
+    CallEnd {
         status,
         written: written.len(),
         begins: written.starts_with(text) && all_is_told,
@@ -142,7 +142,7 @@ pub(crate) fn end_of<R: Threads + Sync, G: Gate + Sync>(
     streams: &Streams,
     (tool, words, bytes): (Tool, &str, &[u8]),
     wanted: (&[u8], &str),
-) -> Result<Ended, Fail> {
+) -> Result<CallEnd, Fail> {
     let words = words_in(alloc, words)?;
     let mut input = source(alloc, streams, bytes)?;
     let mut output = sink(alloc, streams)?;

@@ -1,7 +1,7 @@
 //! Cases in texts, since a row of a text costs no proof. A case is `~ ` with its words, parted by commas; from the next line on its input; after
 //! `=> ` the status, and after a blank the line that it reports besides, if there is one; and from the next line on all that it writes. Captures
 //! are in hexadecimal.
-use crate::calls::{Ended, Streams, Tool, end_of};
+use crate::calls::{CallEnd, Streams, Tool, end_of};
 use crate::failures::fails_in_turn;
 use dccp_command::Status;
 use fault_campaign::OpenGate;
@@ -90,7 +90,7 @@ pub(crate) fn end_over<R: Threads + Sync>(
     alloc: Global,
     streams: &Streams,
     case: &Case<'_>,
-) -> Result<Ended, Fail> {
+) -> Result<CallEnd, Fail> {
     let call = (case.tool, case.words, case.input);
     end_of(rt, alloc, &OpenGate, streams, call, (case.text, case.line))
 }

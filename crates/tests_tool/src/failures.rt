@@ -3,7 +3,7 @@
 //! The streams say whether one of their calls failed. Exactly if one did, a tool ends with the status of a failed read or write and has written
 //! a front of its text; else it ends as ever.
 use crate::bridge::CALLS;
-use crate::calls::{Ended, Streams, Tool};
+use crate::calls::{CallEnd, Streams, Tool};
 use crate::cases::{Case, Way, cases_come, end_over};
 use crate::pieces::CAPTURES;
 use dccp_command::Status;
@@ -92,7 +92,7 @@ synced 0\nwas_reset 0\nsent_reset 0\nrefused 0\nsettled 48\n";
 // More than any call here reads or writes.
 const MOST_CALLS: u64 = 1000;
 
-fn wanted(ended: &Ended, status: Status) -> Status {
+fn wanted(ended: &CallEnd, status: Status) -> Status {
     if ended.failed_reads != 0 {
         Status::Read
     } else if ended.failed_writes != 0 {
@@ -105,7 +105,7 @@ fn wanted(ended: &Ended, status: Status) -> Status {
 // Whether a call that is to end with this status where nothing fails ended as it has to: with all of the text, or where
 // a read or a write failed, with a front of it that lacks something. Where the second tool fails to read that the input
 // ends, nothing may be left to write.
-fn is_told(ended: &Ended, tool: Tool, status: Status) -> bool {
+fn is_told(ended: &CallEnd, tool: Tool, status: Status) -> bool {
     let all_is_told = tool == Tool::Bridge && ended.failed_reads != 0;
     let is_whole = ended.begins && !all_is_told;
     ended.status == wanted(ended, status) && ended.is_front && is_whole != ended.has_failed()
