@@ -3,13 +3,13 @@
 use std::test::Fail;
 
 // What such a list calls.
-pub(crate) trait Called<C> {
+pub(crate) trait CallTarget<C> {
     // Whether a call has the result that it should have. None if it may not be made or has too large a number: no list has one.
     fn holds(&mut self, call: &C) -> Option<bool>;
 }
 
 // Makes the calls of a list, one after another. Fails if one has another result, with the place of the first.
-pub(crate) fn all_come<C, S: Called<C>>(
+pub(crate) fn all_come<C, S: CallTarget<C>>(
     called: &mut S,
     name: &str,
     calls: &[C],

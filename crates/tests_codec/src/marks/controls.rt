@@ -1,6 +1,6 @@
 //! Congestion control by calls: how the window of CCID 2 opens and is halved, a fixed window, a change of the kind, and a
 //! flight list by itself. The values are worked out by hand from RFC 4341, section 5.
-use crate::marks::calls::{Called, all_come};
+use crate::marks::calls::{CallTarget, all_come};
 use ccid_two::{Ccid2, Kinds};
 use congestion_trait::{Congestion, FixedWindow, Flight, FlightNews, Standing};
 use dccp_options::{AckReport, options};
@@ -72,7 +72,7 @@ fn holds<C: Congestion>(control: &mut C, call: &Call) -> Option<bool> {
     }
 }
 
-impl Called<Call> for Ccid2 {
+impl CallTarget<Call> for Ccid2 {
     fn holds(&mut self, call: &Call) -> Option<bool> {
         match *call {
             Call::Threshold(threshold) => Some(self.threshold() == threshold),
@@ -81,13 +81,13 @@ impl Called<Call> for Ccid2 {
     }
 }
 
-impl Called<Call> for Kinds {
+impl CallTarget<Call> for Kinds {
     fn holds(&mut self, call: &Call) -> Option<bool> {
         holds(self, call)
     }
 }
 
-impl Called<Call> for FixedWindow {
+impl CallTarget<Call> for FixedWindow {
     fn holds(&mut self, call: &Call) -> Option<bool> {
         holds(self, call)
     }

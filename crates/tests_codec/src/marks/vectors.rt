@@ -1,7 +1,7 @@
 //! Received numbers by calls: marks, Ack Vectors and the records that raise the floor. The lists are those of the worked
 //! rows of proofs/RowsReceived.antt with every number taken; the bytes follow by hand from the coding of RFC 4340,
 //! section 11.4.
-use crate::marks::calls::{Called, all_come};
+use crate::marks::calls::{CallTarget, all_come};
 use ack_vectors::{Received, VectorBytes, Vectors};
 use run_list::Marked;
 use seq_circle::Seq48;
@@ -98,7 +98,7 @@ fn ack(received: &mut Received, number: u64, answer: bool) -> Option<bool> {
     Some(received.peer_acked(Seq48::new(number)?) == answer)
 }
 
-impl Called<Call> for Received {
+impl CallTarget<Call> for Received {
     fn holds(&mut self, call: &Call) -> Option<bool> {
         match *call {
             Call::Start(first) => start(self, first),

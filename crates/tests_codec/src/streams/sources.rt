@@ -75,13 +75,13 @@ fn inputs_to_a_limit(rt: HostRuntime) -> Result<(), Fail> {
 
 // A reader that is interrupted once; then it is broken, or gives a byte a call.
 #[derive(Drop)]
-struct Interrupted {
+struct InterruptedReader {
     interrupted: bool,
     broken: bool,
     left: u8,
 }
 
-impl Read for Interrupted {
+impl Read for InterruptedReader {
     fn read(&mut self, buf: &mut [u8]) -> io::Result<usize> {
         if !self.interrupted {
             self.interrupted = true;
@@ -99,8 +99,8 @@ impl Read for Interrupted {
     }
 }
 
-fn interrupted_once(broken: bool) -> StdSource<Interrupted> {
-    StdSource::new(Interrupted {
+fn interrupted_once(broken: bool) -> StdSource<InterruptedReader> {
+    StdSource::new(InterruptedReader {
         interrupted: false,
         broken,
         left: 3,
@@ -120,12 +120,12 @@ fn standard_sources(rt: HostRuntime) {
 
 // A writer that is interrupted at every other call, and otherwise takes one byte.
 #[derive(Drop)]
-struct Narrow {
+struct NarrowWriter {
     interrupted: bool,
     taken: Vec<u8>,
 }
 
-impl Write for Narrow {
+impl Write for NarrowWriter {
     fn write(&mut self, buf: &[u8]) -> io::Result<usize> {
         self.interrupted = !self.interrupted;
         if self.interrupted {
@@ -148,7 +148,7 @@ impl Write for Narrow {
 }
 
 fn takes_narrowly(alloc: Global) -> bool {
-    let mut narrow = Narrow {
+    let mut narrow = NarrowWriter {
         interrupted: false,
         taken: Vec::new(alloc),
     };
