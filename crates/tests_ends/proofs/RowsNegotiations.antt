@@ -45,22 +45,22 @@ data Word : Type 0 where
   Wishes Active Carries Holds : (feature : Feature) (place : Place) → Word
 
 -- what it answers; `Unfit` where the condition of a call does not hold
-data Told : Type 0 where
-  Done Opens Stays Unfit : Told
-  Refused : (fault : PreferFault) → Told
-  Asks : (opening : Opening) → Told
-  Answers : (answer : ChangeAnswer) → Told
-  Settles : (settling : Settling) → Told
-  Carrying : (mandatory : Bool) → Told
-  Held : (value : ℕ) (stand : Stand) → Told
-  Wished : (wish : Option Wanted) → Told
-  Rows : (rows : List (Feature × Place)) → Told
+data ReplyWord : Type 0 where
+  Done Opens Stays Unfit : ReplyWord
+  Refused : (fault : PreferFault) → ReplyWord
+  Asks : (opening : Opening) → ReplyWord
+  Answers : (answer : ChangeAnswer) → ReplyWord
+  Settles : (settling : Settling) → ReplyWord
+  Carrying : (mandatory : Bool) → ReplyWord
+  Held : (value : ℕ) (stand : Stand) → ReplyWord
+  Wished : (wish : Option Wanted) → ReplyWord
+  Rows : (rows : List (Feature × Place)) → ReplyWord
 
 -- the Confirms, by their letters
-abbrev confirm_l : ℕ → String → Told
+abbrev confirm_l : ℕ → String → ReplyWord
 confirm_l feature digits = Answers (Confirming true feature (spelled digits))
 
-abbrev confirm_r : ℕ → String → Told
+abbrev confirm_r : ℕ → String → ReplyWord
 confirm_r feature digits = Answers (Confirming false feature (spelled digits))
 
 -- the lists after a wish and an offer, and what these answer
@@ -72,7 +72,7 @@ abbrev offered : List RowSetup → Feature → Place → Bool → Bool → List 
 offered lists feature place mandatory true = with_offer lists feature place mandatory
 offered lists feature place mandatory false = lists
 
-abbrev done : {Value : Type 0} → Result Value PreferFault → Told
+abbrev done : {Value : Type 0} → Result Value PreferFault → ReplyWord
 done (Ok value) = Done
 done (Err fault) = Refused fault
 
@@ -81,17 +81,17 @@ abbrev preferred : List Row → Feature → Place → Result Wanted PreferFault 
 preferred rows feature place (Ok wish) = (stepped rows feature place (Prefers wish)).rows
 preferred rows feature place (Err fault) = rows
 
-abbrev asks : List Row → Feature → Place → Result Wanted PreferFault → Told
+abbrev asks : List Row → Feature → Place → Result Wanted PreferFault → ReplyWord
 asks rows feature place (Ok wish) = Asks (opening_of (stepped rows feature place (Prefers wish)).answer)
 asks rows feature place (Err fault) = Unfit
 
 -- an offer comes up of a row that is STABLE, and a Change goes out of one that asks
-abbrev opened : Bool → Bool → Told
+abbrev opened : Bool → Bool → ReplyWord
 opened true opens = Unfit
 opened false true = Opens
 opened false false = Stays
 
-abbrev told : List RowSetup → List Row → List Word → List Told
+abbrev told : List RowSetup → List Row → List Word → List ReplyWord
 told lists rows [] = []
 told lists rows (Plain ∷ rest) = told (without_offers lists) rows rest
 told lists rows (Begins role ∷ rest) = told lists (first_rows role lists) rest
@@ -121,7 +121,7 @@ told lists rows (Holds feature place ∷ rest) = Held (row_at rows feature place
 told lists rows (Due ∷ rest) = Rows (due_keys rows) ∷ told lists rows rest
 
 -- a story from the usual lists on; what begins before an end does is a client's
-abbrev story : List Word → List Told
+abbrev story : List Word → List ReplyWord
 story words = told usual_lists (first_rows Client usual_lists) words
 
 -- The rows of an end that wishes coverage 1, else 2, in each stand: in CHANGING its Change had the number 100, and in UNSTABLE it wishes 3.
@@ -135,7 +135,7 @@ abbrev unstable : Role2 → List Row
 unstable role = (stepped (changing role) f.MinCsCov Here (Prefers (wanted.List (3 ∷ [])))).rows
 
 -- what reaches such rows
-abbrev meets : List Row → List Word → List Told
+abbrev meets : List Row → List Word → List ReplyWord
 meets rows words = told usual_lists rows words
 
 -- Two ends' stories are in two rows, the client's first: what one sends reaches the other.

@@ -16,7 +16,7 @@ const CAPACITY: u16 = 8;
 // What the reader's owner was told: how many packets wait or waited, how many were dropped and with which code the last,
 // how many came in another way, and the code with which the connection has ended.
 #[derive(Clone, Copy, Debug, PartialEq, Eq)]
-struct Told {
+struct ReaderNews {
     waited: u32,
     dropped: u32,
     code: u8,
@@ -32,7 +32,7 @@ struct Pair {
     reader: Session<Kinds>,
     to_sender: Wire,
     to_reader: Wire,
-    told: Told,
+    told: ReaderNews,
     sent: u8,
     read: u32,
 }
@@ -42,7 +42,7 @@ fn session(alloc: Global, role: Role) -> Option<Session<Kinds>> {
     Session::new(alloc, Config::usual(role), congestion, Pace::usual()).ok()
 }
 
-fn told_of(told: &Told, news: News) -> Told {
+fn told_of(told: &ReaderNews, news: News) -> ReaderNews {
     let mut told = *told;
     match news {
         News::Waits => told.waited = told.waited.saturating_add(1),
@@ -67,7 +67,7 @@ impl Pair {
             reader,
             to_sender: Wire::whole(alloc),
             to_reader: Wire::whole(alloc),
-            told: Told {
+            told: ReaderNews {
                 waited: 0,
                 dropped: 0,
                 code: 0,
