@@ -11,12 +11,12 @@ use Rattle.dccp_server.specs.Meeting.{IsMet, may_meet}
 use Rattle.dccp_server.specs.Rooms.{told_of_arrival}
 use Rattle.dccp_server.specs.declared.meeting.Way.{Way}
 use Rattle.dccp_c.specs.Listening.{Forgets, HandsHeard, HasTakenIn, HearsAtServer, HearsDatagram, HearsIfOpen, Holding, MayDeliver, holds_forgotten, holds_met, inboxes_begun}
-use Rattle.dccp_c.specs.Framing.{Handed}
+use Rattle.dccp_c.specs.Framing.{FrameFields}
 use Rattle.dccp_c.specs.declared.told.Told.{Told}
 
 -- where it is heard, and then its data come in
 pub met_for_c : (now : ℕ) (s h f : Holding) (peer : Peer) (first : ℕ) (bytes : List ℕ) (had : Bool) (left out : Option Outgoing)
-    (heard : Result (Option Heard) NoMemory) (evicted gone made_room : Option Peer) (anew : Bool) (way met_so : Way) (handed : Handed) (code : ℕ) (old new : Told)
+    (heard : Result (Option Heard) NoMemory) (evicted gone made_room : Option Peer) (anew : Bool) (way met_so : Way) (handed : FrameFields) (code : ℕ) (old new : Told)
     → is_shut_out s.watched peer bytes ≡ false
     → IsMet now s.watched.server h.watched.server peer first bytes left heard gone anew made_room met_so
     → may_meet (entry_at now s.watched peer first bytes) met_so ≡ true
@@ -53,7 +53,7 @@ met_for_c now s h f peer first bytes had left out heard evicted gone made_room a
 
 -- and as it is once the server has been taken out of its handle and put back
 pub hears_so : (now : ℕ) (before after : Option Holding) (s t : Holding) (peer whose : Peer) (first number : ℕ) (bytes : List ℕ) (refusal : Option ℕ)
-    (left : Handed) (evicted gone : Option Peer) (way met_so : Way) (code : ℕ) (old new : Told) → before ≡ Some s → after ≡ Some t → whose ≡ peer → number ≡ first
+    (left : FrameFields) (evicted gone : Option Peer) (way met_so : Way) (code : ℕ) (old new : Told) → before ≡ Some s → after ≡ Some t → whose ≡ peer → number ≡ first
     → evicted ≡ gone → way ≡ met_so → refusal ≡ None → HearsIfOpen now s t whose number bytes (is_shut_out s.watched whose bytes) left gone met_so code old new
     → HearsDatagram now before after peer first bytes refusal left evicted way code old new
 hears_so now before after s t peer whose first number bytes refusal left evicted gone way met_so code old new before-is after-is same-peer same-number same-gone same-way heard

@@ -7,7 +7,7 @@ use Rattle.dccp_server.specs.Rooms.{duty_frame, duty_in}
 use Rattle.dccp_server.specs.declared.duty.Duty.{Duty}
 use Rattle.feature_lists.specs.Lists.{is_distinct}
 use Rattle.dccp_c.specs.Founding.{listening_at, services_by}
-use Rattle.dccp_c.specs.Framing.{Handed}
+use Rattle.dccp_c.specs.Framing.{FrameFields}
 use Rattle.dccp_c.specs.Listening.{DoesDuty, Holding, Ticks, duty_address, duty_code, duty_left, holds_ticked}
 use Rattle.dccp_c.specs.declared.making.Settings.{Settings}
 use Rattle.dccp_c.specs.declared.peer.PeerAddress.{PeerAddress}
@@ -27,7 +27,7 @@ listens_soundly s given most config made is distinct least high =
     (record { some = services-some s given; distinct = services-distinct s given distinct; least = least; most = high })
 
 -- a tick, once the server has been taken out of its handle and put back
-pub ticks_so : (now : ℕ) (before after : Option Holding) (s t : Holding) (duty : Option Duty) (left : Handed) (old new : PeerAddress) (code : ℕ)
+pub ticks_so : (now : ℕ) (before after : Option Holding) (s t : Holding) (duty : Option Duty) (left : FrameFields) (old new : PeerAddress) (code : ℕ)
     → before ≡ Some s → after ≡ Some t → duty ≡ duty_in now s.watched.server.rules s.watched.server.room
     → t ≡ holds_ticked now s duty → left ≡ duty_left t duty (duty_frame now s.watched.server.room duty)
     → new ≡ duty_address duty old → code ≡ duty_code duty → Ticks now before after left old new code

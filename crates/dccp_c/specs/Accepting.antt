@@ -3,7 +3,7 @@ use Rattle.std.specs.Prelude.{◌≡◌, ◌⊎◌, ℕ, ◌==◌, Bool, true, f
 use Rattle.dccp_endpoint.specs.declared.config.Config.{Config}
 use Rattle.dccp_uses.specs.Session.{is_listening}
 use Rattle.dccp_uses.specs.declared.holding.Reading.{Reading}
-use Rattle.dccp_c.specs.Framing.{Handed, handed_of, nothing_handed}
+use Rattle.dccp_c.specs.Framing.{FrameFields, handed_of, nothing_handed}
 use Rattle.dccp_c.specs.Making.{c_begins}
 use Rattle.dccp_c.specs.declared.making.Care.{Care}
 use Rattle.dccp_c.specs.Outcomes.{told_reading}
@@ -46,7 +46,7 @@ abbrev pub accepted_end : List ℕ → ℕ → Care → ℕ → Result Config �
 accepted_end bytes now care code config = accepted_from (code == 0) (accept_step bytes now care code config)
 
 -- the frame that answers the datagram, if it was heard
-abbrev pub step_frame : Option (CStep Reading) → Handed
+abbrev pub step_frame : Option (CStep Reading) → FrameFields
 step_frame None = nothing_handed
 step_frame (Some step) = handed_of step.frame
 

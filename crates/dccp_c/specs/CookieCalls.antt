@@ -20,7 +20,7 @@ use Rattle.init_cookies.specs.Routes.{back}
 use Rattle.init_cookies.specs.declared.cookie.CookieKeys.{CookieKeys}
 use Rattle.init_cookies.specs.declared.route.Route.{Route}
 use Rattle.dccp_c.specs.Accepting.{first_heard}
-use Rattle.dccp_c.specs.Framing.{Handed, handed_of, nothing_handed}
+use Rattle.dccp_c.specs.Framing.{FrameFields, handed_of, nothing_handed}
 use Rattle.dccp_c.specs.Making.{first_four}
 use Rattle.dccp_c.specs.Stepping.{CStep}
 use Rattle.dccp_c.specs.Telling.{is_short}
@@ -53,26 +53,26 @@ greeting_of keys route o step =
 
 -- What greeting comes to once an end has heard it: 0, or 13 where it has not taken the Request; or no memory is found for
 -- one, by 2.
-abbrev pub GreetsBy : CookieKeys → Route → OpeningState → CStep Reading → Handed → ℕ → Type 0
+abbrev pub GreetsBy : CookieKeys → Route → OpeningState → CStep Reading → FrameFields → ℕ → Type 0
 GreetsBy keys route o step left code =
     ((left ≡ nothing_handed) × (code ≡ 2))
     ⊎ ((left ≡ handed_of (greeting_of keys route o step)) × (code ≡ (if is_heard_so step.answer.heard then 0 else 13)))
 
 -- by what is asked for: no connection by 13, one with too many options by 5
-abbrev pub GreetsAsked : CookieKeys → Route → ℕ → Care → Config → DatagramRequest → Handed → ℕ → Type 0
+abbrev pub GreetsAsked : CookieKeys → Route → ℕ → Care → Config → DatagramRequest → FrameFields → ℕ → Type 0
 GreetsAsked keys route now care config Nothing left code = (left ≡ nothing_handed) × (code ≡ 13)
 GreetsAsked keys route now care config TooLong left code = (left ≡ nothing_handed) × (code ≡ 5)
 GreetsAsked keys route now care config (This o) left code =
     GreetsBy keys route o (first_heard (request_bytes route o) now care config) left code
 
 -- a datagram that is too long is answered by 5
-abbrev pub GreetsIfShort : Bool → CookieKeys → Route → ℕ → Care → Config → List ℕ → Handed → ℕ → Type 0
+abbrev pub GreetsIfShort : Bool → CookieKeys → Route → ℕ → Care → Config → List ℕ → FrameFields → ℕ → Type 0
 GreetsIfShort true keys route now care config bytes left code =
     GreetsAsked keys route now care config (asking_of now config.iss route bytes) left code
 GreetsIfShort false keys route now care config bytes left code = (left ≡ nothing_handed) × (code ≡ 5)
 
 -- What greeting a datagram comes to: a Request is heard as its opening spells it again, by an end of which nothing stays.
-abbrev pub Greets : CookieKeys → Route → ℕ → Care → Result Config ℕ → List ℕ → Handed → ℕ → Type 0
+abbrev pub Greets : CookieKeys → Route → ℕ → Care → Result Config ℕ → List ℕ → FrameFields → ℕ → Type 0
 Greets keys route now care (Ok config) bytes left code = GreetsIfShort (is_short bytes) keys route now care config bytes left code
 Greets keys route now care (Err refusal) bytes left code = (left ≡ nothing_handed) × (code ≡ refusal)
 
@@ -82,7 +82,7 @@ opening_brought keys s now bytes =
     if s.size == 80 then (if is_short bytes then opening_in now keys (route_by s) (cookie_read (decoded bytes)) else None) else None
 
 -- the Request of an opening, and the first number of the end that is to hear it
-abbrev pub request_handed : Route → Option OpeningState → Handed
+abbrev pub request_handed : Route → Option OpeningState → FrameFields
 request_handed route None = nothing_handed
 request_handed route (Some o) = record { bytes = request_bytes route o; number = o.iss }
 

@@ -4,7 +4,7 @@ use Rattle.data_dropped.specs.declared.drops.DropEntry.{DropEntry}
 use Rattle.dccp_server.specs.Due.{never}
 use Rattle.dccp_uses.specs.Timed.{every_due, first_due_of, first_wait_left}
 use Rattle.dccp_uses.specs.declared.timed_end.Due.{Due}
-use Rattle.dccp_c.specs.Framing.{Handed, handed_of, nothing_handed}
+use Rattle.dccp_c.specs.Framing.{FrameFields, handed_of, nothing_handed}
 use Rattle.dccp_c.specs.Keeping.{Inner}
 use Rattle.dccp_c.specs.Stepping.{CDoing, CEnd, CStep, c_told}
 
@@ -42,7 +42,7 @@ kept_after doing None = None
 kept_after doing (Some s) = Some (doing s).after
 
 -- The frame that a call hands out: the step's, or none where there is no end.
-abbrev pub frame_after : {Answer : Type 0} → CDoing Answer → Option CEnd → Handed
+abbrev pub frame_after : {Answer : Type 0} → CDoing Answer → Option CEnd → FrameFields
 frame_after doing None = nothing_handed
 frame_after doing (Some s) = handed_of (doing s).frame
 
@@ -58,7 +58,7 @@ end_if_known doing None held = held
 end_if_known doing (Some name) held = kept_after (doing name) held
 
 -- the frame that such a call leaves
-abbrev pub frame_if_known : {Name Answer : Type 0} → (Name → CDoing Answer) → Option Name → Option CEnd → Handed
+abbrev pub frame_if_known : {Name Answer : Type 0} → (Name → CDoing Answer) → Option Name → Option CEnd → FrameFields
 frame_if_known doing None held = nothing_handed
 frame_if_known doing (Some name) held = frame_after (doing name) held
 

@@ -3,7 +3,7 @@ use Rattle.std.specs.Prelude.{ℕ, Bool, is_some, List, Option, Some, None, if�
 use Rattle.dccp_listener.specs.declared.peer.Peer.{Peer}
 use Rattle.dccp_server.specs.Events.{WatchedServer, shut_out}
 use Rattle.dccp_server.specs.Refusals.{flow_asked, refused_frame}
-use Rattle.dccp_c.specs.Framing.{Handed, handed_of, nothing_handed}
+use Rattle.dccp_c.specs.Framing.{FrameFields, handed_of, nothing_handed}
 use Rattle.dccp_c.specs.Telling.{is_short}
 
 -- the Service Code that a datagram asks for, where there is a listener
@@ -35,12 +35,12 @@ abbrev pub refused_after : ℕ → Option WatchedServer → Peer → List ℕ �
 refused_after now held peer bytes = if is_short bytes then refused_in now held peer bytes else held
 
 -- the Reset with this code that then goes out, if an answer may
-abbrev pub refused_reset : ℕ → Option WatchedServer → Peer → List ℕ → ℕ → Handed
+abbrev pub refused_reset : ℕ → Option WatchedServer → Peer → List ℕ → ℕ → FrameFields
 refused_reset now None peer bytes code = nothing_handed
 refused_reset now (Some s) peer bytes code = handed_of (refused_frame now s.server peer bytes code)
 
 -- and nothing where the datagram is too long
-abbrev pub refused_left : ℕ → Option WatchedServer → Peer → List ℕ → ℕ → Handed
+abbrev pub refused_left : ℕ → Option WatchedServer → Peer → List ℕ → ℕ → FrameFields
 refused_left now held peer bytes code = if is_short bytes then refused_reset now held peer bytes code else nothing_handed
 
 -- the code of refusing it, by whether it opens a flow: 13 where it opens none, and 1 where there is no listener

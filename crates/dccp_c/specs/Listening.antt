@@ -42,7 +42,7 @@ use Rattle.dccp_states.specs.declared.seen.Refusal.TheVariants as refusal
 use Rattle.dccp_states.specs.declared.seen.Seen.{Seen}
 use Rattle.dccp_states.specs.declared.seen.Seen.TheVariants as seen
 use Rattle.dccp_packets.specs.Outgoing.{Outgoing}
-use Rattle.dccp_c.specs.Framing.{Handed, handed_of, nothing_handed}
+use Rattle.dccp_c.specs.Framing.{FrameFields, handed_of, nothing_handed}
 use Rattle.dccp_c.specs.Outcomes.{told_arrival, told_heard, told_outcome}
 use Rattle.dccp_c.specs.declared.told.Told.{Told}
 use Rattle.dccp_c.specs.Codes.{restraint_code, timer_code}
@@ -132,7 +132,7 @@ listen_told (Stepped (Some (seen.Received outcome))) old = told_outcome outcome
 listen_told _ old = old
 
 -- Nothing has happened: the server is as it was, and no frame is left.
-abbrev pub IsUnserved : Option Holding → Option Holding → Handed → Type 0
+abbrev pub IsUnserved : Option Holding → Option Holding → FrameFields → Type 0
 IsUnserved before after frame = (after ≡ before) × (frame ≡ nothing_handed)
 
 -- the server with this in its room
@@ -144,7 +144,7 @@ abbrev pub holds_on : Holding → Peer → WatchedServer → Holding
 holds_on s peer after = record s { watched = after; inboxes = tidied s.inboxes after.server peer }
 
 -- a frame that goes to a peer, as C finds it: it says what the peer's inbox has to say
-abbrev pub left_to : Holding → Peer → Option Outgoing → Handed
+abbrev pub left_to : Holding → Peer → Option Outgoing → FrameFields
 left_to s peer frame = handed_of (flow_speaks s.inboxes s.watched.server peer frame)
 
 -- a call of a peer's end is done
@@ -153,7 +153,7 @@ holds_called now s peer call =
     holds_on s peer (called_on s.watched (with_room s.watched.server (room_does now s.watched.server.room peer (Does (Calls call)))) peer (aborted_end causes.Own))
 
 -- What a call of a peer's end comes to: it is done, or there is no listener, and the code is 1.
-abbrev pub Serves : ℕ → Option Holding → Option Holding → Peer → FlowCall → Handed → ℕ → Type 0
+abbrev pub Serves : ℕ → Option Holding → Option Holding → Peer → FlowCall → FrameFields → ℕ → Type 0
 Serves now None after peer call frame code = IsUnserved None after frame × (code ≡ 1)
 Serves now (Some s) after peer call frame code =
     (after ≡ Some (holds_called now s peer call))
@@ -161,7 +161,7 @@ Serves now (Some s) after peer call frame code =
     × (code ≡ listen_code (listens s.watched.server.room.served.listening peer (Calls call)).told)
 
 -- A timer of a peer's end is told where one has this number; else nothing happens, by 16.
-abbrev pub FiresAt : ℕ → Option Holding → Option Holding → Peer → Option Timer → Handed → ℕ → Type 0
+abbrev pub FiresAt : ℕ → Option Holding → Option Holding → Peer → Option Timer → FrameFields → ℕ → Type 0
 FiresAt now before after peer None frame code = IsUnserved before after frame × (code ≡ 16)
 FiresAt now before after peer (Some timer) frame code = Serves now before after peer (Fires timer) frame code
 
@@ -171,7 +171,7 @@ restraint_in None peer = None
 restraint_in (Some s) peer = flow_restraint s.room.served peer
 
 -- What sending data to a peer comes to: where they have to wait nothing happens, by the code of that.
-abbrev pub SendsUnheld : ℕ → Option Holding → Option Holding → Peer → List ℕ → Handed → ℕ → Option Restraint → Type 0
+abbrev pub SendsUnheld : ℕ → Option Holding → Option Holding → Peer → List ℕ → FrameFields → ℕ → Option Restraint → Type 0
 SendsUnheld now before after peer payload frame code None = Serves now before after peer (Sends payload) frame code
 SendsUnheld now before after peer payload frame code (Some why) = IsUnserved before after frame × (code ≡ restraint_code why)
 
@@ -187,7 +187,7 @@ arrival_told (Some told) old = listen_told told old
 
 -- What C finds of a datagram that left this frame, and whose data came so: by 2, where no memory was found, no frame, and
 -- what it had to be told stays.
-abbrev pub HandsHeard : Result (Option Heard) NoMemory → Option Arrival → Option Outgoing → Handed → ℕ → Told → Told → Type 0
+abbrev pub HandsHeard : Result (Option Heard) NoMemory → Option Arrival → Option Outgoing → FrameFields → ℕ → Told → Told → Type 0
 HandsHeard (Ok it) kept frame left code old new =
     (left ≡ handed_of frame) × (code ≡ arrival_code (told_of_arrival (Ok it))) × (new ≡ told_arrival kept (arrival_told (told_of_arrival (Ok it)) old))
 HandsHeard (Err _) kept frame left code old new = (left ≡ nothing_handed) × (code ≡ 2) × (new ≡ old)
@@ -221,7 +221,7 @@ HasTakenIn s after peer had bytes told made_room gone =
 
 -- What a datagram comes to for C where there is a server: it was met in this way, its data came in or not, and its owner
 -- and C are told of that.
-pub record HearsAtServer (now : ℕ) (s after : Holding) (peer : Peer) (first : ℕ) (bytes : List ℕ) (left : Handed) (evicted : Option Peer) (way : Way)
+pub record HearsAtServer (now : ℕ) (s after : Holding) (peer : Peer) (first : ℕ) (bytes : List ℕ) (left : FrameFields) (evicted : Option Peer) (way : Way)
     (code : ℕ) (old new : Told) : Type 0 where
   pub heard : Result (Option Heard) NoMemory
   pub frame : Option Outgoing
@@ -243,19 +243,19 @@ abbrev pub datagram_refusal : ℕ → List ℕ → Option ℕ
 datagram_refusal first bytes = if nat_lt first (2 ^ 48) then (if is_short bytes then None else Some 5) else Some 17
 
 -- a datagram that would open a flow is refused by 21, where none is taken
-abbrev pub IsShutOut : ℕ → Holding → Holding → Peer → List ℕ → Handed → ℕ → Told → Told → Type 0
+abbrev pub IsShutOut : ℕ → Holding → Holding → Peer → List ℕ → FrameFields → ℕ → Told → Told → Type 0
 IsShutOut now s after peer bytes left code old new =
     (after ≡ record s { watched = shut_out now s.watched peer bytes })
     × (left ≡ handed_of (refused_frame now s.watched.server peer bytes (number_of_code codes.ConnectionRefused))) × (code ≡ 21) × (new ≡ old)
 
 -- what a datagram comes to at a server that takes new flows, or would not be opened one by it
-abbrev pub HearsIfOpen : ℕ → Holding → Holding → Peer → ℕ → List ℕ → Bool → Handed → Option Peer → Way → ℕ → Told → Told → Type 0
+abbrev pub HearsIfOpen : ℕ → Holding → Holding → Peer → ℕ → List ℕ → Bool → FrameFields → Option Peer → Way → ℕ → Told → Told → Type 0
 HearsIfOpen now s after peer first bytes true left evicted way code old new = IsShutOut now s after peer bytes left code old new
 HearsIfOpen now s after peer first bytes false left evicted way code old new = HearsAtServer now s after peer first bytes left evicted way code old new
 
 -- What a datagram comes to: nothing happens where it is refused by that code, or where there is no listener, by 1; else the
 -- server hears it, or refuses it, and is there after it.
-abbrev pub HearsDatagram : ℕ → Option Holding → Option Holding → Peer → ℕ → List ℕ → Option ℕ → Handed → Option Peer → Way → ℕ → Told → Told → Type 0
+abbrev pub HearsDatagram : ℕ → Option Holding → Option Holding → Peer → ℕ → List ℕ → Option ℕ → FrameFields → Option Peer → Way → ℕ → Told → Told → Type 0
 HearsDatagram now before after peer first bytes (Some refused) left evicted way code old new =
     (after ≡ before) × (left ≡ nothing_handed) × (code ≡ refused) × (new ≡ old)
 HearsDatagram now None after peer first bytes None left evicted way code old new =
@@ -291,7 +291,7 @@ holds_done s after None = record s { watched = after }
 holds_done s after (Some duty) = holds_on s (duty_peer duty) after
 
 -- and the frame that went to its peer, as C finds it
-abbrev pub duty_left : Holding → Option Duty → Option Outgoing → Handed
+abbrev pub duty_left : Holding → Option Duty → Option Outgoing → FrameFields
 duty_left s None frame = handed_of frame
 duty_left s (Some duty) frame = left_to s (duty_peer duty) frame
 
@@ -301,14 +301,14 @@ holds_ticked now s duty =
     holds_done s (ticked_on s.watched (with_room s.watched.server (duty_done now s.watched.server.room duty)) duty) duty
 
 -- What a tick comes to where this is to be done: it is done, and its peer named.
-abbrev pub DoesDuty : ℕ → Holding → Option Holding → Option Duty → Handed → PeerAddress → PeerAddress → ℕ → Type 0
+abbrev pub DoesDuty : ℕ → Holding → Option Holding → Option Duty → FrameFields → PeerAddress → PeerAddress → ℕ → Type 0
 DoesDuty now s after duty left old new code =
     (after ≡ Some (holds_ticked now s duty)) × (left ≡ duty_left (holds_ticked now s duty) duty (duty_frame now s.watched.server.room duty))
     × (new ≡ duty_address duty old) × (code ≡ duty_code duty)
 
 -- What a tick comes to: what there is to do first is done, or nothing happens: 1 where there is no listener, 12 where there
 -- is nothing to do. It takes no memory.
-abbrev pub Ticks : ℕ → Option Holding → Option Holding → Handed → PeerAddress → PeerAddress → ℕ → Type 0
+abbrev pub Ticks : ℕ → Option Holding → Option Holding → FrameFields → PeerAddress → PeerAddress → ℕ → Type 0
 Ticks now None after left old new code = IsUnserved None after left × (new ≡ old) × (code ≡ 1)
 Ticks now (Some s) after left old new code =
     DoesDuty now s after (duty_in now s.watched.server.rules s.watched.server.room) left old new code

@@ -3,7 +3,7 @@ use Rattle.std.specs.Prelude.{ℕ, ◌^◌, nat_lt, ◌==◌, List, Result, Ok, 
 use Rattle.dccp_endpoint.specs.declared.config.Config.{Config}
 use Rattle.dccp_server.specs.Refusals.{opens_by, refusal_frame}
 use Rattle.dccp_c.specs.Accepting.{as_server}
-use Rattle.dccp_c.specs.Framing.{Handed, handed_of, nothing_handed}
+use Rattle.dccp_c.specs.Framing.{FrameFields, handed_of, nothing_handed}
 use Rattle.dccp_c.specs.Making.{usual_of_settings}
 use Rattle.dccp_c.specs.Telling.{is_short}
 use Rattle.dccp_c.specs.declared.making.Settings.{Settings}
@@ -19,7 +19,7 @@ abbrev pub refusal_status : Config → List ℕ → ℕ
 refusal_status config bytes = if opens_by config bytes then 0 else 13
 
 -- the frame that C finds; none where the settings are refused, or the datagram is too long
-abbrev pub refuse_frame : ℕ → List ℕ → Result Config ℕ → Handed
+abbrev pub refuse_frame : ℕ → List ℕ → Result Config ℕ → FrameFields
 refuse_frame code bytes (Ok config) = if is_short bytes then handed_of (refusal_frame code config bytes) else nothing_handed
 refuse_frame code bytes (Err refusal) = nothing_handed
 

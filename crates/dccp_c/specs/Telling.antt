@@ -1,6 +1,6 @@
 -- What C is told of a datagram that it hands to an end (own).
 use Rattle.std.specs.Prelude.{ℕ, nat_le, Bool, List, length, Option, Some, None, if◌then◌else◌}
-use Rattle.dccp_c.specs.Framing.{Handed, nothing_handed}
+use Rattle.dccp_c.specs.Framing.{FrameFields, nothing_handed}
 use Rattle.dccp_c.specs.Outcomes.{told_reading}
 use Rattle.dccp_c.specs.declared.told.Told.{Told}
 use Rattle.dccp_c.specs.Doing.{kept_after, code_after, frame_after}
@@ -21,7 +21,7 @@ abbrev pub hears_if_short : List ℕ → ℕ → Option CEnd → Option CEnd
 hears_if_short bytes now held = if is_short bytes then kept_after (c_receives bytes now) held else held
 
 -- the frame that answers a datagram
-abbrev pub hear_frame : List ℕ → ℕ → Option CEnd → Handed
+abbrev pub hear_frame : List ℕ → ℕ → Option CEnd → FrameFields
 hear_frame bytes now held = if is_short bytes then frame_after (c_receives bytes now) held else nothing_handed
 
 -- the code of handing one in
