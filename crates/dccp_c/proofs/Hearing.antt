@@ -10,12 +10,12 @@ use Rattle.dccp_server.specs.FlowInboxes.{Inboxes, begun_fresh, flow_speaks}
 use Rattle.dccp_server.specs.Meeting.{IsMet, may_meet}
 use Rattle.dccp_server.specs.Rooms.{told_of_arrival}
 use Rattle.dccp_server.specs.declared.meeting.Way.{Way}
-use Rattle.dccp_c.specs.Listening.{Forgets, HandsHeard, HasTakenIn, HearsAtServer, HearsDatagram, HearsIfOpen, Holding, MayDeliver, holds_forgotten, holds_met, inboxes_begun}
+use Rattle.dccp_c.specs.Listening.{Forgets, HandsHeard, HasTakenIn, HearsAtServer, HearsDatagram, HearsIfOpen, OwnedServerState, MayDeliver, holds_forgotten, holds_met, inboxes_begun}
 use Rattle.dccp_c.specs.Framing.{FrameFields}
 use Rattle.dccp_c.specs.declared.told.Told.{Told}
 
 -- where it is heard, and then its data come in
-pub met_for_c : (now : ℕ) (s h f : Holding) (peer : Peer) (first : ℕ) (bytes : List ℕ) (had : Bool) (left out : Option Outgoing)
+pub met_for_c : (now : ℕ) (s h f : OwnedServerState) (peer : Peer) (first : ℕ) (bytes : List ℕ) (had : Bool) (left out : Option Outgoing)
     (heard : Result (Option Heard) NoMemory) (evicted gone made_room : Option Peer) (anew : Bool) (way met_so : Way) (handed : FrameFields) (code : ℕ) (old new : Told)
     → is_shut_out s.watched peer bytes ≡ false
     → IsMet now s.watched.server h.watched.server peer first bytes left heard gone anew made_room met_so
@@ -52,14 +52,14 @@ met_for_c now s h f peer first bytes had left out heard evicted gone made_room a
     }))
 
 -- and as it is once the server has been taken out of its handle and put back
-pub hears_so : (now : ℕ) (before after : Option Holding) (s t : Holding) (peer whose : Peer) (first number : ℕ) (bytes : List ℕ) (refusal : Option ℕ)
+pub hears_so : (now : ℕ) (before after : Option OwnedServerState) (s t : OwnedServerState) (peer whose : Peer) (first number : ℕ) (bytes : List ℕ) (refusal : Option ℕ)
     (left : FrameFields) (evicted gone : Option Peer) (way met_so : Way) (code : ℕ) (old new : Told) → before ≡ Some s → after ≡ Some t → whose ≡ peer → number ≡ first
     → evicted ≡ gone → way ≡ met_so → refusal ≡ None → HearsIfOpen now s t whose number bytes (is_shut_out s.watched whose bytes) left gone met_so code old new
     → HearsDatagram now before after peer first bytes refusal left evicted way code old new
 hears_so now before after s t peer whose first number bytes refusal left evicted gone way met_so code old new before-is after-is same-peer same-number same-gone same-way heard
     is =
-    subst (λ (x : Option Holding). HearsDatagram now x after peer first bytes refusal left evicted way code old new) (sym before-is)
-    (subst (λ (x : Option Holding). HearsDatagram now (Some s) x peer first bytes refusal left evicted way code old new) (sym after-is)
+    subst (λ (x : Option OwnedServerState). HearsDatagram now x after peer first bytes refusal left evicted way code old new) (sym before-is)
+    (subst (λ (x : Option OwnedServerState). HearsDatagram now (Some s) x peer first bytes refusal left evicted way code old new) (sym after-is)
     (subst (λ (x : Option ℕ). HearsDatagram now (Some s) (Some t) peer first bytes x left evicted way code old new) (sym heard)
     (subst (λ (x : Way). HearsIfOpen now s t peer first bytes (is_shut_out s.watched peer bytes) left evicted x code old new) (sym same-way)
     (subst (λ (x : Option Peer). HearsIfOpen now s t peer first bytes (is_shut_out s.watched peer bytes) left x met_so code old new) (sym same-gone)
@@ -67,12 +67,12 @@ hears_so now before after s t peer whose first number bytes refusal left evicted
     (subst (λ (x : Peer). HearsIfOpen now s t x number bytes (is_shut_out s.watched x bytes) left gone met_so code old new) same-peer is))))))
 
 -- the same of a flow that is forgotten
-pub forgets_so : (now : ℕ) (before after : Option Holding) (s t : Holding) (peer whose : Peer) (had : Bool) (code : ℕ) → before ≡ Some s → after ≡ Some t
+pub forgets_so : (now : ℕ) (before after : Option OwnedServerState) (s t : OwnedServerState) (peer whose : Peer) (had : Bool) (code : ℕ) → before ≡ Some s → after ≡ Some t
     → whose ≡ peer → t ≡ holds_forgotten now s whose → had ≡ is_some (end_of_peer s.watched.server.room.served.listening.flows whose)
     → code ≡ (if had then 0 else 15) → Forgets now before after peer code
 forgets_so now before after s t peer whose had code before-is after-is same-peer gone had-is code-is =
-    subst (λ (x : Option Holding). Forgets now x after peer code) (sym before-is) (
-      after-is ∙ ap (λ (x : Holding). Some x) (gone ∙ ap (λ (p : Peer). holds_forgotten now s p) same-peer),
+    subst (λ (x : Option OwnedServerState). Forgets now x after peer code) (sym before-is) (
+      after-is ∙ ap (λ (x : OwnedServerState). Some x) (gone ∙ ap (λ (p : Peer). holds_forgotten now s p) same-peer),
       code-is
           ∙ ap (λ (b : Bool). if b then 0 else 15)
           (had-is ∙ ap (λ (p : Peer). is_some (end_of_peer s.watched.server.room.served.listening.flows p)) same-peer),

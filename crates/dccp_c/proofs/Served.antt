@@ -8,7 +8,7 @@ use Rattle.dccp_server.specs.declared.duty.Duty.{Duty}
 use Rattle.feature_lists.specs.Lists.{is_distinct}
 use Rattle.dccp_c.specs.Founding.{listening_at, services_by}
 use Rattle.dccp_c.specs.Framing.{FrameFields}
-use Rattle.dccp_c.specs.Listening.{DoesDuty, Holding, Ticks, duty_address, duty_code, duty_left, holds_ticked}
+use Rattle.dccp_c.specs.Listening.{DoesDuty, OwnedServerState, Ticks, duty_address, duty_code, duty_left, holds_ticked}
 use Rattle.dccp_c.specs.declared.making.Settings.{Settings}
 use Rattle.dccp_c.specs.declared.peer.PeerAddress.{PeerAddress}
 
@@ -27,15 +27,15 @@ listens_soundly s given most config made is distinct least high =
     (record { some = services-some s given; distinct = services-distinct s given distinct; least = least; most = high })
 
 -- a tick, once the server has been taken out of its handle and put back
-pub ticks_so : (now : ℕ) (before after : Option Holding) (s t : Holding) (duty : Option Duty) (left : FrameFields) (old new : PeerAddress) (code : ℕ)
+pub ticks_so : (now : ℕ) (before after : Option OwnedServerState) (s t : OwnedServerState) (duty : Option Duty) (left : FrameFields) (old new : PeerAddress) (code : ℕ)
     → before ≡ Some s → after ≡ Some t → duty ≡ duty_in now s.watched.server.rules s.watched.server.room
     → t ≡ holds_ticked now s duty → left ≡ duty_left t duty (duty_frame now s.watched.server.room duty)
     → new ≡ duty_address duty old → code ≡ duty_code duty → Ticks now before after left old new code
 ticks_so now before after s t duty left old new code before-is after-is same-duty ticked sent named answered =
-    subst (λ (x : Option Holding). Ticks now x after left old new code) (sym before-is)
+    subst (λ (x : Option OwnedServerState). Ticks now x after left old new code) (sym before-is)
     (subst (λ (d : Option Duty). DoesDuty now s after d left old new code) same-duty (
-      after-is ∙ ap (λ (x : Holding). Some x) ticked,
-      sent ∙ ap (λ (x : Holding). duty_left x duty (duty_frame now s.watched.server.room duty)) ticked,
+      after-is ∙ ap (λ (x : OwnedServerState). Some x) ticked,
+      sent ∙ ap (λ (x : OwnedServerState). duty_left x duty (duty_frame now s.watched.server.room duty)) ticked,
       named,
       answered,
     ))

@@ -11,7 +11,7 @@ use Rattle.dccp_server.specs.declared.flow_event.EndCause.TheVariants as causes
 use Rattle.dccp_server.specs.declared.flow_event.EventKind.{EventKind}
 use Rattle.dccp_server.specs.declared.flow_event.EventKind.TheVariants as kinds
 use Rattle.dccp_server.specs.declared.flow_event.FlowEvent.{FlowEvent}
-use Rattle.dccp_c.specs.Listening.{Holding, address_of}
+use Rattle.dccp_c.specs.Listening.{OwnedServerState, address_of}
 use Rattle.dccp_c.specs.declared.flow_events.EventView.{EventView}
 use Rattle.dccp_c.specs.declared.peer.PeerAddress.{PeerAddress}
 
@@ -42,7 +42,7 @@ abbrev pub event_seen : FlowEvent → EventView
 event_seen event = event_kind event.kind (plain_event (address_of event.peer) event.user)
 
 -- what is told next of a listener, if there is one: data that came into an inbox are told so
-abbrev pub next_event_in : Option Holding → Option FlowEvent
+abbrev pub next_event_in : Option OwnedServerState → Option FlowEvent
 next_event_in None = None
 next_event_in (Some s) = option_map (event_kept s.arrival) (first_event s.watched.events)
 

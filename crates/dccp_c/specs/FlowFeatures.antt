@@ -8,13 +8,13 @@ use Rattle.dccp_server.specs.Rooms.{RuledRoom}
 use Rattle.feature_lists.specs.declared.features.Feature.{Feature}
 use Rattle.feature_lists.specs.declared.features.Place.{Place}
 use Rattle.dccp_c.specs.Framing.{FrameFields}
-use Rattle.dccp_c.specs.Listening.{Holding, IsUnserved, Serves, flow_code}
+use Rattle.dccp_c.specs.Listening.{OwnedServerState, IsUnserved, Serves, flow_code}
 use Rattle.dccp_c.specs.Seeing.{seen_feature}
 use Rattle.dccp_c.specs.declared.readers.FeatureState.{FeatureState}
 
 -- What a wish for a feature of a flow comes to: nothing happens where no feature has this number, by 11; else it is a call
 -- of the peer's end.
-abbrev pub PrefersAt : ℕ → Option Holding → Option Holding → Peer → Option Feature → Place → List ℕ → FrameFields → ℕ → Type 0
+abbrev pub PrefersAt : ℕ → Option OwnedServerState → Option OwnedServerState → Peer → Option Feature → Place → List ℕ → FrameFields → ℕ → Type 0
 PrefersAt now before after peer None place values frame code = IsUnserved before after frame × (code ≡ 11)
 PrefersAt now before after peer (Some feature) place values frame code = Serves now before after peer (Prefers feature place values) frame code
 

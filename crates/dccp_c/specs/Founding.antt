@@ -3,7 +3,7 @@ use Rattle.std.specs.Prelude.{◌≡◌, ◌⊎◌, ℕ, nat_lt, ◌==◌, Bool,
 use Rattle.dccp_endpoint.specs.declared.config.Config.{Config}
 use Rattle.dccp_listener.specs.declared.config.ListenConfig.{ListenConfig}
 use Rattle.dccp_c.specs.Accepting.{as_server}
-use Rattle.dccp_c.specs.Listening.{Holding}
+use Rattle.dccp_c.specs.Listening.{OwnedServerState}
 use Rattle.dccp_c.specs.Making.{configured_by, first_four}
 use Rattle.dccp_c.specs.declared.making.Care.{Care}
 use Rattle.dccp_server.specs.Events.{no_events}
@@ -43,7 +43,7 @@ listening_by s given wishes most =
     else listening_from s given most (configured_by (as_server s) wishes)
 
 -- the server that was made, which goes by the usual rules, and whose flows are cared for so, where the code says so
-abbrev pub founded_from : Bool → Care → Result ListenConfig ℕ → Option Holding
+abbrev pub founded_from : Bool → Care → Result ListenConfig ℕ → Option OwnedServerState
 founded_from true care (Ok config) =
     Some (record {
       watched = record { server = ruled_begins config care.pace usual_rules; events = no_events; is_shut = false };
@@ -54,7 +54,7 @@ founded_from true care (Err code) = None
 founded_from false care _ = None
 
 -- what the handle holds once making was answered by this code
-abbrev pub founded_of : ℕ → Care → Result ListenConfig ℕ → Option Holding
+abbrev pub founded_of : ℕ → Care → Result ListenConfig ℕ → Option OwnedServerState
 founded_of code care config = founded_from (code == 0) care config
 
 -- The code of making: that of the refusal, or else 0, or 2 where memory is wanting.

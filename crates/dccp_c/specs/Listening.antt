@@ -65,17 +65,17 @@ served_in (Some held) = Some held.server.server
 
 -- a server with what is to be told of it, the data of its flows that wait, and what became of those of the last datagram,
 -- if they came into an inbox
-pub record Holding : Type 0 where
+pub record OwnedServerState : Type 0 where
   pub watched : WatchedServer
   pub inboxes : Inboxes
   pub arrival : Option Arrival
 
 -- what a listener holds, without the place for its frame
-abbrev pub holding_of : InnerListener → Holding
+abbrev pub holding_of : InnerListener → OwnedServerState
 holding_of held = record { watched = held.server; inboxes = held.inboxes; arrival = held.arrival }
 
 -- the same of a handle, if it holds one
-abbrev pub holding_in : Option InnerListener → Option Holding
+abbrev pub holding_in : Option InnerListener → Option OwnedServerState
 holding_in None = None
 holding_in (Some held) = Some (holding_of held)
 
@@ -132,7 +132,7 @@ listen_told (Stepped (Some (seen.Received outcome))) old = told_outcome outcome
 listen_told _ old = old
 
 -- Nothing has happened: the server is as it was, and no frame is left.
-abbrev pub IsUnserved : Option Holding → Option Holding → FrameFields → Type 0
+abbrev pub IsUnserved : Option OwnedServerState → Option OwnedServerState → FrameFields → Type 0
 IsUnserved before after frame = (after ≡ before) × (frame ≡ nothing_handed)
 
 -- the server with this in its room
@@ -140,20 +140,20 @@ abbrev pub with_room : RuledRoom → Room → RuledRoom
 with_room s room = record s { room = room }
 
 -- A peer's flow has led the server to this one: its inbox goes with it, unless data wait there.
-abbrev pub holds_on : Holding → Peer → WatchedServer → Holding
+abbrev pub holds_on : OwnedServerState → Peer → WatchedServer → OwnedServerState
 holds_on s peer after = record s { watched = after; inboxes = tidied s.inboxes after.server peer }
 
 -- a frame that goes to a peer, as C finds it: it says what the peer's inbox has to say
-abbrev pub left_to : Holding → Peer → Option Outgoing → FrameFields
+abbrev pub left_to : OwnedServerState → Peer → Option Outgoing → FrameFields
 left_to s peer frame = handed_of (flow_speaks s.inboxes s.watched.server peer frame)
 
 -- a call of a peer's end is done
-abbrev pub holds_called : ℕ → Holding → Peer → FlowCall → Holding
+abbrev pub holds_called : ℕ → OwnedServerState → Peer → FlowCall → OwnedServerState
 holds_called now s peer call =
     holds_on s peer (called_on s.watched (with_room s.watched.server (room_does now s.watched.server.room peer (Does (Calls call)))) peer (aborted_end causes.Own))
 
 -- What a call of a peer's end comes to: it is done, or there is no listener, and the code is 1.
-abbrev pub Serves : ℕ → Option Holding → Option Holding → Peer → FlowCall → FrameFields → ℕ → Type 0
+abbrev pub Serves : ℕ → Option OwnedServerState → Option OwnedServerState → Peer → FlowCall → FrameFields → ℕ → Type 0
 Serves now None after peer call frame code = IsUnserved None after frame × (code ≡ 1)
 Serves now (Some s) after peer call frame code =
     (after ≡ Some (holds_called now s peer call))
@@ -161,7 +161,7 @@ Serves now (Some s) after peer call frame code =
     × (code ≡ listen_code (listens s.watched.server.room.served.listening peer (Calls call)).told)
 
 -- A timer of a peer's end is told where one has this number; else nothing happens, by 16.
-abbrev pub FiresAt : ℕ → Option Holding → Option Holding → Peer → Option Timer → FrameFields → ℕ → Type 0
+abbrev pub FiresAt : ℕ → Option OwnedServerState → Option OwnedServerState → Peer → Option Timer → FrameFields → ℕ → Type 0
 FiresAt now before after peer None frame code = IsUnserved before after frame × (code ≡ 16)
 FiresAt now before after peer (Some timer) frame code = Serves now before after peer (Fires timer) frame code
 
@@ -171,7 +171,7 @@ restraint_in None peer = None
 restraint_in (Some s) peer = flow_restraint s.room.served peer
 
 -- What sending data to a peer comes to: where they have to wait nothing happens, by the code of that.
-abbrev pub SendsUnheld : ℕ → Option Holding → Option Holding → Peer → List ℕ → FrameFields → ℕ → Option Restraint → Type 0
+abbrev pub SendsUnheld : ℕ → Option OwnedServerState → Option OwnedServerState → Peer → List ℕ → FrameFields → ℕ → Option Restraint → Type 0
 SendsUnheld now before after peer payload frame code None = Serves now before after peer (Sends payload) frame code
 SendsUnheld now before after peer payload frame code (Some why) = IsUnserved before after frame × (code ≡ restraint_code why)
 
@@ -193,7 +193,7 @@ HandsHeard (Ok it) kept frame left code old new =
 HandsHeard (Err _) kept frame left code old new = (left ≡ nothing_handed) × (code ≡ 2) × (new ≡ old)
 
 -- the inboxes once a datagram of a peer has led the server to this one: a flow that it has opened begins without any
-abbrev pub inboxes_begun : Holding → RuledRoom → Peer → Inboxes
+abbrev pub inboxes_begun : OwnedServerState → RuledRoom → Peer → Inboxes
 inboxes_begun s after peer =
     begun_fresh s.inboxes peer (is_some (end_of_peer s.watched.server.room.served.listening.flows peer))
     (end_of_peer after.room.served.listening.flows peer)
@@ -204,7 +204,7 @@ abbrev pub MayDeliver : Inboxes → RuledRoom → Peer → List ℕ → Option C
 MayDeliver inboxes after peer bytes told it = (it ≡ flow_delivers inboxes after peer bytes told) ⊎ (it ≡ no_flow_delivery inboxes)
 
 -- a datagram has led the server to this one, its data came so, and these flows made room for it, if any did
-abbrev pub holds_met : WatchedServer → Peer → Option Peer → Option Peer → FlowDelivery → Holding
+abbrev pub holds_met : WatchedServer → Peer → Option Peer → Option Peer → FlowDelivery → OwnedServerState
 holds_met after peer made_room gone it =
     record {
       watched = after;
@@ -213,7 +213,7 @@ holds_met after peer made_room gone it =
     }
 
 -- the data of a datagram that has led the server to where it is, of a peer that had a flow before it or none, came in
-abbrev pub HasTakenIn : Holding → Holding → Peer → Bool → List ℕ → Option CallTold → Option Peer → Option Peer → Type 0
+abbrev pub HasTakenIn : OwnedServerState → OwnedServerState → Peer → Bool → List ℕ → Option CallTold → Option Peer → Option Peer → Type 0
 HasTakenIn s after peer had bytes told made_room gone =
     (it : FlowDelivery)
     × MayDeliver (begun_fresh s.inboxes peer had (end_of_peer s.watched.server.room.served.listening.flows peer)) s.watched.server peer bytes told it
@@ -221,7 +221,7 @@ HasTakenIn s after peer had bytes told made_room gone =
 
 -- What a datagram comes to for C where there is a server: it was met in this way, its data came in or not, and its owner
 -- and C are told of that.
-pub record HearsAtServer (now : ℕ) (s after : Holding) (peer : Peer) (first : ℕ) (bytes : List ℕ) (left : FrameFields) (evicted : Option Peer) (way : Way)
+pub record HearsAtServer (now : ℕ) (s after : OwnedServerState) (peer : Peer) (first : ℕ) (bytes : List ℕ) (left : FrameFields) (evicted : Option Peer) (way : Way)
     (code : ℕ) (old new : Told) : Type 0 where
   pub heard : Result (Option Heard) NoMemory
   pub frame : Option Outgoing
@@ -243,19 +243,19 @@ abbrev pub datagram_refusal : ℕ → List ℕ → Option ℕ
 datagram_refusal first bytes = if nat_lt first (2 ^ 48) then (if is_short bytes then None else Some 5) else Some 17
 
 -- a datagram that would open a flow is refused by 21, where none is taken
-abbrev pub IsShutOut : ℕ → Holding → Holding → Peer → List ℕ → FrameFields → ℕ → Told → Told → Type 0
+abbrev pub IsShutOut : ℕ → OwnedServerState → OwnedServerState → Peer → List ℕ → FrameFields → ℕ → Told → Told → Type 0
 IsShutOut now s after peer bytes left code old new =
     (after ≡ record s { watched = shut_out now s.watched peer bytes })
     × (left ≡ handed_of (refused_frame now s.watched.server peer bytes (number_of_code codes.ConnectionRefused))) × (code ≡ 21) × (new ≡ old)
 
 -- what a datagram comes to at a server that takes new flows, or would not be opened one by it
-abbrev pub HearsIfOpen : ℕ → Holding → Holding → Peer → ℕ → List ℕ → Bool → FrameFields → Option Peer → Way → ℕ → Told → Told → Type 0
+abbrev pub HearsIfOpen : ℕ → OwnedServerState → OwnedServerState → Peer → ℕ → List ℕ → Bool → FrameFields → Option Peer → Way → ℕ → Told → Told → Type 0
 HearsIfOpen now s after peer first bytes true left evicted way code old new = IsShutOut now s after peer bytes left code old new
 HearsIfOpen now s after peer first bytes false left evicted way code old new = HearsAtServer now s after peer first bytes left evicted way code old new
 
 -- What a datagram comes to: nothing happens where it is refused by that code, or where there is no listener, by 1; else the
 -- server hears it, or refuses it, and is there after it.
-abbrev pub HearsDatagram : ℕ → Option Holding → Option Holding → Peer → ℕ → List ℕ → Option ℕ → FrameFields → Option Peer → Way → ℕ → Told → Told → Type 0
+abbrev pub HearsDatagram : ℕ → Option OwnedServerState → Option OwnedServerState → Peer → ℕ → List ℕ → Option ℕ → FrameFields → Option Peer → Way → ℕ → Told → Told → Type 0
 HearsDatagram now before after peer first bytes (Some refused) left evicted way code old new =
     (after ≡ before) × (left ≡ nothing_handed) × (code ≡ refused) × (new ≡ old)
 HearsDatagram now None after peer first bytes None left evicted way code old new =
@@ -286,35 +286,35 @@ duty_address None old = old
 duty_address (Some duty) old = address_of (duty_peer duty)
 
 -- what there was to do has led the server to this one
-abbrev pub holds_done : Holding → WatchedServer → Option Duty → Holding
+abbrev pub holds_done : OwnedServerState → WatchedServer → Option Duty → OwnedServerState
 holds_done s after None = record s { watched = after }
 holds_done s after (Some duty) = holds_on s (duty_peer duty) after
 
 -- and the frame that went to its peer, as C finds it
-abbrev pub duty_left : Holding → Option Duty → Option Outgoing → FrameFields
+abbrev pub duty_left : OwnedServerState → Option Duty → Option Outgoing → FrameFields
 duty_left s None frame = handed_of frame
 duty_left s (Some duty) frame = left_to s (duty_peer duty) frame
 
 -- the server and what it holds once this was done
-abbrev pub holds_ticked : ℕ → Holding → Option Duty → Holding
+abbrev pub holds_ticked : ℕ → OwnedServerState → Option Duty → OwnedServerState
 holds_ticked now s duty =
     holds_done s (ticked_on s.watched (with_room s.watched.server (duty_done now s.watched.server.room duty)) duty) duty
 
 -- What a tick comes to where this is to be done: it is done, and its peer named.
-abbrev pub DoesDuty : ℕ → Holding → Option Holding → Option Duty → FrameFields → PeerAddress → PeerAddress → ℕ → Type 0
+abbrev pub DoesDuty : ℕ → OwnedServerState → Option OwnedServerState → Option Duty → FrameFields → PeerAddress → PeerAddress → ℕ → Type 0
 DoesDuty now s after duty left old new code =
     (after ≡ Some (holds_ticked now s duty)) × (left ≡ duty_left (holds_ticked now s duty) duty (duty_frame now s.watched.server.room duty))
     × (new ≡ duty_address duty old) × (code ≡ duty_code duty)
 
 -- What a tick comes to: what there is to do first is done, or nothing happens: 1 where there is no listener, 12 where there
 -- is nothing to do. It takes no memory.
-abbrev pub Ticks : ℕ → Option Holding → Option Holding → FrameFields → PeerAddress → PeerAddress → ℕ → Type 0
+abbrev pub Ticks : ℕ → Option OwnedServerState → Option OwnedServerState → FrameFields → PeerAddress → PeerAddress → ℕ → Type 0
 Ticks now None after left old new code = IsUnserved None after left × (new ≡ old) × (code ≡ 1)
 Ticks now (Some s) after left old new code =
     DoesDuty now s after (duty_in now s.watched.server.rules s.watched.server.room) left old new code
 
 -- a peer's flow goes, and the data that wait of it
-abbrev pub holds_forgotten : ℕ → Holding → Peer → Holding
+abbrev pub holds_forgotten : ℕ → OwnedServerState → Peer → OwnedServerState
 holds_forgotten now s peer =
     record s {
       watched = called_on s.watched (with_room s.watched.server (forgets now s.watched.server.room peer)) peer (silent_end causes.Own);
@@ -323,7 +323,7 @@ holds_forgotten now s peer =
 
 -- What forgetting a peer's flow comes to: it goes, and nothing is sent; 15 where there is none, 1 where there is no
 -- listener.
-abbrev pub Forgets : ℕ → Option Holding → Option Holding → Peer → ℕ → Type 0
+abbrev pub Forgets : ℕ → Option OwnedServerState → Option OwnedServerState → Peer → ℕ → Type 0
 Forgets now None after peer code = (after ≡ None) × (code ≡ 1)
 Forgets now (Some s) after peer code =
     (after ≡ Some (holds_forgotten now s peer))
