@@ -7,7 +7,7 @@ use Rattle.std.specs.Box.Ownership.{box_owns}
 use Rattle.std.specs.Coded.{coded_option}
 use Rattle.std.specs.Global.{Global}
 use Rattle.std_heap.specs.contracts.GlobalAllocator.TheImpl.{ghosts}
-use Rattle.dccp_c.specs.contracts.serving.Serving.{the_row}
+use Rattle.dccp_c.specs.contracts.serving.OwnedServer.{the_row}
 
 -- a listener with its timers and the place for its frame, as contracts see it
 abbrev pub InnerListener : Type 0

@@ -8,14 +8,14 @@ ghost use Rattle.dccp_c.specs.Listening.{holding_in, holding_of, peer_named};
 use crate::codes::{DONE, NO_FLOW, NO_MEMORY, NOT_MADE, NOTHING_DUE};
 use crate::listener_calls::has_flow;
 use crate::peer::peer_named;
-use crate::serving::Serving;
+use crate::serving::OwnedServer;
 use crate::{ListenerHandle, PeerAddress, ReadData};
 use dccp_endpoint::{NoMemory, Seq48};
 use dccp_listener::Peer;
 use std::alloc::Global;
 
 // The first data of a peer; an inbox of a flow that is over goes with the last.
-fn read(serving: &mut Serving, peer: Peer, into: &mut [u8; 2032]) -> Option<(Seq48, usize)>
+fn read(serving: &mut OwnedServer, peer: Peer, into: &mut [u8; 2032]) -> Option<(Seq48, usize)>
     ensures rest { Some (holding_of serving.new) ≡ without_first_of (Some (holding_of serving.old)) peer }
     ensures answer { result ≡ flow_first_read serving.old.inboxes peer }
     ensures data { into.new ≡ flow_read_over serving.old.inboxes peer into.old }
@@ -54,7 +54,7 @@ pub extern "C" fn dccp_listener_read(
 }
 
 // The data of a peer that has a flow are wanted no more.
-fn stop(serving: &mut Serving, peer: Peer) -> u32
+fn stop(serving: &mut OwnedServer, peer: Peer) -> u32
     ensures { StopsFlow (holding_of serving.old) (Some (holding_of serving.new)) peer result }
 {
     match serving.inboxes.stop(peer) {
@@ -65,7 +65,7 @@ fn stop(serving: &mut Serving, peer: Peer) -> u32
 }
 
 // The same of one that may have none.
-fn stop_if(serving: &mut Serving, peer: Peer) -> u32
+fn stop_if(serving: &mut OwnedServer, peer: Peer) -> u32
     ensures { StopsFlowIf (holding_of serving.old) (Some (holding_of serving.new)) peer (end_of_peer serving.old.server.server.room.served.listening.flows peer) result }
 {
     if !has_flow(serving.server.server(), peer) {

@@ -9,7 +9,7 @@ ghost use Rattle.dccp_server.specs.Refusals.{flow_asked, refused_frame};
 use crate::codes::{DONE, NO_CONNECTION, NOT_MADE, TOO_LONG};
 use crate::frame::Frame;
 use crate::peer::peer_named;
-use crate::serving::Serving;
+use crate::serving::OwnedServer;
 use crate::{ListenerHandle, PeerAddress};
 use dccp_endpoint::MOST_FRAME_BYTES;
 use dccp_listener::Peer;
@@ -62,7 +62,7 @@ fn opening_code(opens: bool) -> u32
 }
 
 // Refuses a datagram that is short enough.
-fn refuse(serving: &mut Serving, peer: Peer, datagram: &[u8], code: u8, now: u64) -> bool
+fn refuse(serving: &mut OwnedServer, peer: Peer, datagram: &[u8], code: u8, now: u64) -> bool
     requires { length datagram.now ≤ 2044 }
     ensures opens { result ≡ is_some (flow_asked serving.old.server.server.room.served.listening peer datagram.now) }
     ensures after { serving.new.server ≡ shut_out now serving.old.server peer datagram.now }

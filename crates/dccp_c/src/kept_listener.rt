@@ -3,7 +3,7 @@ ghost use Rattle.std.specs.Prelude.{◌≡◌, ◌≢◌, Some, None, Option};
 ghost use Rattle.dccp_c.specs.KeepingListener.{InnerListener, inner_listener_coded, listener_owns};
 
 use crate::kept::{Opaque, Parts};
-use crate::serving::Serving;
+use crate::serving::OwnedServer;
 use std::alloc::Global;
 use std::marker::Model;
 
@@ -21,7 +21,7 @@ impl Model for KeptListener {
 }
 
 impl KeptListener {
-    pub(crate) fn of_parts(parts: Parts<Serving, Global>) -> KeptListener
+    pub(crate) fn of_parts(parts: Parts<OwnedServer, Global>) -> KeptListener
         ensures { result.value ≡ Some parts.value }
     {
         let Parts { ptr, alloc } = parts;
@@ -31,13 +31,13 @@ impl KeptListener {
         }
     }
 
-    pub(crate) fn into_parts(self) -> Parts<Serving, Global>
+    pub(crate) fn into_parts(self) -> Parts<OwnedServer, Global>
         requires { self.value ≢ None }
         ensures { Some result.value ≡ self.value }
     {
         let KeptListener { ptr, alloc } = self;
         Parts {
-            ptr: ptr.cast::<Serving>(),
+            ptr: ptr.cast::<OwnedServer>(),
             alloc,
         }
     }

@@ -4,7 +4,7 @@ ghost use Rattle.std.specs.Option.{option_map};
 
 use crate::kept::Parts;
 use crate::kept_listener::KeptListener;
-use crate::serving::Serving;
+use crate::serving::OwnedServer;
 use std::alloc::Global;
 use std::mem;
 
@@ -33,7 +33,7 @@ impl ListenerHandle {
         *self = ListenerHandle::none(alloc);
     }
 
-    fn into_box(self) -> Option<Box<Serving>>
+    fn into_box(self) -> Option<Box<OwnedServer>>
         ensures { self.kept.value ≡ option_map (λ held. held.value) result }
     {
         let ListenerHandle { kept, is_made } = self;
@@ -45,14 +45,14 @@ impl ListenerHandle {
     }
 
     // Takes out what it holds, and holds nothing until `put`.
-    pub(crate) fn take(&mut self, alloc: Global) -> Option<Box<Serving>>
+    pub(crate) fn take(&mut self, alloc: Global) -> Option<Box<OwnedServer>>
         ensures held { self.old.kept.value ≡ option_map (λ held. held.value) result }
         ensures none { self.new.kept.value ≡ None }
     {
         mem::replace(self, ListenerHandle::none(alloc)).into_box()
     }
 
-    pub(crate) fn put(&mut self, held: Box<Serving>)
+    pub(crate) fn put(&mut self, held: Box<OwnedServer>)
         ensures { self.new.kept.value ≡ Some held.value }
     {
         *self = ListenerHandle {

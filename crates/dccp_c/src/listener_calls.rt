@@ -35,7 +35,7 @@ use crate::frame::Frame;
 use crate::making::care_by;
 use crate::peer::{address_of, peer_named};
 use crate::readers::seen;
-use crate::serving::Serving;
+use crate::serving::OwnedServer;
 use crate::sizes::{FLOW_LIFE_BYTES, FLOW_RULES_BYTES, VIEW_BYTES};
 use crate::told::{Told, tell, tell_heard as tell_left_out, tell_kept};
 use crate::{FlowLife, FlowRules, Key, ListenerHandle, PeerAddress, Settings, View, Wish};
@@ -181,7 +181,7 @@ pub extern "C" fn dccp_listener_make(
     let Ok(drops) = FlowDropRecord::new(alloc) else {
         return NO_MEMORY;
     };
-    let serving = Serving {
+    let serving = OwnedServer {
         server,
         out: Outbox::new(),
         evicted: None,
@@ -218,7 +218,7 @@ fn room_maker(made_room: Option<Peer>, evicted: Option<Peer>) -> Option<Peer>
 
 // A datagram that is short enough, at a server.
 fn hear(
-    serving: &mut Serving,
+    serving: &mut OwnedServer,
     peer: Peer,
     iss: Seq48,
     datagram: &[u8],
@@ -253,7 +253,7 @@ fn hear(
 
 // The data of a datagram come into the peer's inbox, unless no memory for it is to be had.
 fn settle(
-    serving: &mut Serving,
+    serving: &mut OwnedServer,
     peer: Peer,
     datagram: &[u8],
     heard: &Result<Option<Heard>, NoMemory>,
@@ -274,7 +274,7 @@ fn settle(
 
 // The same of a datagram that was heard, of a peer that had a flow before it or none; and the frame for the peer says what
 // its inbox has to say.
-fn take_in(serving: &mut Serving, peer: Peer, had: bool, datagram: &[u8], meeting: &Meeting)
+fn take_in(serving: &mut OwnedServer, peer: Peer, had: bool, datagram: &[u8], meeting: &Meeting)
     ensures taken { HasTakenIn (holding_of serving.old) (holding_of serving.new) peer had datagram.now (told_of_arrival meeting.now.arrival.heard) meeting.now.made_room meeting.now.arrival.evicted }
     ensures sent { serving.new.out ≡ flow_speaks serving.new.inboxes serving.new.server.server peer serving.old.out }
     ensures server { serving.new.server ≡ serving.old.server }
@@ -317,7 +317,7 @@ fn hand(
 
 // A datagram that is short enough, at a server, for C.
 fn serve(
-    serving: &mut Serving,
+    serving: &mut OwnedServer,
     peer: Peer,
     iss: Seq48,
     datagram: &[u8],
@@ -349,7 +349,7 @@ fn serve(
 
 // The same, where what is kept of the peer is searched once.
 fn attend(
-    serving: &mut Serving,
+    serving: &mut OwnedServer,
     peer: Peer,
     iss: Seq48,
     datagram: &[u8],
@@ -471,7 +471,7 @@ pub extern "C" fn dccp_listener_flows(listener: &mut ListenerHandle, alloc: Glob
 
 // A peer's flow has done something: its inbox goes with it, unless data wait there, and its frame says what that has to
 // say.
-fn go_on(serving: &mut Serving, peer: Peer)
+fn go_on(serving: &mut OwnedServer, peer: Peer)
     ensures after { holding_of serving.new ≡ holds_on (holding_of serving.old) peer serving.old.server }
     ensures sent { serving.new.out ≡ flow_speaks serving.new.inboxes serving.new.server.server peer serving.old.out }
 {
@@ -481,7 +481,7 @@ fn go_on(serving: &mut Serving, peer: Peer)
 }
 
 // A call of a peer's end, at a server.
-fn ask(serving: &mut Serving, peer: Peer, call: UserCall<'_>, now: u64) -> Result<Seen, NoFlow>
+fn ask(serving: &mut OwnedServer, peer: Peer, call: UserCall<'_>, now: u64) -> Result<Seen, NoFlow>
     ensures after { holding_of serving.new ≡ holds_called now (holding_of serving.old) peer (asked call.entry) }
     ensures sent { serving.new.out ≡ flow_speaks serving.new.inboxes serving.new.server.server peer (listens serving.old.server.server.room.served.listening peer (Calls (asked call.entry))).frame }
     ensures told { Stepped (seen_if result) ≡ (listens serving.old.server.server.room.served.listening peer (Calls (asked call.entry))).told }
@@ -646,7 +646,7 @@ fn duty_address(duty: Option<Duty>, old: PeerAddress) -> PeerAddress
 }
 
 // The flow of which there was something to do goes on.
-fn go_on_if(serving: &mut Serving, duty: Option<Duty>)
+fn go_on_if(serving: &mut OwnedServer, duty: Option<Duty>)
     ensures after { holding_of serving.new ≡ holds_done (holding_of serving.old) serving.old.server duty }
     ensures sent { handed_of serving.new.out ≡ duty_left (holding_of serving.new) duty serving.old.out }
 {
@@ -656,7 +656,7 @@ fn go_on_if(serving: &mut Serving, duty: Option<Duty>)
 }
 
 // A tick of a server.
-fn do_duty(serving: &mut Serving, now: u64) -> Option<Duty>
+fn do_duty(serving: &mut OwnedServer, now: u64) -> Option<Duty>
     ensures duty { result ≡ duty_in now serving.old.server.server.rules serving.old.server.server.room }
     ensures after { holding_of serving.new ≡ holds_ticked now (holding_of serving.old) result }
     ensures sent { handed_of serving.new.out ≡ duty_left (holding_of serving.new) result (duty_frame now serving.old.server.server.room result) }
@@ -785,7 +785,7 @@ pub(crate) fn had_code(had: bool) -> u32
 }
 
 // A server forgets a peer's flow, and the data that wait of it.
-fn let_go(serving: &mut Serving, peer: Peer, now: u64)
+fn let_go(serving: &mut OwnedServer, peer: Peer, now: u64)
     ensures { holding_of serving.new ≡ holds_forgotten now (holding_of serving.old) peer }
 {
     serving.server.forget(peer, now, &mut serving.out);

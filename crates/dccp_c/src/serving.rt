@@ -6,7 +6,7 @@ use dccp_server::{EventServer, FlowDropRecord, FlowInboxes, Way};
 
 /// A server, what its last datagram did to others, and the place where each of its calls leaves its frame.
 #[derive(Drop)]
-pub struct Serving {
+pub struct OwnedServer {
     /// The server, with what its last call has done to its flows.
     pub server: EventServer,
     /// The frame that the last call has left, if any.

@@ -12,13 +12,13 @@ use Rattle.std.proofs.Crossing as heap
 use Rattle.std_alloc.proofs.SendSync.{quiet, lies}
 use Rattle.std_heap.proofs.Global.TheSendSync as handle
 use Rattle.dccp_c.specs.KeepingListener.{InnerListener as Inner, listener_owns as kept_owns}
-use Rattle.dccp_c.specs.contracts.serving.Serving as Held
-use Rattle.dccp_c.proofs.serving.Serving.TheSendSync.{the_send as held_send}
+use Rattle.dccp_c.specs.contracts.serving.OwnedServer as OwnedServer
+use Rattle.dccp_c.proofs.serving.OwnedServer.TheSendSync.{the_send as held_send}
 use Rattle.dccp_c.specs.contracts.kept_listener.KeptListener.{the_row, the_type}
 
 owned : (alloc : Global) (p : Ptr) (held : Option Inner) → Keyless (kept_owns alloc p held)
 owned alloc p None = tt
-owned alloc p (Some held) = (lies Held.the_row held_send p held, heap.frees.frees alloc (raw (lone Held.the_row.mir)) p)
+owned alloc p (Some held) = (lies OwnedServer.the_row held_send p held, heap.frees.frees alloc (raw (lone OwnedServer.the_row.mir)) p)
 
 pub send : IsSend the_row
 send =
