@@ -6,21 +6,21 @@ use Rattle.std_alloc.proofs.BoxSteps.Form.{Bx}
 use Rattle.std_heap.specs.contracts.Global as Heap
 use Rattle.std_heap.specs.contracts.GlobalAllocator.TheImpl.{ghosts, dict}
 use Rattle.std_heap.proofs.Global.TheLaws as heap
-use Rattle.dccp_c.specs.contracts.held.Held as Held
-use Rattle.dccp_c.proofs.held.Held.TheLaws as held
+use Rattle.dccp_c.specs.contracts.held.OwnedEnd as OwnedEnd
+use Rattle.dccp_c.proofs.held.OwnedEnd.TheLaws as held
 use Rattle.dccp_c.specs.contracts.kept.parts.Parts as Parts
-use Rattle.dccp_c.specs.contracts.kept.Kept as Kept
+use Rattle.dccp_c.specs.contracts.kept.EndBox as EndBox
 
 abbrev pub E : Bx
 E = record {
-  row = Held.the_row;
+  row = OwnedEnd.the_row;
   laws = held.the_row_laws;
   al =
       record { row = Heap.the_row; laws = heap.the_row_laws; g = ghosts; d = dict; drops = impl [] tnil dnil };
 }
 
 abbrev pub FromParts : Slot 0
-FromParts = plain (λ _. Parts.the_row Held.the_row Heap.the_row ghosts)
+FromParts = plain (λ _. Parts.the_row OwnedEnd.the_row Heap.the_row ghosts)
 
-abbrev pub FromKept : Slot 0
-FromKept = plain (λ _. Kept.the_row)
+abbrev pub FromEndBox : Slot 0
+FromEndBox = plain (λ _. EndBox.the_row)

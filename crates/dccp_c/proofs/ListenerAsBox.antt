@@ -9,7 +9,7 @@ use Rattle.std_heap.proofs.Global.TheLaws as heap
 use Rattle.dccp_c.specs.contracts.serving.OwnedServer as OwnedServer
 use Rattle.dccp_c.proofs.serving.OwnedServer.TheLaws as held
 use Rattle.dccp_c.specs.contracts.kept.parts.Parts as Parts
-use Rattle.dccp_c.specs.contracts.kept_listener.KeptListener as Kept
+use Rattle.dccp_c.specs.contracts.kept_listener.ListenerBox as ListenerBox
 
 abbrev pub E : Bx
 E = record {
@@ -22,5 +22,5 @@ E = record {
 abbrev pub FromParts : Slot 0
 FromParts = plain (λ _. Parts.the_row OwnedServer.the_row Heap.the_row ghosts)
 
-abbrev pub FromKept : Slot 0
-FromKept = plain (λ _. Kept.the_row)
+abbrev pub FromListenerBox : Slot 0
+FromListenerBox = plain (λ _. ListenerBox.the_row)

@@ -7,7 +7,7 @@ use Rattle.std.specs.Box.Ownership.{box_owns}
 use Rattle.std.specs.Coded.{coded_option}
 use Rattle.std.specs.Global.{Global}
 use Rattle.std_heap.specs.contracts.GlobalAllocator.TheImpl.{ghosts}
-use Rattle.dccp_c.specs.contracts.held.Held.{the_row}
+use Rattle.dccp_c.specs.contracts.held.OwnedEnd.{the_row}
 
 -- an end with the place for its frame, as contracts see it
 abbrev pub Inner : Type 0

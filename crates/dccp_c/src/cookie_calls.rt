@@ -10,7 +10,7 @@ ghost use Rattle.dccp_c.specs.Stepping.{c_receives};
 
 use crate::codes::{DONE, NO_CONNECTION, NO_MEMORY, OTHER_SIZE, TOO_LONG};
 use crate::frame::Frame;
-use crate::held::Held;
+use crate::held::OwnedEnd;
 use crate::making::{Care, as_server, care_by, configured_by, first_four};
 use crate::sizes::SETTINGS_BYTES;
 use crate::steps::{new_end, receive};
@@ -78,7 +78,7 @@ fn is_heard_so(heard: &Option<Outcome>) -> bool
 
 // A new end hears the Request of an opening.
 fn hear_request(
-    held: &mut Held,
+    held: &mut OwnedEnd,
     keys: &CookieKeys,
     route: &Route,
     opening: &FirstRequest,

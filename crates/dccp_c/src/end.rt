@@ -2,8 +2,8 @@
 ghost use Rattle.std.specs.Prelude.{◌≡◌, ◌≢◌, ◌↔◌, IsTrue, Some, None};
 ghost use Rattle.std.specs.Option.{option_map};
 
-use crate::held::Held;
-use crate::kept::{Kept, Parts};
+use crate::held::OwnedEnd;
+use crate::kept::{EndBox, Parts};
 use std::alloc::Global;
 use std::mem;
 
@@ -11,7 +11,7 @@ use std::mem;
 #[repr(C)]
 pub struct End {
     /// The box with the end, or none.
-    pub kept: Kept,
+    pub kept: EndBox,
     is_made: bool,
     ghost fits: { IsTrue is_made ↔ (kept.value ≢ None) },
 }
@@ -21,7 +21,7 @@ impl End {
         ensures { result.kept.value ≡ None }
     {
         End {
-            kept: Kept::none(alloc),
+            kept: EndBox::none(alloc),
             is_made: false,
         }
     }
@@ -33,7 +33,7 @@ impl End {
         *self = End::none(alloc);
     }
 
-    fn into_box(self) -> Option<Box<Held>>
+    fn into_box(self) -> Option<Box<OwnedEnd>>
         ensures { self.kept.value ≡ option_map (λ held. held.value) result }
     {
         let End { kept, is_made } = self;
@@ -45,7 +45,7 @@ impl End {
     }
 
     /// Takes out what it holds, and holds nothing until `put`.
-    pub fn take(&mut self, alloc: Global) -> Option<Box<Held>>
+    pub fn take(&mut self, alloc: Global) -> Option<Box<OwnedEnd>>
         ensures held { self.old.kept.value ≡ option_map (λ held. held.value) result }
         ensures none { self.new.kept.value ≡ None }
     {
@@ -53,11 +53,11 @@ impl End {
     }
 
     /// Holds this from now on, and frees what it held before.
-    pub fn put(&mut self, held: Box<Held>)
+    pub fn put(&mut self, held: Box<OwnedEnd>)
         ensures { self.new.kept.value ≡ Some held.value }
     {
         *self = End {
-            kept: Kept::of_parts(Parts::of(held)),
+            kept: EndBox::of_parts(Parts::of(held)),
             is_made: true,
         };
     }

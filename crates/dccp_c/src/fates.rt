@@ -9,7 +9,7 @@ ghost use Rattle.dccp_c.specs.Doing.{c_end, drops_in, end_in};
 ghost use Rattle.dccp_c.specs.Fates.{IsFate, StandSo, end_alone, left_beside, longest_in, most_beside_data, most_returned, most_vector_bytes};
 
 use crate::end::End;
-use crate::held::Held;
+use crate::held::OwnedEnd;
 use ccid_two::Kinds;
 use dccp_endpoint::{Endpoint, Feature, Phase, Place, Seq48, Standing};
 use dccp_uses::{ClientCookie, DropRecord};
@@ -140,7 +140,7 @@ fn most_returned(phase: Phase, cookie: &ClientCookie) -> usize
 }
 
 // What is left beside what its inbox may say and its cookie.
-fn left_beside(held: &Held, most: usize) -> usize
+fn left_beside(held: &OwnedEnd, most: usize) -> usize
     ensures { result ≡ left_beside most (Some (c_end held.now)) }
 {
     let beside = held.intake.most_said();

@@ -8,7 +8,7 @@ use dccp_uses::{ClientCookie, DropRecord, TimedEnd};
 /// An end with its timers, where its data go, the place where each of its calls leaves its frame, and a record of what
 /// was dropped of its own.
 #[derive(Drop)]
-pub struct Held {
+pub struct OwnedEnd {
     /// The end with its timers.
     pub timed: TimedEnd<Kinds>,
     /// Where data go that arrive.

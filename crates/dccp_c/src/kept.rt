@@ -5,7 +5,7 @@ ghost use Rattle.dccp_c.specs.Keeping.{Inner, inner_coded, kept_owns};
 mod parts;
 
 pub use self::parts::Parts;
-use crate::held::Held;
+use crate::held::OwnedEnd;
 use std::alloc::Global;
 use std::marker::Model;
 
@@ -19,47 +19,47 @@ pub struct Opaque {
 /// A box with an end, or none, which only contracts tell apart.
 #[repr(C)]
 #[derive(Drop)]
-pub struct Kept {
+pub struct EndBox {
     ptr: *mut Opaque,
     alloc: Global,
     /// The end, if there is one.
     pub ghost value: { Option Inner } by { inner_coded },
 }
 
-impl Model for Kept {
+impl Model for EndBox {
     ghost also_owns = { λ k. kept_owns k.alloc k.ptr k.value };
 }
 
-impl Kept {
-    pub(crate) fn of_parts(parts: Parts<Held, Global>) -> Kept
+impl EndBox {
+    pub(crate) fn of_parts(parts: Parts<OwnedEnd, Global>) -> EndBox
         ensures { result.value ≡ Some parts.value }
     {
         let Parts { ptr, alloc } = parts;
-        Kept {
+        EndBox {
             ptr: ptr.cast::<Opaque>(),
             alloc,
         }
     }
 
-    pub(crate) fn into_parts(self) -> Parts<Held, Global>
+    pub(crate) fn into_parts(self) -> Parts<OwnedEnd, Global>
         requires { self.value ≢ None }
         ensures { Some result.value ≡ self.value }
     {
-        let Kept { ptr, alloc } = self;
+        let EndBox { ptr, alloc } = self;
         Parts {
-            ptr: ptr.cast::<Held>(),
+            ptr: ptr.cast::<OwnedEnd>(),
             alloc,
         }
     }
 
-    pub(crate) fn none(alloc: Global) -> Kept
+    pub(crate) fn none(alloc: Global) -> EndBox
         ensures { result.value ≡ None }
     {
-        Kept {
+        EndBox {
             ptr: std::ptr::null_mut(),
             alloc,
         }
     }
 }
 
-unsafe impl Send for Kept {}
+unsafe impl Send for EndBox {}

@@ -10,22 +10,22 @@ use std::marker::Model;
 /// A box with a listener, or none, which only contracts tell apart.
 #[repr(C)]
 #[derive(Drop)]
-pub struct KeptListener {
+pub struct ListenerBox {
     ptr: *mut Opaque,
     alloc: Global,
     pub ghost value: { Option InnerListener } by { inner_listener_coded },
 }
 
-impl Model for KeptListener {
+impl Model for ListenerBox {
     ghost also_owns = { λ k. listener_owns k.alloc k.ptr k.value };
 }
 
-impl KeptListener {
-    pub(crate) fn of_parts(parts: Parts<OwnedServer, Global>) -> KeptListener
+impl ListenerBox {
+    pub(crate) fn of_parts(parts: Parts<OwnedServer, Global>) -> ListenerBox
         ensures { result.value ≡ Some parts.value }
     {
         let Parts { ptr, alloc } = parts;
-        KeptListener {
+        ListenerBox {
             ptr: ptr.cast::<Opaque>(),
             alloc,
         }
@@ -35,21 +35,21 @@ impl KeptListener {
         requires { self.value ≢ None }
         ensures { Some result.value ≡ self.value }
     {
-        let KeptListener { ptr, alloc } = self;
+        let ListenerBox { ptr, alloc } = self;
         Parts {
             ptr: ptr.cast::<OwnedServer>(),
             alloc,
         }
     }
 
-    pub(crate) fn none(alloc: Global) -> KeptListener
+    pub(crate) fn none(alloc: Global) -> ListenerBox
         ensures { result.value ≡ None }
     {
-        KeptListener {
+        ListenerBox {
             ptr: std::ptr::null_mut(),
             alloc,
         }
     }
 }
 
-unsafe impl Send for KeptListener {}
+unsafe impl Send for ListenerBox {}

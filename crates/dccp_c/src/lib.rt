@@ -10,7 +10,7 @@
 //! A static library of one's own is made in the same way: a line with `staticlib` in `crates.txt`, `rt lib` in its
 //! folder, which leaves an archive in `out/`, and exports as those of `calls`. Numbers, `bool`s, slices (in C a pointer
 //! and a length) and structs with `#[repr(C)]` cross. An end or a listener does not, nor does a `Box` of one: a struct
-//! owns the box by ghost data (`Kept`, `KeptListener`), and its proof is in part written by hand. For a
+//! owns the box by ghost data (`EndBox`, `ListenerBox`), and its proof is in part written by hand. For a
 //! parameter `alloc: Global` C passes nothing.
 #![tactic(auto)]
 

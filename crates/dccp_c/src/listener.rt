@@ -3,7 +3,7 @@ ghost use Rattle.std.specs.Prelude.{◌≡◌, ◌≢◌, ◌↔◌, IsTrue, Som
 ghost use Rattle.std.specs.Option.{option_map};
 
 use crate::kept::Parts;
-use crate::kept_listener::KeptListener;
+use crate::kept_listener::ListenerBox;
 use crate::serving::OwnedServer;
 use std::alloc::Global;
 use std::mem;
@@ -11,7 +11,7 @@ use std::mem;
 /// A listener of C's, or none: `{NULL, false}` is none. C gives it to one call at a time, and never changes it.
 #[repr(C)]
 pub struct ListenerHandle {
-    pub(crate) kept: KeptListener,
+    pub(crate) kept: ListenerBox,
     is_made: bool,
     ghost fits: { IsTrue is_made ↔ (kept.value ≢ None) },
 }
@@ -21,7 +21,7 @@ impl ListenerHandle {
         ensures { result.kept.value ≡ None }
     {
         ListenerHandle {
-            kept: KeptListener::none(alloc),
+            kept: ListenerBox::none(alloc),
             is_made: false,
         }
     }
@@ -56,7 +56,7 @@ impl ListenerHandle {
         ensures { self.new.kept.value ≡ Some held.value }
     {
         *self = ListenerHandle {
-            kept: KeptListener::of_parts(Parts::of(held)),
+            kept: ListenerBox::of_parts(Parts::of(held)),
             is_made: true,
         };
     }

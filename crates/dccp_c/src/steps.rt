@@ -8,7 +8,7 @@ ghost use Rattle.dccp_c.specs.Doing.{c_end};
 ghost use Rattle.dccp_c.specs.Making.{c_begins};
 ghost use Rattle.dccp_c.specs.Stepping.{c_aborts, c_closes, c_fires, c_opens, c_prefers, c_receives, c_sends, c_told, done, record_heard};
 
-use crate::held::Held;
+use crate::held::OwnedEnd;
 use crate::making::Care;
 use ccid_two::Kinds;
 use data_dropped::Intake;
@@ -22,7 +22,7 @@ use dccp_uses::{
 use std::alloc::Global;
 
 /// A new end, for which no timer runs. NoMemory where no memory is to be had.
-pub(crate) fn new_end(alloc: Global, config: Config, care: &Care) -> Result<Box<Held>, NoMemory>
+pub(crate) fn new_end(alloc: Global, config: Config, care: &Care) -> Result<Box<OwnedEnd>, NoMemory>
     requires { care.now.most_held ≤ 1024 }
     ensures end { IfOk result (λ held. c_end held.value ≡ c_begins care.now config) }
     ensures drops { IfOk result (λ held. held.value.drops ≡ []) }
@@ -42,7 +42,7 @@ fn begun(alloc: Global, config: Config, pace: Pace) -> Result<TimedEnd<Kinds>, N
 }
 
 // An end in a box.
-fn boxed(alloc: Global, timed: TimedEnd<Kinds>, intake: Intake) -> Result<Box<Held>, NoMemory>
+fn boxed(alloc: Global, timed: TimedEnd<Kinds>, intake: Intake) -> Result<Box<OwnedEnd>, NoMemory>
     ensures timed { IfOk result (λ held. held.value.timed ≡ timed) }
     ensures cookie { IfOk result (λ held. held.value.cookie ≡ []) }
     ensures intake { IfOk result (λ held. held.value.intake ≡ intake) }
@@ -50,7 +50,7 @@ fn boxed(alloc: Global, timed: TimedEnd<Kinds>, intake: Intake) -> Result<Box<He
 {
     let out = Outbox::new();
     let drops = DropRecord::new(alloc)?;
-    let held = Held {
+    let held = OwnedEnd {
         timed,
         intake,
         out,
@@ -64,7 +64,7 @@ fn boxed(alloc: Global, timed: TimedEnd<Kinds>, intake: Intake) -> Result<Box<He
 }
 
 // The frame that the end has left says what its inbox has to say, and returns the cookie.
-fn speak(held: &mut Held)
+fn speak(held: &mut OwnedEnd)
     ensures frame { held.new.out ≡ holding_frame (c_end held.old) held.old.out }
     ensures timed { held.new.timed ≡ held.old.timed }
     ensures intake { held.new.intake ≡ held.old.intake }
@@ -77,7 +77,7 @@ fn speak(held: &mut Held)
 
 /// `Session::open` at `now`, in milliseconds as in each call, whose frame stays here. A refused call changes nothing
 /// and leaves no frame. NotFresh where the end is a server's, or was opened before.
-pub(crate) fn open(held: &mut Held, now: u64) -> Result<(), OpenFault>
+pub(crate) fn open(held: &mut OwnedEnd, now: u64) -> Result<(), OpenFault>
     ensures step { done held.new.timed held.new.intake held.new.cookie held.new.out result ≡ c_opens now (c_end held.old) }
     ensures drops { held.new.drops ≡ held.old.drops }
 {
@@ -87,7 +87,7 @@ pub(crate) fn open(held: &mut Held, now: u64) -> Result<(), OpenFault>
 }
 
 /// `Session::send`. Held where the application that reads the data leaves no room; else Refused as `Endpoint::send_soon`.
-pub(crate) fn send(held: &mut Held, payload: &[u8], now: u64) -> Result<(), SendRefusal>
+pub(crate) fn send(held: &mut OwnedEnd, payload: &[u8], now: u64) -> Result<(), SendRefusal>
     ensures step { done held.new.timed held.new.intake held.new.cookie held.new.out result ≡ c_sends payload.now now (c_end held.old) }
     ensures drops { held.new.drops ≡ held.old.drops }
 {
@@ -98,7 +98,7 @@ pub(crate) fn send(held: &mut Held, payload: &[u8], now: u64) -> Result<(), Send
 
 /// `Session::prefer`. NotOpen, BadList and NotOurs as of `Endpoint::prefer`.
 pub(crate) fn prefer(
-    held: &mut Held,
+    held: &mut OwnedEnd,
     feature: Feature,
     place: Place,
     values: &[u64],
@@ -115,7 +115,7 @@ pub(crate) fn prefer(
 }
 
 /// This timer has run out. False where it has nothing to do.
-pub(crate) fn fire(held: &mut Held, timer: Timer, now: u64) -> bool
+pub(crate) fn fire(held: &mut OwnedEnd, timer: Timer, now: u64) -> bool
     ensures step { done held.new.timed held.new.intake held.new.cookie held.new.out result ≡ c_fires timer now (c_end held.old) }
     ensures drops { held.new.drops ≡ held.old.drops }
 {
@@ -125,7 +125,7 @@ pub(crate) fn fire(held: &mut Held, timer: Timer, now: u64) -> bool
 }
 
 /// This is due. False where the end has nothing to do.
-pub(crate) fn tell_due(held: &mut Held, due: Due, now: u64) -> bool
+pub(crate) fn tell_due(held: &mut OwnedEnd, due: Due, now: u64) -> bool
     ensures step { done held.new.timed held.new.intake held.new.cookie held.new.out result ≡ c_told due now (c_end held.old) }
     ensures drops { held.new.drops ≡ held.old.drops }
 {
@@ -135,7 +135,7 @@ pub(crate) fn tell_due(held: &mut Held, due: Due, now: u64) -> bool
 }
 
 /// `Session::close`. NotOpen in a phase where nothing is to be closed.
-pub(crate) fn close(held: &mut Held, now: u64) -> Result<(), CloseFault>
+pub(crate) fn close(held: &mut OwnedEnd, now: u64) -> Result<(), CloseFault>
     ensures step { done held.new.timed held.new.intake held.new.cookie held.new.out result ≡ c_closes now (c_end held.old) }
     ensures drops { held.new.drops ≡ held.old.drops }
 {
@@ -145,7 +145,7 @@ pub(crate) fn close(held: &mut Held, now: u64) -> Result<(), CloseFault>
 }
 
 /// `Session::abort`. NotLive where there is no connection.
-pub(crate) fn abort(held: &mut Held, now: u64) -> Result<(), AbortFault>
+pub(crate) fn abort(held: &mut OwnedEnd, now: u64) -> Result<(), AbortFault>
     ensures step { done held.new.timed held.new.intake held.new.cookie held.new.out result ≡ c_aborts now (c_end held.old) }
     ensures drops { held.new.drops ≡ held.old.drops }
 {
@@ -155,7 +155,7 @@ pub(crate) fn abort(held: &mut Held, now: u64) -> Result<(), AbortFault>
 }
 
 /// A datagram of at most 2,044 bytes has arrived. What it is the first to report as dropped is recorded.
-pub(crate) fn receive(held: &mut Held, datagram: &[u8], now: u64) -> Reading
+pub(crate) fn receive(held: &mut OwnedEnd, datagram: &[u8], now: u64) -> Reading
     requires { length datagram.now ≤ 2044 }
     ensures step { done held.new.timed held.new.intake held.new.cookie held.new.out result ≡ c_receives datagram.now now (c_end held.old) }
     ensures drops { held.new.drops ≡ record_heard datagram.now held.old.timed held.new.timed held.old.drops }
@@ -172,7 +172,7 @@ pub(crate) fn receive(held: &mut Held, datagram: &[u8], now: u64) -> Reading
 }
 
 /// Whether it waits for a Request still.
-pub(crate) fn is_listening(held: &Held) -> bool
+pub(crate) fn is_listening(held: &OwnedEnd) -> bool
     ensures { result ≡ is_listening held.now.timed.end.state.phase }
 {
     matches!(held.timed.end().phase(), Phase::Listen)

@@ -31,12 +31,12 @@ use Rattle.std.specs.Prelude.{None}
 use Rattle.core.proofs.alloc.Calls.{handle_tells}
 use Rattle.std_alloc.proofs.ResultValues.{and_tt}
 use Rattle.std_heap.specs.contracts.Global as Heap
-use Rattle.dccp_c.proofs.ListenerAsBox.{E}
-use Rattle.dccp_c.specs.contracts.kept_listener.KeptListener as Kept
-use Rattle.dccp_c.specs.contracts.kept_listener.KeptListener.none as F
-use Rattle.dccp_c.specs.contracts.kept_listener.KeptListener.none.Key.{name as #self}
-use Rattle.dccp_c.proofs.kept_listener.KeptListener.none.Statement as stated
-use Rattle.dccp_c.proofs.kept_listener.KeptListener.none.Code as code
+use Rattle.dccp_c.proofs.AsBox.{E}
+use Rattle.dccp_c.specs.contracts.kept.EndBox as EndBox
+use Rattle.dccp_c.specs.contracts.kept.EndBox.none as F
+use Rattle.dccp_c.specs.contracts.kept.EndBox.none.Key.{name as #self}
+use Rattle.dccp_c.proofs.kept.EndBox.none.Statement as stated
+use Rattle.dccp_c.proofs.kept.EndBox.none.Code as code
 
 abbrev stayed : Stays (F.ended).signature.params (F.ended).kept
 stayed = (stay_dropped (plain (λ _. Heap.the_row)) yes, tt)
@@ -50,7 +50,7 @@ module _ {M : Type 1} {𝓤 : Ura M} (𝓛 : Logic 𝓤) (at_mem : Memory → SP
   walk z =
       let Post = (walk_of 𝓛 F.ended stayed (F.clauses 𝓛 at_mem run)).post z in
       let a = z.0.3.0 in
-      let made : Kept.the_row.Denot = record { ptr = null_ptr; alloc = a; value = None } in
+      let made : EndBox.the_row.Denot = record { ptr = null_ptr; alloc = a; value = None } in
       qed 𝓛 ((‵ ftrue ⊛ ‵ (fsep (Heap.the_row.own_val a z.0.4.0) ftrue)) ∷ raw (emp 𝓤) ∷ []) ∵ split ! $ drop ! $ fsplit ! $ move ! (1 ∷ 2 ∷ []) $ drop ! $
       drop ! $
       handle_tells E.al ! a z.0.4.0 (λ hv ws fa.
@@ -62,8 +62,8 @@ module _ {M : Type 1} {𝓤 : Ura M} (𝓛 : Logic 𝓤) (at_mem : Memory → SP
       returns ! (look_at ! 0 refl) $ free_all ! refl $
       nothing ! $ move ! (1 ∷ 0 ∷ []) $ fjoin ! $ feq_i ! (List Val) (ptr_val null_ptr ∷ []) (ptr_val null_ptr ∷ []) refl $ fjoin ! $
       feq_i ! (List Val) (w ∷ []) (w ∷ []) refl $ fjoin ! $
-      fpack ! (Valss (fields Kept.the_type)) (within (shape Kept.the_type) (to Kept.the_type made) (w ∷ [])) (ptr_val null_ptr ∷ [], (hv ∷ [], tt)) $
-      nothing ! $ move ! (1 ∷ 0 ∷ []) $ fjoin ! $ use1 𝓛 (‵ (Kept.the_row.own_val made (w ∷ []))) (id⊢ 𝓤 _) $
+      fpack ! (Valss (fields EndBox.the_type)) (within (shape EndBox.the_type) (to EndBox.the_type made) (w ∷ [])) (ptr_val null_ptr ∷ [], (hv ∷ [], tt)) $
+      nothing ! $ move ! (1 ∷ 0 ∷ []) $ fjoin ! $ use1 𝓛 (‵ (EndBox.the_row.own_val made (w ∷ []))) (id⊢ 𝓤 _) $
       suffices ! _ (ends_at 𝓛 F.ended stayed (F.clauses 𝓛 at_mem run) z w made (tt, tt) (tt, tt)) $ says ! refl $
       nothing ! $ nothing ! $ fjoin ! $ join ! $ nothing ! $ join ! $ done !))))
 

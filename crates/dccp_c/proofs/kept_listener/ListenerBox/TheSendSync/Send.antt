@@ -14,7 +14,7 @@ use Rattle.std_heap.proofs.Global.TheSendSync as handle
 use Rattle.dccp_c.specs.KeepingListener.{InnerListener as Inner, listener_owns as kept_owns}
 use Rattle.dccp_c.specs.contracts.serving.OwnedServer as OwnedServer
 use Rattle.dccp_c.proofs.serving.OwnedServer.TheSendSync.{the_send as held_send}
-use Rattle.dccp_c.specs.contracts.kept_listener.KeptListener.{the_row, the_type}
+use Rattle.dccp_c.specs.contracts.kept_listener.ListenerBox.{the_row, the_type}
 
 owned : (alloc : Global) (p : Ptr) (held : Option Inner) → Keyless (kept_owns alloc p held)
 owned alloc p None = tt

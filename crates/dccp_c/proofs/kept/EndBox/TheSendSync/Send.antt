@@ -12,13 +12,13 @@ use Rattle.std.proofs.Crossing as heap
 use Rattle.std_alloc.proofs.SendSync.{quiet, lies}
 use Rattle.std_heap.proofs.Global.TheSendSync as handle
 use Rattle.dccp_c.specs.Keeping.{Inner, kept_owns}
-use Rattle.dccp_c.specs.contracts.held.Held as Held
-use Rattle.dccp_c.proofs.held.Held.TheSendSync.{the_send as held_send}
-use Rattle.dccp_c.specs.contracts.kept.Kept.{the_row, the_type}
+use Rattle.dccp_c.specs.contracts.held.OwnedEnd as OwnedEnd
+use Rattle.dccp_c.proofs.held.OwnedEnd.TheSendSync.{the_send as held_send}
+use Rattle.dccp_c.specs.contracts.kept.EndBox.{the_row, the_type}
 
 owned : (alloc : Global) (p : Ptr) (held : Option Inner) → Keyless (kept_owns alloc p held)
 owned alloc p None = tt
-owned alloc p (Some held) = (lies Held.the_row held_send p held, heap.frees.frees alloc (raw (lone Held.the_row.mir)) p)
+owned alloc p (Some held) = (lies OwnedEnd.the_row held_send p held, heap.frees.frees alloc (raw (lone OwnedEnd.the_row.mir)) p)
 
 pub send : IsSend the_row
 send =
