@@ -29,10 +29,10 @@ pub raw_options-cut : (place kind : ℕ) (area rest body following : List ℕ) �
     → raw_options place 0 area
     ≡ record { place = place; kind = kind; body = body }
     ∷ raw_options (place + 1 + (length rest - length following)) 0 following
-raw_options-cut place kind area rest body following is_area found fits is_behind =
+raw_options-cut place kind area rest body following is_area found fits is_cut =
     let first = raw_options-first place kind rest body found fits in
-    let e : length following ≡ length rest - bytes_after kind body = ap length is_behind ∙ length-drop (bytes_after kind body) rest in
+    let e : length following ≡ length rest - bytes_after kind body = ap length is_cut ∙ length-drop (bytes_after kind body) rest in
     let n : place + 1 + bytes_after kind body ≡ place + 1 + (length rest - length following) = omega arith in
     ap (raw_options place 0) is_area ∙ first
     ∙ ap (λ p. record { place = place; kind = kind; body = body } ∷ raw_options p 0 (drop (bytes_after kind body) rest)) n
-    ∙ ap (λ b. record { place = place; kind = kind; body = body } ∷ raw_options (place + 1 + (length rest - length following)) 0 b) (sym is_behind)
+    ∙ ap (λ b. record { place = place; kind = kind; body = body } ∷ raw_options (place + 1 + (length rest - length following)) 0 b) (sym is_cut)

@@ -21,7 +21,7 @@ first-after : (peer : Peer) (rest : List Peer) → AllAfter peer rest → peer_a
 first-after peer [] all = refl
 first-after peer (next ∷ rest) all = ap (λ (o : Ordering). if is_lt o then Some next else peer_after peer rest) all.0
 
--- whoever comes after a peer of the list is the next one
+-- the peer after a peer of the list is the next one
 next-is : (before : List Peer) (peer : Peer) (rest : List Peer) → IsStrictlySortedBy peer_cmp (before ++ peer ∷ rest)
     → peer_after peer (before ++ peer ∷ rest) ≡ slice_get rest 0
 unfolding IsStrictlySortedBy

@@ -27,7 +27,7 @@ abbrev pub peer_after : Peer → List Peer → Option Peer
 peer_after peer [] = None
 peer_after peer (one ∷ rest) = if is_lt (peer_cmp peer one) then Some one else peer_after peer rest
 
--- the peers that a walk names, at most so many: this one, and then whoever comes after the last
+-- the peers that a walk names, at most so many: this one, and then the peer after the last
 abbrev pub peers_walked : ℕ → List Peer → Option Peer → List Peer
 peers_walked zero peers here = []
 peers_walked (suc most) peers None = []

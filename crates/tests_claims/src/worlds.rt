@@ -36,7 +36,7 @@ use congestion_trait::Congestion;
 use two_ends::{
     Event, Seen, World, WorldFault, delivered_data_are_those_of_their_frame, every_run_is_safe,
     no_number_is_processed_again, settled_features_are_alike, values_come_from_both_sides,
-    vectors_tell_what_was_processed, what_is_reported_arrived, what_none_told_is_far_behind,
+    vectors_tell_what_was_processed, what_is_reported_arrived, what_none_told_is_far_below,
 };
 
 /// *agree*: where both ends call a feature settled they hold one value (`clients`, `servers`): the first of the server's
@@ -113,7 +113,7 @@ pub fn what_lies_below_a_floor_was_told<C: Congestion>()
         → IsUntold w.world side (number_of iss count) → AreAmongFirst iss (count + 2047) (half_of w.world side).processed → ⊥ }
 {
     every_run_is_safe::<C>();
-    what_none_told_is_far_behind::<C>();
+    what_none_told_is_far_below::<C>();
 }
 
 /// *once* and *heard*: no number is processed early and late (`once`), nor one that the other side did not send (`sent`);

@@ -194,10 +194,10 @@ module _ (w : WorldState) where
     pub after-none : Contains early n → IsBefore ack n → ⊥
     after-none has_it before = (truthful side index frame ack bytes there carries).none_after n has_it before
 
-  pub far-behind : Told w → (side : Side) (iss count n : ℕ) → iss < 2 ^ 48 → 1 ≤ count → count + 2047 ≤ 2 ^ 47 → n ≡ number_of iss count
+  pub far-below : Told w → (side : Side) (iss count n : ℕ) → iss < 2 ^ 48 → 1 ≤ count → count + 2047 ≤ 2 ^ 47 → n ≡ number_of iss count
       → distance (half_of w side).end.marks.isr n < distance (half_of w side).end.marks.isr (half_of w side).end.received.set.floor
       → (ToldIn w side n → ⊥) → AreAmongFirst iss (count + 2047) (half_of w side).processed → ⊥
-  far-behind told side iss count n fits some early is below none among = by (told side n (number-small iss count n is) below) where
+  far-below told side iss count n fits some early is below none among = by (told side n (number-small iss count n is) below) where
     by : NeedsNoReport w side n → ⊥
     by (Far q has_it before) =
         let q_is = among q has_it in
@@ -209,7 +209,7 @@ module _ (w : WorldState) where
       → floor_of (half_of w side).end ≡ number_of iss floor → (ToldIn w side (number_of iss count) → ⊥)
       → AreAmongFirst iss (count + 2047) (half_of w side).processed → ⊥
   counts-below told side iss first count floor fits some from before early near isr_is floor_is none among =
-      far-behind told side iss count (number_of iss count) fits (omega (arith, some, from)) near refl
+      far-below told side iss count (number_of iss count) fits (omega (arith, some, from)) near refl
       (between-counts iss first count floor (half_of w side).end.marks.isr (floor_of (half_of w side).end) fits some from before early isr_is floor_is) none
       among
 

@@ -123,7 +123,7 @@ pub fn vectors_tell_what_was_processed<C: Congestion>()
 /// an end's floor, then not all numbers that the end processed are among those of the first packets, up to 2,047 after
 /// that number's: it has processed one that is 2,048 after it or more. Below the floor lies a packet of a count from
 /// that of ISR on, and less than that of the floor.
-pub fn what_none_told_is_far_behind<C: Congestion>()
+pub fn what_none_told_is_far_below<C: Congestion>()
     ensures by_counts { (w : ControlledWorld C) → Safe C.control w → (side : Side) (iss first count floor : ℕ) → iss < 2 ^ 48
         → 1 ≤ first → first ≤ count → count < floor → floor ≤ 2 ^ 47 + 1 → count + 2047 ≤ 2 ^ 47
         → (half_of w.world side).end.marks.isr ≡ number_of iss first → floor_of (half_of w.world side).end ≡ number_of iss floor

@@ -38,7 +38,7 @@ pub use crate::laws::{
     delivered_data_are_those_of_their_frame, few_frames_are_never_far, frames_spell_their_numbers,
     last_lists_are_active, no_number_is_processed_again, settled_features_are_alike,
     values_change_by_shared_lists, values_come_from_both_sides, vectors_tell_what_was_processed,
-    what_is_reported_arrived, what_none_asked_for_stays, what_none_told_is_far_behind,
+    what_is_reported_arrived, what_none_asked_for_stays, what_none_told_is_far_below,
     what_was_asked_last_is_wanted,
 };
 pub use crate::marks::{

@@ -48,7 +48,7 @@ pub(crate) fn phase_name(phase: Phase) -> &'static [u8]
     }
 }
 
-// The phase of an end that sent a Reset of this code: a connection ends by it, but for Packet Error in REQUEST.
+// The phase of an end that sent a Reset of this code: a connection ends by it, except by Packet Error in REQUEST.
 fn phase_reset(phase: Phase, code: u8) -> Phase
     ensures { result ≡ spec.phase_reset phase code }
 {

@@ -1,5 +1,5 @@
-use Rattle.two_ends.proofs.Consequences.{far-behind, counts-below}
-use Rattle.two_ends.proofs.laws.what_none_told_is_far_behind.Goals as goal
+use Rattle.two_ends.proofs.Consequences.{far-below, counts-below}
+use Rattle.two_ends.proofs.laws.what_none_told_is_far_below.Goals as goal
 
 pub returns-clause-by_counts : goal.returns-clause-by_counts
 returns-clause-by_counts g c = λ w safe side iss first count floor fits some from before early near isr_is floor_is none among.
@@ -10,7 +10,7 @@ returns-clause-by_counts g c = λ w safe side iss first count floor fits some fr
 
 pub returns-clause-below : goal.returns-clause-below
 returns-clause-below g c = λ w safe side iss count n fits some early is below none among.
-    far-behind w.world safe.told side iss count n fits some early is below
+    far-below w.world safe.told side iss count n fits some early is below
     (λ was. none was.frame was.ack was.bytes (record { index = was.index; is_there = was.is_there; carries = was.vector_is })
     was.whole was.reaches was.heard)
     among
