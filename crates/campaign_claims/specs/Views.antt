@@ -27,31 +27,31 @@ first limit = knows [] 0 (2 ^ 62) limit
 
 -- one claim more, which gave this number
 abbrev pub with_claimed : View → ℕ → View
-with_claimed v k = knows (v.numbers ++ k ∷ []) (v.drawn + 1) v.share v.limit
+with_claimed view k = knows (view.numbers ++ k ∷ []) (view.drawn + 1) view.share view.limit
 
 -- one claim more, which gave none
 abbrev pub with_none : View → View
-with_none v = knows v.numbers (v.drawn + 1) v.share v.limit
+with_none view = knows view.numbers (view.drawn + 1) view.share view.limit
 
 -- what a claim makes of a view, by the word that it read
 abbrev pub claimed : View → ℕ → View
-claimed v found = if nat_lt found v.limit then with_claimed v found else with_none v
+claimed view found = if nat_lt found view.limit then with_claimed view found else with_none view
 
 -- half of the claims that may still be made, rounded down
 abbrev pub half_left : View → ℕ
-half_left v = (v.share - v.drawn) / 2
+half_left view = (view.share - view.drawn) / 2
 
 -- what is kept at a split, and what is given
 abbrev pub kept : View → View
-kept v = knows v.numbers v.drawn (v.share - half_left v) v.limit
+kept view = knows view.numbers view.drawn (view.share - half_left view) view.limit
 
 -- what is given at a split: half of the claims that are left, and no number
 abbrev pub given : View → View
-given v = knows [] 0 (half_left v) v.limit
+given view = knows [] 0 (half_left view) view.limit
 
 -- two views in one, and what is left of the second
 abbrev pub both : View → View → View
-both v w = knows (v.numbers ++ w.numbers) (v.drawn + w.drawn) (v.share + w.share) v.limit
+both view w = knows (view.numbers ++ w.numbers) (view.drawn + w.drawn) (view.share + w.share) view.limit
 
 -- what is left of a claimer that was joined to another: nothing
 abbrev pub spent : View

@@ -118,7 +118,7 @@ setting_value setting text = option_and_then (λ n. Some (value.Number n)) (numb
 -- A setting and the value that is given to it.
 abbrev pub value_given_to : Option Setting → List ℕ → Option Assignment
 value_given_to None text = None
-value_given_to (Some setting) text = option_and_then (λ v. Some (record { setting = setting; value = v })) (setting_value setting text)
+value_given_to (Some setting) text = option_and_then (λ it. Some (record { setting = setting; value = it })) (setting_value setting text)
 
 -- the same by the setting's name
 abbrev pub given_of : Table → List ℕ → List ℕ → Option Assignment
@@ -164,8 +164,8 @@ is_same one other = bytes_eq (bare_name one) (bare_name other)
 
 -- the value, where the setting is not given once more
 abbrev pub unless_again : Setting → Value → List Assignment → Option (Option Value)
-unless_again setting v [] = Some (Some v)
-unless_again setting v (given ∷ all) = if is_same given.setting setting then None else unless_again setting v all
+unless_again setting it [] = Some (Some it)
+unless_again setting it (given ∷ all) = if is_same given.setting setting then None else unless_again setting it all
 
 -- the value that is given to this setting, or that there is none; it is given at most once
 abbrev pub once : Setting → List Assignment → Option (Option Value)
