@@ -8,7 +8,7 @@ use Rattle.dccp_endpoint.specs.Inputs as input
 use Rattle.dccp_endpoint.specs.End.{floor_of}
 use Rattle.dccp_states.specs.declared.outcome.Outcome.{Outcome}
 use Rattle.dccp_states.specs.declared.outcome.Outcome.TheVariants.{Took, Dropped, Synced, WasReset, SentReset}
-use Rattle.two_ends.proofs.Numbering.{sent-few}
+use Rattle.two_ends.proofs.OfWorlds.Numbering.{sent-few}
 use Rattle.two_ends.specs.Controlled.{congestion_of, controls, said_by}
 use Rattle.two_ends.specs.World.{Half, HalfStep, WorldState, WorldStep, Happening, Calls, Delivers, delivers_frame, as_sent, half_of, half_steps, happens, happening_of, is_far_frame, is_full, takes_place, unless_far, unless_full, with_half, world_after}
 use Rattle.world_events.specs.Actors.{actor, other}

@@ -16,7 +16,7 @@ use Rattle.tool_jobs.proofs.SchedulesRunning.{Turns, every-run, next-turns, run-
 use Rattle.tool_jobs.specs.Scenes.{Scene, scene_events}
 use Rattle.tool_jobs.specs.Transcript.{IsPlayable, SentFew, ShowsEvent, by_step, event_shown, first_play, performed, run_job, world_at_first, world_of, world_or_start}
 use Rattle.tool_jobs.specs.declared.run.play.Play.{Play}
-use Rattle.two_ends.proofs.Numbering.{sent-few}
+use Rattle.two_ends.proofs.OfWorlds.Numbering.{sent-few}
 use Rattle.two_ends.specs.Controlled.{ControlledWorld, ControlledStep, begins_with, congestion_of, controls, happens_to, plays, said_by}
 use Rattle.two_ends.specs.World.{Half, Happening, WorldState, WorldStep, Calls, Delivers, as_sent, delivers_frame, half_of, half_steps, happening_of, is_far_frame, is_full, takes_place, unless_far, unless_full, with_half}
 use Rattle.two_ends.specs.declared.frames.SentFrame.{SentFrame}

@@ -4,9 +4,9 @@
 //! No code runs here: the functions have empty bodies, and their contracts are the laws. They say nothing of packets,
 //! phases or windows.
 //!
-//! The world's proofs cite the lemma that each move keeps the facts of a pair (`move_keeps` of `proofs/MarkSteps`), and
-//! not that the sides were reached. The facts are the same seen from either side, so they need not say which of the two
-//! is the client.
+//! The world's proofs cite the lemma that each move keeps the facts of a pair (`move_keeps` of
+//! `proofs/OfMarks/MarkSteps`), and not that the sides were reached. The facts are the same seen from either side, so
+//! they need not say which of the two is the client.
 
 mod laws;
 mod numbers;

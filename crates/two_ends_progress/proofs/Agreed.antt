@@ -6,7 +6,7 @@ use Rattle.dccp_endpoint.specs.Drafts.{Fits}
 use Rattle.dccp_endpoint.specs.declared.config.Config.{Config}
 use Rattle.dccp_states.specs.declared.phase.Role.TheVariants as role
 use Rattle.feature_lists.specs.declared.features.Place.TheVariants.{Here, There}
-use Rattle.two_ends.proofs.Consequences.{alike}
+use Rattle.two_ends.proofs.OfWorlds.Consequences.{alike}
 use Rattle.two_ends.specs.Controlled.{ControlledWorld, plays, plays_from_start, begins_with}
 use Rattle.two_ends.specs.Negotiated.{Agree}
 use Rattle.two_ends.specs.Safe.{Safe}

@@ -28,10 +28,10 @@ use Rattle.dccp_endpoint.specs.declared.config.Config.{Config}
 use Rattle.seq_circle.specs.Circle.{later_of, residue}
 use Rattle.two_ends.specs.Controlled.{ControlledWorld, congestion_of, plays, plays_from_start, begins_with}
 use Rattle.two_ends.specs.World.{Half, Occurrence, WorldState, at_start, half_of, world_after_all}
-use Rattle.two_ends.proofs.Acting.{IsHeld, run-configs}
-use Rattle.two_ends.proofs.Keeping.{HasRoles, SideInvariant, run-kept, run-roles}
-use Rattle.two_ends.proofs.Numbering.{IsOrdered, numbering}
-use Rattle.two_ends.proofs.Reaching.{occurring, plays-run}
+use Rattle.two_ends.proofs.OfWorlds.Acting.{IsHeld, run-configs}
+use Rattle.two_ends.proofs.OfWorlds.Keeping.{HasRoles, SideInvariant, run-kept, run-roles}
+use Rattle.two_ends.proofs.OfWorlds.Numbering.{IsOrdered, numbering}
+use Rattle.two_ends.proofs.OfWorlds.Reaching.{occurring, plays-run}
 use Rattle.validity_windows.specs.Verdict.{by_greatest, gar_after}
 use Rattle.validity_windows.specs.Windows.{InRange}
 use Rattle.validity_windows.specs.declared.marks.Marks.{Marks}

@@ -35,17 +35,17 @@ use Rattle.run_list.specs.declared.answers.Marked.{Marked}
 use Rattle.run_list.specs.declared.answers.Marked.TheVariants.{New}
 use Rattle.seq_circle.specs.Circle.{is_before}
 use Rattle.seq_circle.specs.Counts.{IsNumber, count_of, number_of}
-use Rattle.two_ends.proofs.Acting.{Act, IsHeld, config_of, end_of, half_after, held_by, not-full, party_of, processed_by}
-use Rattle.two_ends.proofs.FeatureOrder.{before_counts}
-use Rattle.two_ends.proofs.HeardTo.{is-number, opened-none}
-use Rattle.two_ends.proofs.Keeping.{SideInvariant, run-kept}
-use Rattle.two_ends.proofs.MarkSets.{begun_shut_are, counts_are_new}
-use Rattle.two_ends.proofs.Marking.{IsMarking}
-use Rattle.two_ends.proofs.Numbering.{came-arrived, came-logged, few-logged}
-use Rattle.two_ends.proofs.ReadBack.{IsFromLog, IsFromPeer}
-use Rattle.two_ends.proofs.Reaching.{occurring, plays-run, world-after}
-use Rattle.two_ends.proofs.Shown.{few-processed, next-number}
-use Rattle.two_ends.proofs.Vectors.{frames-length}
+use Rattle.two_ends.proofs.OfWorlds.Acting.{Act, IsHeld, config_of, end_of, half_after, held_by, not-full, party_of, processed_by}
+use Rattle.two_ends.proofs.OfFeatures.FeatureOrder.{before_counts}
+use Rattle.two_ends.proofs.OfWorlds.HeardTo.{is-number, opened-none}
+use Rattle.two_ends.proofs.OfWorlds.Keeping.{SideInvariant, run-kept}
+use Rattle.two_ends.proofs.OfMarks.MarkSets.{begun_shut_are, counts_are_new}
+use Rattle.two_ends.proofs.OfMarks.Marking.{IsMarking}
+use Rattle.two_ends.proofs.OfWorlds.Numbering.{came-arrived, came-logged, few-logged}
+use Rattle.two_ends.proofs.OfWorlds.ReadBack.{IsFromLog, IsFromPeer}
+use Rattle.two_ends.proofs.OfWorlds.Reaching.{occurring, plays-run, world-after}
+use Rattle.two_ends.proofs.OfMarks.Shown.{few-processed, next-number}
+use Rattle.two_ends.proofs.OfMarks.Vectors.{frames-length}
 use Rattle.two_ends.specs.Controlled.{ControlledWorld, begins_with, congestion_of, controlled, controlled_after, controls, happens_to, plays, said_by}
 use Rattle.two_ends.specs.MarkMoves.{begun_shut}
 use Rattle.two_ends.specs.MarkView.{MarkSide}

@@ -26,11 +26,11 @@ use Rattle.run_list.specs.declared.answers.Marked.TheVariants.{New}
 use Rattle.seq_circle.specs.Circle.{residue}
 use Rattle.seq_circle.specs.Counts.{number_of}
 use Rattle.two_ends.specs.World.{WorldState, half_of}
-use Rattle.two_ends.proofs.Acting.{party_of}
-use Rattle.two_ends.proofs.MarkSets.{counts_are_new}
-use Rattle.two_ends.proofs.Marking.{IsMarking}
-use Rattle.two_ends.proofs.Numbering.{few-logged}
-use Rattle.two_ends.proofs.Shown.{some-first}
+use Rattle.two_ends.proofs.OfWorlds.Acting.{party_of}
+use Rattle.two_ends.proofs.OfMarks.MarkSets.{counts_are_new}
+use Rattle.two_ends.proofs.OfMarks.Marking.{IsMarking}
+use Rattle.two_ends.proofs.OfWorlds.Numbering.{few-logged}
+use Rattle.two_ends.proofs.OfMarks.Shown.{some-first}
 use Rattle.validity_windows.specs.Verdict.{by_window}
 use Rattle.validity_windows.specs.declared.verdict.Verdict.TheVariants as verdicts
 use Rattle.world_events.specs.declared.event.Side.{Side}

@@ -45,7 +45,7 @@ use Rattle.feature_machine.specs.declared.stands.Stand.{Stand}
 use Rattle.feature_machine.specs.declared.stands.Stand.TheVariants as stand
 use Rattle.run_list.specs.MarkedSet.{MarkedSet}
 use Rattle.seq_circle.specs.Circle.{is_before, residue}
-use Rattle.two_ends.proofs.Consequences.{alike}
+use Rattle.two_ends.proofs.OfWorlds.Consequences.{alike}
 use Rattle.two_ends.specs.Controlled.{ControlledWorld, begins_with, congestion_of, plays, plays_from_start}
 use Rattle.two_ends.specs.Negotiated.{Agree}
 use Rattle.two_ends.specs.Safe.{Safe}

@@ -23,10 +23,10 @@ use Rattle.feature_machine.specs.declared.row.Row.{Row}
 use Rattle.two_ends.specs.Controlled.{ControlledWorld, congestion_of, happens_to, said_by}
 use Rattle.two_ends.specs.World.{Half, WorldState, WorldStep, as_sent, half_of, happens, is_far_frame, is_full, moved, world_after}
 use Rattle.two_ends.specs.declared.frames.SentFrame.{SentFrame}
-use Rattle.two_ends.proofs.Acting.{Refused, Steps, Takes, event-taken}
-use Rattle.two_ends.proofs.Nearing.{held-near}
-use Rattle.two_ends.proofs.Numbering.{sent-few}
-use Rattle.two_ends.proofs.Reaching.{world-after}
+use Rattle.two_ends.proofs.OfWorlds.Acting.{Refused, Steps, Takes, event-taken}
+use Rattle.two_ends.proofs.OfWorlds.Nearing.{held-near}
+use Rattle.two_ends.proofs.OfWorlds.Numbering.{sent-few}
+use Rattle.two_ends.proofs.OfWorlds.Reaching.{world-after}
 use Rattle.world_events.specs.Actors.{actor}
 use Rattle.world_events.specs.declared.event.Event.{Event}
 use Rattle.world_events.specs.declared.event.Event.TheVariants as event

@@ -42,10 +42,10 @@ use Rattle.feature_machine.specs.declared.row.Row.{Row}
 use Rattle.feature_machine.specs.declared.stands.Stand.TheVariants as stand
 use Rattle.run_list.specs.MarkedSet.{MarkedSet}
 use Rattle.seq_circle.specs.Circle.{is_before, later_of, residue}
-use Rattle.two_ends.proofs.Acting.{party_of}
-use Rattle.two_ends.proofs.FeatureSteps.{reached_keeps}
-use Rattle.two_ends.proofs.Numbering.{few-logged}
-use Rattle.two_ends.proofs.Viewing.{carried_of}
+use Rattle.two_ends.proofs.OfWorlds.Acting.{party_of}
+use Rattle.two_ends.proofs.OfFeatures.FeatureSteps.{reached_keeps}
+use Rattle.two_ends.proofs.OfWorlds.Numbering.{few-logged}
+use Rattle.two_ends.proofs.OfFeatures.Viewing.{carried_of}
 use Rattle.two_ends.specs.Controlled.{ControlledWorld, congestion_of}
 use Rattle.two_ends.specs.FeatureRows.{opened_count}
 use Rattle.two_ends.specs.World.{Half, WorldState, half_of, moved}

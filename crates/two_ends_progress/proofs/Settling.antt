@@ -24,7 +24,7 @@ use Rattle.dccp_endpoint.specs.Heeding.{DueConfirm, ReadingState, heard_turns, h
 use Rattle.dccp_endpoint.specs.Saying.{change_if, changes_among, confirm_for, own_options, said_of, said_to}
 use Rattle.dccp_endpoint.specs.Speaking.{change_items, confirm_items, wish_bytes}
 use Rattle.dccp_endpoint.specs.Turns.{Key, sendings}
-use Rattle.two_ends.proofs.FewOptions.{changes_read, changes-as-read, heeded-few, vector-changes, vector-length, written-changes, written-length}
+use Rattle.two_ends.proofs.OfFeatures.FewOptions.{changes_read, changes-as-read, heeded-few, vector-changes, vector-length, written-changes, written-length}
 use Rattle.dccp_endpoint.proofs.OneConfirm.{whole-heard}
 use Rattle.two_ends_progress.proofs.RowSteps.{Ends, change-answered, change-stays, confirm-settles}
 

@@ -21,10 +21,10 @@ use Rattle.two_ends.specs.Controlled.{ControlledWorld, congestion_of, said_by}
 use Rattle.two_ends.specs.Numbered.{Hears}
 use Rattle.two_ends.specs.World.{Calls, Half, Said, WorldState, as_sent, half_of, half_steps, happens, is_far_frame, is_full, moved, takes_place, with_half, world_after}
 use Rattle.two_ends.specs.declared.frames.SentFrame.{SentFrame}
-use Rattle.two_ends.proofs.Acting.{IsHeld, event-taken, party_of}
-use Rattle.two_ends.proofs.Keeping.{HasRoles, SideInvariant, step-kept}
-use Rattle.two_ends.proofs.Numbering.{few-logged, sent-few}
-use Rattle.two_ends.proofs.Reaching.{world-after}
+use Rattle.two_ends.proofs.OfWorlds.Acting.{IsHeld, event-taken, party_of}
+use Rattle.two_ends.proofs.OfWorlds.Keeping.{HasRoles, SideInvariant, step-kept}
+use Rattle.two_ends.proofs.OfWorlds.Numbering.{few-logged, sent-few}
+use Rattle.two_ends.proofs.OfWorlds.Reaching.{world-after}
 use Rattle.validity_windows.specs.Verdict.{verdict}
 use Rattle.validity_windows.specs.declared.verdict.Verdict.{Verdict}
 use Rattle.world_events.specs.Actors.{actor, other}

@@ -35,7 +35,7 @@ use Rattle.two_ends.specs.Delivered.{place_delivered}
 use Rattle.two_ends.specs.World.{Half, HalfStep, WorldState, half_of, half_steps, is_far_frame, is_full, moved, with_half}
 use Rattle.dccp_endpoint.specs.UserCalls.{seen_of}
 use Rattle.two_ends.specs.declared.frames.SentFrame.{SentFrame}
-use Rattle.two_ends.proofs.Delivering.{payload-lies}
+use Rattle.two_ends.proofs.OfWorlds.Delivering.{payload-lies}
 use Rattle.validity_windows.specs.declared.verdict.Verdict.TheVariants as verdicts
 use Rattle.world_events.specs.declared.event.Event.{Event}
 use Rattle.world_events.specs.declared.event.Event.TheVariants as event

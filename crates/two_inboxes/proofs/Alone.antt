@@ -26,8 +26,8 @@ use Rattle.two_ends.specs.Controlled.{ControlledWorld, congestion_of, controlled
 use Rattle.two_ends.specs.Frames.{is_short_packet, packet_of}
 use Rattle.two_ends.specs.World.{Half, Said, WorldState, WorldStep, as_sent, delivers_frame, half_of, half_steps, half_with, happens, in_world, is_far_frame, is_full, newly_processed, unless_far, with_half, world_after}
 use Rattle.two_ends.specs.declared.frames.SentFrame.{SentFrame}
-use Rattle.two_ends.proofs.Acting.{IsHeld, Refused, Steps, Takes, event-taken}
-use Rattle.two_ends.proofs.Keeping.{SideInvariant, kept-proper, run-kept, step-kept}
+use Rattle.two_ends.proofs.OfWorlds.Acting.{IsHeld, Refused, Steps, Takes, event-taken}
+use Rattle.two_ends.proofs.OfWorlds.Keeping.{SideInvariant, kept-proper, run-kept, step-kept}
 use Rattle.world_events.specs.Actors.{actor, other}
 use Rattle.world_events.specs.declared.event.Event.{Event}
 use Rattle.world_events.specs.declared.event.Event.TheVariants as event

@@ -52,11 +52,11 @@ use Rattle.two_ends.specs.Reported.{processed_by}
 use Rattle.two_ends.specs.Safe.{Safe}
 use Rattle.two_ends.specs.World.{Half, Said, WorldState, WorldStep, as_sent, half_at_start, half_of, half_steps, happens, newly_processed, number_if, with_half, world_after}
 use Rattle.two_ends.specs.declared.frames.SentFrame.{SentFrame}
-use Rattle.two_ends.proofs.Acting.{IsHeld, Refused, Steps, Takes, event-taken}
-use Rattle.two_ends.proofs.Consequences.{apart-so, missing-none}
-use Rattle.two_ends.proofs.Delivering.{delivers-so}
-use Rattle.two_ends.proofs.Keeping.{SideInvariant, held-once, kept-proper, kept-told, step-kept}
-use Rattle.two_ends.proofs.ReadBack.{IsFromPeer, IsSentFrame}
+use Rattle.two_ends.proofs.OfWorlds.Acting.{IsHeld, Refused, Steps, Takes, event-taken}
+use Rattle.two_ends.proofs.OfWorlds.Consequences.{apart-so, missing-none}
+use Rattle.two_ends.proofs.OfWorlds.Delivering.{delivers-so}
+use Rattle.two_ends.proofs.OfWorlds.Keeping.{SideInvariant, held-once, kept-proper, kept-told, step-kept}
+use Rattle.two_ends.proofs.OfWorlds.ReadBack.{IsFromPeer, IsSentFrame}
 use Rattle.world_events.specs.Actors.{actor, other}
 use Rattle.world_events.specs.declared.event.Event.{Event}
 use Rattle.world_events.specs.declared.event.Event.TheVariants as event

@@ -1,7 +1,7 @@
 use Rattle.std.proofs.Common.{◌≡◌, ap, sym, ◌∙◌, ℕ, ◌+◌, ◌-◌, ◌^◌}
 use Rattle.seq_circle.specs.Circle.{residue}
 use Rattle.two_ends.specs.World.{half_of}
-use Rattle.two_ends.proofs.Placing.{all-of-side, bare-at, number-of-side}
+use Rattle.two_ends.proofs.OfWorlds.Placing.{all-of-side, bare-at, number-of-side}
 use Rattle.two_ends.proofs.facts.frames_are_numbered_in_order.Goals as goal
 
 pub returns-clause-number : goal.returns-clause-number

@@ -6,7 +6,7 @@ use Rattle.seq_circle.specs.Circle.{residue}
 use Rattle.two_ends.specs.Numbered.{Facts, Hears}
 use Rattle.two_ends.specs.Placed.{count_of_own_numbers}
 use Rattle.two_ends.specs.World.{WorldState, half_of}
-use Rattle.two_ends.proofs.Placing.{all-of-side}
+use Rattle.two_ends.proofs.OfWorlds.Placing.{all-of-side}
 use Rattle.two_ends.proofs.facts.what_is_heard_was_sent.Goals as goal
 
 counted : (w : WorldState) (facts : Facts w) (side : Side)

@@ -1,5 +1,5 @@
 use Rattle.std.proofs.Common.{refl, arith}
-use Rattle.two_ends.proofs.Delivering.{data-of}
+use Rattle.two_ends.proofs.OfWorlds.Delivering.{data-of}
 use Rattle.two_ends.proofs.laws.delivered_data_are_those_of_their_frame.Goals as goal
 
 pub returns-clause-frame : goal.returns-clause-frame

@@ -1,4 +1,4 @@
-use Rattle.two_ends.proofs.Nearing.{plays-near}
+use Rattle.two_ends.proofs.OfWorlds.Nearing.{plays-near}
 use Rattle.two_ends.proofs.laws.few_frames_are_never_far.Goals as goal
 
 pub returns : goal.returns

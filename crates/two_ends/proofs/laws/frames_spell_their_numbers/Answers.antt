@@ -3,7 +3,7 @@ use Rattle.std.specs.Prelude.{is_some}
 use Rattle.std.specs.Result.{result_ok}
 use Rattle.dccp_packets.specs.Grammar.{Parts}
 use Rattle.dccp_packets.specs.declared.reading.Malformed.{Malformed}
-use Rattle.two_ends.proofs.Spelling.{ack-spelled, frame-spelled, number-spelled}
+use Rattle.two_ends.proofs.OfWorlds.Spelling.{ack-spelled, frame-spelled, number-spelled}
 use Rattle.two_ends.proofs.laws.frames_spell_their_numbers.Goals as goal
 
 pub returns-clause-packet : goal.returns-clause-packet

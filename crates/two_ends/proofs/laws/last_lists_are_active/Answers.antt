@@ -1,4 +1,4 @@
-use Rattle.two_ends.proofs.Believing.{plays-asked}
+use Rattle.two_ends.proofs.OfWorlds.Believing.{plays-asked}
 use Rattle.two_ends.proofs.laws.last_lists_are_active.Goals as goal
 
 pub returns : goal.returns

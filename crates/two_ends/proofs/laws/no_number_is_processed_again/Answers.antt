@@ -1,4 +1,4 @@
-use Rattle.two_ends.proofs.Consequences.{apart-so, sent-so}
+use Rattle.two_ends.proofs.OfWorlds.Consequences.{apart-so, sent-so}
 use Rattle.two_ends.proofs.laws.no_number_is_processed_again.Goals as goal
 
 pub returns-clause-apart : goal.returns-clause-apart

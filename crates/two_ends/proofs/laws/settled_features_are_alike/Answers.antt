@@ -1,5 +1,5 @@
 use Rattle.world_events.specs.declared.event.Side.TheVariants.{Client, Server}
-use Rattle.two_ends.proofs.Consequences.{alike, list-sent, first-entry, first-shared, told-last}
+use Rattle.two_ends.proofs.OfWorlds.Consequences.{alike, list-sent, first-entry, first-shared, told-last}
 use Rattle.two_ends.proofs.laws.settled_features_are_alike.Goals as goal
 
 pub returns-clause-clients : goal.returns-clause-clients

@@ -1,4 +1,4 @@
-use Rattle.two_ends.proofs.Sharing.{plays-changes}
+use Rattle.two_ends.proofs.OfFeatures.Sharing.{plays-changes}
 use Rattle.two_ends.proofs.laws.values_change_by_shared_lists.Goals as goal
 
 pub returns : goal.returns

@@ -1,5 +1,5 @@
 use Rattle.two_ends.specs.Pairs.{held_at}
-use Rattle.two_ends.proofs.Consequences.{from-silent, from-apart, from-untold, of-lists, of-location}
+use Rattle.two_ends.proofs.OfWorlds.Consequences.{from-silent, from-apart, from-untold, of-lists, of-location}
 use Rattle.two_ends.proofs.laws.values_come_from_both_sides.Goals as goal
 
 pub returns-clause-silent : goal.returns-clause-silent

@@ -1,4 +1,4 @@
-use Rattle.two_ends.proofs.Consequences.{told-received, all-told, after-none, missing-none}
+use Rattle.two_ends.proofs.OfWorlds.Consequences.{told-received, all-told, after-none, missing-none}
 use Rattle.two_ends.proofs.laws.vectors_tell_what_was_processed.Goals as goal
 
 pub returns-clause-received : goal.returns-clause-received

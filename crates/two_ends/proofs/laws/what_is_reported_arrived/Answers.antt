@@ -1,4 +1,4 @@
-use Rattle.two_ends.proofs.Consequences.{reported-processed, reported-sent}
+use Rattle.two_ends.proofs.OfWorlds.Consequences.{reported-processed, reported-sent}
 use Rattle.two_ends.proofs.laws.what_is_reported_arrived.Goals as goal
 
 pub returns-clause-processed : goal.returns-clause-processed

@@ -1,4 +1,4 @@
-use Rattle.two_ends.proofs.Believing.{plays-initial}
+use Rattle.two_ends.proofs.OfWorlds.Believing.{plays-initial}
 use Rattle.two_ends.proofs.laws.what_none_asked_for_stays.Goals as goal
 
 pub returns : goal.returns

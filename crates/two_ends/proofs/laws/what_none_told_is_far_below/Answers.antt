@@ -1,4 +1,4 @@
-use Rattle.two_ends.proofs.Consequences.{far-below, counts-below}
+use Rattle.two_ends.proofs.OfWorlds.Consequences.{far-below, counts-below}
 use Rattle.two_ends.proofs.laws.what_none_told_is_far_below.Goals as goal
 
 pub returns-clause-by_counts : goal.returns-clause-by_counts

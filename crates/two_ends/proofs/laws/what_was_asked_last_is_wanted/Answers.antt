@@ -1,4 +1,4 @@
-use Rattle.two_ends.proofs.Preferring.{last-asked-wanted, unasked-wanted}
+use Rattle.two_ends.proofs.OfFeatures.Preferring.{last-asked-wanted, unasked-wanted}
 use Rattle.two_ends.proofs.laws.what_was_asked_last_is_wanted.Goals as goal
 
 pub returns-clause-asked : goal.returns-clause-asked

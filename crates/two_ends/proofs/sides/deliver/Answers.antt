@@ -2,7 +2,7 @@
 use Rattle.std.proofs.Common.{◌≡◌, ◌≤◌, refl, sym, Some, length, slice_get}
 use Rattle.std.proofs.lemmas.Bool.{ltb-false}
 use Rattle.std.proofs.lemmas.Option.{slice_get_past, slice_get_read}
-use Rattle.two_ends.proofs.Refusing.{handed-so, none-handed}
+use Rattle.two_ends.proofs.OfWorlds.Refusing.{handed-so, none-handed}
 use Rattle.two_ends.proofs.sides.deliver.Goals as goal
 
 pub returns-in-Some : goal.returns-in-Some

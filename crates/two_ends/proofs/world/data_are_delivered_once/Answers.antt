@@ -1,4 +1,4 @@
-use Rattle.two_ends.proofs.Believing.{plays-delivered}
+use Rattle.two_ends.proofs.OfWorlds.Believing.{plays-delivered}
 use Rattle.two_ends.proofs.world.data_are_delivered_once.Goals as goal
 
 pub returns : goal.returns

@@ -1,4 +1,4 @@
-use Rattle.two_ends.proofs.Believing.{plays-safe}
+use Rattle.two_ends.proofs.OfWorlds.Believing.{plays-safe}
 use Rattle.two_ends.proofs.world.every_run_is_safe.Goals as goal
 
 pub returns : goal.returns

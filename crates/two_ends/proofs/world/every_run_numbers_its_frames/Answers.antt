@@ -1,4 +1,4 @@
-use Rattle.two_ends.proofs.Believing.{plays-facts}
+use Rattle.two_ends.proofs.OfWorlds.Believing.{plays-facts}
 use Rattle.two_ends.proofs.world.every_run_numbers_its_frames.Goals as goal
 
 pub returns : goal.returns

@@ -1,4 +1,4 @@
-use Rattle.two_ends.proofs.ByFeature.{feature_agrees, feature_given}
+use Rattle.two_ends.proofs.OfFeatures.ByFeature.{feature_agrees, feature_given}
 use Rattle.two_ends.proofs.features.each_feature.every_feature_agrees.Goals as goal
 
 pub returns-clause-agree : goal.returns-clause-agree

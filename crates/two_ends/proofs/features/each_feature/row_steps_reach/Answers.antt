@@ -1,4 +1,4 @@
-use Rattle.two_ends.proofs.ByFeature.{starts, server_row_reaches, client_row_reaches}
+use Rattle.two_ends.proofs.OfFeatures.ByFeature.{starts, server_row_reaches, client_row_reaches}
 use Rattle.two_ends.proofs.features.each_feature.row_steps_reach.Goals as goal
 
 pub returns-clause-start : goal.returns-clause-start

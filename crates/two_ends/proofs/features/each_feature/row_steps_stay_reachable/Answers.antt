@@ -1,4 +1,4 @@
-use Rattle.two_ends.proofs.ByFeature.{one_pair, same_pair, same_moves, server_row_steps, client_row_steps}
+use Rattle.two_ends.proofs.OfFeatures.ByFeature.{one_pair, same_pair, same_moves, server_row_steps, client_row_steps}
 use Rattle.two_ends.proofs.features.each_feature.row_steps_stay_reachable.Goals as goal
 
 pub returns-clause-server_step : goal.returns-clause-server_step

@@ -1,4 +1,4 @@
-use Rattle.two_ends.proofs.ByFeature.{reached_agrees, reached_is_given}
+use Rattle.two_ends.proofs.OfFeatures.ByFeature.{reached_agrees, reached_is_given}
 use Rattle.two_ends.proofs.features.each_feature.values_were_given.Goals as goal
 
 pub returns-clause-agree : goal.returns-clause-agree

@@ -1,4 +1,4 @@
-use Rattle.two_ends.proofs.FeatureRunning.{asked_reached, crossing_reached}
+use Rattle.two_ends.proofs.OfFeatures.FeatureRunning.{asked_reached, crossing_reached}
 use Rattle.two_ends.proofs.features.laws.exchanges_settle.Goals as goal
 
 pub returns-clause-asked : goal.returns-clause-asked

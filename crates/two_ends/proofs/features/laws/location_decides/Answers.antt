@@ -1,4 +1,4 @@
-use Rattle.two_ends.proofs.FeatureReachable.{reachable_agree_at_server, reachable_agree_at_client, reachable_given_at_server, reachable_given_at_client}
+use Rattle.two_ends.proofs.OfFeatures.FeatureReachable.{reachable_agree_at_server, reachable_agree_at_client, reachable_given_at_server, reachable_given_at_client}
 use Rattle.two_ends.proofs.features.laws.location_decides.Goals as goal
 
 pub returns-clause-agree_at_server : goal.returns-clause-agree_at_server

@@ -1,5 +1,5 @@
-use Rattle.two_ends.proofs.FeatureReaching.{joined}
-use Rattle.two_ends.proofs.FeatureReachable.{start_is_reachable, reachable_after_server, reachable_after_client}
+use Rattle.two_ends.proofs.OfFeatures.FeatureReaching.{joined}
+use Rattle.two_ends.proofs.OfFeatures.FeatureReachable.{start_is_reachable, reachable_after_server, reachable_after_client}
 use Rattle.two_ends.proofs.features.laws.negotiating_stays_reachable.Goals as goal
 
 pub returns-clause-start : goal.returns-clause-start

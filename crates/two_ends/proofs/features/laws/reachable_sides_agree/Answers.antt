@@ -1,4 +1,4 @@
-use Rattle.two_ends.proofs.FeatureReachable.{reachable_agree, reachable_given}
+use Rattle.two_ends.proofs.OfFeatures.FeatureReachable.{reachable_agree, reachable_given}
 use Rattle.two_ends.proofs.features.laws.reachable_sides_agree.Goals as goal
 
 pub returns-clause-agree : goal.returns-clause-agree

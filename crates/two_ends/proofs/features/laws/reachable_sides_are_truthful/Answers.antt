@@ -1,4 +1,4 @@
-use Rattle.two_ends.proofs.Truthful.{server_truthful, client_truthful}
+use Rattle.two_ends.proofs.OfFeatures.Truthful.{server_truthful, client_truthful}
 use Rattle.two_ends.proofs.features.laws.reachable_sides_are_truthful.Goals as goal
 
 pub returns-clause-servers : goal.returns-clause-servers

@@ -1,4 +1,4 @@
-use Rattle.two_ends.proofs.Confirmed.{server_confirmed, client_confirmed}
+use Rattle.two_ends.proofs.OfFeatures.Confirmed.{server_confirmed, client_confirmed}
 use Rattle.two_ends.proofs.features.laws.remote_rows_confirm_what_was_told.Goals as goal
 
 pub returns-clause-at_server : goal.returns-clause-at_server

@@ -1,5 +1,5 @@
 use Rattle.std.proofs.Common.{[]}
-use Rattle.two_ends.proofs.OpeningLines.{offer_moves, offer_drops}
+use Rattle.two_ends.proofs.OfFeatures.OpeningLines.{offer_moves, offer_drops}
 use Rattle.two_ends.proofs.features.lines.offering_is_a_move.Goals as goal
 
 pub returns-clause-opens : goal.returns-clause-opens

@@ -1,4 +1,4 @@
-use Rattle.two_ends.proofs.OpeningLines.{prefer_moves, preference_waits}
+use Rattle.two_ends.proofs.OfFeatures.OpeningLines.{prefer_moves, preference_waits}
 use Rattle.two_ends.proofs.features.lines.preferring_is_a_move.Goals as goal
 
 pub returns-clause-opens : goal.returns-clause-opens

@@ -1,4 +1,4 @@
-use Rattle.two_ends.proofs.Beginning.{starts_fresh, start_begun, change_begun, confirm_begun, preference_begun, waiting_begun, offer_begun, dropped_begun, sending_begun}
+use Rattle.two_ends.proofs.OfFeatures.Beginning.{starts_fresh, start_begun, change_begun, confirm_begun, preference_begun, waiting_begun, offer_begun, dropped_begun, sending_begun}
 use Rattle.two_ends.proofs.features.lines.rows_stay_begun.Goals as goal
 
 pub returns-clause-fresh : goal.returns-clause-fresh

@@ -1,4 +1,4 @@
-use Rattle.two_ends.proofs.OpeningLines.{send_moves, plain_moves}
+use Rattle.two_ends.proofs.OfFeatures.OpeningLines.{send_moves, plain_moves}
 use Rattle.two_ends.proofs.features.lines.sending_is_a_move.Goals as goal
 
 pub returns-clause-due : goal.returns-clause-due

@@ -1,4 +1,4 @@
-use Rattle.two_ends.proofs.ChangeLine.{change_moves, passes}
+use Rattle.two_ends.proofs.OfFeatures.ChangeLine.{change_moves, passes}
 use Rattle.two_ends.proofs.features.lines.taking_a_change_is_a_move.Goals as goal
 
 pub returns-clause-change : goal.returns-clause-change

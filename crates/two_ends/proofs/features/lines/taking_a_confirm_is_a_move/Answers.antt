@@ -1,4 +1,4 @@
-use Rattle.two_ends.proofs.ConfirmLine.{confirm_moves}
+use Rattle.two_ends.proofs.OfFeatures.ConfirmLine.{confirm_moves}
 use Rattle.two_ends.proofs.features.lines.taking_a_confirm_is_a_move.Goals as goal
 
 pub returns : goal.returns

@@ -1,4 +1,4 @@
-use Rattle.two_ends.proofs.Saying.{wish_valid, change_understood}
+use Rattle.two_ends.proofs.OfFeatures.Saying.{wish_valid, change_understood}
 use Rattle.two_ends.proofs.features.lines.valid_changes_are_understood.Goals as goal
 
 pub returns-clause-sent : goal.returns-clause-sent

@@ -1,4 +1,4 @@
-use Rattle.two_ends.proofs.Saying.{change_carries, change_valid, confirm_whole}
+use Rattle.two_ends.proofs.OfFeatures.Saying.{change_carries, change_valid, confirm_whole}
 use Rattle.two_ends.proofs.features.lines.what_rows_say_is_whole.Goals as goal
 
 pub returns-clause-carried : goal.returns-clause-carried

@@ -1,4 +1,4 @@
-use Rattle.two_ends.proofs.Listed.{lists_are_wishes, listed_with_frame, confirm_listed}
+use Rattle.two_ends.proofs.OfFeatures.Listed.{lists_are_wishes, listed_with_frame, confirm_listed}
 use Rattle.two_ends.proofs.features.lines.whole_confirms_have_lists.Goals as goal
 
 pub returns-clause-last : goal.returns-clause-last

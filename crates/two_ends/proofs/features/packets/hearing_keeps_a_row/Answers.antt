@@ -1,4 +1,4 @@
-use Rattle.two_ends.proofs.Taking.{heard_same, heard_sound, heard_begun}
+use Rattle.two_ends.proofs.OfFeatures.Taking.{heard_same, heard_sound, heard_begun}
 use Rattle.two_ends.proofs.features.packets.hearing_keeps_a_row.Goals as goal
 
 pub returns-clause-same : goal.returns-clause-same

@@ -1,4 +1,4 @@
-use Rattle.two_ends.proofs.Taking.{replied, silent, asks, offers}
+use Rattle.two_ends.proofs.OfFeatures.Taking.{replied, silent, asks, offers}
 use Rattle.two_ends.proofs.features.packets.taking_a_packet_is_moves.Goals as goal
 
 pub returns-clause-replied : goal.returns-clause-replied

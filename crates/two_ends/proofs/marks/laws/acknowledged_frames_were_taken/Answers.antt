@@ -1,4 +1,4 @@
-use Rattle.two_ends.proofs.MarkReachable.{servers_heeded, clients_heeded}
+use Rattle.two_ends.proofs.OfMarks.MarkReachable.{servers_heeded, clients_heeded}
 use Rattle.two_ends.proofs.marks.laws.acknowledged_frames_were_taken.Goals as goal
 
 pub returns-clause-servers : goal.returns-clause-servers

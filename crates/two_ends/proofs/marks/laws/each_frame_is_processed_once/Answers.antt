@@ -1,4 +1,4 @@
-use Rattle.two_ends.proofs.MarkReachable.{servers_once, clients_once, servers_places, clients_places}
+use Rattle.two_ends.proofs.OfMarks.MarkReachable.{servers_once, clients_once, servers_places, clients_places}
 use Rattle.two_ends.proofs.marks.laws.each_frame_is_processed_once.Goals as goal
 
 pub returns-clause-servers : goal.returns-clause-servers

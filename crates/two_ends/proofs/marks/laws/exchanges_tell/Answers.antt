@@ -1,5 +1,5 @@
 use Rattle.std.proofs.Common.{refl}
-use Rattle.two_ends.proofs.MarkReachable.{exchange_is_reachable}
+use Rattle.two_ends.proofs.OfMarks.MarkReachable.{exchange_is_reachable}
 use Rattle.two_ends.proofs.marks.laws.exchanges_tell.Goals as goal
 
 pub returns-clause-reached : goal.returns-clause-reached

@@ -1,5 +1,5 @@
-use Rattle.two_ends.proofs.MarkReaching.{joined}
-use Rattle.two_ends.proofs.MarkReachable.{start_is_reachable, reachable_after_server, reachable_after_client}
+use Rattle.two_ends.proofs.OfMarks.MarkReaching.{joined}
+use Rattle.two_ends.proofs.OfMarks.MarkReachable.{start_is_reachable, reachable_after_server, reachable_after_client}
 use Rattle.two_ends.proofs.marks.laws.marking_stays_reachable.Goals as goal
 
 pub returns-clause-joined : goal.returns-clause-joined

@@ -1,4 +1,4 @@
-use Rattle.two_ends.proofs.MarkReachable.{servers_truthful, clients_truthful}
+use Rattle.two_ends.proofs.OfMarks.MarkReachable.{servers_truthful, clients_truthful}
 use Rattle.two_ends.proofs.marks.laws.vectors_are_truthful.Goals as goal
 
 pub returns-clause-servers : goal.returns-clause-servers

@@ -1,4 +1,4 @@
-use Rattle.two_ends.proofs.MarkReachable.{servers_told, clients_told, servers_alone, clients_alone}
+use Rattle.two_ends.proofs.OfMarks.MarkReachable.{servers_told, clients_told, servers_alone, clients_alone}
 use Rattle.two_ends.proofs.marks.laws.what_falls_below_the_floor_is_settled.Goals as goal
 
 pub returns-clause-servers : goal.returns-clause-servers

@@ -1,4 +1,4 @@
-use Rattle.two_ends.proofs.MarkReachable.{servers_heard, clients_heard}
+use Rattle.two_ends.proofs.OfMarks.MarkReachable.{servers_heard, clients_heard}
 use Rattle.two_ends.proofs.marks.laws.what_is_reported_was_processed.Goals as goal
 
 pub returns-clause-servers : goal.returns-clause-servers

@@ -1,4 +1,4 @@
-use Rattle.two_ends.proofs.MarkSets.{new_by_counts, counts_are_new, begun_are, begun_shut_are, joined_are, raised_are}
+use Rattle.two_ends.proofs.OfMarks.MarkSets.{new_by_counts, counts_are_new, begun_are, begun_shut_are, joined_are, raised_are}
 use Rattle.two_ends.proofs.marks.numbers.sets_follow_moves.Goals as goal
 
 pub returns-clause-new : goal.returns-clause-new

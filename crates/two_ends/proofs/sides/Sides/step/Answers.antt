@@ -1,5 +1,5 @@
 -- What the code tells of a delivery that is refused.
-use Rattle.two_ends.proofs.Refusing.{told-so}
+use Rattle.two_ends.proofs.OfWorlds.Refusing.{told-so}
 use Rattle.two_ends.proofs.sides.Sides.step.Goals as goal
 
 pub returns-in-Deliver-clause-filled : goal.returns-in-Deliver-clause-filled

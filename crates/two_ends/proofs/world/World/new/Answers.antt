@@ -1,6 +1,6 @@
 -- No event leads to the start.
-use Rattle.two_ends.proofs.Believing.{reached-facts, reached-safe}
-use Rattle.two_ends.proofs.Reaching.{start-reached}
+use Rattle.two_ends.proofs.OfWorlds.Believing.{reached-facts, reached-safe}
+use Rattle.two_ends.proofs.OfWorlds.Reaching.{start-reached}
 use Rattle.two_ends.proofs.world.World.new.Goals as goal
 
 pub invariant_of-result : goal.invariant_of-result

@@ -1,7 +1,7 @@
 -- One more event, or none.
-use Rattle.two_ends.proofs.Believing.{reached-delivers, reached-facts, reached-held, reached-safe}
-use Rattle.two_ends.proofs.Nearing.{held-near}
-use Rattle.two_ends.proofs.Reaching.{step-reached, leaves}
+use Rattle.two_ends.proofs.OfWorlds.Believing.{reached-delivers, reached-facts, reached-held, reached-safe}
+use Rattle.two_ends.proofs.OfWorlds.Nearing.{held-near}
+use Rattle.two_ends.proofs.OfWorlds.Reaching.{step-reached, leaves}
 use Rattle.two_ends.proofs.world.World.step.Goals as goal
 
 pub invariant_of-self : goal.invariant_of-self

@@ -1,0 +1,22 @@
+-- What holds of numbers that were received, and of Ack Vectors: the moves of both sides, and what they report.
+pub mod Vectors
+pub mod Shown
+pub mod MarkHearing
+pub mod MarkSending
+pub mod Marking
+pub mod SentAt
+pub mod Processed
+pub mod Reporting
+pub mod Remembering
+pub mod Resets
+pub mod MarkFrames
+pub mod MarkFacts
+pub mod MarkKeeping
+pub mod Listing
+pub mod MarkVectors
+pub mod Told
+pub mod MarkSteps
+pub mod MarkReaching
+pub mod MarkReachable
+pub mod MarkExchange
+pub mod MarkSets

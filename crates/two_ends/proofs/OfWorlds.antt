@@ -1,0 +1,20 @@
+-- What holds of a world: its events, its frames and their numbers, what arrives, and what every schedule keeps.
+pub mod Forms
+pub mod Processing
+pub mod Logged
+pub mod ReadBack
+pub mod Acting
+pub mod Numbering
+pub mod Hearing
+pub mod Acknowledging
+pub mod HeardTo
+pub mod Keeping
+pub mod Reaching
+pub mod Delivering
+pub mod Calling
+pub mod Believing
+pub mod Consequences
+pub mod Spelling
+pub mod Placing
+pub mod Nearing
+pub mod Refusing
