@@ -44,17 +44,15 @@ class bytes {
         static_assert(sizeof(*all.data()) == 1, "a container of bytes");
     }
 
-    // Never a null pointer, even for no bytes, as dccp.h requires.
-    const uint8_t *data() const { return data_ == nullptr ? &nothing_ : data_; }
+    const uint8_t *data() const { return data_; }
     std::size_t size() const { return size_; }
     bool empty() const { return size_ == 0; }
-    const uint8_t *begin() const { return data(); }
-    const uint8_t *end() const { return data() + size_; }
+    const uint8_t *begin() const { return data_; }
+    const uint8_t *end() const { return data_ + size_; }
     uint8_t operator[](std::size_t at) const { return data_[at]; }
-    std::string_view text() const { return {reinterpret_cast<const char *>(data()), size_}; }
+    std::string_view text() const { return {reinterpret_cast<const char *>(data_), size_}; }
 
   private:
-    static constexpr uint8_t nothing_ = 0;
     const uint8_t *data_ = nullptr;
     std::size_t size_ = 0;
 };
@@ -105,8 +103,7 @@ class connection {
     void abort() const { (void)dccp_connection_abort(it_); }
 
     void prefer(dccp_feature_kind feature, const std::vector<uint64_t> &values, bool at_peer = false) const {
-        static constexpr uint64_t none = 0;
-        check(dccp_connection_prefer(it_, feature, at_peer, values.empty() ? &none : values.data(), values.size()));
+        check(dccp_connection_prefer(it_, feature, at_peer, values.data(), values.size()));
     }
     dccp_feature_state feature(dccp_feature_kind feature, bool at_peer = false) const {
         dccp_feature_state state{};
@@ -185,17 +182,32 @@ struct options {
     uint32_t most_per_host = 0, holding = 0;
 };
 
+// The category of an std::system_error for a host or a port without an address, with the text of getaddrinfo.
+inline const std::error_category &address_category() {
+    class category final : public std::error_category {
+      public:
+        const char *name() const noexcept override { return "address"; }
+        std::string message(int fault) const override { return dccp_socket_address_text(fault); }
+    };
+    static const category it;
+    return it;
+}
+
 // A client, or a server of many, over the system's UDP.
 class socket {
   public:
-    // Throws std::system_error if the system refuses, or the options are not valid.
+    // Throws std::system_error if host and port have no address (address_category), the system refuses, or the options are not valid.
     static socket connect(const std::string &host, const std::string &port, uint32_t service, const options &with = {}) {
-        const dccp_socket_options given = of(with);
-        return socket(dccp_socket_connect(host.c_str(), port.c_str(), service, &given));
+        int fault = 0;
+        const dccp_socket_options given = of(with, fault);
+        dccp_socket *it = dccp_socket_connect(host.c_str(), port.c_str(), service, &given);
+        return owned(it, fault, host, port);
     }
     static socket listen(const std::string &host, const std::string &port, const std::vector<uint32_t> &services, const options &with = {}) {
-        const dccp_socket_options given = of(with);
-        return socket(dccp_socket_listen(host.empty() ? nullptr : host.c_str(), port.c_str(), services.data(), services.size(), &given));
+        int fault = 0;
+        const dccp_socket_options given = of(with, fault);
+        dccp_socket *it = dccp_socket_listen(host.empty() ? nullptr : host.c_str(), port.c_str(), services.data(), services.size(), &given);
+        return owned(it, fault, host, port);
     }
 
     // Waits for the next event, or for this long at most; there is none after a client's last one. Throws std::system_error if the system's
@@ -222,11 +234,18 @@ class socket {
     struct freeing {
         void operator()(dccp_socket *it) const { dccp_socket_free(it); }
     };
-    explicit socket(dccp_socket *it) : it_(it) {
-        if (it == nullptr) throw std::system_error(errno, std::generic_category(), "dccp socket");
+    explicit socket(dccp_socket *it) : it_(it) {}
+    // The socket that was made; if none was, throws why.
+    static socket owned(dccp_socket *it, int fault, const std::string &host, const std::string &port) {
+        const int why = errno;
+        if (it != nullptr) return socket(it);
+        const std::string place = "dccp socket of " + host + " " + port;
+        if (fault != 0) throw std::system_error(fault, address_category(), place);
+        throw std::system_error(why, std::generic_category(), place);
     }
-    static dccp_socket_options of(const options &with) {
+    static dccp_socket_options of(const options &with, int &fault) {
         dccp_socket_options given = DCCP_SOCKET_OPTIONS_INIT;
+        given.address_fault = &fault;
         given.wishes = with.wishes.data();
         given.wish_count = with.wishes.size();
         given.client_name = with.client_name.empty() ? nullptr : with.client_name.c_str();
@@ -254,7 +273,7 @@ class end {
   public:
     end() = default;
     end(const dccp_settings &settings, const std::vector<dccp_wish> &wishes = {}) {
-        check(dccp_make(&it_, &settings, some(wishes), wishes.size()));
+        check(dccp_make(&it_, &settings, wishes.data(), wishes.size()));
     }
     end(end &&other) noexcept : it_(std::exchange(other.it_, DCCP_NONE)), last_(other.last_) {}
     end &operator=(end &&other) noexcept {
@@ -269,7 +288,7 @@ class end {
 
     dccp_status accept(const dccp_settings &settings, const std::vector<dccp_wish> &wishes, bytes datagram, uint64_t now, dccp_told &told) {
         last_ = {};
-        return dccp_accept(&it_, &settings, some(wishes), wishes.size(), datagram.data(), datagram.size(), now, &frame_, &told);
+        return dccp_accept(&it_, &settings, wishes.data(), wishes.size(), datagram.data(), datagram.size(), now, &frame_, &told);
     }
     dccp_status open(uint64_t now) { return dccp_open(&it_, now, &frame_); }
     dccp_status send(bytes data, uint64_t now) { return dccp_send(&it_, data.data(), data.size(), now, &frame_); }
@@ -285,9 +304,7 @@ class end {
         return dccp_begins_anew(&last_, datagram.data(), datagram.size(), &told, &frame_);
     }
     dccp_status prefer(dccp_feature_kind feature, const std::vector<uint64_t> &values, bool at_peer, uint64_t now) {
-        static constexpr uint64_t none = 0;
-        const uint64_t *first = values.empty() ? &none : values.data();
-        return dccp_prefer(&it_, static_cast<uint32_t>(feature), at_peer, first, values.size(), now, &frame_);
+        return dccp_prefer(&it_, static_cast<uint32_t>(feature), at_peer, values.data(), values.size(), now, &frame_);
     }
     // None: no timer runs.
     std::optional<std::chrono::milliseconds> until_first(uint64_t now) {
@@ -329,11 +346,6 @@ class end {
     explicit operator bool() const { return it_.made; }
 
   private:
-    static const dccp_wish *some(const std::vector<dccp_wish> &wishes) {
-        static constexpr dccp_wish none{};
-        return wishes.empty() ? &none : wishes.data();
-    }
-
     dccp_end it_ = DCCP_NONE;
     dccp_last_sync last_{};
     dccp_frame frame_{};

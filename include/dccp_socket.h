@@ -102,17 +102,23 @@ typedef struct dccp_socket_options {
                                 a Reset with code 9. A host is an address of IPv4, or the first 64 bits of one of IPv6 */
     uint32_t holding;        /* how many packets' data wait at an end for dccp_connection_read, 1,024 at most, each of which takes 2 KB from the
                                 beginning. The peer is told of drops and of a nearly full buffer. 0: none */
+    int *address_fault;      /* if not NULL, where the call that makes the socket writes why host and port have no address, for
+                                dccp_socket_address_text; 0 if they have one, or if errno says it all */
 } dccp_socket_options;
 
-#define DCCP_SOCKET_OPTIONS_INIT {sizeof(dccp_socket_options), NULL, 0, NULL, NULL, 0, 0, 0, 0, 0}
+#define DCCP_SOCKET_OPTIONS_INIT {sizeof(dccp_socket_options), NULL, 0, NULL, NULL, 0, 0, 0, 0, 0, NULL}
 
 /* A client of the server at this host and port, which asks for this Service Code. `options` may be NULL. Returns NULL if none was made, and errno
- * says why: EINVAL for bad wishes or names, ENOENT for a host without an address, ENOMEM, or an error of a system call. */
+ * says why: EINVAL for bad wishes or names, ENOENT for a host or a port without an address (`address_fault` of the options tells which), ENOMEM,
+ * or an error of a system call. */
 dccp_socket *dccp_socket_connect(const char *host, const char *port, uint32_t service, const dccp_socket_options *options);
 
 /* A server on this host and port, for one or more Service Codes. A host of NULL is any address of the machine. Options and errors as above. */
 dccp_socket *dccp_socket_listen(const char *host, const char *port, const uint32_t *services, size_t service_count,
                                 const dccp_socket_options *options);
+
+/* What the system says about a number of `address_fault`, such as "Name or service not known": the text of getaddrinfo, which stays. */
+const char *dccp_socket_address_text(int fault);
 
 /* Frees a socket with its connections. Open ones are aborted, so that their peers hear of it at once. NULL is ignored. */
 void dccp_socket_free(dccp_socket *socket);

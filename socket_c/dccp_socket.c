@@ -709,15 +709,17 @@ int dccp_socket_poll(dccp_socket *udp, int milliseconds, dccp_socket_event *even
 
 /* Making. */
 
-/* The address of a host and port, for a socket that connects or binds to it. */
-static struct addrinfo *look_up(const char *host, const char *port, bool is_server) {
+/* The address of a host and port, for a socket that connects or binds to it. If there is none, errno and the options' owner are told why. */
+static struct addrinfo *look_up(const char *host, const char *port, bool is_server, const dccp_socket_options *options) {
     struct addrinfo wanted, *found = NULL;
     memset(&wanted, 0, sizeof wanted);
     wanted.ai_socktype = SOCK_DGRAM;
     wanted.ai_flags = is_server ? AI_PASSIVE : 0;
     int fault = getaddrinfo(host, port, &wanted, &found);
     if (fault == 0) return found;
-    if (fault != EAI_SYSTEM) errno = fault == EAI_MEMORY ? ENOMEM : ENOENT;
+    if (fault == EAI_SYSTEM) return NULL;
+    if (options->address_fault != NULL) *options->address_fault = fault;
+    errno = fault == EAI_MEMORY ? ENOMEM : ENOENT;
     return NULL;
 }
 
@@ -758,20 +760,26 @@ static bool read_name(const char *text, address *name) {
 
 static uint32_t usual(uint32_t wanted, uint32_t value) { return wanted == 0 ? value : wanted; }
 
-/* Takes over the options; false if a name is not valid, or there are too many wishes. */
-static bool arrange(dccp_socket *udp, const dccp_socket_options *given) {
+/* The options that are given, of which an earlier version has fewer fields. */
+static dccp_socket_options options_of(const dccp_socket_options *given) {
     dccp_socket_options options = DCCP_SOCKET_OPTIONS_INIT;
     if (given != NULL) memcpy(&options, given, given->size < sizeof options ? given->size : sizeof options);
-    udp->most = usual(options.most, 1000);
-    udp->patience = usual(options.patience, 30000);
-    udp->idle = usual(options.idle, 180000);
-    udp->most_per_host = options.most_per_host;
-    udp->holding = options.holding;
-    udp->wish_count = options.wish_count;
+    if (options.address_fault != NULL) *options.address_fault = 0;
+    return options;
+}
+
+/* Takes over the options; false if a name is not valid, or there are too many wishes. */
+static bool arrange(dccp_socket *udp, const dccp_socket_options *options) {
+    udp->most = usual(options->most, 1000);
+    udp->patience = usual(options->patience, 30000);
+    udp->idle = usual(options->idle, 180000);
+    udp->most_per_host = options->most_per_host;
+    udp->holding = options->holding;
+    udp->wish_count = options->wish_count;
     if (MOST_WISHES < udp->wish_count) return false;
-    if (options.wish_count != 0) memcpy(udp->wishes, options.wishes, options.wish_count * sizeof *options.wishes);
-    udp->has_names = options.client_name != NULL && options.server_name != NULL;
-    return !udp->has_names || (read_name(options.client_name, &udp->client_name) && read_name(options.server_name, &udp->server_name));
+    if (options->wish_count != 0) memcpy(udp->wishes, options->wishes, options->wish_count * sizeof *options->wishes);
+    udp->has_names = options->client_name != NULL && options->server_name != NULL;
+    return !udp->has_names || (read_name(options->client_name, &udp->client_name) && read_name(options->server_name, &udp->server_name));
 }
 
 /* Whether an end can be made with these wishes; else errno says why not. */
@@ -783,6 +791,8 @@ static bool try_wishes(const dccp_socket *udp) {
     errno = status == DCCP_NO_MEMORY ? ENOMEM : EINVAL;
     return status == DCCP_OK;
 }
+
+const char *dccp_socket_address_text(int fault) { return gai_strerror(fault); }
 
 void dccp_socket_free(dccp_socket *udp) {
     if (udp == NULL) return;
@@ -804,7 +814,7 @@ static dccp_socket *make(const char *host, const char *port, bool is_server, con
     udp->is_server = is_server;
     errno = EINVAL;
     bool is_made = arrange(udp, options) && try_wishes(udp) && 0 <= (udp->random = open("/dev/urandom", O_RDONLY | O_CLOEXEC)) && (!is_server || rekey(udp));
-    struct addrinfo *found = is_made ? look_up(host, port, is_server) : NULL;
+    struct addrinfo *found = is_made ? look_up(host, port, is_server, options) : NULL;
     is_made = found != NULL && reach(udp, found);
     if (found != NULL) freeaddrinfo(found);
     if (is_made) return udp;
@@ -830,8 +840,9 @@ static bool ask(dccp_socket *udp, uint32_t service) {
     return true;
 }
 
-dccp_socket *dccp_socket_connect(const char *host, const char *port, uint32_t service, const dccp_socket_options *options) {
-    dccp_socket *udp = make(host, port, false, options);
+dccp_socket *dccp_socket_connect(const char *host, const char *port, uint32_t service, const dccp_socket_options *given) {
+    const dccp_socket_options options = options_of(given);
+    dccp_socket *udp = make(host, port, false, &options);
     if (udp == NULL || ask(udp, service)) return udp;
     int why = errno;
     dccp_socket_free(udp);
@@ -840,10 +851,11 @@ dccp_socket *dccp_socket_connect(const char *host, const char *port, uint32_t se
 }
 
 dccp_socket *dccp_socket_listen(const char *host, const char *port, const uint32_t *services, size_t service_count,
-                                const dccp_socket_options *options) {
+                                const dccp_socket_options *given) {
+    const dccp_socket_options options = options_of(given);
     errno = EINVAL;
     if (service_count == 0 || MOST_SERVICES < service_count) return NULL;
-    dccp_socket *udp = make(host, port, true, options);
+    dccp_socket *udp = make(host, port, true, &options);
     if (udp == NULL) return NULL;
     memcpy(udp->services, services, service_count * sizeof *services);
     udp->service_count = service_count;
@@ -861,10 +873,9 @@ dccp_connection *dccp_socket_connection(const dccp_socket *udp) {
 }
 
 dccp_status dccp_connection_send(dccp_connection *it, const void *data, size_t length) {
-    static const uint8_t nothing[1] = {0};
     dccp_frame frame;
     if (it->has_ended) return DCCP_NOT_MADE;
-    dccp_status status = dccp_send(&it->end, length == 0 ? nothing : data, length, now(), &frame);
+    dccp_status status = dccp_send(&it->end, data, length, now(), &frame);
     send_frame(it, &frame);
     if (status == DCCP_OK) {
         it->statistics.sent.data_bytes += length;

@@ -1,5 +1,6 @@
 // Sockets in C++ on this machine, a client and a server in one thread: what is reported, counted and refused, a line for each that is otherwise.
 #include <arpa/inet.h>
+#include <netdb.h>
 #include <sys/socket.h>
 #include <unistd.h>
 
@@ -448,6 +449,14 @@ static void refusals() {
         same("a wish that is none", 1, 0);
     } catch (const std::system_error &fault) {
         same("a wish that is none", EINVAL, fault.code().value());
+    }
+    try {
+        dccp::socket::connect("127.0.0.1", "no such port", 42);
+        same("a port without an address", 1, 0);
+    } catch (const std::system_error &fault) {
+        // What getaddrinfo says, which POSIX calls EAI_SERVICE or EAI_NONAME, and errno is ENOENT.
+        same("a port without an address", true, fault.code().category() == dccp::address_category());
+        same("its text", true, fault.code().message() == ::gai_strerror(fault.code().value()));
     }
     pair both = open_pair({{}, "192.0.2.1 1", "2001:db8::1 2"});
     try {
