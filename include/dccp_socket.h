@@ -38,7 +38,7 @@ typedef enum dccp_end_cause {
     DCCP_END_ABORTED = 2,   /* by dccp_connection_abort */
     DCCP_END_FORGOTTEN = 3, /* by a Reset with code 3 to an end that had not closed: the peer does not know the connection. It was started again, or
                                a router has given this end another port: connect again */
-    DCCP_END_ANEW = 4       /* the client has begun anew from its port: it opens another connection, which has events of its own */
+    DCCP_END_ANEW = 4       /* the client has begun anew from its port: it opens another connection, with its own events */
 } dccp_end_cause;
 
 /* The address of a peer. */

@@ -487,7 +487,7 @@ static void a_connection(void) {
     same("blocks after free", 0, held);
 }
 
-/* Of two packets one waits, and the other is dropped with the Drop Code 2: the Ack's option says so of its own number, the greatest. It is read,
+/* Of two packets one waits, and the other is dropped with the Drop Code 2: the Ack's option says so of the greatest number. It is read,
  * and after the end of reading a third is dropped with 1 (RFC 4340, section 11.7). */
 static void data_that_wait(void) {
     dccp_end one = DCCP_NONE, other = DCCP_NONE;
@@ -512,7 +512,7 @@ static void data_that_wait(void) {
     same("its arrival", DCCP_OK, dccp_receive(&other, frame.bytes, frame.length, 0, &answer, &told));
     same("it is dropped", DCCP_TOLD_NOT_KEPT, told.kind);
     same("for want of room", 2, told.code);
-    same("the Ack tells of it and of the last", 0, answer.length == 0);
+    same("the Ack reports it and the last", 0, answer.length == 0);
     same("by Data Dropped, and that the end is slow", 0, memcmp(answer.bytes + answer.length - 4, dropped, 3) || answer.bytes[answer.length - 1] != slow);
     exchange(&one, &other, &answer);
     same("a read", DCCP_OK, dccp_read(&other, &data));
@@ -1038,7 +1038,7 @@ static uint64_t sends_to(dccp_listener *listener, dccp_end *end, const char *dat
     return frame.number;
 }
 
-/* Of two packets to a flow one waits, and the other is dropped with the Drop Code 2: the Ack's option says so of its own number, the greatest. What
+/* Of two packets to a flow one waits, and the other is dropped with the Drop Code 2: the Ack's option says so of the greatest number. What
  * waits can be read after the flow has ended. A third packet waits, and after the end of reading a fourth is dropped with 1: of it, of the third and
  * of the second the option says 1, nothing and 2 (RFC 4340, section 11.7). */
 static void data_of_a_flow_that_wait(void) {

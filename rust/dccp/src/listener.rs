@@ -82,7 +82,7 @@ impl Cause {
             sys::BY_EVICTED => Cause::Evicted,
             sys::BY_FAULT => Cause::Fault,
             sys::BY_ANEW => Cause::Anew,
-            other => unreachable!("the library tells no cause {other}"),
+            other => unreachable!("the library has no cause {other}"),
         }
     }
 }
