@@ -1,4 +1,4 @@
--- Numbers with at most so many steps between them.
+-- Numbers with at most this many steps between them.
 use Rattle.std.proofs.Common.{◌≡◌, ℕ, zero, suc, ◌+◌, ◌-◌, ◌^◌, ◌≤◌, ◌<◌, List, [], ◌∷◌, ◌++◌, map, option_map, Some, None, refl, length, drop, slice_get, sym, ap, ◌∙◌, subst, arith}
 use Rattle.std.specs.List.{AllByRecursion}
 use Rattle.std.proofs.lemmas.List.{length-map}
@@ -36,7 +36,7 @@ all_low span (x ∷ xs) near = (near.0, all_low span xs near.2)
 further : (x y z : ℕ) → x < 2 ^ 48 → y < 2 ^ 48 → z < 2 ^ 48 → distance x z ≤ distance x y + distance y z
 further x y z first second third = omega arith
 
--- one number more, so many steps up from the last
+-- one number more, this many steps up from the last
 near_push : (span last number : ℕ) (x : ℕ) (later : List ℕ) → number < 2 ^ 48 → slice_get (x ∷ later) (length later) ≡ Some last
     → AreNear span (x ∷ later) → AreNear (span + distance last number) (x ∷ later ++ number ∷ [])
 near_push span last number x [] low is near =

@@ -9,7 +9,7 @@ residue n = n % 2 ^ 48
 abbrev pub distance : ℕ → ℕ → ℕ
 distance from to = residue (to + 2 ^ 48 - from)
 
--- the number that lies so many steps down from another
+-- the number that lies this many steps down from another
 abbrev pub down : ℕ → ℕ → ℕ
 down number steps = residue (number + (2 ^ 48 - residue steps))
 
@@ -33,11 +33,11 @@ IsFrom low n = distance low n < 2 ^ 47
 abbrev pub is_from : ℕ → ℕ → Bool
 is_from low n = nat_lt (distance low n) (2 ^ 47)
 
--- the upper end of an interval that has none: the last number that the low end is before
+-- the last number of an interval without an upper end: the last one that the low end is before
 abbrev pub open_end : ℕ → ℕ
 open_end low = residue (low + (2 ^ 47 - 1))
 
--- walking up from the low end, the number comes no later than the high end
+-- on the way up from the low end, the number comes no later than the high end
 abbrev pub IsWithin : ℕ → ℕ → ℕ → Type 0
 IsWithin n low high = distance low n ≤ distance low high
 

@@ -3,7 +3,7 @@ use Rattle.std.specs.Prelude.{ℕ, ◌^◌, ◌<◌, ◌≤◌, ⊤, List, [], �
 use Rattle.std.specs.List.{AllByRecursion}
 use Rattle.seq_circle.specs.Circle.{distance}
 
--- from each number up to each later one there are at most so many steps
+-- from each number of the list, at most this many steps lead up to each later one
 abbrev pub AreNear : ℕ → List ℕ → Type 0
 AreNear span [] = ⊤
 AreNear span (number ∷ later) =

@@ -15,8 +15,8 @@ const SHORT_SIZE: u64 = 1 << 24;
 // Half of them lie up the circle from a number, and half down.
 const NEAR: u64 = 1 << 23;
 
-/// A 48-bit sequence number, from 0 to 2^48 - 1. Arithmetic goes round the circle, and the order is the circular one
-/// (RFC 4340, section 3.1). Contracts see the number itself.
+/// A 48-bit sequence number, from 0 to 2^48 - 1. Arithmetic is modulo 2^48, and the order is circular (RFC 4340,
+/// section 3.1). Contracts see the number itself.
 #[derive(Clone, Copy, Debug, PartialEq, Eq)]
 pub struct Seq48 {
     number: u64,
@@ -35,7 +35,7 @@ impl Model for Seq48 {
 }
 
 impl Seq48 {
-    /// The sequence number `n`, or None exactly where it is 2^48 or more (RFC 4340, section 3.1).
+    /// The sequence number `n`, or None exactly if it is 2^48 or more (RFC 4340, section 3.1).
     pub fn new(n: u64) -> Option<Seq48>
         ensures made { IsSome result ↔ (n < 2 ^ 48) }
         ensures value { IfSome result (λ s. s ≡ n) }
@@ -88,7 +88,7 @@ impl Seq48 {
         (to.number + SIZE - self.number) % SIZE
     }
 
-    /// Tells whether `other` lies ahead by 1 to 2^47 - 1 steps (RFC 4340, section 3.1).
+    /// Whether `other` lies ahead by 1 to 2^47 - 1 steps (RFC 4340, section 3.1).
     pub fn before(self, other: Seq48) -> bool
         ensures value { result ≡ is_before self other }
         ensures meaning { IsTrue result ↔ IsBefore self other }
@@ -97,15 +97,15 @@ impl Seq48 {
         0 < ahead && ahead < HALF
     }
 
-    /// The later of the two: `other` where this number is before it, else this one (own).
+    /// The later of the two: `other` if this number is before it, otherwise this one (own).
     pub fn max_of(self, other: Seq48) -> Seq48
         ensures { result ≡ later_of self other }
     {
         if self.before(other) { other } else { self }
     }
 
-    /// Tells whether this number is `low` or lies ahead of it by less than half the circle: it lies in the interval
-    /// that begins at `low` and has no upper end (RFC 4340, section 3.1). Of two numbers exactly half the circle apart
+    /// Whether this number is `low` or lies ahead of it by less than half the circle. It is then in the interval that
+    /// begins at `low` and has no upper end (RFC 4340, section 3.1). Of two numbers exactly half the circle apart
     /// neither is before the other, and neither is from the other.
     pub fn is_from(self, low: Seq48) -> bool
         ensures value { result ≡ is_from low self }
@@ -114,16 +114,16 @@ impl Seq48 {
         low.distance(self) < HALF
     }
 
-    /// The upper end of the interval that begins at this number and has no upper end: 2^47 - 1 steps up, so that
-    /// `is_from` and `within` agree (own).
+    /// The last number that `is_from` counts as ahead of this one: 2^47 - 1 steps up. With it as the high end, `within`
+    /// agrees with `is_from` (own).
     pub fn open_end(self) -> Seq48
         ensures { result ≡ open_end self }
     {
         self.add(HALF - 1)
     }
 
-    /// Tells whether this number lies in the interval that begins at `lo` and goes up to `hi`, both included, as a
-    /// packet's numbers lie in a window (RFC 4340, section 7.5.1).
+    /// Whether this number lies in the interval from `lo` up to `hi`, both included, as a valid packet's numbers lie in
+    /// a window (RFC 4340, section 7.5.1).
     pub fn within(self, lo: Seq48, hi: Seq48) -> bool
         ensures value { result ≡ is_within self lo hi }
         ensures meaning { IsTrue result ↔ IsWithin self lo hi }
@@ -142,8 +142,8 @@ impl Seq48 {
         }
     }
 
-    /// Tells whether this number lies 2^23 or more from `reference`, up and down the circle, so that `extend` need not
-    /// find it from its low 24 bits (own; the bound is that of RFC 4340, section 7.6).
+    /// Whether this number is at least 2^23 steps from `reference` in both directions. `extend` may then not find it
+    /// from its low 24 bits (own; the bound is that of RFC 4340, section 7.6).
     pub fn is_far(self, reference: Seq48) -> bool
         ensures value { result ≡ is_far self reference }
         ensures meaning { IsTrue result ↔ ((2 ^ 23 ≤ distance self reference) × (2 ^ 23 ≤ distance reference self)) }

@@ -1,4 +1,4 @@
-//! What ties the circle to plain counts.
+//! How the circle relates to plain counts.
 ghost use Rattle.std.specs.Prelude.{◌≡◌, ℕ, ◌+◌, ◌-◌, ◌%◌, ◌^◌, ◌<◌, ◌≤◌, ◌↔◌, ◌⊎◌, IsTrue, false};
 ghost use Rattle.seq_circle.specs.Circle.{residue, distance, down, IsBefore, is_before, IsFrom, open_end, IsWithin, extended, is_far};
 ghost use Rattle.seq_circle.specs.Counts.{number_of, count_of, IsNumber};
@@ -21,7 +21,7 @@ pub fn from_is_the_order_of_counts()
         → IsFrom (residue a) (residue b) ↔ (a ≤ b) }
 {}
 
-/// Steps down undo steps up (`back`), and of whole numbers they are their difference (`difference`; RFC 4340, section
+/// Steps down undo steps up (`back`), and between whole numbers they are a subtraction (`difference`; RFC 4340, section
 /// 3.1).
 pub fn down_is_the_way_back()
     ensures back { (n steps : ℕ) → n < 2 ^ 48 → residue (down n steps + steps) ≡ n }
@@ -29,7 +29,8 @@ pub fn down_is_the_way_back()
 {}
 
 /// Among the first 2^47 packets of an end, numbers and counts determine each other (`count`, `number`), and a number is
-/// before another, or from it, exactly where its count is less, or is not (`before`, `from`; RFC 4340, section 3.1).
+/// before another exactly if its count is less (`before`), and from it exactly if its count is not less (`from`; RFC
+/// 4340, section 3.1).
 pub fn numbers_count_packets()
     ensures count { (iss count : ℕ) → iss < 2 ^ 48 → 1 ≤ count → count ≤ 2 ^ 47
         → count_of iss (number_of iss count) ≡ count }

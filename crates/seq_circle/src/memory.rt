@@ -1,7 +1,7 @@
 //! The one error for lack of memory.
 use std::alloc::{AllocError, AllocFailed};
 
-/// No memory was left for what a call needed (own). No other refusal is reported as this.
+/// No memory was left for what a call needed (own). No other failure is reported by this error.
 #[derive(Clone, Copy, Debug, PartialEq, Eq)]
 pub struct NoMemory;
 

@@ -29,7 +29,7 @@ impl Model for Seq24 {
 }
 
 impl Seq24 {
-    /// The short number `n`, or None exactly where it is 2^24 or more (RFC 4340, section 7.6).
+    /// The short number `n`, or None exactly if it is 2^24 or more (RFC 4340, section 7.6).
     pub fn new(n: u32) -> Option<Seq24>
         ensures made { IsSome result ↔ (n < 2 ^ 24) }
         ensures value { IfSome result (λ s. s ≡ n) }
@@ -50,7 +50,7 @@ impl Seq24 {
     }
 }
 
-// Tells whether `b` lies ahead of `a` by less than half of the short circle.
+// Whether `b` lies ahead of `a` by less than half of the short circle.
 fn is_ahead(a: u32, b: u32) -> bool
     requires small { a < 2 ^ 24 }
     requires other { b < 2 ^ 24 }
