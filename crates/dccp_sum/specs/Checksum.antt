@@ -48,7 +48,7 @@ checked_over pseudo bytes (Some count) =
 abbrev pub checked : Pseudo → List ℕ → Result (Unit {0}) SumFault
 checked pseudo bytes = checked_over pseudo bytes (covered bytes)
 
--- the packet with its checksum, unchanged where the coverage passes its end
+-- the packet with its checksum, or unchanged if the coverage passes its end
 abbrev pub sealed_over : Pseudo → List ℕ → Option ℕ → List ℕ
 sealed_over pseudo bytes None = bytes
 sealed_over pseudo bytes (Some count) = with_checksum (checksum pseudo bytes count) bytes

@@ -9,12 +9,12 @@ coverage_field bytes = slice_index bytes 5 % 16
 abbrev pub data_offset_words : List ℕ → ℕ
 data_offset_words bytes = slice_index bytes 4
 
--- all of the packet for 0, otherwise header and options and the first words of the data
+-- the whole packet if CsCov is 0, otherwise the header, the options and the first words of the data
 abbrev pub coverage : List ℕ → ℕ
 coverage bytes =
     if coverage_field bytes == 0 then length bytes
     else 4 * data_offset_words bytes + 4 * (coverage_field bytes - 1)
 
--- the same, where the packet is that long
+-- the same, or none if the packet is shorter
 abbrev pub covered : List ℕ → Option ℕ
 covered bytes = if nat_le (coverage bytes) (length bytes) then Some (coverage bytes) else None

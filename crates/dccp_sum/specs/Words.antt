@@ -7,7 +7,7 @@ word_sum [] = 0
 word_sum (high ∷ []) = high * 256
 word_sum (high ∷ low ∷ rest) = high * 256 + low + word_sum rest
 
--- 0 where the sum is 0, otherwise the number from 1 to 65,535 that is congruent to it modulo 65,535
+-- 0 if the sum is 0, otherwise the number from 1 to 65,535 that is congruent to it modulo 65,535
 abbrev pub ones_complement : ℕ → ℕ
 ones_complement sum = if sum == 0 then 0 else 1 + (sum - 1) % 65535
 

@@ -33,9 +33,9 @@ pub enum SumFault {
     Wrong,
 }
 
-/// How many bytes of the packet its checksum covers, from its start: all of them where the field CsCov is 0, otherwise
-/// header and options and `4 * (CsCov - 1)` bytes of the data. None exactly where that passes the packet's end
-/// (RFC 4340, section 9.2). The packet has at least 8 bytes, so that its first fields are there.
+/// How many bytes of the packet its checksum covers, from its start: all of them if the field CsCov is 0, otherwise the
+/// header, the options and `4 * (CsCov - 1)` bytes of the data. None exactly if that passes the packet's end (RFC 4340,
+/// section 9.2). The packet has at least 8 bytes, so that its first fields are there.
 pub fn covered(bytes: &[u8]) -> Option<usize>
     requires { 8 ≤ length bytes.now }
     ensures { result ≡ covered bytes.now }
@@ -52,7 +52,7 @@ pub fn covered(bytes: &[u8]) -> Option<usize>
     }
 }
 
-// The words that the checksum covers added to the sum, where its own two bytes count as zero.
+// The sum with the words that the checksum covers added. The checksum's two bytes count as zero.
 fn add_covered(start: u64, bytes: &[u8], covered: usize) -> u64
     requires whole { 8 ≤ length bytes.now }
     requires inside { covered ≤ length bytes.now }
@@ -69,7 +69,7 @@ fn add_covered(start: u64, bytes: &[u8], covered: usize) -> u64
 /// The checksum of a packet whose first `covered` bytes it covers: the complement of the ones' complement sum over the
 /// pseudo-header and these bytes, with the checksum's own bytes 6 and 7 taken as zero and an odd last byte followed by
 /// zero (RFC 4340, section 9; RFC 1071, section 1). The packet has 8 to 65,535 bytes, and `covered` is at most its
-/// length. Where it is below 8, it covers so many bytes of the packet with its checksum zeroed.
+/// length. If `covered` is below 8, the sum is over that many bytes of the packet with a checksum of zero.
 pub fn checksum(pseudo: &Pseudo, bytes: &[u8], covered: usize) -> u16
     requires low { 8 ≤ length bytes.now }
     requires high { length bytes.now ≤ 65535 }
@@ -80,7 +80,7 @@ pub fn checksum(pseudo: &Pseudo, bytes: &[u8], covered: usize) -> u16
     0xffff - fold(add_covered(header, bytes, covered))
 }
 
-// Tells whether two checksums are equal, where zero has two spellings.
+// Whether two checksums are equal; zero has two spellings.
 fn is_same(a: u16, b: u16) -> bool
     ensures { result ≡ same_checksum a b }
 {

@@ -1,4 +1,4 @@
-//! The part of the sum that is in no packet.
+//! The part of the sum that comes from no byte of the packet.
 ghost use Rattle.std.specs.Prelude.{◌≡◌, ◌+◌, ◌%◌, ◌<◌, ◌≤◌, ◌^◌, length};
 ghost use Rattle.dccp_sum.specs.Words.{word_sum, IsSameSum};
 ghost use Rattle.dccp_sum.specs.Checksum.{pseudo_header};
@@ -18,7 +18,7 @@ pub enum Pseudo {
     V6 { from: [u8; 16], to: [u8; 16] },
 }
 
-// The words of two addresses of IPv4.
+// The sum of the words of two addresses of IPv4.
 fn add_v4(from: [u8; 4], to: [u8; 4]) -> u64
     ensures value { IsSameSum result (word_sum from + word_sum to) }
     ensures bound { result ≤ 2 ^ 43 }
@@ -28,7 +28,7 @@ fn add_v4(from: [u8; 4], to: [u8; 4]) -> u64
     add_words(add_words(0, &from), &to)
 }
 
-// The words of two addresses of IPv6.
+// The sum of the words of two addresses of IPv6.
 fn add_v6(from: [u8; 16], to: [u8; 16]) -> u64
     ensures value { IsSameSum result (word_sum from + word_sum to) }
     ensures bound { result ≤ 2 ^ 43 }
@@ -38,7 +38,7 @@ fn add_v6(from: [u8; 16], to: [u8; 16]) -> u64
     add_words(add_words(0, &from), &to)
 }
 
-// The words of the pseudo-header of a packet of that many bytes.
+// The sum of the words of the pseudo-header, for a packet of that many bytes.
 pub(crate) fn add_pseudo_header(pseudo: &Pseudo, size: u64) -> u64
     requires { size < 2 ^ 16 }
     ensures value { IsSameSum result (word_sum (pseudo_header pseudo.now size)) }
