@@ -1,4 +1,4 @@
--- Each fault is answered exactly where it holds and none before it does.
+-- Each fault is answered exactly if it holds and none before it does.
 use Rattle.std.proofs.Common.{◌≡◌, ℕ, zero, suc, ◌<◌, ◌≤◌, ◌↔◌, Bool, true, false, not, cond, nat_lt, if◌then◌else◌, List, length, Option, Some, None, Result, Ok, Err, is_some, refl, sym, ap, ◌∙◌, arith, ⊎_elim}
 use Rattle.std.proofs.lemmas.Bool.{true≢false, false≢true, ltb-true, lt-ltb, le-ltb, cases_lt, not-true, not_from_false}
 use Rattle.dccp_packets.specs.declared.header.PacketType.{PacketType}

@@ -25,17 +25,17 @@ ack_near reference (kind.Ack ack) = Some (near reference ack)
 ack_near reference (kind.DataAck ack) = Some (near reference ack)
 ack_near reference k = ack_of k
 
--- a number in one of the two forms; the short one keeps its low 24 bits alone (section 7.6)
+-- a number in one of the two forms; the short one keeps only its low 24 bits (section 7.6)
 abbrev pub number_in_form : Bool → ℕ → Number
 number_in_form true n = Short (n % 2 ^ 24)
 number_in_form false n = Long n
 
--- the short form of a number in either
+-- the short form of a number in either form
 abbrev pub shortened : Number → Number
 shortened (Long n) = Short (n % 2 ^ 24)
 shortened (Short n) = Short n
 
--- a type with its fields, of which the acknowledgement number of Ack and DataAck alone has a short form (section 5.1)
+-- a type with its fields; only the acknowledgement number of Ack and DataAck has a short form (section 5.1)
 abbrev pub in_form : Bool → Kind → Kind
 in_form false k = k
 in_form true (kind.Ack ack) = kind.Ack (shortened ack)

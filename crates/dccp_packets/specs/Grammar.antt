@@ -39,8 +39,7 @@ code_of types.Reset = 7
 code_of types.Sync = 8
 code_of types.SyncAck = 9
 
--- The bytes before the options (RFC 4340, sections 5.1 to 5.7). A type without a short form has its long one, whatever
--- X says.
+-- The bytes before the options (RFC 4340, sections 5.1 to 5.7). A type without a short form always has its long one, whatever X is.
 abbrev pub fixed_length : Bool → PacketType → ℕ
 fixed_length long types.Request = 20
 fixed_length long types.Response = 28
@@ -79,7 +78,7 @@ packet_type (Reset ack code detail) = types.Reset
 packet_type (Sync ack) = types.Sync
 packet_type (SyncAck ack) = types.SyncAck
 
--- what X says (RFC 4340, section 5.1)
+-- X is 1 for long numbers (RFC 4340, section 5.1)
 abbrev pub is_long : Number → Bool
 is_long (Long n) = true
 is_long (Short n) = false
@@ -102,7 +101,7 @@ abbrev pub NumberFits : Number → Type 0
 NumberFits (Long n) = n < 2 ^ 48
 NumberFits (Short n) = n < 2 ^ 24
 
--- the same of what a type alone carries
+-- the same of the fields that only this type carries
 abbrev pub KindFits : Kind → Type 0
 KindFits (Request service) = service < 2 ^ 32
 KindFits (Response ack service) = (ack < 2 ^ 48) × (service < 2 ^ 32)
@@ -123,7 +122,7 @@ pub record HeaderFits (h : Header) : Type 0 where
   pub number : NumberFits h.number
   pub kind : KindFits h.kind
 
--- the number in some bytes from a place on, most significant first
+-- the number that these many bytes from a place on spell, most significant first
 abbrev pub number_at : ℕ → ℕ → List ℕ → ℕ
 number_at place count bytes = big_number count (drop place bytes)
 
@@ -151,7 +150,7 @@ long_ack bytes = number_at 18 6 bytes
 abbrev pub ack_in : Bool → List ℕ → Number
 ack_in long bytes = if long then Long (long_ack bytes) else Short (number_at 13 3 bytes)
 
--- what a type alone carries (RFC 4340, sections 5.2 to 5.7)
+-- the fields that only this type carries (RFC 4340, sections 5.2 to 5.7)
 abbrev pub kind_of : PacketType → Bool → List ℕ → Kind
 kind_of types.Request long bytes = Request (number_at 16 4 bytes)
 kind_of types.Response long bytes = Response (long_ack bytes) (number_at 24 4 bytes)
@@ -226,7 +225,7 @@ abbrev pub number_bytes : Number → List ℕ
 number_bytes (Long n) = 0 ∷ big_bytes 6 n
 number_bytes (Short n) = big_bytes 3 n
 
--- an acknowledgement number of 48 bits after its two
+-- an acknowledgement number of 48 bits after its two reserved bytes
 abbrev pub long_ack_bytes : ℕ → List ℕ
 long_ack_bytes ack = 0 ∷ 0 ∷ big_bytes 6 ack
 
@@ -235,7 +234,7 @@ abbrev pub ack_bytes : Number → List ℕ
 ack_bytes (Long ack) = long_ack_bytes ack
 ack_bytes (Short ack) = 0 ∷ big_bytes 3 ack
 
--- what follows the sequence number in the fixed part, a line a type (RFC 4340, sections 5.2 to 5.7)
+-- what follows the sequence number in the fixed part, one line for each type (RFC 4340, sections 5.2 to 5.7)
 abbrev pub kind_bytes : Kind → List ℕ
 kind_bytes (Request service) = big_bytes 4 service
 kind_bytes (Response ack service) = long_ack_bytes ack ++ big_bytes 4 service

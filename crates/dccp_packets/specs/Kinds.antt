@@ -1,4 +1,4 @@
--- What a packet's type and its fields say of it (RFC 4340, sections 5.1 to 5.6).
+-- What the type and the fields of a packet say about it (RFC 4340, sections 5.1 to 5.6).
 use Rattle.std.specs.Prelude.{ℕ, Bool, true, false, Option, Some, None}
 use Rattle.dccp_packets.specs.declared.header.PacketType.{PacketType}
 use Rattle.dccp_packets.specs.declared.header.PacketType.TheVariants as types

@@ -1,4 +1,4 @@
--- What a frame or an Outbox is once a `&mut` into it, which was returned, is given back.
+-- What a frame or an Outbox holds once a `&mut` into it, which a call returned, has ended.
 use Rattle.std.specs.Prelude.{ℕ, List, Option, Some, length}
 use Rattle.std.specs.Borrow.{Lends, MutBor, Fml, Array, u8}
 use Rattle.std.specs.List.{refill}

@@ -1,6 +1,5 @@
--- The packets of DCCP as a relation between a header, options, data and bytes, apart from reading and writing (RFC
--- 4340, section 5). Each field is the number that its bits spell, most significant first. Reserved bits may be
--- anything.
+-- The packets of DCCP as a relation between a header, options, data and bytes, apart from reading and writing (RFC 4340, section 5). Each field
+-- is the number that its bits spell, most significant first. Reserved bits may have any value.
 use Rattle.std.specs.Prelude.{◌≡◌, ℕ, ◌+◌, ◌*◌, ◌<◌, List, ◌++◌, length, slice_index, slice_range}
 use Rattle.dccp_packets.specs.declared.header.Number.{Number}
 use Rattle.dccp_packets.specs.declared.header.Number.TheVariants.{Long, Short}
@@ -67,7 +66,7 @@ NumberHasZeros (Short n) b = Unit {0}
 abbrev pub LongAckHasZeros : List ℕ → Type 0
 LongAckHasZeros b = (slice_index b 16 ≡ 0) × (slice_index b 17 ≡ 0)
 
--- the bytes before the acknowledgement, a line a type
+-- the bytes before the acknowledgement number, one line for each type
 abbrev pub KindHasZeros : Kind → List ℕ → Type 0
 KindHasZeros (Request service) b = Unit {0}
 KindHasZeros (Response ack service) b = LongAckHasZeros b

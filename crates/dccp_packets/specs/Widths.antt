@@ -1,5 +1,5 @@
--- Headers cut to the widths of their fields: what is left of a header whose numbers may be too large, once it is
--- written (own). The widths are those of RFC 4340, section 5.
+-- Headers cut to the widths of their fields: what writing keeps of a header whose numbers may be too large (own). The widths are those of RFC
+-- 4340, section 5.
 use Rattle.std.specs.Prelude.{◌≡◌, ◌%◌, ◌^◌, length}
 use Rattle.dccp_packets.specs.declared.header.Number.{Number}
 use Rattle.dccp_packets.specs.declared.header.Number.TheVariants.{Long, Short}
@@ -12,7 +12,7 @@ abbrev pub number_in_width : Number → Number
 number_in_width (Long n) = Long (n % 2 ^ 48)
 number_in_width (Short n) = Short (n % 2 ^ 24)
 
--- Each field of a type in its width. The bytes of a Reset are read as they stand.
+-- Each field of a type in its width. The bytes of a Reset are unchanged.
 abbrev pub kind_in_widths : Kind → Kind
 kind_in_widths (Request service) = Request (service % 2 ^ 32)
 kind_in_widths (Response ack service) = Response (ack % 2 ^ 48) (service % 2 ^ 32)

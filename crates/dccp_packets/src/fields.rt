@@ -61,7 +61,7 @@ pub(crate) fn type_code(bytes: &[u8]) -> u8
     bytes[TYPE] / X % NIBBLE
 }
 
-// Tells whether X is 1.
+// Whether X is 1.
 pub(crate) fn has_long_numbers(bytes: &[u8]) -> bool
     requires { 12 ≤ length bytes.now }
     ensures { result ≡ has_long_numbers bytes.now }

@@ -8,7 +8,7 @@ use crate::{Kind, Number, PacketType};
 use seq_circle::{Seq48, extend};
 
 impl PacketType {
-    /// Tells whether packets of this type may carry short numbers: Data, Ack and DataAck alone (RFC 4340, section 5.1).
+    /// Whether packets of this type may carry short numbers: only Data, Ack and DataAck may (RFC 4340, section 5.1).
     pub fn may_be_short(self) -> bool
         ensures { result ≡ may_be_short self }
     {
@@ -17,7 +17,7 @@ impl PacketType {
 }
 
 impl Number {
-    /// The number in a form: in the short one, its low 24 bits alone (RFC 4340, section 7.6).
+    /// The number in this form. The short form has only its low 24 bits (RFC 4340, section 7.6).
     pub fn in_form(number: Seq48, short: bool) -> Number
         ensures { result ≡ number_in_form short number }
     {
@@ -28,8 +28,8 @@ impl Number {
         }
     }
 
-    /// The number in full. The reference decides what a short form is read as: the number that was shortened, if that
-    /// is not far from the reference (`seq_circle::extend`; RFC 4340, section 7.6).
+    /// The number in full. A short form is read as a number near the reference: the one that was shortened, if that is
+    /// not far from the reference (`seq_circle::extend`; RFC 4340, section 7.6).
     pub fn near(&self, reference: Seq48) -> Seq48
         ensures { result ≡ near reference self.now }
     {
@@ -70,9 +70,9 @@ impl Kind {
         }
     }
 
-    /// The same type and fields beside a sequence number in a form: the acknowledgement number of an Ack or a DataAck
-    /// is cut to its low 24 bits if the sequence number is short. The other types have no short form, and stay (RFC
-    /// 4340, section 5.1).
+    /// The same type and fields, as a packet has them whose sequence number has this form: the acknowledgement number
+    /// of an Ack or a DataAck is cut to its low 24 bits if the sequence number is short. The other types have no short
+    /// form, and are unchanged (RFC 4340, section 5.1).
     pub fn in_form(&self, short: bool) -> Kind
         ensures value { result ≡ in_form short self.now }
         ensures same_type { packet_type result ≡ packet_type self.now }

@@ -27,7 +27,7 @@ impl Model for Frame {
 impl Frame {
     ghost use Rattle.dccp_packets.specs.Lending.{LendsBytes};
 
-    /// A frame of no bytes.
+    /// An empty frame.
     pub fn new() -> Frame
         ensures { result ≡ [] }
     {
@@ -36,7 +36,7 @@ impl Frame {
         }
     }
 
-    /// A frame of these bytes, or None exactly where there are more than `MOST_FRAME_BYTES`, 2,044.
+    /// A frame of these bytes, or None exactly if there are more than `MOST_FRAME_BYTES`, 2,044.
     pub fn of(bytes: &[u8]) -> Option<Frame>
         ensures made { IsSome result ↔ (length bytes.now ≤ 2044) }
         ensures value { IfSome result (λ f. f ≡ bytes.now) }
@@ -66,7 +66,7 @@ impl Frame {
         self.bytes.as_mut_slice()
     }
 
-    // Takes all bytes away.
+    // Removes all bytes.
     pub(crate) fn clear(&mut self)
         ensures { self.new ≡ [] }
     {
@@ -81,8 +81,8 @@ impl Frame {
     }
 }
 
-/// The sequence number and the acknowledgement number of a packet, whole, whatever the form in which its frame has them
-/// (RFC 4340, section 7.6).
+/// The sequence number and the acknowledgement number of a packet, in full, even if its frame has their short form (RFC
+/// 4340, section 7.6).
 #[derive(Clone, Copy, Debug, PartialEq, Eq)]
 pub struct Numbers {
     /// The sequence number.
@@ -98,15 +98,15 @@ pub struct Sent<'a> {
     pub bytes: &'a [u8],
     /// The sequence number, whole.
     pub number: Seq48,
-    /// The acknowledgement number, whole, or None where the packet has none.
+    /// The acknowledgement number, whole, or None if the packet has none.
     pub ack: Option<Seq48>,
 }
 
-/// Where an end leaves the frame that one of its calls sends, with its numbers: it holds no frame, or one. Contracts
-/// see nothing, or the bytes and the numbers. Each call of an end that takes an Outbox empties it first. Its frame has
+/// Where an end leaves the frame that one of its calls sends, with its numbers. It holds one frame or none. Contracts
+/// see None, or the bytes and the numbers. Each call of an end that takes an Outbox empties it first. Its frame has
 /// room for the longest one and stays where it is, so an Outbox is made once and handed to many calls.
 ///
-/// The caller that fills it answers for the numbers: an end's calls guarantee that they are those of the frame.
+/// The caller that fills it is responsible for the numbers: an end's calls guarantee that they are those of the frame.
 #[derive(Debug, Drop)]
 pub struct Outbox {
     // those of an earlier call, if there are no numbers
@@ -163,14 +163,14 @@ impl Outbox {
         }
     }
 
-    /// Takes the frame away, if it holds one.
+    /// Removes the frame, if it holds one.
     pub fn clear(&mut self)
         ensures { self.new ≡ None }
     {
         self.numbers = None;
     }
 
-    /// Holds `frame` alone, with its numbers.
+    /// Holds only `frame` from now on, with its numbers.
     pub fn put(&mut self, frame: Frame, numbers: Numbers)
         ensures { self.new ≡ Some (outgoing numbers frame) }
     {
@@ -178,8 +178,8 @@ impl Outbox {
         self.numbers = Some(numbers);
     }
 
-    /// Holds a frame of no bytes alone, with these numbers, to be written in place: a frame has room for 2,044 bytes,
-    /// and moving one copies them all.
+    /// Holds only an empty frame from now on, with these numbers, to be written in place. A frame has room for 2,044
+    /// bytes, and a move copies them all.
     pub fn begin(&mut self, numbers: Numbers) -> &mut Frame
         ensures* writes_back { sem 𝓛 (LendsFrame numbers self.entry result) }
         ensures empty { result.now ≡ [] }

@@ -51,7 +51,7 @@ pub enum Kind {
         ack: Seq48,
         service: u32,
     },
-    /// Carries no acknowledgement and nothing else of its own (RFC 4340, section 5.4).
+    /// Carries no acknowledgement number and no further field (RFC 4340, section 5.4).
     Data,
     /// The acknowledgement has the form of the sequence number.
     Ack {
@@ -142,7 +142,7 @@ impl PacketType {
         }
     }
 
-    // The bytes before the options, which a type without a short form has in its long one alone.
+    // How many bytes come before the options. A type without a short form always has its long one.
     pub(crate) fn fixed_length(self, long: bool) -> usize
         ensures { result ≡ fixed_length long self }
     {
@@ -155,7 +155,7 @@ impl PacketType {
         }
     }
 
-    // Tells whether the type may carry numbers of this form.
+    // Whether the type may carry numbers of this form.
     pub(crate) fn has_form(self, long: bool) -> bool
         ensures { result ≡ has_form long self }
     {
@@ -242,8 +242,7 @@ impl Kind {
         }
     }
 
-    // Tells whether all numbers of the packet have a form that its type may carry, beside a sequence number of this
-    // one.
+    // Whether all numbers of the packet have a form that its type may carry, if its sequence number has this one.
     fn has_forms(&self, long: bool) -> bool
         ensures { result ≡ has_forms long self.now }
     {
@@ -262,10 +261,9 @@ impl Kind {
 }
 
 impl Header {
-    /// Tells whether the header has a spelling: CCVal and CsCov are below 16, and the numbers have the one form that
-    /// the type may carry, which for the acknowledgement of Ack and DataAck is that of the sequence number (RFC 4340,
-    /// section 5.1). No bytes spell a header with short numbers on a type without a short form: what `encode` wrote of
-    /// it would not be read back.
+    /// Whether the header has a spelling: CCVal and CsCov are below 16, and the numbers have a form that the type may
+    /// carry. In an Ack or a DataAck both numbers have the same form (RFC 4340, section 5.1). No bytes spell a header
+    /// with short numbers on a type without a short form: if `encode` wrote one, it would be read as something else.
     pub fn valid(&self) -> bool
         ensures { result ≡ is_valid self.now }
     {
@@ -290,7 +288,7 @@ impl Header {
     }
 }
 
-// What a field keeps by its type alone, for a field that is inside a variant or after a reference.
+// Gives the prover the range that a field has by its type, for a field inside a variant or after a reference.
 fn service_fits(service: u32)
     ensures { service < 2 ^ 32 }
 {}

@@ -1,4 +1,4 @@
-//! What a packet's type and its fields say of it.
+//! What the type and the fields of a packet say about it.
 ghost use Rattle.std.specs.Prelude.{◌≡◌, is_some};
 ghost use Rattle.dccp_packets.specs.Grammar.{packet_type};
 ghost use Rattle.dccp_packets.specs.Kinds.{value_of, ack_of, has_ack, service_of, reset_code, is_data};
@@ -8,7 +8,7 @@ use crate::{Kind, Number, PacketType};
 use seq_circle::Seq48;
 
 impl Number {
-    /// The number as its bits spell it. A short form gives its 24 bits alone, which `seq_circle::extend` completes.
+    /// The number as its bits spell it. A short form gives only its 24 bits, which `seq_circle::extend` completes.
     pub fn value(&self) -> Seq48
         ensures { result ≡ value_of self.now }
     {
@@ -23,15 +23,15 @@ impl Number {
 }
 
 impl PacketType {
-    /// Tells whether packets of this type have an acknowledgement number: all but Request and Data (RFC 4340, section
-    /// 5.1).
+    /// Whether packets of this type have an acknowledgement number: all except Request and Data have one (RFC 4340,
+    /// section 5.1).
     pub fn has_ack(self) -> bool
         ensures { result ≡ has_ack self }
     {
         !matches!(self, PacketType::Request | PacketType::Data)
     }
 
-    /// Tells whether this is the type Data, on which some options are ignored (RFC 4340, section 5.8).
+    /// Whether this is the type Data, on which some options are ignored (RFC 4340, section 5.8).
     pub fn is_data(self) -> bool
         ensures { result ≡ is_data self }
     {
@@ -40,8 +40,8 @@ impl PacketType {
 }
 
 impl Kind {
-    /// The acknowledgement number, or None exactly for the types that have none. A short form gives its 24 bits alone,
-    /// as `Number::value` does (RFC 4340, section 5.1). It lies in the width of its field.
+    /// The acknowledgement number, or None exactly for the types that have none. A short form gives only its 24 bits,
+    /// as `Number::value` does (RFC 4340, section 5.1). It fits the width of its field.
     #[tactic(auto, using(crate::proofs::ReadBack::ack_kept))]
     pub fn ack(&self) -> Option<Seq48>
         ensures value { result ≡ ack_of self.now }

@@ -1,4 +1,4 @@
-//! What holds of the grammar itself.
+//! What is true of the grammar itself.
 ghost use Rattle.std.specs.Prelude.{◌≡◌, ℕ, ◌+◌, ◌^◌, ◌<◌, ◌≤◌, ◌↔◌, Bool, true, false, not, List, length, IsTrue};
 ghost use Rattle.seq_circle.specs.Circle.{is_far, is_ack_far};
 ghost use Rattle.dccp_packets.specs.declared.header.Header.{Header};
@@ -58,8 +58,8 @@ pub fn the_first_fault_is_answered()
         → (decoded bytes ≡ Err Malformed.ShortNumbers) ↔ (has_form (has_long_numbers bytes) kind ≡ false) }
 {}
 
-/// Of the spellings of a packet just one has all reserved bits zero, and that is the one that `encode` writes (RFC
-/// 4340, section 5).
+/// Exactly one spelling of a packet has all reserved bits zero, and it is the one that `encode` writes (RFC 4340,
+/// section 5).
 pub fn one_spelling_has_no_reserved_bit()
     ensures { (h : Header) (options payload bytes : List ℕ) → IsPacket h options payload bytes → AreBytes bytes
         → HasZeros h bytes

@@ -19,7 +19,7 @@ pub struct Packet<'a> {
     pub payload: &'a [u8],
 }
 
-/// Why bytes are no packet. The first cause that holds is answered, in this order.
+/// Why bytes are no packet. If several causes hold, the answer is the first of them in this order.
 #[derive(Clone, Copy, Debug, PartialEq, Eq)]
 pub enum Malformed {
     /// Fewer than 12 bytes, the shortest generic header (RFC 4340, section 5.1).
@@ -28,7 +28,7 @@ pub enum Malformed {
     ReservedType,
     /// The Data Offset ends before the fixed part of the type does (RFC 4340, section 5.1).
     OffsetSmall,
-    /// The Data Offset lies beyond the bytes (RFC 4340, section 5.1).
+    /// The Data Offset is greater than the number of bytes (RFC 4340, section 5.1).
     OffsetLarge,
     /// Short numbers on a type other than Data, Ack and DataAck (RFC 4340, section 5.1).
     ShortNumbers,
@@ -45,8 +45,8 @@ fn ends_before(offset: usize, fixed: usize) -> bool
     offset < fixed
 }
 
-/// The packet that `bytes` are, borrowed from them, or the first cause in the order of `Malformed` (RFC 4340, section
-/// 5). Reserved bits are ignored. Its checksum and its options are not judged.
+/// Reads `bytes` as a packet, which borrows them, or answers the first cause in the order of `Malformed` (RFC 4340,
+/// section 5). Reserved bits are ignored. The checksum and the options are not checked.
 pub fn decode(bytes: &[u8]) -> Result<Packet<'_>, Malformed>
     ensures exact { MatchResult result
         (λ p. decoded bytes.now ≡ Ok (record { header = p.header; options = p.options.now; payload = p.payload.now }))

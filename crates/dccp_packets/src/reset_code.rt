@@ -3,7 +3,7 @@ ghost use Rattle.std.specs.Prelude.{◌≡◌, ◌<◌, ◌↔◌, IsSome, IfSom
 ghost use Rattle.dccp_packets.specs.ResetCodes.{number_of_code, code_of_number};
 
 /// Why an end resets a connection: the Reset Codes 0 to 11, in their order (RFC 4340, section 5.6). A Reset carries the
-/// number of one, and may carry another number: 12 to 127 are reserved, and 128 to 255 belong to the CCIDs.
+/// number of one of them, and may carry any other byte too: 12 to 127 are reserved, and 128 to 255 belong to the CCIDs.
 #[derive(Clone, Copy, Debug, PartialEq, Eq)]
 pub enum ResetCode {
     /// 0: no cause is given.
@@ -14,7 +14,7 @@ pub enum ResetCode {
     Aborted,
     /// 3: the packet belongs to no connection.
     NoConnection,
-    /// 4: a packet of this type may not come now. Data 1 is its type.
+    /// 4: a packet of this type is not allowed now. Data 1 is its type.
     PacketError,
     /// 5: an option is wrong. Data 1 to 3 are its type and the first two bytes of its data.
     OptionError,
@@ -33,7 +33,7 @@ pub enum ResetCode {
 }
 
 impl ResetCode {
-    /// The code with this number, or None exactly where it is 12 or more.
+    /// The code with this number, or None exactly if it is 12 or more.
     pub fn of(number: u8) -> Option<ResetCode>
         ensures value { result ≡ code_of_number number }
         ensures named { IsSome result ↔ (number < 12) }

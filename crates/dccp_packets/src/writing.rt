@@ -1,7 +1,7 @@
 //! A packet's bytes from its parts, and the one reason to refuse them.
 //!
-//! Besides what is written, `encode` says that its frame is read back, so no caller has to know the widths of fields
-//! after a reference.
+//! The contract of `encode` says also that its frame is read back. So no caller has to know the widths of fields after
+//! a reference.
 ghost use Rattle.std.specs.Prelude.{◌≡◌, ◌+◌, ◌*◌, ◌/◌, ◌%◌, ◌-◌, ◌^◌, ◌<◌, ◌≤◌, ◌↔◌, ◌∷◌, [], ◌++◌, length, replicate, IsTrue, IsErr, OnOk, OnErr};
 ghost use Rattle.byteorder.specs.Endian.{big_bytes};
 ghost use Rattle.dccp_packets.specs.Grammar.{is_valid, HeaderFits, decoded, header_length, type_byte, number_bytes, long_ack_bytes, ack_bytes, kind_bytes, common_bytes, header_bytes, padded, spelling};
@@ -22,10 +22,10 @@ const RESERVED: u8 = 0;
 // 255 words, the most that a Data Offset counts, in bytes.
 const LONGEST_HEADER: usize = 1020;
 
-/// Writes the packet into `out`, in place of what was there: the header, the options filled with zeros up to four
-/// bytes, and the data. The header must be valid (`Header::valid`), and the data at most 1,024 bytes. Reserved bits are
-/// zero, and the checksum is the header's (RFC 4340, section 5). OptionsTooLong comes exactly if the fixed part and the
-/// padded options pass 1,020 bytes; then `out` is unchanged.
+/// Writes the packet into `out`, and replaces what was there: the header, the options with zeros up to a multiple of
+/// four bytes, and the data. The header must be valid (`Header::valid`), and the data at most 1,024 bytes. Reserved
+/// bits are zero, and the checksum is the header's (RFC 4340, section 5). OptionsTooLong comes exactly if the fixed
+/// part and the padded options pass 1,020 bytes; then `out` is unchanged.
 pub fn encode(
     header: &Header,
     options: &[u8],
