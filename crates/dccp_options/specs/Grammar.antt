@@ -18,8 +18,8 @@ pub record RawOption : Type 0 where
   pub kind : ℕ
   pub body : List ℕ
 
--- what follows the type byte: the length, which counts the type and itself too, and the data; none where the length is
--- below 2 or beyond the area (RFC 4340, section 5.8)
+-- the data after the type byte and the length, which counts the type and itself too; none if the length is below 2 or beyond the area (RFC 4340,
+-- section 5.8)
 abbrev pub counted_body : List ℕ → Option (List ℕ)
 counted_body [] = None
 counted_body (count ∷ rest) =
@@ -39,7 +39,7 @@ raw_then place kind None _ = []
 raw_then place kind (Some body) following =
     record { place = place; kind = kind; body = body } ∷ following (bytes_after kind body)
 
--- the options of an area as they stand, from this place on; the first `skip` bytes belong to the option before
+-- all options of an area, from this place on; the first `skip` bytes belong to the option before
 abbrev pub raw_options : ℕ → ℕ → List ℕ → List RawOption
 raw_options place skip [] = []
 raw_options place (suc skip) (_ ∷ rest) = raw_options (place + 1) skip rest
@@ -61,8 +61,8 @@ pub data Part : Type 0 where
 abbrev pub part_of : ℕ → Part
 part_of kind = if kind == padding then Padding else if kind == mandatory then Mandatory else Listed
 
--- an option, with its mark, and what follows it. Padding is left out, and takes a mark before it away; Mandatory
--- marks the next option, and twice in a row is a fault, which ends the list (RFC 4340, sections 5.8.1 and 5.8.2)
+-- an option, with its mark, and what follows it. Padding is left out, and cancels a mark before it; Mandatory marks the next option, and twice
+-- in a row is a fault, which ends the list (RFC 4340, sections 5.8.1 and 5.8.2)
 abbrev pub entry_then : Part → Bool → RawOption → (Bool → List (Result Entry OptFault))
     → List (Result Entry OptFault)
 entry_then Padding _ _ following = following false

@@ -1,4 +1,4 @@
--- The types of options, by name, and what the table of the standard says of each (RFC 4340, section 5.8, table 3).
+-- The types of options by name, and what the standard's table says about each (RFC 4340, section 5.8, table 3).
 use Rattle.std.specs.Prelude.{ℕ, ◌+◌, Bool, not, ◌&&◌, ◌||◌, ◌==◌, nat_lt, nat_le, if◌then◌else◌}
 
 -- fills up the option area (RFC 4340, section 5.8.1)
@@ -29,7 +29,7 @@ change_r = 34
 abbrev pub confirm_r : ℕ
 confirm_r = 35
 
--- lets a server keep no state before the handshake is through (RFC 4340, section 8.1.4)
+-- lets a server keep no state before the handshake is complete (RFC 4340, section 8.1.4)
 abbrev pub init_cookie : ℕ
 init_cookie = 36
 
@@ -45,7 +45,7 @@ ack_vector_0 = 38
 abbrev pub ack_vector_1 : ℕ
 ack_vector_1 = 39
 
--- tells which received packets had their data dropped, and why (RFC 4340, section 11.7)
+-- says which received packets had their data dropped, and why (RFC 4340, section 11.7)
 abbrev pub data_dropped : ℕ
 data_dropped = 40
 
@@ -95,7 +95,7 @@ has_permitted_length kind count =
     || (kind == data_checksum && count == 6)
     || (is_ccid_specific kind && nat_le 2 count)
 
--- an option is understood where the table has it with its length; Init Cookie and what is a CCID's own are not (own)
+-- an option is understood if the table has its type with its length; Init Cookie and options that belong to a CCID are not (own)
 abbrev pub is_understood : ℕ → ℕ → Bool
 is_understood kind size =
     has_permitted_length kind (length_of kind size) && (not (kind == init_cookie) && not (is_ccid_specific kind))

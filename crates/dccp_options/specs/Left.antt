@@ -22,7 +22,7 @@ abbrev pub item_of : Result Opt OptFault → Result Entry OptFault
 item_of (Ok option) = Ok (entry_of_option option)
 item_of (Err fault) = Err fault
 
--- the options that a cursor has left, as they stand
+-- all options that a cursor has left
 abbrev pub raws_left : Cursor → List RawOption
 raws_left cursor = raw_options cursor.place 0 cursor.rest.now
 

@@ -30,7 +30,7 @@ ack_vectors (item ∷ rest) = vector_in item ++ ack_vectors rest
 abbrev pub vector_bytes : List (Result Entry OptFault) → List ℕ
 vector_bytes items = concat (ack_vectors items)
 
--- what the options of a packet with this acknowledgement number report, or none where no Ack Vector is there
+-- what the options of a packet with this acknowledgement number report, or none if there is no Ack Vector
 abbrev pub joined_report : ℕ → List (List ℕ) → Option VectorReport
 joined_report ack [] = None
 joined_report ack (vector ∷ others) = Some (record { ack = ack; bytes = concat (vector ∷ others) })
@@ -53,7 +53,7 @@ abbrev pub states : List ℕ → List ℕ
 states [] = []
 states (byte ∷ rest) = replicate (run_length byte) (state_of byte) ++ states rest
 
--- the state that the bytes give a number, or none where they do not reach it
+-- the state that the bytes give a number, or none if they do not reach it
 abbrev pub state_at : ℕ → List ℕ → ℕ → Option ℕ
 state_at ack bytes n = slice_get (states bytes) (distance n ack)
 
@@ -87,7 +87,7 @@ abbrev pub numbers_covered : List Run → ℕ
 numbers_covered [] = 0
 numbers_covered (run ∷ rest) = run.count + numbers_covered rest
 
--- of these runs some are passed, which cover so many numbers, and those are left
+-- some of these runs, which cover this many numbers, were passed, and the last argument is left
 abbrev pub HavePassed : List Run → ℕ → List Run → Type 0
 HavePassed runs numbers left = (passed : List Run) × (runs ≡ passed ++ left) × (numbers ≡ numbers_covered passed)
 

@@ -1,4 +1,4 @@
-//! A place in an option area, which goes over the options.
+//! A place in an option area, which moves from option to option.
 ghost use Rattle.std.specs.Prelude.{◌≡◌, ◌+◌, ◌≤◌, [], ◌∷◌, false, length, drop, Some, None, MatchOption};
 ghost use Rattle.std.specs.Iterator.{YieldsFirstBy};
 ghost use Rattle.dccp_options.specs.Grammar as spec;
@@ -52,7 +52,7 @@ fn split_option(kind: u8, rest: &[u8]) -> Option<(&[u8], &[u8])>
 impl<'a> Cursor<'a> {
     ghost use Rattle.dccp_options.specs.Left.{raw_of, item_of, raws_left, counted_left, entries_left};
 
-    /// At the begin of an area, of at most 1,008 bytes.
+    /// At the beginning of an area of at most 1,008 bytes.
     pub(crate) fn new(area: &'a [u8], on_data: bool) -> Cursor<'a>
         requires { length area.now ≤ 1008 }
         ensures { entries_left false result ≡ spec.options_of area.now on_data }
@@ -64,7 +64,7 @@ impl<'a> Cursor<'a> {
         }
     }
 
-    // The next option as it stands. One whose length is wrong ends the area.
+    // The next option as it is in the area. One whose length is wrong ends the area.
     fn next_raw(&mut self) -> Option<RawOpt<'a>>
         ensures first { MatchOption result (raws_left self.old ≡ [])
             (λ raw. raws_left self.old ≡ raw_of raw ∷ raws_left self.new) }

@@ -32,7 +32,7 @@ fn next_vector<'a>(mut options: Cursor<'a>) -> Option<(&'a [u8], Cursor<'a>)>
 }
 
 impl<'a> JoinedBytes<'a> {
-    /// The bytes of the Ack Vectors among the options, or None where there is none.
+    /// The bytes of the Ack Vectors among the options, or None if there is none.
     pub(crate) fn of(options: Cursor<'a>) -> Option<JoinedBytes<'a>>
         ensures { MatchOption result (ack_vectors (entries_left false options.entry) ≡ [])
             (λ joined. (ack_vectors (entries_left false options.entry) ≢ [])

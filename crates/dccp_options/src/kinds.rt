@@ -1,12 +1,12 @@
-//! The types of options by name, and what the table of the standard says of each (RFC 4340, section 5.8, table 3).
+//! The types of options by name, and what the standard's table says about each (RFC 4340, section 5.8, table 3).
 //!
-//! In an option the type stays a number, since any byte may come. Padding and Mandatory are in the table as
-//! understood, and are never listed.
+//! An option's type is a plain number, since any byte may come. Padding and Mandatory count as understood in the table,
+//! and are never listed.
 ghost use Rattle.std.specs.Prelude.{◌≡◌};
 ghost use Rattle.dccp_options.specs.Kinds as spec;
 ghost use Rattle.dccp_options.specs.Vectors.{is_ack_vector};
 
-/// Fills an area up; one byte (RFC 4340, section 5.8.1).
+/// Fills up an area; one byte (RFC 4340, section 5.8.1).
 pub const PADDING: u8 = 0;
 
 /// Marks the next option; one byte (RFC 4340, section 5.8.2).
@@ -57,14 +57,14 @@ pub const DATA_CHECKSUM: u8 = 44;
 // The first type that has a length.
 const FIRST_WITH_LENGTH: u8 = 32;
 
-/// Tells whether options of this type are one byte.
+/// Whether options of this type are one byte.
 pub(crate) fn is_one_byte(kind: u8) -> bool
     ensures { result ≡ spec.is_one_byte kind }
 {
     kind < FIRST_WITH_LENGTH
 }
 
-/// Tells whether an option of this type with so many bytes of data is understood.
+/// Whether an option of this type with that many bytes of data is understood.
 pub(crate) fn is_understood(kind: u8, size: usize) -> bool
     ensures { result ≡ spec.is_understood kind size }
 {
@@ -80,7 +80,7 @@ pub(crate) fn is_understood(kind: u8, size: usize) -> bool
     }
 }
 
-/// Tells whether Data packets ignore options of this type.
+/// Whether Data packets ignore options of this type.
 pub(crate) fn is_ignored_on_data(kind: u8) -> bool
     ensures { result ≡ spec.is_ignored_on_data kind }
 {
@@ -99,7 +99,7 @@ pub(crate) fn is_ignored_on_data(kind: u8) -> bool
     )
 }
 
-/// Tells whether options of this type are Ack Vectors.
+/// Whether options of this type are Ack Vectors.
 pub(crate) fn is_ack_vector(kind: u8) -> bool
     ensures { result ≡ is_ack_vector kind }
 {

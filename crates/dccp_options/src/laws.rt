@@ -1,4 +1,4 @@
-//! What ties the list of options to what was written, and the runs of a report to its states.
+//! How the list of options relates to what was written, and the runs of a report to its states.
 ghost use Rattle.std.specs.Prelude.{◌≡◌, ℕ, ◌+◌, ◌^◌, ◌<◌, ◌≤◌, List, [], ◌∷◌, ◌++◌, length, replicate, map, Bool, false, Some, None, Result, Ok, IsTrue, IsFalse};
 ghost use Rattle.std.specs.List.{All, Contains};
 ghost use Rattle.dccp_options.specs.declared.report.Run.{Run};
@@ -8,9 +8,8 @@ ghost use Rattle.dccp_options.specs.Listing.{IsListed, IsCut};
 ghost use Rattle.dccp_options.specs.Vectors.{is_ack_vector, states, reported, state_at, report_of, joined_report, runs_of, is_in_run, state_in};
 ghost use Rattle.dccp_options.specs.Written.{Item, IsWritable, spelled, written, entries_at, item_at, item_vectors, listed_from};
 
-/// The list of an area is the one that goes by the first byte of what is left: Padding, Mandatory, another option of
-/// one byte, an option with a length, or one whose length is wrong; and an area has no other list (RFC 4340, section
-/// 5.8).
+/// The list of an area follows case by case from the first byte of what is left: Padding, Mandatory, another option of
+/// one byte, an option with a length, or one whose length is wrong. An area has no other list (RFC 4340, section 5.8).
 pub fn an_area_has_one_list()
     ensures is_listed { (area : List ℕ) (on_data : Bool) → IsListed on_data false 0 area (options_of area on_data) }
     ensures only { (area : List ℕ) (on_data : Bool) (items : List (Result Entry OptFault))
@@ -50,8 +49,8 @@ pub fn a_cut_option_ends_the_list()
         → options_of (written items ++ kind ∷ rest) false ≡ options_of (written items) false }
 {}
 
-/// What a packet reports whose options were written, with any zeros after them: the Ack Vectors among them, one after
-/// the other; one vector and options of other types give just that vector, and without one there is no report (RFC
+/// A packet whose options were written, with any zeros after them, reports the Ack Vectors among them, one after the
+/// other. One vector and options of other types give just that vector, and without a vector there is no report (RFC
 /// 4340, section 11.4).
 pub fn a_report_is_what_was_written()
     ensures every { (ack zeros : ℕ) (items : List Item) → All IsWritable items
@@ -65,8 +64,8 @@ pub fn a_report_is_what_was_written()
         → report_of ack (options_of (written items ++ replicate zeros 0) false) ≡ None }
 {}
 
-/// Where one Ack Vector was written first, and options of other types after it, a packet with these options reports of
-/// each number what the vector's bytes give it.
+/// If one Ack Vector was written first, and options of other types after it, a packet with these options reports for
+/// each number the state that the vector's bytes give it.
 pub fn a_written_vector_is_reported()
     ensures { (ack n zeros : ℕ) (vector : Item) (others : List Item) → All IsWritable (vector ∷ others)
         → IsTrue (is_ack_vector vector.kind) → All (λ item. IsFalse (is_ack_vector item.kind)) others

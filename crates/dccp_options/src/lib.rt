@@ -1,7 +1,7 @@
 //! The options of DCCP packets: reading and writing an option area, and the states that its Ack Vectors report (RFC
 //! 4340, sections 5.8 and 11.4).
 //!
-//! Nothing here takes memory, and nothing judges an option beyond its length: what it means is up to its reader.
+//! Nothing here takes memory, and nothing checks an option beyond its length: its meaning is up to its reader.
 //!
 //! `OptList`, `AckReport` and `ReportRuns` are `Clone` and not `Copy`, since contracts see them as lists and a report.
 #![tactic(auto)]

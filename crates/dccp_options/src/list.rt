@@ -60,7 +60,7 @@ impl<'a> Iterator for OptList<'a> {
     }
 }
 
-/// The options of an area of at most 1,008 bytes, in their order, Padding left out (RFC 4340, section 5.8). On a Data
+/// The options of an area of at most 1,008 bytes, in their order, without Padding (RFC 4340, section 5.8). On a Data
 /// packet those that Data packets ignore are left out too, Mandatory among them. A fault is the last item; an option
 /// whose length is below 2 or beyond the area ends the list without one.
 pub fn options(area: &[u8], on_data: bool) -> OptList<'_>

@@ -21,8 +21,8 @@ pub struct Opt<'a> {
 }
 
 impl<'a> Opt<'a> {
-    /// Tells whether the standard's table has the option's type with its length (RFC 4340, section 5.8, table 3). Init
-    /// Cookie, and types from 128 on, which are a CCID's own, are not understood (own).
+    /// Whether the standard's table has the option's type with its length (RFC 4340, section 5.8, table 3). Init Cookie
+    /// is not understood, nor are types from 128 on, which belong to a CCID (own).
     pub fn is_understood(&self) -> bool
         ensures { result ≡ spec.is_understood self.now.kind (length self.now.body.now) }
     {

@@ -73,7 +73,8 @@ fn run_length(byte: u8) -> u8
     byte % 64 + 1
 }
 
-// Passes the bytes at a vector's front whose runs lie whole among so many numbers, and tells how many they cover.
+// Passes the first bytes of a vector whose runs lie entirely within the next `most` numbers. Returns the other bytes,
+// and how many numbers were covered.
 fn past_bytes<'a>(vector: &'a [u8], most: u64) -> (&'a [u8], u64)
     ensures past { (passed : List ℕ) × (vector.now ≡ passed ++ result.0.now) × (result.1 ≡ length (states passed)) }
     ensures within { result.1 ≤ most }
@@ -92,8 +93,8 @@ fn past_bytes<'a>(vector: &'a [u8], most: u64) -> (&'a [u8], u64)
 }
 
 impl<'a> AckReport<'a> {
-    /// What the Ack Vectors among the options of a packet report, whose acknowledgement number this is. None exactly
-    /// where no Ack Vector is there; one without a byte is a report that gives no number a state. If a fault ends the
+    /// What the Ack Vectors among the options of a packet report, if `ack` is its acknowledgement number. None exactly
+    /// if there is no Ack Vector; one without a byte is a report that gives no number a state. If a fault ends the
     /// list, the vectors before it still count; the end answers the fault by a Reset anyway.
     pub fn of(ack: Seq48, options: OptList<'a>) -> Option<AckReport<'a>>
         ensures none { IsNone result ↔ (ack_vectors options.entry ≡ []) }
@@ -103,7 +104,7 @@ impl<'a> AckReport<'a> {
         Some(AckReport { ack, bytes })
     }
 
-    /// The state of the number, or None where the vectors do not reach it: 0 received, 1 received ECN marked, 3 not yet
+    /// The state of the number, or None if the vectors do not reach it: 0 received, 1 received ECN marked, 3 not yet
     /// received.
     pub fn state(&self, n: Seq48) -> Option<u8>
         ensures { result ≡ state_at self.now.ack self.now.bytes n }
@@ -135,8 +136,9 @@ impl<'a> AckReport<'a> {
 }
 
 impl<'a> ReportRuns<'a> {
-    /// Passes runs that lie whole among the next so many numbers, and tells how many numbers they cover (own). It ends
-    /// with the vector at hand, so that a run costs a look at its byte; `next` goes on to the vector after it.
+    /// Passes the runs that lie entirely within the next `most` numbers, and returns how many numbers they cover (own).
+    /// It stops at the end of the current vector, so that a run costs one look at its byte; `next` continues with the
+    /// next vector.
     pub fn pass(&mut self, most: u64) -> u64
         ensures past { HavePassed self.old result self.new }
         ensures within { result ≤ most }
