@@ -45,7 +45,7 @@ server_priority number initial permitted_here permitted_there list_here list_the
       is_required = is_required;
     }
 
--- a feature whose value its location tells; a value that is asked for at the peer is judged by the same range
+-- a feature whose location states its value; a value that is asked for at the peer has the same range
 abbrev pub non_negotiable : ℕ → ℕ → ℕ → (ℕ → Bool) → ℕ → Bool → FeatureRow
 non_negotiable number width initial permitted usual is_required =
     record {
@@ -81,12 +81,12 @@ feature_number feature = (described feature).number
 abbrev pub initial_of : Feature → ℕ
 initial_of feature = (described feature).initial
 
--- our ends may put the value into a list for the feature at this place
+-- an end of this project may put the value into a list for the feature at this place
 abbrev pub is_permitted : Feature → Place → ℕ → Bool
 is_permitted feature place.Here value = (described feature).permitted_here value
 is_permitted feature place.There value = (described feature).permitted_there value
 
--- the list of an end that was told no other
+-- the list of an end by default
 abbrev pub usual_values : Feature → Place → List ℕ
 usual_values feature place.Here = (described feature).list_here
 usual_values feature place.There = (described feature).list_there
@@ -105,6 +105,6 @@ feature_numbered n =
     else if n == 9 then Some f.CheckDataChecksum
     else None
 
--- The feature is non-negotiable: its value is what its location says (RFC 4340, section 6.3.2).
+-- The feature is non-negotiable: its value is the one that its location states (RFC 4340, section 6.3.2).
 abbrev pub IsNonNegotiable : Feature → Type 0
 IsNonNegotiable feature = (described feature).is_server_priority ≡ false

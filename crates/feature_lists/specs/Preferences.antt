@@ -1,4 +1,4 @@
--- What a preference list is, and how it is kept: eight bytes, of which the first are its entries (own).
+-- What a preference list is, and how it is stored: eight bytes, of which the first are its entries (own).
 use Rattle.std.specs.Prelude.{◌≡◌, ℕ, ◌-◌, ◌≤◌, true, List, ◌++◌, length, take, replicate}
 use Rattle.feature_lists.specs.Lists.{is_distinct}
 

@@ -11,16 +11,16 @@ use Rattle.feature_lists.specs.declared.wishes.PreferFault.TheVariants as fault
 use Rattle.feature_lists.specs.declared.wishes.Wanted.{Wanted}
 use Rattle.feature_lists.specs.declared.wishes.Wanted.TheVariants as wanted
 
--- so many values: one to eight, and for a non-negotiable feature just one
+-- this many values are allowed: one to eight, and for a non-negotiable feature just one
 abbrev pub is_counted : Feature → ℕ → Bool
 is_counted feature count = nat_le 1 count && nat_le count 8 && ((described feature).is_server_priority || count == 1)
 
--- so many values, each permitted, and none twice
+-- an allowed number of values, each permitted, and none twice
 abbrev pub is_allowed : Feature → Place → List ℕ → Bool
 is_allowed feature place values =
     is_counted feature (length values) && list_all (is_permitted feature place) values && is_distinct values
 
--- an end may wish for the feature there: a non-negotiable one only where it is located itself
+-- an end may wish for the feature there: for a non-negotiable one, only if it is located at this end
 abbrev pub is_ours : Feature → Place → Bool
 is_ours feature place.Here = true
 is_ours feature place.There = (described feature).is_server_priority
@@ -45,7 +45,7 @@ wish_of feature place values =
     else if not (is_ours feature place) then Err fault.NotOurs
     else Ok (wanted_of feature values)
 
--- the wish of an end that was told no other, where it may have one
+-- the default wish of an end, if it may have one
 abbrev pub usual_of : Feature → Place → Option Wanted
 usual_of feature place =
     if is_ours feature place then Some (wanted_of feature (usual_values feature place)) else None
@@ -56,7 +56,7 @@ is_wish feature place (wanted.List list) = (described feature).is_server_priorit
 is_wish feature place (wanted.Number number) =
     not (described feature).is_server_priority && is_ours feature place && is_permitted feature place number
 
--- the same as `is_allowed`, by what each part means
+-- the same as `is_allowed`, with the meaning of each part
 pub record IsAllowed (feature : Feature) (place : Place) (values : List ℕ) : Type 0 where
   pub some : 1 ≤ length values
   pub few : length values ≤ 8

@@ -1,11 +1,11 @@
-//! The features and where they stand.
+//! The features, and where they are located.
 //!
 //! The features' table is one definition for contracts (`specs/Features`) and these methods for code. No other crate
-//! has a part of it again.
+//! repeats a part of it.
 ghost use Rattle.std.specs.Prelude.{◌≡◌, ℕ, ◌+◌, ◌<◌, ◌≤◌, IsSome, IfSome, ◌↔◌};
 ghost use Rattle.feature_lists.specs.Features.{described, feature_number, feature_numbered, initial_of, is_permitted, usual_values};
 
-// What Sequence Window may be: Wmin and Wmax of RFC 4340, section 7.5.2, 2^46 - 1 being the second.
+// The range of Sequence Window: Wmin and Wmax of RFC 4340, section 7.5.2. Wmax is 2^46 - 1.
 const NARROWEST_WINDOW: u64 = 32;
 
 const WIDEST_WINDOW: u64 = 70_368_744_177_663;
@@ -56,7 +56,7 @@ impl Feature {
         Feature::CheckDataChecksum,
     ];
 
-    /// The feature numbered `n`, or None exactly where `n` is not 1 to 9.
+    /// The feature numbered `n`, or None exactly if `n` is not 1 to 9.
     pub fn of(n: u8) -> Option<Feature>
         ensures value { result ≡ feature_numbered n }
         ensures known { IsSome result ↔ ((1 ≤ n) × (n ≤ 9)) }
@@ -95,7 +95,7 @@ impl Feature {
     }
 
     /// Whether the feature is server-priority, so that its value is the reconciliation of two lists (RFC 4340, section
-    /// 6.3.1). Any other is non-negotiable: its value is what its location tells (section 6.3.2).
+    /// 6.3.1). Any other is non-negotiable: its value is the one that its location states (section 6.3.2).
     pub fn is_server_priority(self) -> bool
         ensures { result ≡ (described self).is_server_priority }
     {
@@ -124,8 +124,8 @@ impl Feature {
         )
     }
 
-    /// Whether the value is permitted for the feature at this place (own): our ends wish for no other. What is told of
-    /// a non-negotiable feature at the peer has the range of Here.
+    /// Whether the value is permitted for the feature at this place (own): an end of this project wishes for no other.
+    /// A non-negotiable feature has at There the range that it has at Here.
     pub fn is_permitted(self, place: Place, value: u64) -> bool
         ensures { result ≡ is_permitted self place value }
     {
@@ -143,8 +143,8 @@ impl Feature {
         }
     }
 
-    /// The values that an end wishes for the feature at this place where it was told no others (own), best first. For a
-    /// non-negotiable feature at There they are those of Here, and no wish.
+    /// The values that an end wishes for the feature at this place by default (own), best first. For a non-negotiable
+    /// feature at There they are those of Here, but no end wishes for them.
     pub fn usual_values(self, place: Place) -> &'static [u64]
         ensures { result.now ≡ usual_values self place }
     {

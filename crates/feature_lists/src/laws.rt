@@ -8,16 +8,16 @@ ghost use Rattle.feature_lists.specs.declared.features.Feature.{Feature};
 ghost use Rattle.feature_lists.specs.declared.features.Place.{Place};
 ghost use Rattle.feature_lists.specs.declared.wishes.Wanted.{Wanted};
 
-/// Two lists settle on a value exactly where it is in both and none before it in the server's list is in the
-/// client's, and on nothing exactly where no value is in both (RFC 4340, section 6.3.1).
+/// Two lists settle on a value exactly if it is in both, and none before it in the server's list is in the client's.
+/// They settle on nothing exactly if no value is in both (RFC 4340, section 6.3.1).
 pub fn reconciliation_is_the_first_shared()
     ensures found { (server client : List ℕ) (value : ℕ)
         → (reconciled server client ≡ Some value) ↔ IsFirstShared server client value }
     ensures none { (server client : List ℕ) → (reconciled server client ≡ None) ↔ SharesNothing server client }
 {}
 
-/// A list of values is allowed exactly where it has one to eight entries, each permitted and none twice, and for a
-/// non-negotiable feature just one (own).
+/// A list of values is allowed exactly if it has one to eight entries, each permitted and none twice. For a
+/// non-negotiable feature it has exactly one (own).
 pub fn allowed_lists()
     ensures { (feature : Feature) (place : Place) (values : List ℕ)
         → (is_allowed feature place values ≡ true) ↔ IsAllowed feature place values }

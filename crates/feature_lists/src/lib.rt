@@ -1,7 +1,7 @@
 //! DCCP's features, the preference lists that two ends hold for them, and the value that two lists settle on (RFC 4340,
 //! section 6), with the lists and ranges of this profile.
 //!
-//! Nothing here takes memory, and nothing here is sent: who says what, and when, is the negotiation's.
+//! Nothing here takes memory, and nothing here is sent: the negotiation decides who says what, and when.
 #![tactic(auto)]
 
 mod features;

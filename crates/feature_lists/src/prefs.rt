@@ -13,8 +13,7 @@ pub const MOST_ENTRIES: usize = 8;
 /// bytes. Contracts see the list of its entries. Only `wish` and `usual` make one.
 #[derive(Clone, Copy, Debug, PartialEq, Eq)]
 pub struct Prefs {
-    // The entries, and zeros after them. So the value is the list alone, and yet gives the fields back, as Copy and
-    // `==` need.
+    // The entries, and zeros after them. So equal lists have equal fields, as Copy and `==` need.
     entries: [u8; 8],
     len: usize,
 }

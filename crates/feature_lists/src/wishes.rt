@@ -21,10 +21,10 @@ pub enum Wanted {
 /// Why a wish for a feature is refused. The refused call changes nothing.
 #[derive(Clone, Copy, Debug, PartialEq, Eq)]
 pub enum PreferFault {
-    /// The end is in no phase in which it can ask for a change. `wish` never answers this.
+    /// The end is not in a phase in which it can ask for a change. `wish` never answers this.
     NotOpen = 1,
-    /// The values are none, more than eight, or not distinct; one is not permitted; or there is not exactly one for a
-    /// non-negotiable feature.
+    /// There is no value, or more than eight; two are equal; one is not permitted; or a non-negotiable feature has not
+    /// exactly one.
     BadList = 2,
     /// The feature is non-negotiable, and located at the peer.
     NotOurs = 3,
@@ -73,9 +73,9 @@ fn is_ours(feature: Feature, place: Place) -> bool
 
 /// The wish for these values of the feature at this place, best first (own).
 ///
-/// Refused first with BadList, exactly where the list is empty, has more than eight entries, repeats one, has a value
-/// that is not permitted, or has not exactly one value for a non-negotiable feature; then with NotOurs, exactly for a
-/// non-negotiable feature at There, whose values are judged by the range of Here.
+/// Refused first with BadList, exactly if the list is empty, has more than eight entries, repeats one, has a value that
+/// is not permitted, or has not exactly one value for a non-negotiable feature. Then refused with NotOurs, exactly for
+/// a non-negotiable feature at There, whose values are first checked by the range of Here.
 pub fn wish(feature: Feature, place: Place, values: &[u64]) -> Result<Wanted, PreferFault>
     ensures value { result ≡ wish_of feature place values.now }
     ensures bad_list { (result ≡ Err PreferFault.BadList) ↔ (is_allowed feature place values.now ≡ false) }
@@ -95,7 +95,7 @@ pub fn wish(feature: Feature, place: Place, values: &[u64]) -> Result<Wanted, Pr
     }
 }
 
-/// The wish of an end that was told no other (own), or None exactly for a non-negotiable feature at There.
+/// The default wish of an end (own), or None exactly for a non-negotiable feature at There.
 pub fn usual(feature: Feature, place: Place) -> Option<Wanted>
     ensures value { result ≡ usual_of feature place }
     ensures made { IsSome result ↔ IsOurs feature place }
