@@ -14,7 +14,7 @@ later_of-same a b none = search rules
 pub later_of-past : (a b : ℕ) → 2 ^ 47 ≤ distance a b → later_of a b ≡ a
 later_of-past a b far = search rules
 
--- the low end of a window: so many below the greatest, but nothing before the first
+-- the low end of a window: this many below the greatest, but nothing before the first
 pub low-count : (first greatest width f g : ℕ) → f ≡ residue first → g ≡ residue greatest → width < 2 ^ 46 → first ≤ greatest
     → greatest < first + 2 ^ 47 → later_of (down (residue (g + 1)) width) f ≡ residue (max (greatest + 1 - width) first)
 low-count first greatest width f g ef eg small from within =

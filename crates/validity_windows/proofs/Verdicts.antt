@@ -23,7 +23,7 @@ sync_is_other number is = subst (λ (v : Verdict). IsValid v → ⊥) is (λ (no
 drop_is_other : Drop ≢ Valid
 drop_is_other is = subst (λ (v : Verdict). IsValid v → ⊥) is (λ (none : ⊥). none) tt
 
--- a rule says Valid exactly where both of its tests hold
+-- a rule says Valid exactly if both of its tests hold
 both_tests : (number ack : Bool) (other : Verdict) → other ≢ Valid → ((if number && ack then Valid else other) ≡ Valid) ↔ (IsTrue number × IsTrue ack)
 both_tests true true other never = (λ is. (refl, refl), λ both. refl)
 both_tests true false other never = (λ is. absurd (never is), λ both. absurd (false≢true both.1))

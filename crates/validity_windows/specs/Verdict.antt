@@ -8,7 +8,7 @@ use Rattle.validity_windows.specs.declared.verdict.Verdict.{Verdict}
 use Rattle.validity_windows.specs.declared.verdict.Verdict.TheVariants.{Valid, SyncFor, Drop}
 use Rattle.validity_windows.specs.Windows.{sequence_low, sequence_high, ack_low, ack_high}
 
--- low <= ack <= high, where there is an acknowledgement number
+-- low <= ack <= high, if there is an acknowledgement number
 abbrev pub is_ack_within : ℕ → ℕ → Option ℕ → Bool
 is_ack_within low high None = true
 is_ack_within low high (Some ack) = is_within ack low high

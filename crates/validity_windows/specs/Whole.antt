@@ -57,7 +57,7 @@ abbrev pub AckLies : ℕ → ℕ → Option ℕ → Type 0
 AckLies low high None = Unit {0}
 AckLies low high (Some ack) = (low ≤ ack) × (ack ≤ high)
 
--- the acknowledgement number on the circle, where there is one
+-- the acknowledgement number on the circle, if there is one
 abbrev pub residue_of : Option ℕ → Option ℕ
 residue_of None = None
 residue_of (Some ack) = Some (residue ack)
@@ -102,7 +102,7 @@ refusal m types.Reset number = SyncFor m.gsr
 refusal m types.Sync number = Drop
 refusal m types.SyncAck number = Drop
 
--- an acknowledgement number, where there is one, counted from ISS on within one turn
+-- an acknowledgement number, if there is one, counted from ISS on within one turn
 abbrev pub IsAckOfTurn : ℕ → Option ℕ → Type 0
 IsAckOfTurn iss None = Unit {0}
 IsAckOfTurn iss (Some ack) = (iss ≤ ack) × (ack < iss + 2 ^ 48)

@@ -1,7 +1,7 @@
 -- The windows that valid sequence and acknowledgement numbers lie in (RFC 4340, section 7.5.1).
 --
--- Where the later of two numbers is taken, the window's end comes first and the first number of the connection second.
--- The order matters only at just half the circle.
+-- In each choice of the later of two numbers, the window's end comes first, and the first number of the connection second. The order matters
+-- only if they are exactly half the circle apart.
 use Rattle.std.specs.Prelude.{ℕ, ◌+◌, ◌*◌, ◌/◌, ◌^◌, ◌<◌, ◌≤◌}
 use Rattle.seq_circle.specs.Circle.{residue, later_of, down}
 use Rattle.validity_windows.specs.declared.marks.Marks.{Marks}

@@ -1,4 +1,4 @@
-//! What the windows and the verdict say in whole numbers.
+//! What the windows and the verdict mean in whole numbers.
 ghost use Rattle.std.specs.Prelude.{◌≡◌, ◌≢◌, ℕ, ◌+◌, ◌-◌, ◌*◌, ◌/◌, ◌^◌, ◌<◌, ◌≤◌, ◌↔◌, max, Option};
 ghost use Rattle.seq_circle.specs.Circle.{residue, open_end, IsWithin};
 ghost use Rattle.dccp_packets.specs.declared.header.PacketType.{PacketType};
@@ -9,10 +9,10 @@ ghost use Rattle.validity_windows.specs.Verdict.{verdict, taken};
 ghost use Rattle.validity_windows.specs.Beginning.{AreSoundMarks, AreNumbers, new_marks, begun};
 ghost use Rattle.validity_windows.specs.Whole.{residues, IsWhole, unrolled, residue_of, HasValidNumbers, refusal, IsAckOfTurn, AckLies, whole_ack_low, whole_taken, whole_begun};
 
-/// Where each end used fewer than 2^47 numbers since its first, the windows are intervals of whole numbers, for every
-/// number of the circle: counted on from the first within one turn, just those between the two ends lie in a window
-/// (RFC 4340, section 7.5.1), just those after GSR and up to SWH are valid on what ends a connection, just those from
-/// GAR to AWH are acknowledged by it, and just those from SWL on, fewer than 2^47 of them, are valid on Sync and
+/// If each end has used fewer than 2^47 numbers since its first, the windows are intervals of whole numbers. Every
+/// number of the circle is counted on from the first, within one turn. Just those between the two ends lie in a window
+/// (RFC 4340, section 7.5.1). Just those after GSR and up to SWH are valid on what ends a connection, and just those
+/// from GAR to AWH are acknowledged by it. Just those from SWL on, fewer than 2^47 of them, are valid on Sync and
 /// SyncAck (section 7.5.3). So the wrap of the circle does not matter.
 pub fn windows_are_intervals_of_counts()
     ensures sequence { (m : Marks) (isr gsr n : ℕ) → InRange m → m.isr ≡ residue isr → m.gsr ≡ residue gsr
@@ -34,8 +34,8 @@ pub fn windows_are_intervals_of_counts()
         ↔ ((max (gsr + 1 - m.peer_w / 4) isr ≤ n) × (n < max (gsr + 1 - m.peer_w / 4) isr + 2 ^ 47)) }
 {}
 
-/// The table of RFC 4340, section 7.5.3, over whole numbers: for sound marks a packet is valid exactly where its
-/// numbers lie in the intervals of the plain order (`valid`), and what is not valid is answered as the table says
+/// The table of RFC 4340, section 7.5.3, over whole numbers: for sound marks a packet is valid exactly if its numbers
+/// lie in the intervals of the plain order (`valid`), and what is not valid is answered as the table says
 /// (`otherwise`). Each number of a packet is the residue of just one whole number within one turn from the first on, so
 /// no packet is left out.
 pub fn verdicts_are_those_of_whole_numbers()
@@ -55,10 +55,9 @@ pub fn sound_marks_are_whole_numbers()
     ensures sound { (w : Marks) → IsWhole w → AreSoundMarks (residues w) }
 {}
 
-/// What a valid packet raises is the maximum of whole numbers, where its number is one of the first 2^47 of its sender
-/// (`raised`), and the marks are whole ones again (`taken`). The first packet received does the same where it
-/// acknowledges AWL to AWH (`begun`, `first`). So sound marks stay so, and they are sound from the first packet sent on
-/// (`sent`).
+/// If a valid packet's number is one of the first 2^47 of its sender, what it raises is a maximum of whole numbers
+/// (`raised`), and the marks are whole ones again (`taken`). The first packet received does the same if it acknowledges
+/// AWL to AWH (`begun`, `first`). So sound marks stay so, and they are sound from the first packet sent on (`sent`).
 pub fn marks_stay_sound()
     ensures raised { (w : Marks) (kind : PacketType) (n : ℕ) (ack : Option ℕ) → IsWhole w → w.isr ≤ n
         → n < w.isr + 2 ^ 47

@@ -9,7 +9,7 @@ use crate::{Marks, Windows};
 use dccp_packets::PacketType;
 use seq_circle::Seq48;
 
-/// What an end makes of a packet's numbers.
+/// An end's verdict on a packet's numbers.
 #[derive(Clone, Copy, Debug, PartialEq, Eq)]
 pub enum Verdict {
     /// They are valid.
@@ -20,7 +20,7 @@ pub enum Verdict {
     Drop,
 }
 
-// Tells whether the acknowledgement number, where there is one, lies in this interval.
+// Whether the acknowledgement number, if there is one, lies in this interval.
 fn is_ack_within(ack: Option<Seq48>, low: Seq48, high: Seq48) -> bool
     ensures { result ≡ is_ack_within low high ack }
 {
@@ -43,8 +43,8 @@ pub(crate) fn gar_after(gar: Seq48, kind: PacketType, ack: Option<Seq48>) -> Seq
 impl Marks {
     /// The windows of valid numbers (RFC 4340, section 7.5.1), with W the width `peer_w` and W' the width `own_w`: SWL
     /// is the later of GSR + 1 - floor(W/4) and ISR, SWH is GSR + ceil(3W/4), AWL is the later of GSS + 1 - W' and ISS,
-    /// and AWH is GSS. Both widths lie in 32 to 2^46 - 1. Before the first packet was sent AWL is ISS and AWH is ISS -
-    /// 1, so that every acknowledgement number is in the window: judge no packet before that (own).
+    /// and AWH is GSS. Both widths lie in 32 to 2^46 - 1. Before the first packet was sent, AWL is ISS and AWH is ISS -
+    /// 1, so every acknowledgement number is in the window. Check no packet before that (own).
     pub fn windows(&self) -> Windows
         requires { InRange self.now }
         ensures { result ≡ windows self.now }
@@ -100,8 +100,8 @@ impl Marks {
         }
     }
 
-    /// Tells whether an acknowledgement number, where there is one, is of a packet that this end sent lately: it lies
-    /// in AWL to AWH (RFC 4340, section 7.5.1). An end in REQUEST asks this of a Response or Reset, since the peer's
+    /// Whether an acknowledgement number, if there is one, is that of a packet that this end sent lately: it lies in
+    /// AWL to AWH (RFC 4340, section 7.5.1). An end in REQUEST asks this of a Response or Reset, since the peer's
     /// numbers are not known yet. The widths are in range, and at least one packet was sent.
     pub fn acknowledges(&self, ack: Option<Seq48>) -> bool
         requires { InRange self.now }
