@@ -17,7 +17,7 @@ pub enum SendFault {
     TooLong,
     /// CCID here is 2, and the peer sends no Ack Vectors (RFC 4341, section 4).
     NotNegotiated,
-    /// As many data packets are in flight as may be (RFC 4341, section 5).
+    /// As many data packets are in flight as the window allows (RFC 4341, section 5).
     WindowFull,
 }
 
@@ -35,8 +35,8 @@ pub enum AbortFault {
     NotLive,
 }
 
-/// A call of an end by its user, as one value (own; the calls are RFC 4340's): the call that each names takes what
-/// is here, and refuses as it says.
+/// A call of an end by its user, as one value (own; the calls are those of RFC 4340). Each variant has the arguments of
+/// the call that it names, and that call's refusals.
 #[derive(Clone, Copy, Debug, PartialEq, Eq)]
 pub enum UserCall<'a> {
     /// `Endpoint::open`: the client asks for its service (RFC 4340, section 8.1.1).
@@ -59,7 +59,7 @@ pub enum UserCall<'a> {
     Timer(Timer),
 }
 
-/// The timers of an end. The user keeps their times, and tells the end that one has run out.
+/// The timers of an end. The user keeps their times, and calls the end when one has run out.
 #[derive(Clone, Copy, Debug, PartialEq, Eq)]
 pub enum Timer {
     /// No answer to the Request has come (RFC 4340, section 8.1.1).

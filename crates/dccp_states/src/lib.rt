@@ -1,9 +1,9 @@
-//! The phases of an end, what a packet's type does in each of them, and what an end's calls answer: the tables of RFC
-//! 4340, section 8.5, steps 2 to 4, 7 and 9 to 15, under this project's profile; what became of a packet, the calls of an
-//! end's user, the timers that they name, and why a call was refused (sections 7 and 8).
+//! The phases of an end, and what a packet's type does in each of them: the tables of RFC 4340, section 8.5, steps 2 to
+//! 4, 7 and 9 to 15, under this project's profile. Then the types of what became of a packet, of the calls of an end's
+//! user, of the timers, and of the refusals of calls (sections 7 and 8).
 //!
 //! Nothing here looks at a packet's numbers or options, sends anything or takes memory: each function is one table.
-//! Calls and answers are types alone, so that a crate that reads or prints them needs no end.
+//! Calls and answers are only types here, so that a crate that reads or prints them needs no end.
 #![tactic(auto)]
 
 mod calls;

@@ -5,7 +5,7 @@ ghost use Rattle.dccp_states.specs.Unexpected.{is_for_the_other_role, is_open_or
 use crate::{Phase, Role};
 use dccp_packets::PacketType;
 
-// Tells whether only the peer's role gets packets of this type.
+// Whether only the peer's role gets packets of this type.
 fn is_for_the_other_role(role: Role, kind: PacketType) -> bool
     ensures { result ≡ is_for_the_other_role role kind }
 {
@@ -15,8 +15,8 @@ fn is_for_the_other_role(role: Role, kind: PacketType) -> bool
     }
 }
 
-// Tells whether the phase is OPEN or comes after it (RFC 4340, section 4.3). TIMEWAIT does, in the standard's order of
-// states, although no packet of TIMEWAIT comes so far.
+// Whether the phase is OPEN or comes after it (RFC 4340, section 4.3). TIMEWAIT does, in the standard's order of
+// states, although no packet in TIMEWAIT gets as far as this test.
 fn is_open_or_later(phase: Phase) -> bool
     ensures { result ≡ is_open_or_later phase }
 {
@@ -26,16 +26,16 @@ fn is_open_or_later(phase: Phase) -> bool
     }
 }
 
-// Tells whether packets of this type open a connection.
+// Whether packets of this type open a connection.
 fn is_opening_type(kind: PacketType) -> bool
     ensures { result ≡ is_opening_type kind }
 {
     matches!(kind, PacketType::Request | PacketType::Response)
 }
 
-/// Tells whether a valid packet is out of place, so that a Sync answers it (RFC 4340, section 8.5, step 7): a server
-/// gets CloseReq or Response, a client gets Request, the phase is OPEN or later and a Request or Response comes whose
-/// number is not before the first of the open connection, which `from_osr` tells, or Data comes in RESPOND.
+/// Whether a valid packet is out of place, so that a Sync answers it (RFC 4340, section 8.5, step 7). It is if a server
+/// gets a CloseReq or a Response, if a client gets a Request, if Data comes in RESPOND, or if in OPEN or later a
+/// Request or Response comes whose number is not before the first of the open connection (`from_osr`).
 pub fn unexpected(role: Role, phase: Phase, kind: PacketType, from_osr: bool) -> bool
     ensures { result ≡ unexpected role phase kind from_osr }
 {

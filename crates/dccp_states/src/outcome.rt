@@ -8,11 +8,11 @@ use seq_circle::Seq48;
 pub enum Why {
     /// The bytes are no packet.
     Malformed(Malformed),
-    /// The checksum does not fit (RFC 4340, section 9).
+    /// The checksum is wrong (RFC 4340, section 9).
     Sum(SumFault),
     /// The ports are not those of the connection.
     OtherFlow,
-    /// A Reset that belongs to no connection: in CLOSED, LISTEN and TIMEWAIT, and in REQUEST where its acknowledgement
+    /// A Reset that belongs to no connection: in CLOSED, LISTEN and TIMEWAIT, and in REQUEST if its acknowledgement
     /// number is outside the window (RFC 4340, section 8.5, steps 2 to 4).
     StrayReset,
     /// A packet with short numbers, which are not negotiated (RFC 4340, section 7.6.1).
@@ -24,8 +24,8 @@ pub enum Why {
 /// What became of a packet.
 #[derive(Clone, Copy, Debug, PartialEq, Eq)]
 pub enum Outcome {
-    /// It was taken. `delivered` is the place of its data in the input, first and past the last, where there was data
-    /// to deliver.
+    /// It was taken. If it had data to deliver, `delivered` is where they are in the input: the place of the first
+    /// byte, and the place after the last.
     Took { delivered: Option<(usize, usize)> },
     /// It was dropped.
     Dropped(Why),

@@ -22,7 +22,7 @@ pub enum Phase {
     Request,
     /// A server that has sent its Response.
     Respond,
-    /// A client that has its Response, and does not know yet that the server knows.
+    /// A client that has its Response, and does not know yet whether the server knows that.
     PartOpen,
     /// Data may be sent and is delivered.
     Open,
@@ -30,6 +30,6 @@ pub enum Phase {
     CloseReq,
     /// An end that has sent its Close.
     Closing,
-    /// An end that holds on to the connection's numbers after a Reset.
+    /// An end that keeps the connection's numbers after a Reset.
     TimeWait,
 }

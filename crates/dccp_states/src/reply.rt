@@ -25,7 +25,7 @@ pub enum Reply {
 }
 
 /// The phase after a packet that was taken, and the reply, by the type of the packet (RFC 4340, section 8.5, steps 9 to
-/// 15). A type that the table does not name in a phase leaves the phase and is not answered.
+/// 15). A type that the table does not name in a phase does not change the phase, and is not answered.
 pub fn after(phase: Phase, kind: PacketType) -> (Phase, Reply)
     ensures { result ≡ after phase kind }
 {

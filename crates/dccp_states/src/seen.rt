@@ -14,9 +14,9 @@ pub enum Refusal {
     TooLong,
     /// `send`, `send_early`: CCID here is 2, and the peer sends no Ack Vectors.
     NotNegotiated,
-    /// `send`, `send_early`: as many data packets are in flight as may be.
+    /// `send`, `send_early`: as many data packets are in flight as the window allows.
     WindowFull,
-    /// `prefer`: the values are none, too many or not distinct, or not such as the feature may have.
+    /// `prefer`: there are no values or too many, two are equal, or one is not permitted for the feature.
     BadList,
     /// `prefer`: the feature is non-negotiable and located at the peer.
     NotOurs,
