@@ -17,13 +17,13 @@ abbrev pub index_of : Feature → Place → ℕ
 index_of feature located.Here = 2 * (feature_number feature - 1)
 index_of feature located.There = 2 * (feature_number feature - 1) + 1
 
--- what an end that was told nothing offers
+-- what an end offers by default
 abbrev pub usual_offer : Feature → Place → Offer
 usual_offer f.EcnIncapable located.Here = offer.Mandatory
 usual_offer f.SendAckVector located.There = offer.Mandatory
 usual_offer _ _ = offer.Nothing
 
--- what an end that was told nothing wants and offers for one feature at one place
+-- what an end wants and offers by default for one feature at one place
 abbrev pub usual_listed : Feature → Place → RowSetup
 usual_listed feature place =
     record { feature = feature; place = place; wish = usual_of feature place; offer = usual_offer feature place }
@@ -81,7 +81,7 @@ unoffered listed = record listed { offer = offer.Nothing }
 abbrev pub without_offers : List RowSetup → List RowSetup
 without_offers lists = map unoffered lists
 
--- what every row's entry keeps
+-- what holds of each row's entry
 pub record IsListedFor (feature : Feature) (place : Place) (listed : RowSetup) : Type 0 where
   pub feature_is : listed.feature ≡ feature
   pub place_is : listed.place ≡ place

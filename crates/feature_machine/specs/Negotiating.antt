@@ -57,12 +57,12 @@ pub record AreRowsOf (role : Role2) (rows : List Row) : Type 0 where
   pub sound : IsNegotiation rows
   pub roles : (feature : Feature) (place : Place) → (row_at rows feature place).role ≡ role
 
--- all rows stay but that of a feature at a place
+-- all rows are unchanged except that of a feature at a place
 abbrev pub RestStays : List Row → List Row → Feature → Place → Type 0
 RestStays old new feature place =
     (other : Feature) (there : Place) → index_of other there ≢ index_of feature place → row_at new other there ≡ row_at old other there
 
--- all rows after an event, and what the one row answers that the event is of
+-- all rows after an event, and the answer of the row that the event is for
 pub record RowsStep : Type 0 where
   pub rows : List Row
   pub answer : RowAnswer
@@ -73,8 +73,7 @@ stepped rows feature place event =
     let step = row_step (row_at rows feature place) event in
     record { rows = put rows feature place step.row; answer = step.answer }
 
--- Change L and Confirm L speak of a feature at the peer, Change R and Confirm R of one at this end (RFC 4340, section
--- 6)
+-- Change L and Confirm L are for a feature at the peer, Change R and Confirm R for one at this end (RFC 4340, section 6)
 abbrev pub place_of : Bool → Place
 place_of true = located.There
 place_of false = located.Here
@@ -84,16 +83,16 @@ abbrev pub opposite : Place → Place
 opposite located.Here = located.There
 opposite located.There = located.Here
 
--- a Change: of a feature that is not known it is not valid
+-- a Change; for an unknown feature it is not valid
 abbrev pub changes_known : List Row → Option Feature → Place → List ℕ → Bool → RowsStep
 changes_known rows (Some feature) place body mandatory = stepped rows feature place (Change body mandatory)
 changes_known rows None place body mandatory = record { rows = rows; answer = if mandatory then Fatal 6 else Confirms [] }
 
--- a Change with this feature number, by L of a feature at the peer and by R of one here
+-- a Change with this feature number: Change L is for a feature at the peer, and Change R for one here
 abbrev pub changes : List Row → Bool → ℕ → List ℕ → Bool → RowsStep
 changes rows left number body mandatory = changes_known rows (feature_numbered number) (place_of left) body mandatory
 
--- a Confirm: of a feature that is not known it is ignored
+-- a Confirm; for an unknown feature it is ignored
 abbrev pub confirms_known : List Row → Option Feature → Place → List ℕ → Option ℕ → RowsStep
 confirms_known rows (Some feature) place body ack = stepped rows feature place (Confirm body ack)
 confirms_known rows None place body ack = record { rows = rows; answer = Ignored }
@@ -130,7 +129,7 @@ is_offerless offer.Mandatory = false
 abbrev pub is_quiet : Row → Bool
 is_quiet row = is_offerless row.offer && not (is_due row)
 
--- none of the rows has
+-- no row has anything to say by itself
 abbrev pub are_quiet : List Row → Bool
 are_quiet rows = list_all is_quiet rows
 
@@ -162,6 +161,6 @@ abbrev pub is_next_mandatory : Stand → Row → Bool
 is_next_mandatory stand.Changing row = row.mandatory
 is_next_mandatory _ row = false
 
--- what an owner sees of a row: its value, and where its negotiation stands
+-- what an owner sees of a row: its value, and its stand
 abbrev pub held_by : Row → Held
 held_by row = record { value = row.value; stand = row.stand }

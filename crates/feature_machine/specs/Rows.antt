@@ -1,9 +1,8 @@
 -- The step of one row (own; the names of the stands, the options and the reconciliation are RFC 4340's, section 6).
 --
--- An event is judged first, and then one table is applied by cases. Validity comes before the stand, and lateness
--- before the data. In STABLE and UNSTABLE a Confirm is passed over, whatever it is. On rows that the conditions of
--- `open_offer` and `sent` exclude, these change nothing. A row of a non-negotiable feature at the peer never leaves
--- STABLE.
+-- An event is judged first, and then one table is applied by cases. Validity comes before the stand, and lateness before the data. In STABLE and
+-- UNSTABLE every Confirm is passed over. On rows that the preconditions of `open_offer` and `sent` exclude, they change nothing. A row of a
+-- non-negotiable feature at the peer never leaves STABLE.
 use Rattle.std.specs.Prelude.{ℕ, ◌==◌, ◌&&◌, ◌||◌, not, Bool, true, false, List, [], ◌∷◌, length, Option, Some, None, if◌then◌else◌}
 use Rattle.byteorder.specs.Endian.{big_number, big_bytes}
 use Rattle.seq_circle.specs.Circle.{is_before}
@@ -31,9 +30,9 @@ pub data RowEvent : Type 0 where
   Change : (body : List ℕ) (mandatory : Bool) → RowEvent
   -- a Confirm for the row comes, on a packet with this acknowledgement number
   Confirm : (body : List ℕ) (ack : Option ℕ) → RowEvent
-  -- the end wants something else
+  -- the end has a new wish
   Prefers : (wish : Wanted) → RowEvent
-  -- the row's offer comes up; a Confirm for the row may go out on the same packet
+  -- the row's offer is made; a Confirm for the row may go out on the same packet
   Offers : (confirmed : Bool) → RowEvent
   -- a packet with the row's Change goes out
   Sends : (number : ℕ) → RowEvent
@@ -56,7 +55,7 @@ pub record RowStep : Type 0 where
   pub row : Row
   pub answer : RowAnswer
 
--- the reconciliation, by whose list is the server's (RFC 4340, section 6.3.1)
+-- the reconciliation; the role says which of the two lists is the server's (RFC 4340, section 6.3.1)
 abbrev pub reconciled_by : Role2 → List ℕ → List ℕ → Option ℕ
 reconciled_by role.Server own peers = reconciled own peers
 reconciled_by role.Client own peers = reconciled peers own
@@ -84,7 +83,7 @@ abbrev pub is_there : Place → Bool
 is_there located.Here = false
 is_there located.There = true
 
--- the data tell a value of a non-negotiable feature that is located at the peer (RFC 4340, section 6.3.2)
+-- the data have a value of a non-negotiable feature that is located at the peer (RFC 4340, section 6.3.2)
 abbrev pub tells_value : Row → List ℕ → Bool
 tells_value row body =
     is_there row.place && length body == width row && is_permitted row.feature row.place (big_number (width row) body)
@@ -99,7 +98,7 @@ abbrev pub list_proposal : Row → List ℕ → Proposal
 list_proposal row [] = p.Invalid
 list_proposal row (value ∷ rest) = shared_or_not (reconciled_by row.role (entries row.active) (value ∷ rest))
 
--- what a Change is to the row: whether it is valid is judged before the stand is looked at
+-- what a Change means to the row; its validity is judged before the row's stand
 abbrev pub proposal : Row → List ℕ → Proposal
 proposal row body =
     if is_server_priority row then list_proposal row body
@@ -127,7 +126,7 @@ list_confirmation row value [] = if is_acceptable row value then c.Alone value e
 list_confirmation row value (first ∷ rest) =
     agreed_confirmation row value (reconciled_by row.role (entries row.active) (first ∷ rest))
 
--- a Confirm of a non-negotiable feature has to repeat the number that was told
+-- a Confirm of a non-negotiable feature has to repeat the number that was sent
 abbrev pub number_confirmation : Row → List ℕ → Confirmation
 number_confirmation row body =
     if length body == width row && is_number row.active (big_number (width row) body) then c.Told (big_number (width row) body)
@@ -183,7 +182,7 @@ settled row value = says (record row { value = value; stand = stand.Stable }) Se
 abbrev pub opened_with : Row → Option Wanted → Bool → RowStep
 opened_with row wish mandatory = says (record row { stand = stand.Changing; active = wish; opened = None; mandatory = mandatory }) Opens
 
--- an offer comes up once at most
+-- an offer is made at most once
 abbrev pub without_offer : Row → Row
 without_offer row = record row { offer = offer.Nothing }
 
@@ -192,8 +191,8 @@ abbrev pub sent_anew : Row → ℕ → Row
 sent_anew row number =
     record row { stand = stand.Changing; active = row.pending; pending = None; opened = Some number; mandatory = false }
 
--- The negotiation table, a line a row, in its order; the first line that matches applies. The lines on offers and on a
--- row that is STABLE and has nothing to send come last.
+-- The negotiation table, one line for each of its rows, in its order; the first line that matches applies. The lines on offers, and on a row
+-- that is STABLE and has nothing to send, come last.
 abbrev pub row_line : Row → Stand → TableEvent → RowStep
 row_line row _ (Proposed p.Invalid false) = says row (Confirms [])
 row_line row _ (Proposed p.Invalid true) = says row (Fatal 6)

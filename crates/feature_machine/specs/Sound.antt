@@ -68,13 +68,13 @@ pub record IsRowOf (feature : Feature) (place : Place) (row : Row) : Type 0 wher
   pub place_is : row.place ≡ place
   pub sound : IsSoundRow row
 
--- which row it is stays
+-- it is still the same row: its role, feature and place are unchanged
 pub record IsSameRow (old new : Row) : Type 0 where
   pub role : new.role ≡ old.role
   pub feature : new.feature ≡ old.feature
   pub place : new.place ≡ old.place
 
--- a row refuses what it ignores, and what is answered by a Reset
+-- the answers by which a row refuses: it ignores the event, or a Reset answers it
 abbrev pub IsRefusal : RowAnswer → Type 0
 IsRefusal Ignored = Unit {0}
 IsRefusal (Fatal _) = Unit {0}

@@ -23,7 +23,7 @@ abbrev pub turned : List Row → List Turn → List Row
 turned rows [] = rows
 turned rows (first ∷ rest) = turned (stepped rows first.feature first.place first.event).rows rest
 
--- the turn is one of this row; its place among the eighteen tells which
+-- the turn is one of this row; its place among the eighteen says which
 abbrev pub is_turn_of : Feature → Place → Turn → Bool
 is_turn_of feature place given = index_of given.feature given.place == index_of feature place
 

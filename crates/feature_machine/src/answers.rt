@@ -38,7 +38,7 @@ pub enum Settling {
 /// When the Change of a new wish goes out.
 #[derive(Clone, Copy, Debug, PartialEq, Eq)]
 pub enum Opening {
-    /// In this very step.
+    /// In this step.
     Now,
     /// On a later packet, since a Change of the row is under way.
     Later,

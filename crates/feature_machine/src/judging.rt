@@ -1,4 +1,4 @@
-//! What a Change or a Confirm is to a row.
+//! What a Change or a Confirm means to a row.
 ghost use Rattle.std.specs.Prelude.{◌≡◌, false, ◌||◌, ◌==◌, ◌≤◌, length};
 ghost use Rattle.byteorder.specs.Endian.{big_number};
 ghost use Rattle.feature_lists.specs.Features.{described};
@@ -12,7 +12,7 @@ use byteorder::{BigEndian, ByteOrder};
 use feature_lists::{Feature, Place, Wanted, reconcile};
 use seq_circle::Seq48;
 
-/// What a Change is to a row.
+/// What a Change means to a row.
 #[derive(Clone, Copy)]
 pub enum Proposal {
     /// It is not valid for the feature.
@@ -25,14 +25,14 @@ pub enum Proposal {
     Told(u64),
 }
 
-/// What a Confirm is to a row in CHANGING.
+/// What a Confirm means to a row in CHANGING.
 #[derive(Clone, Copy)]
 pub enum Confirmation {
     /// It has no acknowledgement number, or one from before the row's last opening. As everywhere, a number at exactly
     /// half the circle is not before: a Confirm that acknowledges such a number is taken. No end meets one, since it
     /// uses fewer than 2^47 numbers.
     Late,
-    /// It holds the feature number alone.
+    /// It has only the feature number.
     Empty,
     /// It confirms the reconciliation of its list with the row's.
     Shared(u8),

@@ -40,16 +40,16 @@ pub fn late_confirms_are_ignored()
         → row_step row (Confirm body ack) ≡ says row Ignored }
 {}
 
-/// What a row ignores, and what is answered by a Reset, changes nothing of it; and no event changes which row it is.
+/// An event that a row ignores, or that a Reset answers, changes nothing in the row. No event changes which row it is.
 pub fn refusals_change_nothing()
     ensures refused { (row : Row) (event : RowEvent) → IsRefusal (row_step row event).answer
         → (row_step row event).row ≡ row }
     ensures same { (row : Row) (event : RowEvent) → IsSameRow row (row_step row event).row }
 {}
 
-/// A Change leads to Reset 6 exactly where it carries Mandatory and is not valid, or shares nothing with a row that is
-/// not UNSTABLE; a Confirm leads to Reset 5 exactly where it answers a row's opening and is wrong, or is empty and the
-/// feature required.
+/// A Change leads to Reset 6 exactly if it carries Mandatory and is not valid, or shares nothing with a row that is not
+/// UNSTABLE. A Confirm leads to Reset 5 exactly if it answers a row's opening and is wrong, or is empty and the feature
+/// required.
 pub fn causes_of_resets()
     ensures change { (row : Row) (body : List ℕ) (mandatory : Bool)
         → ((row_step row (Change body mandatory)).answer ≡ Fatal 6)
@@ -60,9 +60,10 @@ pub fn causes_of_resets()
         ⊎ ((confirmation row body ack ≡ Empty) × ((described row.feature).is_required ≡ true)))) }
 {}
 
-/// An opening has no number until its Change is sent; the first packet that carries it gives the number. It stays until
-/// the next opening, by a preference or an offer in STABLE, or by the new list of an UNSTABLE row: a Change sent again,
-/// a Change of the peer, a Confirm, a wish that waits and whatever is refused all leave it.
+/// An opening has no number until its Change is sent; the first packet that carries the Change gives it one. The number
+/// stays until the next opening, by a preference or an offer in STABLE, or by the new list of an UNSTABLE row. A Change
+/// that is sent again, a Change of the peer, a Confirm, a wish that waits, and anything that is refused do not change
+/// it.
 pub fn openings_keep_their_number()
     ensures opens { (row : Row) (event : RowEvent) → (row_step row event).answer ≡ Opens
         → (row_step row event).row.opened ≡ None }
@@ -78,14 +79,14 @@ pub fn openings_keep_their_number()
         → (row_step row (Sends number)).row.opened ≡ Some number }
 {}
 
-/// A Change of the peer moves no stand, whatever the row answers: it leaves all of the row but the value.
+/// A Change of the peer never changes the stand, whatever the row answers: only the row's value may change.
 pub fn changes_move_no_stand()
     ensures { (row : Row) (body : List ℕ) (mandatory : Bool)
         → (row_step row (Change body mandatory)).row ≡ record row { value = (row_step row (Change body mandatory)).row.value } }
 {}
 
 /// A row that asks becomes STABLE only from CHANGING, by a Confirm that acknowledges its last opening or a later
-/// packet; to that alone it answers Settled.
+/// packet; only to such a Confirm it answers Settled.
 pub fn only_its_confirm_settles()
     ensures stand { (row : Row) (event : RowEvent) → row.stand ≢ Stable → (row_step row event).row.stand ≡ Stable
         → (row.stand ≡ Changing) × IsItsConfirm row event }

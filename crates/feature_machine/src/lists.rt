@@ -74,7 +74,7 @@ fn all_usual() -> [RowSetup; 18]
     ]
 }
 
-// Takes the offers away.
+// Removes the offers.
 fn unoffer(listed: &mut [RowSetup])
     ensures { listed.new ≡ without_offers listed.old }
 {
@@ -84,8 +84,8 @@ fn unoffer(listed: &mut [RowSetup])
 }
 
 impl Lists {
-    /// The lists of an end that was told no others. It offers, each after Mandatory, ECN Incapable here and Send Ack
-    /// Vector at the peer (own).
+    /// The default lists of an end. It offers ECN Incapable here and Send Ack Vector at the peer, each after Mandatory
+    /// (own).
     pub fn usual() -> Lists
         ensures { result ≡ usual_lists }
     {
@@ -94,8 +94,8 @@ impl Lists {
         }
     }
 
-    /// What the end wishes for the feature at this place from the start on; None exactly for a non-negotiable feature
-    /// at There.
+    /// The end's wish for the feature at this place when the connection starts; None exactly for a non-negotiable
+    /// feature at There.
     pub fn wish(&self, feature: Feature, place: Place) -> Option<Wanted>
         ensures value { result ≡ (listed_at self.now feature place).wish }
         ensures none { IsNone result ↔ IsNotOurs feature place }
@@ -173,7 +173,7 @@ impl Lists {
         Ok(())
     }
 
-    /// Takes all offers away, and leaves the wishes.
+    /// Removes all offers, and keeps the wishes.
     pub fn plain(&mut self)
         ensures { self.new ≡ without_offers self.old }
     {

@@ -24,13 +24,13 @@ use std::marker::Model;
 /// The negotiation of all features at one end: a row for each feature at each place. Contracts see the rows in the
 /// order of the features, Here before There.
 ///
-/// `held`, `active`, `mandatory` and `due` read; `on_change` and `on_confirm` take what a newest packet carries (a
-/// number after all that were taken before; hand in no options of older packets, since they would bring back values
-/// that both ends have left). `prefer` and `open_offer` open a row, whose Change is then due, and `sent` notes that it
+/// `held`, `active`, `mandatory` and `due` read; `on_change` and `on_confirm` take the options of a newest packet, one
+/// whose number is after all that were taken before. Hand in no options of older packets: they would bring back values
+/// that both ends have left. `prefer` and `open_offer` open a row, whose Change is then due, and `sent` notes that it
 /// went out. Each call changes only the row that it names.
 ///
 /// A Confirm that `on_change` answers has to go out in the same step, in a packet that acknowledges that of the Change:
-/// otherwise the end would hold a value that no packet of its own has said. To write a Change, first call `sent` with
+/// otherwise the end would hold a value that none of its packets has stated. To write a Change, first call `sent` with
 /// the number of its packet, and then take the list or value from `active` and Mandatory from `mandatory`: before
 /// `sent` an UNSTABLE row still has its old list there.
 #[derive(Clone, Copy, Debug, PartialEq, Eq)]
@@ -82,7 +82,7 @@ fn fill(rows: &mut [Row], role: Role2, listed: &[RowSetup])
     }
 }
 
-// Tells whether no row has anything to say by itself.
+// Whether no row has anything to say by itself.
 fn are_quiet(rows: &[Row]) -> bool
     ensures { result ≡ are_quiet rows.now }
 {
@@ -152,7 +152,7 @@ impl Negotiation {
         settling
     }
 
-    /// The value that the end holds for a feature at a place, and where its negotiation stands.
+    /// The value that the end holds for a feature at a place, and the stand of its negotiation.
     pub fn held(&self, feature: Feature, place: Place) -> Held
         ensures value { result ≡ held_by (row_at self.now feature place) }
         ensures its { IsRowOf feature place (row_at self.now feature place) }
@@ -183,8 +183,8 @@ impl Negotiation {
         DueRows::of(&self.rows)
     }
 
-    /// Whether the rows have nothing to send by themselves, as nearly always once the connection has started: no offer
-    /// is left and no row asks, so making an offer now changes nothing, and no Change is due.
+    /// Whether the rows have nothing to send by themselves: no offer is left and no row asks, so `open_offer` would
+    /// change nothing, and no Change is due. This is usual once the connection has started.
     pub fn is_quiet(&self) -> bool
         ensures value { result ≡ are_quiet self.now }
         ensures offers { result ≡ true → (feature : Feature) (place : Place) (confirmed : Bool)
@@ -197,7 +197,7 @@ impl Negotiation {
     /// A Change L (`left`) or Change R of a newest packet comes, with its data after the feature number.
     ///
     /// It answers the Confirm that is due, or Ignored, or Fatal for Reset 6, by the negotiation table. A Change that is
-    /// not valid, also one of an unknown feature, gets an empty Confirm, or Reset 6 after Mandatory.
+    /// not valid, or that is for an unknown feature, gets an empty Confirm, or Reset 6 after Mandatory.
     pub fn on_change(&mut self, left: bool, feature: u8, body: &[u8], mandatory: bool) -> Answer
         ensures rows { self.new ≡ (changes self.old left feature body.now mandatory).rows }
         ensures answer { shown result ≡ answered left feature (changes self.old left feature body.now mandatory).answer }

@@ -41,7 +41,7 @@ pub struct Row {
     pub stand: Stand,
     /// What the row last sent, or its configured wish before that; None for a non-negotiable feature at the peer.
     pub active: Option<Wanted>,
-    /// What it is to send next, where it is UNSTABLE.
+    /// What it sends next, if it is UNSTABLE.
     pub pending: Option<Wanted>,
     /// The number of the packet with the last opening's first Change, once it was sent (FGSS of RFC 4340, section
     /// 6.6.4).
@@ -103,7 +103,7 @@ impl Row {
         }
     }
 
-    // Tells whether a Change of the row is due.
+    // Whether a Change of the row is due.
     pub(crate) fn is_due(&self) -> bool
         ensures { result ≡ is_due self.now }
     {
@@ -113,7 +113,7 @@ impl Row {
         }
     }
 
-    // Tells that the row has nothing to say by itself: its offer was made or there is none, and no Change is due.
+    // Whether the row has nothing to say by itself: its offer was made or there is none, and no Change is due.
     pub(crate) fn is_quiet(&self) -> bool
         ensures { result ≡ is_quiet self.now }
     {
@@ -206,7 +206,7 @@ impl Row {
         }
     }
 
-    // The end wants something else.
+    // The end has a new wish.
     pub(crate) fn prefer(&mut self, wish: Wanted) -> Opening
         ensures row { self.new ≡ (row_step self.old (Prefers wish)).row }
         ensures opening { result ≡ opening_of (row_step self.old (Prefers wish)).answer }
@@ -224,8 +224,8 @@ impl Row {
         }
     }
 
-    // Drops the row's offer, and opens it where the packet carries no Confirm of the row. Answers whether it opened
-    // one.
+    // Drops the row's offer, and opens the row with it if the packet carries no Confirm of the row. Returns whether it
+    // did.
     pub(crate) fn open_offer(&mut self, confirmed: bool) -> bool
         requires { self.old.stand ≡ Stable }
         ensures row { self.new ≡ (row_step self.old (Offers confirmed)).row }

@@ -26,9 +26,8 @@ pub fn rows_keep_their_role()
         → IsEventFor (row_at rows feature place) event → AreRowsOf role (stepped rows feature place event).rows }
 {}
 
-/// What happens to rows, in order, happens to each by itself: after turns a row is what its own events make of it, in
-/// their order. The rows stay sound and of their role where what the end wants in each turn is a wish for that turn's
-/// row.
+/// Turns act on each row separately: after them a row is as its own events, in their order, leave it. The rows stay
+/// sound and keep their role if each preference among the turns is a wish for its row.
 pub fn turns_are_of_their_rows()
     ensures one_row { (feature : Feature) (place : Place) (turns : List Turn) (rows : List Row) → length rows ≡ 18
         → row_at (turned rows turns) feature place ≡ row_turned (row_at rows feature place) (events_of feature place turns) }

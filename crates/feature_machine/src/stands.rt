@@ -1,24 +1,24 @@
-//! Where a row stands, and what is told of it.
+//! The stand of a row, and what is known of its feature.
 
 /// Where the negotiation of a feature is at an end (RFC 4340, section 6.6.2).
 #[derive(Clone, Copy, Debug, PartialEq, Eq)]
 pub enum Stand {
-    /// Nothing is asked here: the value holds. It says nothing of the other end, which may wait for a Confirm and hold
-    /// another value. Where both are Stable, they hold one.
+    /// Nothing is asked here: the value holds. This says nothing about the other end, which may wait for a Confirm and
+    /// hold another value. If both are Stable, they hold the same value.
     Stable,
     /// The row has opened: its Change was sent, or is due in this step, and its Confirm has not come. The end still
     /// answers the peer's Changes.
     Changing,
-    /// While a Change was under way the end came to want something else, which it has yet to send.
+    /// A Change is under way, and the end has a new wish since, which it has not sent yet.
     Unstable,
 }
 
-/// A feature's value at an end, and where its negotiation stands.
+/// A feature's value at an end, and the stand of its negotiation.
 #[derive(Clone, Copy, Debug, PartialEq, Eq)]
 pub struct Held {
     /// The value that holds until another is settled on.
     pub value: u64,
-    /// Where the negotiation stands.
+    /// The state of the negotiation.
     pub stand: Stand,
 }
 
