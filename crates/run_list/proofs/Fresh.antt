@@ -6,7 +6,7 @@ use Rattle.run_list.specs.declared.linked.Node.{Node}
 use Rattle.run_list.specs.Linked.{no_node, node_at, runs_at, runs_from, IsPath, times_listed, AreIdle, IsLinked}
 use Rattle.run_list.proofs.Paths.{times-here, times-other, path-set, runs-set, from-path}
 
--- so many indices, from one up
+-- this many indices, from one up
 abbrev pub upwards : ℕ → ℕ → List ℕ
 upwards zero at = []
 upwards (suc count) at = at ∷ upwards count (at + 1)

@@ -462,7 +462,7 @@ present_in f n nodes first before at p s q r h laid above d k =
     inside-present f n (node_at nodes at).count (node_at nodes at).hi (numbers_of (runs_at nodes (following p.rest))) q here.0.fits r d k in
     ap (λ (ts : List Stretch). has (numbers_of ts) n) parts ∙ present_after f 2048 n (runs_at nodes p.passed) old q (subst P parts laid) above there
 
--- the walk goes on after a node, and ends where there is none
+-- the walk goes on after a node, and ends if there is none
 pub chain_step : (nodes : List Node) (at : ℕ) → IsChained nodes at → at < 1024
     → IsChained nodes (node_at nodes at).next × (runs_from nodes at ≡ run_of (node_at nodes at) ∷ runs_from nodes (node_at nodes at).next)
 chain_step nodes at k h =

@@ -40,7 +40,7 @@ further f m n c p q r h = omega arith
 pub right_below : (f m n : ℕ) → f < 2 ^ 48 → m < 2 ^ 48 → n < 2 ^ 48 → distance f m + 1 ≡ distance f n → down n ≡ m
 right_below f m n p q r h = omega arith
 
--- so many steps down, no farther than the floor
+-- this many steps down, no farther than the floor
 pub back : (f n c : ℕ) → f < 2 ^ 48 → n < 2 ^ 48 → c ≤ distance f n → distance f (residue (n + (2 ^ 48 - c))) + c ≡ distance f n
 back f n c p q h = omega arith
 

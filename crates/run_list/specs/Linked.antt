@@ -1,9 +1,8 @@
--- Runs as they are linked: one chain of nodes from the greatest run down, and one of free nodes. Index 1,024 stands for
--- no node.
+-- Runs as they are linked: one chain of nodes from the greatest run down, and one of free nodes. Index 1,024 means no node.
 --
--- That each index is once in one of the chains is said by a count (`times_listed`) and not by a permutation: what an
--- edit moves from one chain to another is then a sum. From an index one path alone leads along the links to no node, so
--- the chains that a state has, and the place that a walk found, are in records as lists of indices.
+-- A count (`times_listed`), and not a permutation, says that each index is once in one of the chains: an edit that moves an index to another
+-- chain then changes a sum. Only one path leads from an index along the links to no node. So the records have the chains of a state, and the
+-- place that a walk found, as lists of indices.
 use Rattle.std.specs.Prelude.{◌≡◌, ℕ, ◌+◌, ◌<◌, ◌≤◌, ◌==◌, nat_lt, List, [], ◌∷◌, zero, suc, length, slice_index_or, if◌then◌else◌}
 use Rattle.run_list.specs.declared.walking.Stretch.{Stretch}
 use Rattle.run_list.specs.declared.linked.NodeList.{NodeList}
@@ -33,7 +32,7 @@ abbrev pub IsPath : List Node → ℕ → List ℕ → ℕ → Type 0
 IsPath nodes from [] to = from ≡ to
 IsPath nodes from (i ∷ is) to = (from ≡ i) × (i < 1024) × IsPath nodes (node_at nodes i).next is to
 
--- the runs along the links, so many at most
+-- the runs along the links, at most this many
 abbrev pub walked : ℕ → List Node → ℕ → List Stretch
 walked zero nodes at = []
 walked (suc fuel) nodes at =
@@ -48,7 +47,7 @@ abbrev pub times_listed : ℕ → List ℕ → ℕ
 times_listed i [] = 0
 times_listed i (j ∷ js) = (if i == j then 1 else 0) + times_listed i js
 
--- the last index of the list, and 1,024 where it has none
+-- the last index of the list, or 1,024 if it has none
 abbrev pub IsLast : List ℕ → ℕ → Type 0
 IsLast [] last = last ≡ 1024
 IsLast (i ∷ []) last = last ≡ i
@@ -108,7 +107,7 @@ pub record IsBegin (floor n : ℕ) (nodes : List Node) (first before at : ℕ) :
   pub place : IsPlace nodes first before at
   pub above : before < 1024 → distance floor n + (node_at nodes before).count < distance floor (node_at nodes before).hi
 
--- a place all runs before which lie above a number, with a gap
+-- a place such that all runs before it lie above a number, with a gap
 pub record IsPassed (floor n : ℕ) (nodes : List Node) (first before at : ℕ) : Type 0 where
   pub place : IsPlace nodes first before at
   pub above : distance floor n < bound_after floor 2048 (runs_at nodes place.passed)
@@ -125,7 +124,7 @@ pub record IsPlaceBelow (floor rise : ℕ) (nodes : List Node) (first before at 
   pub kept : before < 1024 → rise ≤ distance floor (node_at nodes before).hi
   pub dropped : at < 1024 → distance floor (node_at nodes at).hi < rise
 
--- the links lead as before, but that another node follows one, or comes first where that is none
+-- the links are as before, except that another node follows `before`, or comes first if `before` is none
 pub record Points (old new : List Node) (old_first new_first before to : ℕ) : Type 0 where
   pub size : length new ≡ length old
   pub runs : (js : List ℕ) → runs_at new js ≡ runs_at old js

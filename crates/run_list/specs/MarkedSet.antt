@@ -6,7 +6,7 @@ pub use Rattle.seq_circle.specs.Circle.{IsFrom, is_from}
 use Rattle.run_list.specs.declared.answers.Marked.{Marked}
 use Rattle.run_list.specs.declared.answers.Marked.TheVariants.{New, Again, BelowFloor}
 
--- the numbers stand from the newest down
+-- the numbers are listed from the newest down
 pub record MarkedSet : Type 0 where
   pub floor : ℕ
   pub numbers : List ℕ
@@ -29,7 +29,7 @@ pub record IsSound (set : MarkedSet) : Type 0 where
 abbrev pub empty_from : ℕ → MarkedSet
 empty_from floor = record { floor = floor; numbers = [] }
 
--- the floor where it is before the given number is raised to it, and what lies below leaves the set (own)
+-- the floor rises to the given number if it is before that, and what lies below leaves the set (own)
 abbrev pub raised : MarkedSet → ℕ → MarkedSet
 raised set to =
     if is_before set.floor to then record { floor = to; numbers = filter (is_from to) set.numbers } else set
@@ -53,7 +53,7 @@ answer_to set n =
 abbrev pub joined_by : MarkedSet → ℕ → MarkedSet
 joined_by set n = record { floor = set.floor; numbers = with_number set.floor n set.numbers }
 
--- the set after a mark: changed only where the answer is New (own)
+-- the set after a mark: changed only if the answer is New (own)
 abbrev pub marked : MarkedSet → ℕ → MarkedSet
 marked set n =
     if is_from set.floor n

@@ -17,13 +17,13 @@ abbrev pub replayed : List RunCall → MarkedSet → MarkedSet
 replayed [] set = set
 replayed (call ∷ calls) set = replayed calls (set_after call set)
 
--- an answer counts where it is New
+-- an answer counts as 1 if it is New
 abbrev pub count_of_answer : Marked → ℕ
 count_of_answer New = 1
 count_of_answer Again = 0
 count_of_answer BelowFloor = 0
 
--- a call counts where it is a mark whose answer is New
+-- a call counts as 1 if it is a mark whose answer is New
 abbrev pub new_by : RunCall → MarkedSet → ℕ
 new_by (Start first) set = 0
 new_by (Mark n) set = count_of_answer (answer_to set n)

@@ -4,7 +4,7 @@ use Rattle.seq_circle.specs.Circle.{distance, down}
 use Rattle.run_list.specs.declared.walking.Stretch.{Stretch}
 use Rattle.run_list.specs.MarkedSet.{has, with_number}
 
--- so many numbers, from one down
+-- this many numbers, from one down
 abbrev pub downwards : ℕ → ℕ → List ℕ
 downwards zero hi = []
 downwards (suc count) hi = hi ∷ downwards count (down hi 1)
@@ -35,7 +35,7 @@ abbrev pub bound_after : ℕ → ℕ → List Stretch → ℕ
 bound_after floor bound [] = bound
 bound_after floor bound (s ∷ ss) = bound_after floor (bound_below floor s) ss
 
--- the new runs have one number more than the old, which had it not
+-- the new runs have one number more than the old, which did not have it
 pub record Adds (floor bound n : ℕ) (old new : List Stretch) : Type 0 where
   pub laid : AreLaid floor bound new
   pub fresh : has (numbers_of old) n ≡ false

@@ -3,17 +3,17 @@ use Rattle.std.specs.Prelude.{ℕ, ◌+◌, ◌==◌, List, [], ◌∷◌, if◌
 use Rattle.seq_circle.specs.Circle.{residue}
 use Rattle.run_list.specs.declared.walking.Stretch.{Stretch}
 
--- a run from its newest number down, of so many numbers
+-- a run of this many numbers, from its newest down
 abbrev pub stretch : ℕ → ℕ → Stretch
 stretch hi count = record { hi = hi; count = count }
 
--- a number before the runs of those below it: it extends the first one, or begins one of its own
+-- a number above these runs: it extends the first one, or begins a new one
 abbrev pub extended_by : ℕ → List Stretch → List Stretch
 extended_by n [] = stretch n 1 ∷ []
 extended_by n (s ∷ ss) =
     if residue (s.hi + 1) == n then stretch n (s.count + 1) ∷ ss else stretch n 1 ∷ s ∷ ss
 
--- the maximal runs of numbers that stand from the newest down
+-- the maximal runs of numbers that are listed from the newest down
 abbrev pub stretches : List ℕ → List Stretch
 stretches [] = []
 stretches (n ∷ ns) = extended_by n (stretches ns)

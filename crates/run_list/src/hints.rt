@@ -1,7 +1,7 @@
 //! Where a walk along the runs may begin, so that a number far below the newest is not looked for from the top.
 //!
 //! A hint is the index of a node that a walk passed. Later edits may have freed that node or given it another run, and
-//! nothing here is told of them: a hint is looked at before it is followed. A free node has a count of 0, and one that is
+//! do not update the hint. So a hint is checked before it is followed. A free node has a count of 0, and one that is
 //! used is in the chain, wherever its run lies.
 ghost use Rattle.std.specs.Prelude.{◌≡◌, ◌+◌, ◌<◌, IfSome};
 ghost use Rattle.seq_circle.specs.Circle.{distance};
@@ -10,7 +10,7 @@ ghost use Rattle.run_list.specs.Linked.{AreLinked, IsBegin, IsPlace, node_at};
 use crate::linked::{ChainPlace, NONE, NodeList};
 use seq_circle::Seq48;
 
-// So many successive numbers share a hint (own).
+// How many successive numbers share a hint (own).
 const SHARED: u64 = 32;
 
 // As many hints as the 2,048 numbers of a set need.
@@ -30,7 +30,7 @@ fn hint_of(n: Seq48) -> usize
 }
 
 impl Hints {
-    // No walk was made yet.
+    // Hints before any walk.
     pub(crate) fn new() -> Hints {
         Hints {
             nodes: [NONE; HINTS],
@@ -43,7 +43,7 @@ impl Hints {
     }
 }
 
-// The place after a node, where that has a run that lies above `n` with a gap.
+// The place after a node, if its run lies above `n` with a gap.
 fn place_after(runs: &NodeList, node: u16, floor: Seq48, n: Seq48) -> Option<ChainPlace>
     requires linked { AreLinked runs.now }
     ensures { IfSome result (λ place. IsBegin floor n runs.now.nodes.items runs.now.first place.before place.at) }
@@ -62,8 +62,8 @@ fn place_after(runs: &NodeList, node: u16, floor: Seq48, n: Seq48) -> Option<Cha
     })
 }
 
-// Where the walk to a number begins: after a hint for its own numbers or for those right above them, and else at the
-// first node.
+// Where the walk to a number begins: after the hint for its stretch of numbers or for the stretch right above,
+// otherwise at the first node.
 pub(crate) fn begin(runs: &NodeList, hints: &Hints, floor: Seq48, n: Seq48) -> ChainPlace
     requires linked { AreLinked runs.now }
     ensures begins { IsBegin floor n runs.now.nodes.items runs.now.first result.before result.at }

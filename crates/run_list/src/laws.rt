@@ -1,4 +1,4 @@
-//! What the definitions say of a set, number by number.
+//! What the definitions mean for a set, number by number.
 ghost use Rattle.std.specs.Prelude.{◌≡◌, ℕ, ◌-◌, ◌^◌, max, ◌<◌, ◌≤◌, ◌↔◌, ◌⊎◌, IsTrue};
 ghost use Rattle.seq_circle.specs.Circle.{distance, IsBefore, later_of};
 ghost use Rattle.seq_circle.specs.Counts.{number_of};
@@ -7,20 +7,20 @@ ghost use Rattle.run_list.specs.Stretches.{stretches};
 ghost use Rattle.run_list.specs.Runs.{AreLaid, numbers_of};
 ghost use Rattle.run_list.specs.declared.answers.Marked.TheVariants.{New};
 
-/// A number that is new joins the set; of the others just those leave it that the floor passes (own).
+/// A new number joins the set. Of the others, just those leave it that the floor passes (own).
 pub fn marking_adds_one_number()
     ensures numbers { (set : MarkedSet) (n m : ℕ) → IsSound set → n < 2 ^ 48 → answer_to set n ≡ New
         → IsTrue (has (marked set n).numbers m) ↔ ((m ≡ n) ⊎ (IsTrue (has set.numbers m) × IsFrom (marked set n).floor m)) }
 {}
 
-/// A raised floor takes just what lies below it (own).
+/// A raised floor removes just the numbers below it (own).
 pub fn raising_keeps_the_rest()
     ensures numbers { (set : MarkedSet) (to m : ℕ) → IsSound set
         → IsTrue (has (raised set to).numbers m) ↔ (IsTrue (has set.numbers m) × IsFrom (raised set to).floor m) }
 {}
 
-/// What a new number makes of the floor (own): the floor stays where it lies at most 2,047 below the number, and
-/// otherwise rises to just that. So the number is in the set, and what the floor passes lies before that place.
+/// How a new number moves the floor (own): a floor at most 2,047 below the number stays, and any other rises to 2,047
+/// below it. So the number is in the set, and the floor passes only numbers that are further below.
 pub fn marking_moves_the_floor()
     ensures floor { (set : MarkedSet) (n : ℕ) → answer_to set n ≡ New
         → (marked set n).floor ≡ later_of set.floor (floor_under n) }
@@ -37,21 +37,22 @@ pub fn marking_moves_the_floor()
     ensures under { (n : ℕ) → n < 2 ^ 48 → distance (floor_under n) n ≡ 2047 }
 {}
 
-/// A raise moves the floor to the later of the two numbers, and passes what lies before the new one alone (own).
+/// A raise moves the floor to the later of itself and the given number, and passes only what lies before the new floor
+/// (own).
 pub fn raising_moves_the_floor()
     ensures floor { (set : MarkedSet) (to : ℕ) → (raised set to).floor ≡ later_of set.floor to }
     ensures passed { (set : MarkedSet) (to m : ℕ) → IsSound set → to < 2 ^ 48 → m < 2 ^ 48
         → IsFrom set.floor m → ¬ IsFrom (raised set to).floor m → IsBefore m to }
 {}
 
-/// No mark and no raise lets a floor fall: the new one is the old, or ahead of it by less than half the circle (own).
+/// No mark and no raise lowers a floor: the new one is the old, or ahead of it by less than half the circle (own).
 pub fn floors_never_fall()
     ensures marked { (set : MarkedSet) (n : ℕ) → IsFrom set.floor (marked set n).floor }
     ensures raised { (set : MarkedSet) (to : ℕ) → IsFrom set.floor (raised set to).floor }
 {}
 
 /// Among a sender's first 2^47 packets, whose numbers go up from ISS, the floor moves as counts do: a new packet raises
-/// it to 2,047 counts below itself where it is under that, and a raise to the greater count (own).
+/// it to 2,047 counts below itself if it is lower, and a raise to the greater count (own).
 pub fn floors_go_by_counts()
     ensures marked { (set : MarkedSet) (iss floor n : ℕ) → iss < 2 ^ 48 → 1 ≤ floor → floor ≤ 2 ^ 47 → 1 ≤ n
         → n ≤ 2 ^ 47
@@ -65,7 +66,7 @@ pub fn floors_go_by_counts()
 {}
 
 /// Among a sender's first 2^47 packets, by their counts: a new packet joins, and of the others those stay that are not
-/// under the floor; a raise keeps just those (own).
+/// below the floor. A raise keeps just those (own).
 pub fn members_go_by_counts()
     ensures marked { (set : MarkedSet) (iss floor n m : ℕ) → IsSound set → iss < 2 ^ 48 → 1 ≤ floor → floor ≤ 2 ^ 47
         → 1 ≤ n → n ≤ 2 ^ 47 → 1 ≤ m → m ≤ 2 ^ 47 → set.floor ≡ number_of iss floor → answer_to set (number_of iss n) ≡ New
@@ -77,14 +78,14 @@ pub fn members_go_by_counts()
         ↔ (IsTrue (has set.numbers (number_of iss m)) × (max floor to ≤ m)) }
 {}
 
-/// What begins sound stays so: the numbers are distinct and span at most 2,048 successive ones from the floor up (own).
+/// A sound set stays sound: its numbers are distinct and span at most 2,048 successive ones from the floor up (own).
 pub fn sets_stay_sound()
     ensures empty { (floor : ℕ) → floor < 2 ^ 48 → IsSound (empty_from floor) }
     ensures marked { (set : MarkedSet) (n : ℕ) → IsSound set → n < 2 ^ 48 → IsSound (marked set n) }
     ensures raised { (set : MarkedSet) (to : ℕ) → IsSound set → to < 2 ^ 48 → IsSound (raised set to) }
 {}
 
-/// Two sound sets with one floor and the same numbers are one set.
+/// Two sound sets with the same floor and the same numbers are equal.
 pub fn a_set_is_known_by_its_numbers()
     ensures { (one other : MarkedSet) → IsSound one → IsSound other → one.floor ≡ other.floor
         → ((n : ℕ) → has one.numbers n ≡ has other.numbers n) → one ≡ other }

@@ -1,5 +1,5 @@
-//! A set of sequence numbers with a floor, kept as runs: what an end has processed, as its Ack Vectors tell it
-//! (RFC 4340, section 11.4; the floor and its rule are own).
+//! A set of sequence numbers with a floor, kept as runs: what an end has processed, as its Ack Vectors report it (RFC
+//! 4340, section 11.4; the floor and its rule are own).
 //!
 //! All memory is taken in `RunList::new`. The set spans at most 2,048 successive numbers, so it has at most 1,024 runs,
 //! and no call after that one takes any. Nothing here knows of packets, vectors or acknowledgements.

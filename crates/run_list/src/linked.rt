@@ -13,10 +13,10 @@ use crate::hints::{Hints, begin};
 use seq_circle::{NoMemory, Seq48};
 use std::alloc::Global;
 
-// Runs with a gap between any two, inside 2,048 successive numbers, are at most this many.
+// The most runs with a gap between any two that fit into 2,048 successive numbers.
 const NODES: usize = 1_024;
 
-// The index that stands for no node.
+// The index that means no node.
 pub(crate) const NONE: u16 = 1_024;
 
 // A run, and the index of the node after it.
@@ -110,7 +110,7 @@ fn place_below(runs: &NodeList, hints: &mut Hints, floor: Seq48, to: Seq48) -> C
     ChainPlace { before, at }
 }
 
-// Lets the node `to` follow `before`, or come first where that is none.
+// Makes the node `to` follow `before`, or come first if `before` is none.
 fn point(runs: &mut NodeList, before: u16, to: u16)
     requires size { length runs.old.nodes.items ≡ 1024 }
     requires within { before ≤ 1024 }
@@ -143,7 +143,7 @@ fn link(runs: &mut NodeList, floor: Seq48, before: u16, at: u16, n: Seq48)
     point(runs, before, new);
 }
 
-// Puts `n` on top of the run at `at`, which ends right below it.
+// Adds `n` to the top of the run at `at`, which ends right below it.
 fn extend_up(runs: &mut NodeList, floor: Seq48, before: u16, at: u16, n: Seq48)
     requires linked { AreLinked runs.old }
     requires laid { AreLaid floor 2048 (runs_from runs.old.nodes.items runs.old.first) }
@@ -161,8 +161,8 @@ fn extend_up(runs: &mut NodeList, floor: Seq48, before: u16, at: u16, n: Seq48)
     };
 }
 
-// Puts `n` under the run at `at`, which begins right above it, and joins that with the next run where it ends right
-// below.
+// Adds `n` to the bottom of the run at `at`, which begins right above it, and joins this run with the next if that ends
+// right below `n`.
 fn extend_down(runs: &mut NodeList, floor: Seq48, before: u16, at: u16, n: Seq48)
     requires linked { AreLinked runs.old }
     requires laid { AreLaid floor 2048 (runs_from runs.old.nodes.items runs.old.first) }
@@ -197,7 +197,7 @@ fn extend_down(runs: &mut NodeList, floor: Seq48, before: u16, at: u16, n: Seq48
     };
 }
 
-// Adds `n` where it is not there; tells whether it was added.
+// Adds `n` if it is missing. Returns whether it was added.
 pub(crate) fn put(runs: &mut NodeList, hints: &mut Hints, floor: Seq48, n: Seq48) -> bool
     requires near { distance floor n < 2048 }
     requires laid { AreLaid floor 2048 (runs_from runs.old.nodes.items runs.old.first) }
@@ -257,7 +257,7 @@ pub(crate) fn clear(runs: &mut NodeList)
     release(runs, from);
 }
 
-// Takes the numbers below `to` from the runs above `floor`.
+// Removes the numbers below `to` from the runs above `floor`.
 pub(crate) fn cut(runs: &mut NodeList, hints: &mut Hints, floor: Seq48, to: Seq48)
     requires before { IsBefore floor to }
     requires laid { AreLaid floor 2048 (runs_from runs.old.nodes.items runs.old.first) }

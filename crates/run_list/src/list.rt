@@ -1,4 +1,4 @@
-//! The set of marked numbers, and the floor below which nothing is asked. The room for runs is a fact of the type's
+//! The set of marked numbers, and the floor below which none is kept. The room for runs is a fact of the type's
 //! invariant, and not of the value that contracts see.
 ghost use Rattle.std.specs.Prelude.{◌≡◌, ◌≢◌, IsTrue, ℕ, ◌<◌, ◌↔◌, IfOk, if◌then◌else◌};
 ghost use Rattle.run_list.specs.MarkedSet.{MarkedSet, IsFrom, IsSound, has, empty_from, raised, marked, joined_by, answer_to};
@@ -64,9 +64,9 @@ impl RunList {
         self.floor = first;
     }
 
-    /// Adds `n`: `BelowFloor` where it is not at the floor or ahead of it by less than half the circle, `Again` where
-    /// it is in the set, else `New`. Where the answer is New and the floor is before `n - 2047`, the floor first rises
-    /// to that. The other answers leave all as it was.
+    /// Adds `n`. The answer is `BelowFloor` if `n` is neither the floor nor ahead of it by less than half the circle,
+    /// `Again` if it is in the set, and otherwise `New`. If it is New and the floor is before `n - 2047`, the floor
+    /// first rises to that. The other answers change nothing.
     pub fn mark(&mut self, n: Seq48) -> Marked
         ensures set { self.new ≡ marked self.old n }
         ensures answer { result ≡ answer_to self.old n }
@@ -98,7 +98,7 @@ impl RunList {
         }
     }
 
-    /// Raises the floor to `to` where it is before that; what lies below leaves the set.
+    /// Raises the floor to `to` if it is before that. Numbers below the floor leave the set.
     pub fn raise(&mut self, to: Seq48)
         ensures { self.new ≡ raised self.old to }
     {

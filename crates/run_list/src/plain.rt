@@ -13,11 +13,11 @@ use std::marker::Model;
 // How far below a marked number its floor may lie.
 const REACH: u64 = 2_047;
 
-// Runs with a gap between any two, inside 2,048 successive numbers, are at most this many.
+// At most this many runs, with a gap between any two, fit into 2,048 successive numbers.
 const RUNS: usize = 1_024;
 
-/// The set that a `RunList` is, kept as a row of runs in place of links: a run that begins or joins moves all below it.
-/// It is there to be compared with.
+/// The same set as a `RunList`, kept as a row of runs instead of a linked list: a run that begins or joins another
+/// moves all runs below it. It is here so that `RunList` can be compared with it.
 #[derive(Drop)]
 pub struct PlainRuns {
     floor: Seq48,
@@ -55,9 +55,9 @@ impl PlainRuns {
         self.floor = first;
     }
 
-    /// Adds `n`: `BelowFloor` where it is not at the floor or ahead of it by less than half the circle, `Again` where
-    /// it is in the set, else `New`. Where the answer is New and the floor is before `n - 2047`, the floor first rises
-    /// to that. The other answers leave all as it was.
+    /// Adds `n`. The answer is `BelowFloor` if `n` is neither the floor nor ahead of it by less than half the circle,
+    /// `Again` if it is in the set, and otherwise `New`. If it is New and the floor is before `n - 2047`, the floor
+    /// first rises to that. The other answers change nothing.
     pub fn mark(&mut self, n: Seq48) -> Marked
         ensures set { self.new ≡ marked self.old n }
         ensures answer { result ≡ answer_to self.old n }
@@ -89,7 +89,7 @@ impl PlainRuns {
         }
     }
 
-    /// Raises the floor to `to` where it is before that; what lies below leaves the set.
+    /// Raises the floor to `to` if it is before that. Numbers below the floor leave the set.
     pub fn raise(&mut self, to: Seq48)
         ensures { self.new ≡ raised self.old to }
     {

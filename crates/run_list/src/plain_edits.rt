@@ -8,7 +8,7 @@ ghost use Rattle.run_list.specs.Runs.{AddsOne, AreLaid, SameRoom, Touches, bound
 use crate::walking::Stretch;
 use seq_circle::Seq48;
 
-// The place of the first run that `n` touches, is in, or is above; the length where there is none.
+// The place of the first run that `n` touches, is in, or is above; the length if there is none.
 fn place_for(runs: &[Stretch], floor: Seq48, n: Seq48) -> usize
     requires { distance floor n < 2048 }
     ensures within { result ≤ length runs.now }
@@ -37,7 +37,7 @@ fn begin_run(runs: &mut Vec<Stretch>, floor: Seq48, at: usize, n: Seq48)
     let _ = runs.insert(at, Stretch { hi: n, count: 1 });
 }
 
-// Puts `n` on top of the run at `at`, which ends right below it.
+// Adds `n` to the top of the run at `at`, which ends right below it.
 fn extend_up(runs: &mut Vec<Stretch>, floor: Seq48, at: usize, n: Seq48)
     requires within { at < length runs.old.items }
     requires laid { AreLaid floor 2048 runs.old.items }
@@ -51,8 +51,8 @@ fn extend_up(runs: &mut Vec<Stretch>, floor: Seq48, at: usize, n: Seq48)
     runs[at] = Stretch { hi: n, count };
 }
 
-// Puts `n` under the run at `at`, which begins right above it, and joins that with the next run where it ends right
-// below.
+// Adds `n` to the bottom of the run at `at`, which begins right above it, and joins this run with the next if that ends
+// right below `n`.
 fn extend_down(runs: &mut Vec<Stretch>, floor: Seq48, at: usize, n: Seq48)
     requires within { at < length runs.old.items }
     requires laid { AreLaid floor 2048 runs.old.items }
@@ -80,7 +80,7 @@ fn extend_down(runs: &mut Vec<Stretch>, floor: Seq48, at: usize, n: Seq48)
     };
 }
 
-// Adds `n` where it is not there; tells whether it was added.
+// Adds `n` if it is missing. Returns whether it was added.
 pub(crate) fn put(runs: &mut Vec<Stretch>, floor: Seq48, n: Seq48) -> bool
     requires near { distance floor n < 2048 }
     requires laid { AreLaid floor 2048 runs.old.items }
@@ -110,7 +110,7 @@ pub(crate) fn put(runs: &mut Vec<Stretch>, floor: Seq48, n: Seq48) -> bool
     true
 }
 
-// Takes the numbers below `to` from the runs above `floor`.
+// Removes the numbers below `to` from the runs above `floor`.
 pub(crate) fn cut(runs: &mut Vec<Stretch>, floor: Seq48, to: Seq48)
     requires before { IsBefore floor to }
     requires laid { AreLaid floor 2048 runs.old.items }

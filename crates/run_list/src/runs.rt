@@ -11,16 +11,16 @@ use seq_circle::Seq48;
 /// A set of sequence numbers with a floor, however it is kept: no number below the floor is in it, and a new number
 /// pushes the floor up to 2,047 below itself (own). No call takes memory.
 pub trait Runs {
-    /// The set, which contracts alone see.
+    /// The set, which only contracts see.
     ghost set: { Self → MarkedSet };
 
     /// Empties the set and sets its floor to `first`.
     fn start(&mut self, first: Seq48)
         ensures { set self.new ≡ empty_from first };
 
-    /// Adds `n`: `BelowFloor` where it is not at the floor or ahead of it by less than half the circle, `Again` where
-    /// it is in the set, else `New`. Where the answer is New and the floor is before `n - 2047`, the floor first rises
-    /// to that. The other answers leave all as it was.
+    /// Adds `n`. The answer is `BelowFloor` if `n` is neither the floor nor ahead of it by less than half the circle,
+    /// `Again` if it is in the set, and otherwise `New`. If it is New and the floor is before `n - 2047`, the floor
+    /// first rises to that. The other answers change nothing.
     fn mark(&mut self, n: Seq48) -> Marked
         ensures set { set self.new ≡ marked (set self.old) n }
         ensures answer { result ≡ answer_to (set self.old) n }
@@ -28,7 +28,7 @@ pub trait Runs {
         ensures again { (result ≡ Marked.Again) ↔ (IsFrom (set self.old).floor n × IsTrue (has (set self.old).numbers n)) }
         ensures unchanged { result ≢ Marked.New → set self.new ≡ set self.old };
 
-    /// Raises the floor to `to` where it is before that; what lies below leaves the set.
+    /// Raises the floor to `to` if it is before that. Numbers below the floor leave the set.
     fn raise(&mut self, to: Seq48)
         ensures { set self.new ≡ raised (set self.old) to };
 
@@ -89,7 +89,7 @@ pub enum RunCall {
     Raise(Seq48),
 }
 
-// Makes one call, and answers 1 where it marked a new number and else 0.
+// Makes one call, and returns 1 if it marked a new number, otherwise 0.
 fn replay_call<R: Runs>(runs: &mut R, call: RunCall) -> u32
     ensures set { R.set runs.new ≡ set_after call (R.set runs.old) }
     ensures count { result ≡ new_by call (R.set runs.old) }
@@ -107,7 +107,7 @@ fn replay_call<R: Runs>(runs: &mut R, call: RunCall) -> u32
     0
 }
 
-/// Makes the calls in order, and answers how many marks were New. The answer, the set and its floor depend on the set
+/// Makes the calls in order, and returns how many marks were New. The result, the set and its floor depend on the set
 /// before and on the calls, and not on how the set is kept.
 pub fn replay_runs<R: Runs>(runs: &mut R, calls: &[RunCall]) -> u32
     requires few { length calls.now < 2 ^ 32 }
