@@ -90,7 +90,7 @@ pub begins-received : (count : ℕ) (rest : List ℕ) → 0 < count → BeginsWi
 begins-received zero rest h = absurd (omega arith)
 begins-received (suc count) rest h = λ e. absurd (omega arith)
 
--- the number that is the first of so many down to the floor
+-- the number that is the first of this many down to the floor
 abbrev pub IsTop : ℕ → ℕ → ℕ → Type 0
 IsTop f left n = (left ≡ distance f n + 1) ⊎ (left ≡ 0)
 

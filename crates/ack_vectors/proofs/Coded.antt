@@ -50,7 +50,7 @@ module _ {S : Type 0} (coding : Coding S) where
       ap (λ (q : ℕ). replicate q (coding.byte s (coding.most s)) ++ last_piece coding s (0 % coding.most s)) (zero-div (coding.most s))
       ∙ ap (λ (r : ℕ). last_piece coding s r) (zero-mod (coding.most s))
 
-  -- so many numbers of one state before these runs
+  -- this many numbers of one state before these runs
   abbrev onto : S → ℕ → List (Group S) → List (Group S)
   onto s count [] = group s count ∷ []
   onto s count (g ∷ gs) = if coding.same g.state s then group s (g.count + count) ∷ gs else group s count ∷ g ∷ gs

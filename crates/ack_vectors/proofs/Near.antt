@@ -1,4 +1,4 @@
--- Records with at most so many steps between their numbers, and how a number further below one of them is none before it.
+-- Records with at most this many steps between their numbers, and how a number further below one of them is none before it.
 use Rattle.std.proofs.Common.{◌≡◌, ℕ, zero, suc, ◌-◌, ◌≤◌, ◌<◌, false, ◌==◌, List, [], ◌∷◌, ◌++◌, Some, None, length, take, drop, slice_get, refl, sym, ◌∙◌, subst, inl, inr, arith}
 use Rattle.std.proofs.lemmas.Bool.{cases_Bool, and_parts, eqb-true}
 use Rattle.std.proofs.lemmas.List.{drop-map}

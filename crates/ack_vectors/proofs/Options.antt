@@ -1,4 +1,4 @@
--- How a vector goes into its options, and what a second one tells beyond the first.
+-- How a vector goes into its options, and what a second one adds to the first.
 use Rattle.std.proofs.Common.{◌≡◌, ℕ, ◌+◌, ◌-◌, ◌<◌, ◌≤◌, Bool, true, false, List, [], ◌∷◌, ◌++◌, refl, ap, arith, sym, ◌∙◌, length, take, drop, map, nat_le, length-append, length-take, length-drop, append-nil, take-add, Option, Some, take-append-drop, inl, inr}
 use Rattle.std.specs.List.{All, concat}
 use Rattle.std.proofs.lemmas.Bool.{cases_Bool, le-leb, lt-leb, leb-true, leb-false}

@@ -103,7 +103,7 @@ slice_get-front [] following i h = absurd (omega arith)
 slice_get-front (x ∷ xs) following zero h = refl
 slice_get-front (x ∷ xs) following (suc i) h = slice_get-front xs following i (omega arith)
 
--- what the vector tells, and what was cut
+-- what the vector reports, and what was cut
 pub told_and_cut : (room : ℕ) (p : ℕ → ℕ) (floor ack : ℕ) → AllPlain p
     → states_between p floor ack ≡ states (vector_within room p floor ack) ++ states (drop room (all_bytes p floor ack))
 told_and_cut room p floor ack h =
@@ -140,7 +140,7 @@ read_back room p floor ack n h b d =
 pub reach_at_most : (room : ℕ) (p : ℕ → ℕ) (floor ack : ℕ) → AllPlain p → numbers_told_within room p floor ack ≤ numbers_between floor ack
 reach_at_most room p floor ack h = let lengths = told_lengths room p floor ack h in omega arith
 
--- each byte tells of a number
+-- each byte reports a number
 pub states-long : (bytes : List ℕ) → length bytes ≤ length (states bytes)
 states-long [] = omega arith
 states-long (b ∷ bs) =

@@ -1,4 +1,4 @@
--- What a vector tells of each number, and how long it is.
+-- What a vector reports of each number, and how long it is.
 use Rattle.std.proofs.Common.{◌≡◌, ℕ, ◌+◌, ◌/◌, ◌%◌, ◌^◌, ◌<◌, ◌≤◌, ◌==◌, Bool, true, false, List, [], ◌∷◌, zero, suc, refl, ap, arith, sym, ◌∙◌, length, inl, inr, Option, Some, None}
 use Rattle.std.specs.Prelude.{replicate}
 use Rattle.std.specs.List.{All}

@@ -4,7 +4,7 @@ use Rattle.seq_circle.specs.Circle.{distance}
 use Rattle.run_list.specs.declared.walking.Stretch.{Stretch}
 use Rattle.ack_vectors.specs.Vector.{pieces}
 
--- the bytes of so many numbers from the floor up, where these runs are still to come
+-- the bytes of this many numbers from the floor up, if these runs are still to come
 abbrev pub bytes_by_runs : ℕ → ℕ → List Stretch → List ℕ
 bytes_by_runs floor left [] = pieces 3 left
 bytes_by_runs floor left (s ∷ ss) =

@@ -3,8 +3,8 @@
 use Rattle.std.specs.Prelude.{◌≡◌, ℕ, ◌+◌, ◌/◌, ◌%◌, ◌==◌, Bool, false, List, [], ◌∷◌, ◌++◌, zero, suc, replicate, if◌then◌else◌}
 use Rattle.seq_circle.specs.Circle.{down}
 
--- A coding of states: whether two are one, how many numbers a byte of a state covers at most, the byte of a state and a
--- count, and the state and the count that a byte gives.
+-- A coding of states: whether two are the same, how many numbers a byte of a state covers at most, the byte of a state and a count, and the
+-- state and the count that a byte gives.
 pub record Coding (S : Type 0) : Type 0 where
   pub same : S → S → Bool
   pub most : S → ℕ
@@ -12,7 +12,7 @@ pub record Coding (S : Type 0) : Type 0 where
   pub state_of : ℕ → S
   pub run_length : ℕ → ℕ
 
--- the states of so many numbers, from one down
+-- the states of this many numbers, from one down
 abbrev pub states_down : {S : Type 0} → (ℕ → S) → ℕ → ℕ → List S
 states_down state zero n = []
 states_down state (suc count) n = state n ∷ states_down state count (down n 1)
@@ -22,11 +22,11 @@ pub record Group (S : Type 0) : Type 0 where
   pub state : S
   pub count : ℕ
 
--- a run of so many numbers of one state
+-- a run of this many numbers of one state
 abbrev pub group : {S : Type 0} → S → ℕ → Group S
 group state count = record { state = state; count = count }
 
--- a state before the runs of those after it: it extends the first one, or begins one of its own
+-- a state before the runs of those after it: it extends the first one, or begins a new one
 abbrev pub grouped_with : {S : Type 0} → Coding S → S → List (Group S) → List (Group S)
 grouped_with coding state [] = group state 1 ∷ []
 grouped_with coding state (g ∷ gs) =
@@ -51,7 +51,7 @@ abbrev pub bytes_of_groups : {S : Type 0} → Coding S → List (Group S) → Li
 bytes_of_groups coding [] = []
 bytes_of_groups coding (g ∷ gs) = pieces coding g.state g.count ++ bytes_of_groups coding gs
 
--- the bytes of states, however many
+-- the bytes of any number of states
 abbrev pub coded_bytes : {S : Type 0} → Coding S → List S → List ℕ
 coded_bytes coding states = bytes_of_groups coding (groups coding states)
 
@@ -60,7 +60,7 @@ abbrev pub states_of : {S : Type 0} → Coding S → List ℕ → List S
 states_of coding [] = []
 states_of coding (byte ∷ rest) = replicate (coding.run_length byte) (coding.state_of byte) ++ states_of coding rest
 
--- states that begin with another one, or are none
+-- the states begin with a different one, or there are none
 abbrev pub BeginsWithout : {S : Type 0} → Coding S → S → List S → Type 0
 BeginsWithout coding state [] = Unit {0}
 BeginsWithout coding state (other ∷ states) = coding.same other state ≡ false

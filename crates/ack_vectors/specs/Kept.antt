@@ -36,7 +36,7 @@ newest_from n found (r ∷ rs) = newest_from n (if is_whole_at n r then Some r e
 abbrev pub newest_whole : ℕ → List VectorRecord → Option VectorRecord
 newest_whole n records = newest_from n None records
 
--- the floor after what a record's vector told
+-- the floor after the report of a record's vector
 abbrev pub raised_by : ReceivedState → Option VectorRecord → ReceivedState
 raised_by kept None = kept
 raised_by kept (Some r) = record { set = raised kept.set (residue (r.ack + 1)); records = kept.records }

@@ -1,7 +1,7 @@
 -- The Ack Vector of numbers with states, a floor and an acknowledgement (RFC 4340, section 11.4).
 --
--- It takes the state of each number and the number of bytes, so packets marked by ECN and a second option change
--- arguments alone. A set is a test on numbers, so any list's membership can be there.
+-- The definitions take the state of each number and the number of bytes, so packets marked by ECN and a second option need no others. A set is a
+-- test on numbers, such as membership in a list.
 use Rattle.std.specs.Prelude.{ℕ, ◌+◌, ◌-◌, ◌*◌, ◌==◌, nat_le, Bool, true, false, List, [], ◌∷◌, length, take, drop, if◌then◌else◌}
 use Rattle.seq_circle.specs.Circle.{distance, is_from}
 use Rattle.dccp_options.specs.Vectors.{run_length, state_of, states}
@@ -16,15 +16,15 @@ abbrev pub state_told : Bool → ℕ
 state_told true = 0
 state_told false = 3
 
--- what a set tells of each number
+-- the state that a set gives each number
 abbrev pub set_states : (ℕ → Bool) → ℕ → ℕ
 set_states has n = state_told (has n)
 
--- how many numbers there are from an acknowledgement down to the floor, both counted; none where it is below the floor
+-- how many numbers there are from an acknowledgement down to the floor, both counted; none if it is below the floor
 abbrev pub numbers_between : ℕ → ℕ → ℕ
 numbers_between floor ack = if is_from floor ack then distance floor ack + 1 else 0
 
--- the states that a vector is to tell
+-- the states that a vector has to report
 abbrev pub states_between : (ℕ → ℕ) → ℕ → ℕ → List ℕ
 states_between state floor ack = states_down state (numbers_between floor ack) ack
 
@@ -57,15 +57,15 @@ pieces = coded.pieces vector_coding
 abbrev pub bytes_of_groups : List (Group ℕ) → List ℕ
 bytes_of_groups = coded.bytes_of_groups vector_coding
 
--- the bytes of states, however many
+-- the bytes of any number of states
 abbrev pub all_bytes : (ℕ → ℕ) → ℕ → ℕ → List ℕ
 all_bytes state floor ack = bytes_of_groups (groups (states_between state floor ack))
 
--- the vector that so many bytes have room for: the first of these bytes
+-- the vector that this many bytes have room for: the first of all its bytes
 abbrev pub vector_within : ℕ → (ℕ → ℕ) → ℕ → ℕ → List ℕ
 vector_within room state floor ack = take room (all_bytes state floor ack)
 
--- it is whole where there are no more
+-- it is whole if there are no more bytes
 abbrev pub is_whole_within : ℕ → (ℕ → ℕ) → ℕ → ℕ → Bool
 is_whole_within room state floor ack = nat_le (length (all_bytes state floor ack)) room
 
@@ -82,11 +82,11 @@ abbrev pub most_options : Vectors → ℕ
 most_options One = 1
 most_options Two = 2
 
--- the bytes that so many options have room for
+-- the bytes that this many options have room for
 abbrev pub room_of : Vectors → ℕ
 room_of vectors = option_room * most_options vectors
 
--- the vector of a set of numbers in so many options
+-- the vector of a set of numbers in this many options
 abbrev pub vector_under : (ℕ → Bool) → ℕ → ℕ → Vectors → List ℕ
 vector_under has floor ack vectors = vector_within (room_of vectors) (set_states has) floor ack
 
@@ -98,8 +98,8 @@ is_whole_under has floor ack vectors = is_whole_within (room_of vectors) (set_st
 abbrev pub numbers_told_under : (ℕ → Bool) → ℕ → ℕ → Vectors → ℕ
 numbers_told_under has floor ack vectors = numbers_told_within (room_of vectors) (set_states has) floor ack
 
--- The data of the options that carry a vector, in their order: one option where it has room for all bytes, the empty
--- vector's too, and otherwise a full one and a second with what is left (own).
+-- The data of the options that carry a vector, in their order: one option if it has room for all bytes, also if there are none; otherwise a full
+-- one, and a second with the rest (own).
 abbrev pub option_data : List ℕ → List (List ℕ)
 option_data bytes =
     if nat_le (length bytes) option_room then bytes ∷ [] else take option_room bytes ∷ drop option_room bytes ∷ []

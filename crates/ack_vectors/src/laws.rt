@@ -10,10 +10,10 @@ ghost use Rattle.ack_vectors.specs.declared.room.Vectors.TheVariants.{One, Two};
 ghost use Rattle.ack_vectors.specs.Kept.{ReceivedState, fresh, marked_by, recorded, acked, is_whole_at, newest_whole};
 ghost use Rattle.ack_vectors.specs.declared.received.VectorRecord.{VectorRecord};
 
-/// What a vector tells is read back, number by number from the acknowledgement down: state 0 exactly for the numbers of
-/// the set and 3 for the others, and nothing past its bytes. They reach no number below the floor, and reach the floor
-/// exactly where the vector is whole (RFC 4340, section 11.4), whether one option carries it or two. The same holds of
-/// any states but the reserved one, and of any room (`any_states`, `any_reach`, `any_whole`).
+/// What a vector reports is read back, number by number from the acknowledgement down: state 0 exactly for the numbers
+/// of the set and 3 for the others, and nothing past its bytes. They reach no number below the floor, and reach the
+/// floor exactly if the vector is whole (RFC 4340, section 11.4), whether one option carries it or two. The same holds
+/// of any states but the reserved one, and of any room (`any_states`, `any_reach`, `any_whole`).
 pub fn a_vector_reads_back()
     ensures states { (vectors : Vectors) (has : ℕ → Bool) (floor ack n : ℕ) → ack < 2 ^ 48 → n < 2 ^ 48
         → state_at ack (vector_under has floor ack vectors) n
@@ -31,8 +31,9 @@ pub fn a_vector_reads_back()
         → IsTrue (is_whole_within room state floor ack) ↔ (numbers_told_within room state floor ack ≡ numbers_between floor ack) }
 {}
 
-/// A vector looks at nothing but the numbers from its floor up to its acknowledgement: two sets that agree there have
-/// one vector, whole or cut alike, and so have any two kinds of states, whatever the room (`any_bytes`, `any_whole`).
+/// A vector depends only on the numbers from its floor up to its acknowledgement: two sets that agree there have the
+/// same vector, whole or cut alike. The same holds of any two kinds of states, and of any room (`any_bytes`,
+/// `any_whole`).
 pub fn a_vector_looks_between_floor_and_acknowledgement()
     ensures bytes { (vectors : Vectors) (one other : ℕ → Bool) (floor ack : ℕ) → floor < 2 ^ 48 → ack < 2 ^ 48
         → ((n : ℕ) → n < 2 ^ 48 → IsFrom floor n → distance floor n ≤ distance floor ack → one n ≡ other n)
@@ -62,7 +63,7 @@ pub fn a_whole_vector_tells_all()
         → state_at ack (vector_under has floor ack vectors) n ≡ Some (state_told (has n)) }
 {}
 
-/// A vector tells of no number that it was received unless the set has it (RFC 4340, section 11.4).
+/// A vector reports no number as received unless the set has it (RFC 4340, section 11.4).
 pub fn only_members_are_heard()
     ensures { (vectors : Vectors) (has : ℕ → Bool) (floor ack n : ℕ) → ack < 2 ^ 48 → n < 2 ^ 48
         → IsTrue (is_received (state_at ack (vector_under has floor ack vectors) n)) → IsTrue (has n) }
@@ -80,8 +81,8 @@ pub fn a_vector_fits_its_options()
 {}
 
 /// The options of a vector hold its bytes in their order, so that a packet with them reports just the vector (RFC 4340,
-/// section 11.4). None holds more than 253 bytes, and they are no more than the setting allows. Up to 253 bytes are
-/// one option, even where they are none; of two the first is full, and the second has a byte (own).
+/// section 11.4). None holds more than 253 bytes, and they are no more than the setting allows. Up to 253 bytes are one
+/// option, even if there are none. Of two options the first is full, and the second has at least a byte (own).
 pub fn the_options_of_a_vector_hold_it()
     ensures joined { (bytes : List ℕ) → concat (option_data bytes) ≡ bytes }
     ensures read { (ack : ℕ) (bytes : List ℕ)
@@ -95,7 +96,7 @@ pub fn the_options_of_a_vector_hold_it()
         → map length (option_data bytes) ≡ 253 ∷ (length bytes - 253) ∷ [] }
 {}
 
-/// Two options begin as the one would, and tell more exactly where that is cut (own).
+/// Two options begin with the bytes that one would have, and report more exactly if that one is cut (own).
 pub fn two_options_tell_more()
     ensures front { (has : ℕ → Bool) (floor ack : ℕ)
         → vector_under has floor ack One ≡ take 253 (vector_under has floor ack Two) }
@@ -105,8 +106,8 @@ pub fn two_options_tell_more()
         → numbers_told_under has floor ack One < numbers_told_under has floor ack Two }
 {}
 
-/// Of the records of whole vectors under a number the newest counts, and there is one exactly where any record is such.
-/// The one that counts was kept, under that number, of a whole vector (`kept`).
+/// Of the records of whole vectors under a number the newest counts, and there is one exactly if any record is of such
+/// a vector. The one that counts was kept, under that number, of a whole vector (`kept`).
 pub fn the_newest_whole_record_counts()
     ensures newest { (n : ℕ) (records : List VectorRecord) (last : VectorRecord)
         → newest_whole n (records ++ last ∷ []) ≡ (if is_whole_at n last then Some last else newest_whole n records) }
@@ -116,8 +117,8 @@ pub fn the_newest_whole_record_counts()
         → Contains records one × (one.number ≡ n) × (one.whole ≡ true) }
 {}
 
-/// Records only go: one that is kept after a packet was recorded is that packet's, or was kept before; marks and
-/// acknowledgements leave all as they were (own).
+/// No record comes back: one that is kept after a packet was recorded is that packet's, or was kept before. Marks and
+/// acknowledgements change no record (own).
 pub fn records_only_forget()
     ensures recorded { (kept : ReceivedState) (number ack : ℕ) (whole : Bool) (one : VectorRecord)
         → Contains (recorded kept number ack whole).records one
@@ -134,7 +135,7 @@ pub fn acknowledging_raises_the_floor()
     ensures none { (kept : ReceivedState) (n : ℕ) → newest_whole n kept.records ≡ None → acked kept n ≡ kept }
 {}
 
-/// What begins sound stays so.
+/// A sound state stays sound.
 pub fn received_stays_sound()
     ensures fresh { (floor : ℕ) → floor < 2 ^ 48 → IsSound (fresh floor).set }
     ensures marked { (kept : ReceivedState) (n : ℕ) → IsSound kept.set → n < 2 ^ 48 → IsSound (marked_by kept n).set }

@@ -40,7 +40,7 @@ pub struct VectorRecord {
 pub struct Received {
     set: RunList,
     records: HeapCircularBuffer<VectorRecord>,
-    // Below 2^48, no record's number is more steps up from that of an earlier one.
+    // If this is below 2^48: no record's number is more steps than this up from that of an earlier one.
     span: u64,
 }
 
@@ -63,7 +63,7 @@ fn is_whole_at(sent: &VectorRecord, n: Seq48) -> bool
 }
 
 // The newest record of a whole vector under the number. What the peer acknowledges is mostly the last of them, or data
-// that were sent after it. So the search ends at a record that the number is further below than any earlier one can be.
+// that were sent after it. So the search ends once the number is further below a record than any earlier record can be.
 fn newest_whole(
     records: &HeapCircularBuffer<VectorRecord>,
     span: u64,
@@ -98,7 +98,7 @@ fn step_from_newest(records: &HeapCircularBuffer<VectorRecord>, number: Seq48) -
     }
 }
 
-// The sum, where that is below 2^48.
+// The sum, if it is below 2^48.
 fn with_step(span: u64, step: u64) -> u64
     ensures { result < 2 ^ 48 → result ≡ span + step }
 {
@@ -141,7 +141,7 @@ impl Received {
         self.set.mark(n)
     }
 
-    /// The floor: lower numbers are told no more.
+    /// The floor: lower numbers are no longer reported.
     pub fn floor(&self) -> Seq48
         ensures value { result ≡ self.now.set.floor }
         ensures sound { IsSound self.now.set }
@@ -151,7 +151,7 @@ impl Received {
 
     /// Puts the bytes of the vector from `ack` down to the floor in place of what `out` had: state 0 for what was
     /// received and 3 for what was not, runs of at most 64, and of these bytes the first 253 for `One` and the first
-    /// 506 for `Two`. True exactly where there are no more (RFC 4340, section 11.4). Where `ack` is below the floor the
+    /// 506 for `Two`. True exactly if there are no more (RFC 4340, section 11.4). If `ack` is below the floor, the
     /// vector has no byte, and is whole.
     pub fn write(&self, out: &mut VectorBytes, ack: Seq48, vectors: Vectors) -> bool
         ensures bytes { out.new.items ≡ vector_under (has self.now.set.numbers) self.now.set.floor ack vectors }
@@ -177,14 +177,13 @@ impl Received {
         self.span = with_step(self.span, step);
     }
 
-    /// Tells whether a whole vector was recorded under the number `n`, which the peer acknowledged by an Ack or a
-    /// DataAck. The floor then rises to the number after the acknowledgement of the newest such record, where it is
-    /// before that.
+    /// Whether a whole vector was recorded under the number `n`, which the peer acknowledged by an Ack or a DataAck.
+    /// The floor then rises to the number after the acknowledgement of the newest such record, if it is before that.
     ///
-    /// It is to be called for the acknowledgements of these two types alone. They acknowledge the greatest number that
-    /// the peer received, and where that was an Ack or DataAck, the peer has processed it, and so was told. A Sync
-    /// acknowledges the packet that it answers, which its sender may have passed over; the floor would then rise over
-    /// numbers that the peer was never told of.
+    /// Call it for the acknowledgements of these two types only. They acknowledge the greatest number that the peer
+    /// received; if that was an Ack or a DataAck, the peer has processed it, and so it has the report. A Sync
+    /// acknowledges the packet that it answers, which its sender may not have processed; the floor would then pass
+    /// numbers of which the peer never had a report.
     pub fn peer_acked(&mut self, n: Seq48) -> bool
         ensures kept { self.new ≡ acked self.old n }
         ensures answer { result ≡ is_some (newest_whole n self.old.records) }

@@ -17,7 +17,7 @@ pub type VectorBytes = ArrayVec<u8, MOST_ROOM>;
 pub enum Vectors {
     /// One option: vectors are cut after 253 bytes.
     One,
-    /// Two options: vectors are cut after 506 bytes. Where at most 253 are to be told, it is one option all the same.
+    /// Two options: vectors are cut after 506 bytes. A vector of at most 253 bytes is still one option.
     Two,
 }
 

@@ -19,7 +19,7 @@ const MISSING: u8 = 3;
 // How many numbers a byte covers at most.
 const MOST: u64 = 64;
 
-// Appends the bytes of a run up to `room` bytes in all; tells whether there was room for all of them.
+// Appends the bytes of a run up to `room` bytes in all. Returns whether there was room for all of them.
 fn put_pieces(out: &mut VectorBytes, room: usize, state: u8, count: u64) -> bool
     requires known { state < 4 }
     requires within { room ≤ room_of Two }
@@ -59,7 +59,7 @@ fn put_run(out: &mut VectorBytes, room: usize, state: u8, count: u64) -> bool
     true
 }
 
-// Appends the bytes of missing numbers and of the received ones below them; tells whether there was room for all.
+// Appends the bytes of missing numbers and of the received ones below them. Returns whether there was room for all.
 fn put_both(out: &mut VectorBytes, room: usize, missing: u64, received: u64) -> bool
     requires within { room ≤ room_of Two }
     requires begun { length out.old.items ≤ room }
@@ -74,7 +74,7 @@ fn put_both(out: &mut VectorBytes, room: usize, missing: u64, received: u64) -> 
     put_run(out, room, RECEIVED, received)
 }
 
-// Writes the bytes of `left` numbers from the floor up, by the runs that were received, up to `room` bytes; tells
+// Writes the bytes of `left` numbers from the floor up, by the runs that were received, up to `room` bytes. Returns
 // whether there was room for all.
 pub(crate) fn put_runs(
     out: &mut VectorBytes,
