@@ -8,7 +8,7 @@ use Rattle.ack_vectors.specs.Vector.{Group, bytes_of_groups, grouped_with, group
 use Rattle.ack_vectors.proofs.Pieces.{pieces-some, pieces-step, take_full}
 use Rattle.ack_vectors.proofs.ByRuns.{BeginsWithout, spelled-replicate, states_down-add}
 
--- the bytes of so many numbers from one down
+-- the bytes of this many numbers from one down
 abbrev pub bytes_down : (ℕ → ℕ) → ℕ → ℕ → List ℕ
 bytes_down state count n = bytes_of_groups (groups (states_down state count n))
 
@@ -65,7 +65,7 @@ begins-other : (state : ℕ → ℕ) (s count n : ℕ) → (0 < count → (state
 begins-other state s zero n h = tt
 begins-other state s (suc count) n h = h (omega arith)
 
--- the piece of so many numbers of one state, and what is left below them
+-- the piece of this many numbers of one state, and what is left below them
 pub bytes_down-first : (state : ℕ → ℕ) (s left k top : ℕ) → top < 2 ^ 48 → 1 ≤ k → k ≤ min left 64 → states_down state k top ≡ replicate k s
     → (k < min left 64 → (state (down top k) ≡ s) → ⊥) → bytes_down state left top ≡ piece s k ∷ bytes_down state (left - k) (down top k)
 bytes_down-first state s left k top fits some most alike other =

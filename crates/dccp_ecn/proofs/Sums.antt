@@ -75,7 +75,7 @@ byte-lost f sum hi byte rest goal is e =
     let others : Option Bool = sum_of f (zeros_in (down hi (run_length byte)) rest) in
     ap (λ a. xor_if_known (Some sum) (xor_if_known a others)) is ∙ sym (zeros-first f sum hi byte rest) ∙ e
 
--- a sum is not known exactly where one of the nonces is not
+-- a sum is not known exactly if one of the nonces is not
 xor-known : (a b : Option Bool) → not (is_some (xor_if_known a b)) ≡ (not (is_some a) || not (is_some b))
 xor-known None b = refl
 xor-known (Some a) None = refl

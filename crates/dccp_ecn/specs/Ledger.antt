@@ -19,7 +19,7 @@ ledger next nonces = record { next = next; nonces = nonces }
 abbrev pub with_nonce_sent : Ledger → Bool → Ledger
 with_nonce_sent l nonce = ledger (residue (l.next + 1)) (take 4096 (nonce ∷ l.nonces))
 
--- the nonce of a packet, or none where it is not kept: the newest packet's comes first, then those before it
+-- the nonce of a packet, or none if it is not kept: the newest packet's comes first, then those before it
 abbrev pub nonce_kept : Ledger → ℕ → Option Bool
 nonce_kept l n = slice_get l.nonces (distance n (down l.next 1))
 
@@ -33,7 +33,7 @@ check_verdict kind (Some sum) = if kind_of_sum (Some sum) == kind then Fits else
 abbrev pub vector_checked : Ledger → ℕ → ℕ → List ℕ → Check
 vector_checked l ack kind bytes = check_verdict kind (sum_of (nonce_kept l) (zeros_in ack bytes))
 
--- the nonces of so many packets from one down, each from the place of its remainder by 4,096
+-- the nonces of this many packets from one down, each from the place of its remainder by 4,096
 abbrev pub kept_down : List Bool → ℕ → ℕ → List Bool
 kept_down ring n zero = []
 kept_down ring n (suc count) = slice_index_or ring (n % 4096) false ∷ kept_down ring (down n 1) count

@@ -45,7 +45,7 @@ abbrev pub greatest_from : Option ℕ → List Receipt → Option ℕ
 greatest_from greatest [] = greatest
 greatest_from greatest (a ∷ rest) = greatest_from (greatest_came greatest a.number) rest
 
--- the same, of these receipts alone
+-- the same, of only these receipts
 abbrev pub greatest_of : List Receipt → Option ℕ
 greatest_of receipts = greatest_from None receipts
 
@@ -99,7 +99,7 @@ pub record IsRunOf (w : EcnState) : Type 0 where
 abbrev pub is_old : List Bool → ℕ → Bool
 is_old sent n = nat_le (n + 4096) (length sent)
 
--- a check is not possible if the report says of such a packet that it came unmarked
+-- a check is not possible if the report says that such a packet came unmarked
 abbrev pub unless_old : List Bool → EcnReport → Check → Check
 unless_old sent report check = if list_any (is_old sent) (zeros_in report.ack report.bytes) then Unknown else check
 

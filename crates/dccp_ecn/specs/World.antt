@@ -74,7 +74,7 @@ checks l report = vector_checked l report.ack report.kind report.bytes
 abbrev pub checks_forged : Ledger → EcnReport → Check
 checks_forged l report = vector_checked l report.ack (other_kind report.kind) report.bytes
 
--- so many packets are sent at most, and so many reports kept
+-- at most this many packets are sent, and this many reports kept
 abbrev pub most_sent : ℕ
 most_sent = 2 ^ 46
 

@@ -13,7 +13,7 @@ use std::marker::Model;
 // The number of the first packet (own).
 const FIRST: u64 = 1;
 
-// So many packets are sent at most, and so many reports kept (own).
+// At most this many packets are sent, and this many reports kept (own).
 const MOST: usize = 1 << 46;
 
 #[derive(Drop)]

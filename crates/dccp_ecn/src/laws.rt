@@ -12,7 +12,7 @@ ghost use Rattle.dccp_ecn.specs.Run.{AreHonest, run_of_events, state_by};
 
 /// What a vector reports is read back, number by number from the acknowledgement down: state 0 for what came first
 /// unmarked, 1 for what came first marked and 3 for what did not come, and nothing past its bytes. They fit an option,
-/// and reach the floor exactly where the vector is whole (RFC 4340, section 11.4).
+/// and reach the floor exactly if the vector is whole (RFC 4340, section 11.4).
 pub fn a_vector_with_marks_reads_back()
     ensures states { (e : Arrivals) (ack n : ℕ) → ack < 2 ^ 48 → n < 2 ^ 48 → state_at ack (ecn_bytes e ack) n
         ≡ (if nat_lt (distance n ack) (numbers_told_within 253 (ecn_states e) e.set.floor ack) then Some (ecn_states e n) else None) }

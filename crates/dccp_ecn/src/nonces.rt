@@ -13,7 +13,7 @@ const STATE_0_END: u8 = 64;
 
 /// The nonces that are known of numbers.
 pub(crate) trait Nonces {
-    /// The nonce of each number, which contracts alone see.
+    /// The nonce of each number, which only contracts see.
     ghost nonce_of: { Self → ℕ → Option Bool };
 
     /// The nonce of a number, or None if it is not known.
@@ -28,7 +28,7 @@ fn xor(one: bool, other: bool) -> bool
     if one { !other } else { other }
 }
 
-// The exclusive or of the nonces of so many numbers from one down.
+// The exclusive or of the nonces of `count` numbers from one down.
 fn sum_down<N: Nonces>(nonces: &N, n: Seq48, count: u8) -> Option<bool>
     ensures { result ≡ sum_of (N.nonce_of nonces.now) (downwards count n) }
 {

@@ -7,7 +7,7 @@ use seq_circle::{NoMemory, Seq48};
 use std::alloc::Global;
 use std::marker::Model;
 
-/// Numbers less than this above one floor have places of their own. It divides the size of the circle.
+/// Numbers less than this above one floor have different places. It divides the size of the circle.
 pub(crate) const PLACES: u64 = 2_048;
 
 /// A place for each remainder of a number by 2,048: how the number at this place came, if there is one.

@@ -1,6 +1,6 @@
 //! A sender and a receiver, with what holds of every report after every list of events.
 //!
-//! That the two were reached by some events is the invariant of the type, so that `honest` is owed in one place.
+//! The type's invariant is that some events lead to its state, so that `honest` is proved in only one place.
 ghost use Rattle.std.specs.Prelude.{◌≡◌, ◌≤◌, ◌↔◌, IfOk, OnErr, IsNone, MatchOption, Ok, Err, Some, None, length, slice_get};
 ghost use Rattle.dccp_ecn.specs.Run.{AreHonest};
 ghost use Rattle.dccp_ecn.specs.World.{ecn_begins, ecn_step, happens_by, HasNoRoom, LacksIndex};
@@ -15,9 +15,9 @@ use std::marker::Model;
 /// [`EcnWorld::step`] lets one thing happen: a packet is sent or comes, the receiver reports, or the sender checks a
 /// report. Packets come unmarked or marked, in any order, late, again or never. The first packet has the number 1.
 ///
-/// After each step every report is honest, whatever came: the sender's check of it answers Unknown exactly where it
-/// tells of a packet before the last 4,096 that it came unmarked, and otherwise Fits; with the other nonce, Unfit (RFC
-/// 4340, section 12.2).
+/// After each step every report is honest, whatever came: the sender's check of it answers Unknown exactly if it
+/// reports a packet before the last 4,096 as received unmarked, and otherwise Fits. With the other nonce the check
+/// answers Unfit (RFC 4340, section 12.2).
 #[derive(Drop)]
 pub struct EcnWorld {
     halves: Halves,
@@ -35,7 +35,7 @@ impl Model for EcnWorld {
 }
 
 impl EcnWorld {
-    /// Nothing was sent yet. `NoMemory` comes where no memory was left.
+    /// Nothing was sent yet. `NoMemory` comes if no memory was left.
     pub fn new(alloc: Global) -> Result<EcnWorld, NoMemory>
         ensures { IfOk result (λ world. world ≡ ecn_begins) }
     {
@@ -43,12 +43,12 @@ impl EcnWorld {
         Ok(EcnWorld { halves })
     }
 
-    /// Lets one event happen: exactly what `happens_by` says of it. Refusals, in this order: `NoSuchFrame` exactly
-    /// where an index is not below the number of packets, or of reports for `Check` and `Forge`; `Full` exactly for a
-    /// `Send` after 2^46 packets, or a `Report` after 2^46 reports; `NoMemory`. Each changes nothing. A `Report` before
-    /// any packet came keeps no report.
+    /// Lets one event happen: exactly what `happens_by` says of it. Refusals, in this order: `NoSuchFrame` exactly if
+    /// an index is not below the number of packets, or of reports for `Check` and `Forge`; `Full` exactly for a `Send`
+    /// after 2^46 packets, or a `Report` after 2^46 reports; `NoMemory`. Each changes nothing. A `Report` before any
+    /// packet came keeps no report.
     ///
-    /// After it, refused or not, every report is honest, as stands over [`EcnWorld`].
+    /// After it, refused or not, every report is honest, as [`EcnWorld`] says.
     pub fn step(&mut self, event: EcnEvent) -> Result<EcnSeen, EcnFault>
         ensures ok { IfOk result (λ seen. happens_by self.old event ≡ Ok (ecn_step self.new seen)) }
         ensures no_such_frame { (result ≡ Err EcnFault.NoSuchFrame) ↔ (happens_by self.old event ≡ Err EcnFault.NoSuchFrame) }
@@ -75,8 +75,8 @@ impl EcnWorld {
         self.halves.reports().len() as u64
     }
 
-    /// The report with this index, from 0: the number that it acknowledges, the type of its Ack Vector and that one's
-    /// bytes. None exactly where the index is not below the number of reports.
+    /// The report with this index, from 0: the number that it acknowledges, the type of its Ack Vector, and the
+    /// vector's bytes. None exactly if the index is not below the number of reports.
     pub fn report(&self, index: u64) -> Option<(Seq48, u8, &[u8])>
         ensures value { MatchOption result (slice_get self.now.reports index ≡ None) (λ report. slice_get self.now.reports index ≡ Some (record { ack = report.0; kind = report.1; bytes = report.2.now })) }
         ensures none { IsNone result ↔ (length self.now.reports ≤ index) }

@@ -29,7 +29,7 @@ fn alike(received: &EcnReceived, top: Seq48, state: u8, most: u64) -> u64
     most
 }
 
-/// Puts the bytes of the vector from `ack` down to the floor in place of what `out` had, up to 253 of them; tells
+/// Puts the bytes of the vector from `ack` down to the floor in place of what `out` had, up to 253 of them. Returns
 /// whether there was room for all.
 pub(crate) fn put_states(out: &mut VectorBytes, received: &EcnReceived, ack: Seq48) -> bool
     ensures bytes { out.new.items ≡ ecn_bytes received.now ack }
