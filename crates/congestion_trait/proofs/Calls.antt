@@ -60,7 +60,7 @@ module _ {S : Type 0} (control : Control S) (lawful : IsLawful control) where
       inl (out_before states (control.flight state) number (subst (λ l. Has l number Out) (lawful.report_settles state states ratio) h))
   out_after state TimesOut number h = absurd (nothing_there number Out _ (lawful.timeout_empties state) h)
 
-  -- a number that is Reported after a call was Reported before, or the call tells that it was received
+  -- a number that is Reported after a call was Reported before, or the call reports that it was received
   pub reported_after : (state : S) (call : Call) (number : ℕ)
       → Has (control.flight (after_call control state call)) number Reported → Has (control.flight state) number Reported ⊎ IsTrue (tells number call)
   reported_after state (Starts ccid) number h = absurd (nothing_there number Reported _ (lawful.start_empties state ccid) h)
@@ -109,7 +109,7 @@ module _ {S : Type 0} (control : Control S) (lawful : IsLawful control) where
       (λ later. inr (or_second (call_sends number call) (list_any (call_sends number) rest) later))
       (listed_run (after_call control state call) rest number h)
 
-  -- a number that is Reported was Reported before the calls, or one of them tells that it was received
+  -- a number that is Reported was Reported before the calls, or one of them reports that it was received
   pub reported_run : (state : S) (calls : List Call) (number : ℕ)
       → Has (control.flight (run control state calls)) number Reported → Has (control.flight state) number Reported ⊎ IsTrue (list_any (tells number) calls)
   reported_run state [] number h = inl h

@@ -1,4 +1,4 @@
--- Numbers with at most so many steps between them, and how a report's end below one of them tells of all before it.
+-- Numbers with at most this many steps between them, and how a report's end below one of them covers all before it.
 use Rattle.std.proofs.Common.{◌≡◌, ℕ, ◌+◌, ◌-◌, ◌^◌, ◌≤◌, ◌<◌, ◌⊎◌, Bool, true, false, not, ◌&&◌, ◌||◌, cond, List, [], ◌∷◌, ◌++◌, map, Option, Some, None, IsNone, IfNone, length, take, drop, slice_get, refl, sym, ap, ◌∙◌, subst, inl, inr, arith}
 use Rattle.std.specs.List.{list_all, AllByRecursion}
 use Rattle.std.proofs.lemmas.List.{take-append-drop, drop-map}
@@ -54,7 +54,7 @@ untouched Out received out none = cc
 untouched Reported received out none = refl
 untouched Lost received out none = ap not none
 
--- where no entry in front is Out, and the report has no state for a number at most so many steps before x's, it touches none of them
+-- where no entry in front is Out, and the report has no state for a number at most this many steps before x's, it touches none of them
 untouched_before : (told : States) (span : ℕ) (front : List FlightEntry) (x : FlightEntry) (rest : List FlightEntry) → AreNear span (numbers (front ++ x ∷ rest))
     → pipe_of front ≡ 0 → ((number : ℕ) → number < 2 ^ 48 → distance number x.number ≤ span → told number ≡ None) → AllUntouched told front
 untouched_before told span [] x rest near none ends = refl
@@ -70,7 +70,7 @@ untouched_before told span (y ∷ front) x rest near none ends =
 far : (ack x y span : ℕ) → x < 2 ^ 48 → y < 2 ^ 48 → distance y x ≤ span → distance x ack + span < 2 ^ 48 → distance x ack ≤ distance y ack
 far ack x y span first second close room = omega arith
 
--- a report that gives x's number no state gives none to a number at most so many steps before it
+-- a report that gives x's number no state gives none to a number at most this many steps before it
 ends_at : (ack : ℕ) (bytes : List ℕ) (span x : ℕ) → x < 2 ^ 48 → (bytes ≡ []) ⊎ (distance x ack + span < 2 ^ 48)
     → ((place : ℕ) → distance x ack ≤ place → slice_get (states bytes) place ≡ None)
     → (number : ℕ) → number < 2 ^ 48 → distance number x ≤ span → state_at ack bytes number ≡ None

@@ -13,7 +13,7 @@ entry_later : (entry : FlightEntry) (later : List FlightEntry) (number : ℕ) �
 entry_later entry later number h = (suc h.0, omega (arith, h.1), h.2)
 
 module _ (number : ℕ) (later : List FlightEntry) where
-  -- one entry more, by how it stands
+  -- one entry more, by its standing
   from_numbers : (n : ℕ) (standing : Standing)
       → (Contains (numbers_reported later) number → Has later number Reported)
       → Contains (numbers_reported (record { number = n; standing = standing } ∷ later)) number

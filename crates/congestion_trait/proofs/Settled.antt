@@ -18,7 +18,7 @@ use Rattle.congestion_trait.specs.Walk.{AllReported, is_untouched, AllUntouched}
 abbrev at : ℕ → Standing → FlightEntry
 at number standing = record { number = number; standing = standing }
 
--- an entry that stands so is left alone by a report, whether it says received or not
+-- an entry of this standing is left alone by a report, whether it says received or not
 abbrev Untouched : Standing → Bool → Type 0
 Untouched standing received = (is_reported standing || not (is_out standing) && not received) ≡ true
 

@@ -22,7 +22,7 @@ use Rattle.seq_circle.specs.Near.{AreNear}
 abbrev at : ℕ → Standing → FlightEntry
 at number standing = record { number = number; standing = standing }
 
--- an entry that stands so is Out, and is not said to be received
+-- an entry of this standing is Out, and is not said to be received
 abbrev Unheard : Standing → Bool → Type 0
 Unheard standing received = (is_out standing && not received) ≡ true
 

@@ -30,7 +30,7 @@ call_sends number (Sends next) = number == next
 call_sends number (Reports states ratio) = false
 call_sends number TimesOut = false
 
--- the call tells that this number was received, marked or not
+-- the call reports that this number was received, marked or not
 abbrev pub tells : ℕ → Call → Bool
 tells number (Starts ccid) = false
 tells number (Sends next) = false

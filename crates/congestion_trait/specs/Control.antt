@@ -1,6 +1,6 @@
 -- What contracts see of a congestion control: its functions on its state.
 --
--- What a kind knows is a function of the CCID alone, and not of its state: a kind cannot forget a CCID.
+-- Which CCIDs a kind knows does not depend on its state: a kind cannot forget a CCID.
 use Rattle.std.specs.Prelude.{◌≡◌, ℕ, ◌≤◌, Bool, nat_lt, List, []}
 use Rattle.congestion_trait.specs.declared.flight.FlightEntry.{FlightEntry}
 use Rattle.congestion_trait.specs.Flight.{States, pipe_of, sent, after_report}
@@ -19,8 +19,8 @@ pub record Control (S : Type 0) : Type 0 where
 abbrev pub may_send : {S : Type 0} → Control S → S → Bool
 may_send control state = nat_lt (pipe_of (control.flight state)) (control.window state)
 
--- A kind's window never closes: a start and a timeout leave one of at least one packet, and so does any other call where
--- there was one (RFC 4341, section 5, of CCID 2; own for every kind).
+-- A kind's window never closes: a start and a timeout leave a window of at least one packet, and so does any other call if it was so before (RFC
+-- 4341, section 5, of CCID 2; own for every kind).
 pub record KeepsWindow {S : Type 0} (control : Control S) : Type 0 where
   pub start_opens : (state : S) (ccid : ℕ) → 1 ≤ control.window (control.started state ccid)
   pub sending_keeps : (state : S) (number : ℕ) → 1 ≤ control.window state → 1 ≤ control.window (control.with_sent state number)

@@ -17,7 +17,7 @@ fixed_control = record {
   timed_out = λ _. [];
 }
 
--- eight are at least one, after whatever call
+-- eight are at least one, after any call
 pub fixed_window_stays : KeepsWindow fixed_control
 fixed_window_stays = record {
   start_opens = λ _ _. le-add_right 1 7;

@@ -8,7 +8,7 @@ use Rattle.congestion_trait.specs.declared.flight.FlightEntry.{FlightEntry}
 use Rattle.congestion_trait.specs.declared.flight.Standing.{Standing}
 use Rattle.congestion_trait.specs.declared.flight.Standing.TheVariants.{Out, Reported, Lost}
 
--- what a report says: the state that it gives a number, where it gives one (RFC 4340, section 11.4)
+-- what a report says: the state that it gives a number, if it gives one (RFC 4340, section 11.4)
 abbrev pub States : Type 0
 States = ℕ → Option ℕ
 
@@ -32,7 +32,7 @@ pipe_of entries = count_by (λ entry. is_out entry.standing) entries
 abbrev pub reported_count : List FlightEntry → ℕ
 reported_count entries = count_by (λ entry. is_reported entry.standing) entries
 
--- a number that is sent is at the end, Out; at most the last 2,048 entries are kept (own)
+-- a number that is sent joins at the end, as Out; at most the last 2,048 entries are kept (own)
 abbrev pub sent : List FlightEntry → ℕ → List FlightEntry
 sent entries number = keep_last 2048 (entries ++ record { number = number; standing = Out } ∷ [])
 
@@ -40,7 +40,7 @@ sent entries number = keep_last 2048 (entries ++ record { number = number; stand
 abbrev pub entry_reported : States → FlightEntry → FlightEntry
 entry_reported states entry = if is_received (states entry.number) then record entry { standing = Reported } else entry
 
--- so many later packets were received that one that is Out is lost: three (RFC 4341, section 5)
+-- at least three of these later packets were received, so that an earlier one that is Out is lost (RFC 4341, section 5)
 abbrev pub is_passed : List FlightEntry → Bool
 is_passed later = nat_le 3 (reported_count later)
 
@@ -86,11 +86,11 @@ is_congested states mark (entry ∷ later) =
     is_past mark entry.number && (is_newly_marked states entry || is_newly_lost states entry later)
     || is_congested states mark later
 
--- some entry of the list has this number and stands so
+-- some entry of the list has this number and this standing
 abbrev pub Has : List FlightEntry → ℕ → Standing → Type 0
 Has entries number standing = Contains entries (record { number = number; standing = standing })
 
--- some entry of the list has this number, however it stands
+-- some entry of the list has this number, with any standing
 abbrev pub HasEntry : List FlightEntry → ℕ → Type 0
 HasEntry entries number = (standing : Standing) × Has entries number standing
 

@@ -1,7 +1,7 @@
 -- A kind of congestion control by its own rules alone: the flight list follows the list's rules (own).
 --
--- So a kind cannot break the list's rules, and owes no proof that it keeps them: it owes only that its window never
--- closes. `FixedWindow` and CCID 2 write their functions themselves, since the state of each is one plain list or record.
+-- So a kind cannot break the list's rules, and needs no proof that it keeps them. It needs only a proof that its window never closes.
+-- `FixedWindow` and CCID 2 write their functions themselves, since the state of each is one plain list or record.
 use Rattle.std.specs.Prelude.{ℕ, Bool, List, [], refl}
 use Rattle.congestion_trait.specs.declared.flight.FlightEntry.{FlightEntry}
 use Rattle.congestion_trait.specs.Flight.{States, sent, after_report}
@@ -12,8 +12,8 @@ pub record KindState (R : Type 0) : Type 0 where
   pub flight : List FlightEntry
   pub rest : R
 
--- the window that the rest shows, the CCIDs that are known, the rest after a start, and what each other call makes of
--- it; of a report, by the list before it and by what it says
+-- the window that the rest shows, the CCIDs that are known, the rest after a start, and the rest after each other call; after a report it
+-- depends on the list before it and on what it says
 pub record KindRules (R : Type 0) : Type 0 where
   pub window : R → ℕ
   pub is_known : ℕ → Bool
@@ -22,7 +22,7 @@ pub record KindRules (R : Type 0) : Type 0 where
   pub with_report : R → List FlightEntry → States → ℕ → R
   pub timed_out : R → R
 
--- the congestion control of these rules, with a flight list beside what they keep
+-- the congestion control of these rules, with a flight list besides what they keep
 abbrev pub control_by_rules : {R : Type 0} → KindRules R → Control (KindState R)
 control_by_rules rules = record {
   flight = λ state. state.flight;
@@ -37,7 +37,7 @@ control_by_rules rules = record {
   timed_out = λ state. record { flight = []; rest = rules.timed_out state.rest };
 }
 
--- whatever the rules, the flight list keeps its own; that the window never closes is theirs
+-- whatever the kind's rules, the flight list keeps its own; only that the window never closes depends on the kind's
 pub kind_is_lawful : {R : Type 0} (rules : KindRules R) → KeepsWindow (control_by_rules rules) → IsLawful (control_by_rules rules)
 kind_is_lawful rules keeps_window = record {
   start_empties = λ _ _. refl;

@@ -26,7 +26,7 @@ pub record IsAt (states : List ℕ) (start end state : ℕ) (left : List Run) : 
   pub inside : (place : ℕ) → start ≤ place → place < end → slice_get states place ≡ Some state
   pub following : (place : ℕ) → end ≤ place → slice_get states place ≡ run_state left (place - end)
 
--- how an entry comes after a report
+-- the standing of an entry after a report
 abbrev pub standing_after : Option ℕ → Bool → Standing → Standing
 standing_after state passed standing =
     if is_received state then Reported else if is_out standing && passed then Lost else standing
@@ -40,7 +40,7 @@ abbrev pub was_out : Option FlightEntry → Bool
 was_out None = false
 was_out (Some entry) = is_out entry.standing
 
--- what the entries from a place on came to, and what is in the list by then
+-- the result of the entries from a place on, and the list by then
 pub record IsAlong (told : States) (mark : Option ℕ) (old : List FlightEntry) (index : ℕ) (now : List FlightEntry) (walk : Walk) : Type 0 where
   pub entries : now ≡ take index old ++ after_report told (drop index old)
   pub acked : walk.acked ≡ acked_count told (drop index old)
@@ -77,7 +77,7 @@ AllUnheard told entries = IsTrue (list_all (λ entry. is_unheard told entry) ent
 abbrev pub numbers : List FlightEntry → List ℕ
 numbers entries = map (λ entry. entry.number) entries
 
--- what the counts beside a list say of it
+-- what the counts beside a list say about it
 pub record FlightInvariant (entries : List FlightEntry) (capacity : ℕ) (counts : Counts) : Type 0 where
   pub holds : capacity ≡ 2048
   pub counted : counts.out ≡ pipe_of entries

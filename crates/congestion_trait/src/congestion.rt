@@ -9,20 +9,20 @@ use crate::flight::Standing;
 use dccp_options::AckReport;
 use seq_circle::Seq48;
 
-/// The congestion control of one sender (RFC 4340, section 10). Every kind keeps a flight list; each call changes it by
-/// the list's own rules, and changes the rest of the state by the kind's. No call takes memory.
+/// The congestion control of one sender (RFC 4340, section 10). Every kind keeps a flight list. Each call changes the
+/// list by the list's rules, and the rest of the state by the kind's rules. No call takes memory.
 ///
-/// To write a kind, take a struct with a `Flight` and whatever else the kind keeps. Its model's Value is a record that
-/// has the list of entries in it, since the laws range over every Value, also over those that no value of the struct
-/// has. `control` names the functions on that Value: the list and the window that it shows, the CCIDs that it knows,
-/// and what each call makes of it. `lawful` says that the list keeps its own rules, and that no call closes the window
-/// (`KeepsWindow`). `specs/Kind` makes both of the kind's rules for the rest alone (`control_by_rules`,
-/// `kind_is_lawful`). The bounds on the window come from the struct's invariant. The module additive_window of dccp_uses is an example.
+/// To write a kind, take a struct with a `Flight` and what else the kind keeps. Its model's Value is a record with the
+/// list of entries in it. The laws are about every Value, even one that no value of the struct has. `control` names the
+/// functions on that Value: the list and the window that it shows, the CCIDs that it knows, and what each call makes of
+/// it. `lawful` says that the list keeps its own rules, and that no call closes the window (`KeepsWindow`).
+/// `specs/Kind` makes both of the kind's rules for the rest (`control_by_rules`, `kind_is_lawful`). The bounds on the
+/// window come from the struct's invariant. The module additive_window of dccp_uses is an example.
 pub trait Congestion {
-    // The kind's functions on its state, which contracts alone see.
+    // The kind's functions on its state, which only contracts see.
     ghost control: { Control Self };
 
-    /// Tells whether this kind can be started with a CCID.
+    /// Whether this kind can be started with a CCID.
     fn knows(&self, ccid: u8) -> bool
         ensures { result ≡ control.is_known ccid };
 
@@ -37,24 +37,24 @@ pub trait Congestion {
         ensures low { 1 ≤ result }
         ensures high { result ≤ 1024 };
 
-    /// How many packets are in flight: sent, and neither reported nor taken for lost.
+    /// How many packets are in flight: sent, and neither reported nor found lost.
     fn in_flight(&self) -> u32
         ensures { result ≡ pipe_of (control.flight self.now) };
 
-    /// Tells whether the flight list has a data packet of this number that was reported.
+    /// Whether the flight list has a data packet of this number that was reported.
     fn is_reported(&self, number: Seq48) -> bool
         ensures { IsTrue result ↔ Has (control.flight self.now) number Reported };
 
-    /// Tells whether the flight list has a data packet of this number that stands so.
+    /// Whether the flight list has a data packet of this number with this standing.
     fn stands(&self, number: Seq48, standing: Standing) -> bool
         ensures { IsTrue result ↔ Has (control.flight self.now) number standing };
 
-    /// Tells whether a further data packet may be sent: fewer are in flight than the window.
+    /// Whether a further data packet may be sent: fewer are in flight than the window.
     fn may_send(&self) -> bool
         ensures value { result ≡ may_send control self.now }
         ensures meaning { IsTrue result ↔ (pipe_of (control.flight self.now) < control.window self.now) };
 
-    /// A data packet with this number was sent. It has to be allowed.
+    /// A data packet with this number was sent. `may_send` has to be true before.
     fn on_sent(&mut self, number: Seq48)
         requires { pipe_of (control.flight self.old) < control.window self.old }
         ensures { self.new ≡ control.with_sent self.old number };

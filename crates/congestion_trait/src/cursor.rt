@@ -1,4 +1,4 @@
-//! Reads a report at falling numbers, without beginning anew at each.
+//! Reads a report at falling numbers, without starting again at each.
 ghost use Rattle.std.specs.Prelude.{◌≡◌, ℕ, ◌+◌, ◌^◌, ◌<◌, ◌≤◌, ◌⊎◌, List, [], None, IfNone, IsNone, IsTrue, length, slice_get};
 ghost use Rattle.seq_circle.specs.Circle.{distance};
 ghost use Rattle.dccp_options.specs.Vectors.{state_at, states};
@@ -13,8 +13,8 @@ const CIRCLE: u64 = 1 << 48;
 // How many numbers a report reaches at most: 1,008 bytes of options with 64 each.
 const MOST_REACHED: u64 = 64_512;
 
-// One run of a report, and those after it. Places count from the report's highest number down, which is absent where
-// the report has no run.
+// One run of a report, and those after it. Places count down from the report's highest number, which is None if the
+// report has no run.
 #[derive(Drop)]
 pub struct Cursor<'a> {
     top: Option<Seq48>,
@@ -25,7 +25,7 @@ pub struct Cursor<'a> {
 }
 
 impl<'a> Cursor<'a> {
-    // Is at a report's first run, or at none.
+    // At a report's first run, or at none if it has none.
     pub fn new(report: &AckReport<'a>) -> Cursor<'a>
         ensures begins { result.start ≡ 0 }
         ensures top { IsTop report.now result.top }
@@ -51,7 +51,7 @@ impl<'a> Cursor<'a> {
         }
     }
 
-    // Begins anew where the place was passed.
+    // Starts again if the place was passed.
     fn stand_at_or_before(&mut self, report: &AckReport<'a>, place: u64)
         requires stands { IsAt (states report.now.bytes) self.old.start self.old.end self.old.state self.old.left }
         requires top { IsTop report.now self.old.top }
@@ -64,7 +64,8 @@ impl<'a> Cursor<'a> {
         }
     }
 
-    // Goes on to the first run that reaches past a place, or to the end of the vector at hand: at none until `next`.
+    // Moves to the first run that reaches past a place, or to the end of the current vector. It is at no run until
+    // `next`.
     fn pass(&mut self, place: u64)
         requires { self.old.end ≤ place }
         ensures before { self.new.end ≤ place }
@@ -105,7 +106,7 @@ impl<'a> Cursor<'a> {
         Some(self.state)
     }
 
-    // Tells whether a report gives no state to this number and to none that lies at most so many steps after it.
+    // Whether a report gives no state to this number, nor to any that lies at most `span` steps after it.
     pub fn is_out_of_reach(&self, report: &AckReport<'a>, number: Seq48, span: u64) -> bool
         requires top { IsTop report.now self.now.top }
         ensures { IsTrue result → (report.now.bytes ≡ []) ⊎ (span + 64512 ≤ distance number report.now.ack) }
@@ -116,8 +117,7 @@ impl<'a> Cursor<'a> {
         }
     }
 
-    // Tells whether a report that gives this number no state gives none to any number that lies at most so many steps
-    // before it.
+    // Whether a report gives no state to this number, nor to any that lies at most `span` steps before it.
     pub fn ends_before(
         &self,
         report: &AckReport<'a>,

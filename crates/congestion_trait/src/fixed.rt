@@ -29,7 +29,7 @@ impl Model for FixedWindow {
 }
 
 impl FixedWindow {
-    /// A fixed window with nothing in flight. NoMemory where no block for the flight list is to be had.
+    /// A fixed window with nothing in flight. NoMemory if there is no block for the flight list.
     pub fn new(alloc: Global) -> Result<FixedWindow, NoMemory>
         ensures { IfOk result (λ window. window ≡ []) }
     {

@@ -1,4 +1,4 @@
-//! The flight list: packets that were sent and what was heard of them.
+//! The flight list: packets that were sent, and what is known of them.
 ghost use Rattle.std.specs.Prelude.{◌≡◌, ℕ, ◌+◌, ◌-◌, ◌^◌, ◌<◌, ◌≤◌, [], ◌∷◌, ◌++◌, ◌↔◌, IsTrue, Contains, length, IfOk, Option, if◌then◌else◌};
 ghost use Rattle.std.specs.Option.{option_to_list};
 ghost use Rattle.dccp_options.specs.Vectors.{state_at};
@@ -23,7 +23,7 @@ const NOTHING: Counts = Counts {
     span: 0,
 };
 
-/// How a data packet that was sent stands (own).
+/// The standing of a data packet that was sent (own).
 #[derive(Clone, Copy, Debug, PartialEq, Eq)]
 pub enum Standing {
     /// Sent, and nothing is known of it.
@@ -39,11 +39,11 @@ pub enum Standing {
 pub struct FlightEntry {
     /// Its sequence number.
     pub number: Seq48,
-    /// How it stands.
+    /// Its standing.
     pub standing: Standing,
 }
 
-/// What a report told.
+/// The result of a report.
 #[derive(Clone, Copy, Debug, PartialEq, Eq)]
 pub struct FlightNews {
     /// How many packets it was the first to report as received without a mark.
@@ -74,7 +74,7 @@ impl Model for Flight {
 }
 
 impl Flight {
-    /// An empty list. NoMemory where no block for 2,048 entries is to be had; no later call takes memory.
+    /// An empty list. NoMemory if there is no block for 2,048 entries; no later call takes memory.
     pub fn new(alloc: Global) -> Result<Flight, NoMemory>
         ensures { IfOk result (λ flight. flight ≡ []) }
     {
@@ -100,15 +100,15 @@ impl Flight {
         self.counts.out
     }
 
-    /// Tells whether the list has a packet of this number that was reported. The cost is that of the entries after it, or
-    /// of the whole list.
+    /// Whether the list has a packet of this number that was reported. The cost is that of the entries after it, or of
+    /// the whole list.
     pub fn is_reported(&self, number: Seq48) -> bool
         ensures { IsTrue result ↔ Has self.now number Reported }
     {
         self.stands(number, Standing::Reported)
     }
 
-    /// Tells whether the list has a packet of this number that stands so. The cost is that of the entries after it, or of
+    /// Whether the list has a packet of this number with this standing. The cost is that of the entries after it, or of
     /// the whole list.
     pub fn stands(&self, number: Seq48, standing: Standing) -> bool
         ensures { IsTrue result ↔ Has self.now number standing }
@@ -116,7 +116,7 @@ impl Flight {
         is_in(&self.entries, &FlightEntry { number, standing })
     }
 
-    /// Notes a packet that was sent. The 2,049th drives the oldest out.
+    /// Notes a packet that was sent. The 2,049th replaces the oldest.
     pub fn sent(&mut self, number: Seq48)
         ensures { self.new ≡ sent self.old number }
     {
@@ -156,7 +156,7 @@ impl Flight {
 }
 
 impl Counts {
-    // One entry more is Out, so many steps up from the newest, and it may have driven another out.
+    // The counts with one more entry, which is Out and `step` steps up from the newest. It may have driven another out.
     fn with_sent(&self, driven_out: &Option<FlightEntry>, step: u64) -> Counts
         requires few { self.now.out ≤ 2048 }
         ensures out { result.out ≡ (if was_out driven_out.now then self.now.out else self.now.out + 1) }
@@ -177,7 +177,7 @@ impl Counts {
     }
 }
 
-// Tells whether an entry is in the list, from the newest on.
+// Whether an entry is in the list, from the newest on.
 fn is_in(entries: &HeapCircularBuffer<FlightEntry>, entry: &FlightEntry) -> bool
     ensures { IsTrue result ↔ Contains entries.now.items entry.now }
 {
@@ -185,7 +185,7 @@ fn is_in(entries: &HeapCircularBuffer<FlightEntry>, entry: &FlightEntry) -> bool
     is_among(newer, entry) || is_among(older, entry)
 }
 
-// Tells whether an entry is among these, from the newest on.
+// Whether an entry is among these, from the newest on.
 fn is_among(entries: &[FlightEntry], entry: &FlightEntry) -> bool
     ensures { IsTrue result ↔ Contains entries.now entry.now }
 {
@@ -222,7 +222,7 @@ fn count_of(driven_out: &Option<FlightEntry>) -> usize
     }
 }
 
-// Tells whether an entry left the list while it was Out.
+// Whether an entry left the list while it was Out.
 fn was_out(driven_out: &Option<FlightEntry>) -> bool
     ensures { result ≡ was_out driven_out.now }
 {

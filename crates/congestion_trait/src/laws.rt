@@ -11,8 +11,8 @@ ghost use Rattle.congestion_trait.specs.Flight.{States, Has, HasEntry, numbers_r
 
 use crate::congestion::Congestion;
 
-/// A number is Reported only where it was before, or where the report gives it state 0 or 1. No other call makes a
-/// number Reported.
+/// A number is Reported only if it was before, or if the report gives it state 0 or 1. No other call makes a number
+/// Reported.
 pub fn only_reports_report<C: Congestion>()
     ensures reports { (state : C) (states : States) (ratio number : ℕ)
         → Has (C.control.flight (C.control.with_report state states ratio)) number Reported
@@ -25,7 +25,7 @@ pub fn only_reports_report<C: Congestion>()
         → ⊥ }
 {}
 
-/// A number that is not Out, since it was reported or taken for lost, is never Out again, unless it is sent anew.
+/// A number that is not Out, since it was reported or found lost, is never Out again, unless it is sent again.
 pub fn only_sending_puts_out<C: Congestion>()
     ensures reports { (state : C) (states : States) (ratio number : ℕ)
         → Has (C.control.flight (C.control.with_report state states ratio)) number Out → Has (C.control.flight state) number Out }
@@ -44,8 +44,8 @@ pub fn in_flight_falls_once<C: Congestion>()
         ≡ pipe_of (C.control.flight state) }
 {}
 
-/// After any calls a number is Out only where it was before them or one of them sends it: what was reported or taken
-/// for lost is never Out again. And it is Reported only where it was before them or one of them gives it state 0 or 1.
+/// After any calls a number is Out only if it was before them, or if one of them sends it: what was reported or found
+/// lost is never Out again. It is Reported only if it was before them, or if one of them gives it state 0 or 1.
 pub fn standings_after_calls<C: Congestion>()
     ensures out { (state : C) (calls : List Call) (number : ℕ)
         → Has (C.control.flight (run C.control state calls)) number Out
@@ -55,8 +55,8 @@ pub fn standings_after_calls<C: Congestion>()
         → Has (C.control.flight state) number Reported ⊎ IsTrue (list_any (tells number) calls) }
 {}
 
-/// Every entry's number was sent: after one call, and after any calls, a number is in the list only where it stood
-/// there before or where a call sends it.
+/// Every entry's number was sent: after one call, and after any calls, a number is in the list only if it was there
+/// before, or if a call sends it.
 pub fn every_entry_was_sent<C: Congestion>()
     ensures call { (state : C) (call : Call) (number : ℕ)
         → HasEntry (C.control.flight (after_call C.control state call)) number

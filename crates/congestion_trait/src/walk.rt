@@ -1,18 +1,19 @@
 //! What a report makes of the entries, from the newest to the oldest.
 //!
-//! Losses count the Reported entries after the report made its entries Reported, so one pass from the newest down does
-//! both. It begins after the newest entry that the report may reach: no entry after the place from which on all are
-//! Out, which is kept beside the list, changes while the report does not reach it. It ends at the place before which
-//! every entry is Reported, which is kept too, or earlier at an entry to which the report gives no state, where no entry
-//! before it is Out: nothing older can change then. So a packet that was lost long ago costs later reports nothing, nor
-//! does one that was sent after what they speak of. A Lost entry stays until 2,048 later ones drive it out.
+//! Whether an entry is lost depends on the entries after it, once the report has made its own entries Reported. So one
+//! pass from the newest entry down does both. The pass begins at the newest entry that the report may reach: from the
+//! place `heard` on all entries are Out, and those that the report does not reach stay so. It ends at the place
+//! `settled`, before which every entry is Reported. It ends earlier at an entry to which the report gives no state, if
+//! no entry before it is Out, since nothing older can change then. So later reports spend no time on a packet that was
+//! lost long ago, or that was sent after the numbers that they reach. A Lost entry stays until 2,048 later ones drive
+//! it out.
 //!
-//! Numbers need not rise: the contracts hold for every list. The steps from each number to the next since the list was
-//! empty are summed (`span`). The pass begins before the newest entry only where that sum and the most that a report
-//! reaches are together no more than the way from an entry up to the acknowledgement number, as where the entry lies
-//! past it; and it ends early only while the sum and the way from the acknowledgement number down to the entry make
-//! less than one round of the circle. Where numbers fall, the sum is past that, and the pass goes over the list to the
-//! place that is kept.
+//! Numbers need not rise: the contracts hold for every list. `span` is the sum of the steps from each number to the
+//! next since the list was empty. The pass leaves out newest entries only if that sum and the most that a report
+//! reaches are together at most the distance from an entry up to the acknowledgement number, as they are if the entry
+//! lies past it. It ends early only if the sum and the distance from the entry up to the acknowledgement number are
+//! together less than one turn of the circle. If numbers fall, the sum is too large for both, and the pass goes over
+//! the list down to `settled`.
 ghost use Rattle.std.specs.Prelude.{◌≡◌, ℕ, ◌+◌, ◌<◌, ◌≤◌, ◌&&◌, ◌||◌, not, nat_le, length, take, drop, slice_get, slice_set, Some, Option};
 ghost use Rattle.circular_buffer.specs.Buffer.{buffer};
 ghost use Rattle.dccp_options.specs.Vectors.{state_at, is_received, is_unmarked, is_marked};
@@ -25,7 +26,7 @@ use circular_buffer::HeapCircularBuffer;
 use dccp_options::AckReport;
 use seq_circle::Seq48;
 
-// So many later ones reported make an entry Lost (RFC 4341, section 5).
+// How many later entries have to be Reported for an entry to be Lost (RFC 4341, section 5).
 const PASSING: u32 = 3;
 
 const RECEIVED: u8 = 0;
@@ -41,11 +42,11 @@ pub struct Counts {
     pub settled: usize,
     // The entries from this place on are Out.
     pub heard: usize,
-    // Below 2^48, no number is more steps up from an earlier one.
+    // If this is below 2^48: no number is more steps than this up from an earlier one.
     pub span: u64,
 }
 
-// What the entries so far came to; `seen` of them were Out before, and those from `heard` on are still.
+// The result of the entries so far; `seen` of them were Out before, and those from `heard` on are still.
 #[derive(Clone, Copy)]
 pub struct Walk {
     pub acked: u32,
@@ -71,7 +72,7 @@ fn is_reported(standing: Standing) -> bool
     matches!(standing, Standing::Reported)
 }
 
-// How an entry comes after a report that gives its number this state.
+// The standing of an entry after a report that gives its number this state.
 fn standing_after(state: Option<u8>, passed: bool, standing: Standing) -> Standing
     ensures { result ≡ standing_after state passed standing }
 {
@@ -103,7 +104,7 @@ fn set_standing(entries: &mut HeapCircularBuffer<FlightEntry>, index: usize, sta
 }
 
 impl Walk {
-    // Counts one entry, and tells how it comes after the report.
+    // Counts one entry, and returns its state after the report.
     fn step(&mut self, entry: &FlightEntry, state: Option<u8>, mark: &Option<Seq48>) -> Standing
         requires { (self.old.acked < 2048) × (self.old.reported < 2048) × (self.old.out < 2048) × (self.old.seen < 2048) }
         ensures standing { result ≡ standing_after state (nat_le 3 self.old.reported) entry.now.standing }
@@ -208,7 +209,7 @@ pub fn settle(
     walk
 }
 
-// How many entries at the front are Reported, of which the first ones are known to be.
+// How many entries at the front are Reported; the first `known` of them are known to be.
 pub fn settled_from(entries: &HeapCircularBuffer<FlightEntry>, known: usize) -> usize
     requires within { known ≤ length entries.now.items }
     requires front { AllReported (take known entries.now.items) }
