@@ -1,4 +1,4 @@
--- The window's range, and that it falls only where congestion shows.
+-- The window's range, and that it falls only if congestion shows.
 use Rattle.std.proofs.Common.{◌≡◌, ℕ, ◌+◌, ◌<◌, ◌≤◌, Bool, true, false, cond, ltb, leb, min, List, [], ◌∷◌, refl, arith}
 use Rattle.congestion_trait.specs.Flight.{States, is_congested, acked_count}
 use Rattle.congestion_trait.specs.Calls.{Call, Starts, Sends, Reports, TimesOut, after_call, run}

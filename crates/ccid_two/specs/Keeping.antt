@@ -1,4 +1,4 @@
--- CCID 2's window is one packet at least, after whatever call (RFC 4341, section 5).
+-- CCID 2's window is at least one packet, after any call (RFC 4341, section 5).
 use Rattle.std.specs.Prelude.{ℕ, ◌+◌, ◌/◌, ◌≤◌, Bool, true, false, cond, nat_lt, nat_le}
 use Rattle.std.proofs.Math.Nat.{le-add_right, le-max_left, le-min, le_trans}
 use Rattle.congestion_trait.specs.Control.{KeepsWindow}
@@ -23,7 +23,7 @@ adjusted-open : (congested : Bool) (state : State) (acked ratio : ℕ) → 1 ≤
 adjusted-open true state acked ratio wide = le-max_left 1 (state.window / 2)
 adjusted-open false state acked ratio wide = grown-open (nat_lt state.window state.threshold) state acked ratio wide
 
--- a halving leaves one packet at least, growth takes none away, and the cap is more than one
+-- a halving leaves at least one packet, growth removes none, and the cap is more than one
 pub ccid_window_stays : KeepsWindow ccid_control
 ccid_window_stays = record {
   start_opens = λ _ _. le-add_right 1 3;

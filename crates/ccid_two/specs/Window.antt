@@ -28,13 +28,13 @@ halved state =
     let window = max 1 (state.window / 2) in
     record state { window = window; threshold = max 2 window; credit = 0; mark = state.last }
 
--- slow start: a packet for two that were acknowledged, and at most as many as the peer acknowledges at once
+-- slow start: the window grows by half of the packets acknowledged, at most by half of the Ack Ratio, or by one if that is more
 abbrev pub grown_in_slow_start : State → ℕ → ℕ → State
 grown_in_slow_start state acked ratio =
     let credit = state.credit + acked in
     record state { window = state.window + min (credit / 2) (max 1 (ratio / 2)); credit = credit % 2 }
 
--- congestion avoidance: a packet for a window that was acknowledged
+-- congestion avoidance: a packet more for each whole window acknowledged
 abbrev pub grown_in_avoidance : State → ℕ → State
 grown_in_avoidance state acked =
     let credit = state.credit + acked in

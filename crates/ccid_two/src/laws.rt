@@ -1,8 +1,9 @@
 //! What follows for CCID 2 from its rules.
 //!
-//! Two laws together say that one mark halves once: for every list of calls, what must be past the mark; and that right
-//! after a halving nothing is, if numbers were sent in order, as an end sends them. The window's bounds are also
-//! clauses of `window`, from the type's invariant: a law over all records would be false for records that no value has.
+//! Two laws together say that one mark halves once. One says, for every list of calls, what must be past the mark. The
+//! other says that right after a halving nothing is, if numbers were sent in order, as an end sends them. The window's
+//! bounds are also clauses of `window`, from the type's invariant: a law over all records would be false for records
+//! that no value has.
 ghost use Rattle.std.specs.Prelude.{◌≡◌, ℕ, ◌<◌, ◌≤◌, ◌⊎◌, ◌↔◌, List, IsTrue};
 ghost use Rattle.congestion_trait.specs.Flight.{States, is_congested};
 ghost use Rattle.congestion_trait.specs.Calls.{Call, run};
@@ -18,8 +19,8 @@ pub fn window_stays_in_range()
     ensures threshold_high { (calls : List Call) → (run ccid_control first_state calls).threshold ≤ 1024 }
 {}
 
-/// After any calls from the start a report lowers the window only where some entry past the recovery mark became Lost,
-/// or Reported as marked: a loss at or before the mark never halves again.
+/// After any calls from the start a report lowers the window only if some entry past the recovery mark became Lost, or
+/// Reported as marked: a loss at or before the mark never halves again.
 pub fn only_losses_past_the_mark_halve()
     ensures { (calls : List Call) (states : States) (ratio : ℕ)
         → let state = run ccid_control first_state calls in

@@ -45,8 +45,8 @@ impl Model for Ccid2 {
 }
 
 impl Ccid2 {
-    /// CCID 2 with nothing sent: a window of 4 packets and a threshold of 1,024. NoMemory where no block for the flight
-    /// list is to be had.
+    /// CCID 2 with nothing sent: a window of 4 packets and a threshold of 1,024. NoMemory if there is no block for the
+    /// flight list.
     pub fn new(alloc: Global) -> Result<Ccid2, NoMemory>
         ensures { IfOk result (λ ccid. ccid ≡ first_state) }
     {
