@@ -1,4 +1,4 @@
--- How a step comes to its effect: what it made of the end so far is `Ready`, and then it is silent or something goes out.
+-- How a step gets its effect: what it made of the end so far is `Ready`, and then it is silent or something goes out.
 --
 -- An effect takes the widths of the windows from the rows. So steps are told of an end that is written with these widths, `wide`; a
 -- proper end is equal to one.
@@ -300,7 +300,7 @@ calling-caused {calls = calls} why because =
       calls = why;
     }
 
--- all that there is to tell of a step of `receive`
+-- all that there is to say of a step of `receive`
 pub record Told (e : EndState) (bytes : List ℕ) (step : Step Outcome) : Type 0 where
   pub cause : HasCause e bytes step.answer
   pub effect : HasEffectOf e bytes step.answer step.after step.frame step.calls

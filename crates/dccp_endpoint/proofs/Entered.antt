@@ -158,7 +158,7 @@ module _ (o : EndState) (bytes : List ℕ) (proper : IsProper (wide o)) where
           looks = looks;
         }
 
-    -- of which the vectors tell that go out
+    -- which the vectors that go out report
     abbrev looked : Option ℕ
     looked = looked_up a.kind a.ack
 

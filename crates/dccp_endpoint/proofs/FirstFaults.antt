@@ -1,5 +1,5 @@
--- Reading stops at the first item that goes wrong, for its fault. What reading has come to stands for the items that were read: which
--- features they spoke for, and how many Changes there were.
+-- Reading stops at the first item that goes wrong, for its fault. The state of reading represents the items that were read: which features they
+-- spoke for, and how many Changes there were.
 use Rattle.std.proofs.Common.{◌≡◌, ◌≢◌, ◌==◌, ◌&&◌, ◌||◌, ◌<◌, ◌≤◌, not, refl, sym, ap, ◌∙◌, subst, arith, ℕ, ◌+◌, Bool, true, false, List, [], ◌∷◌, ◌++◌, length, Option, Result, Ok, Err, length-set, get_or-set_same, get_or-set_other, eqb-true}
 use Rattle.std.specs.Prelude.{if◌then◌else◌, filter, nat_lt, slice_index_or, slice_set}
 use Rattle.std.specs.List.{All, list_any}
@@ -182,7 +182,7 @@ module _ (count : Bool) (ack : Option ℕ) (h : ReadingState) (entry : Entry) (n
       by_settling h (place_in_used letter number) (confirmed h.rows letter number list ack).rows entry (settling_of x))
       is
 
--- What was read stands for the items: their Changes, up to 64, and which features they spoke for.
+-- What was read represents the items: their Changes, up to 64, and which features they spoke for.
 data Counts (n : ℕ) (changes : ℕ) : Type 0 where
   Exactly : changes ≡ n → changes ≤ 64 → Counts n changes
   Full : changes ≡ 64 → 64 ≤ n → Counts n changes

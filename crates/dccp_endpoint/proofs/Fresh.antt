@@ -34,7 +34,7 @@ abbrev heard : Config → List ℕ → Parts → ℕ → ℕ → Result ReadingS
 heard config bytes p service number read =
     heeded (started (server config) phases.Respond (asked config bytes p service number)) (asked config bytes p service number) read
 
--- by what they come to
+-- by their results
 answered-by : (config : Config) (bytes : List ℕ) (p : Parts) (service number : ℕ) (read : Result ReadingState Fault) (frame : Option Outgoing) (told : Option Outcome)
     → IsRequestAnswered (record config { role = roles.Server }) number (fault_if read) frame told → IsStrangerAnswered (heard config bytes p service number read) frame told
 answered-by config bytes p service number (Ok h) frame told so =

@@ -25,7 +25,7 @@ use Rattle.dccp_endpoint.specs.Saying.{body_if, confirm_for, has_key, is_key, on
 use Rattle.dccp_endpoint.specs.Speaking.{asking, is_confirmed, is_for, is_of_place, unconfirmed}
 use Rattle.dccp_endpoint.specs.Turns.{Key, offerings, sendings, turn_of}
 
--- no key stands twice among these
+-- no key is twice among these
 abbrev pub AreDistinct : List Key → Type 0
 AreDistinct keys = AllPairs (λ one other. one ≢ other) keys
 
@@ -39,7 +39,7 @@ place-itself : (place : Place) → is_of_place (is_of_place true place) place �
 place-itself Here = refl
 place-itself There = refl
 
--- a key is one of another row exactly where it is that
+-- a key is one of another row exactly if it is that
 pub key-so : (one other : Key) → is_key one other ≡ true → one ≡ other
 key-so one other is =
     let parts = and_parts (feature_number one.0 == feature_number other.0) (is_of_place (is_of_place true one.1) other.1) is in
@@ -69,7 +69,7 @@ turn-key k other = by (is_key k other) refl where
       let keys : other ≡ k = ap (λ (feature : Feature). (feature, other.1)) features ∙ ap (λ (place : Place). (k.0, place)) places in
       false≢true (sym is ∙ ap (is_key k) keys ∙ key-itself k))
 
--- a key is found among others exactly where it is one of them
+-- a key is found among others exactly if it is one of them
 pub has-contains : (k : Key) (keys : List Key) → has_key k keys ≡ true → Contains keys k
 has-contains k keys is = Contains-from_any key-so k keys is
 
@@ -78,13 +78,13 @@ pub contains-has : (k : Key) (keys : List Key) → Contains keys k → has_key k
 contains-has k keys contains =
     list_any_at (is_key k) keys contains.0 k contains.1 (ap (is_key k) contains.2 ∙ key-itself k)
 
--- the two tests agree where one is true exactly where the other is
+-- the two tests agree where one is true exactly if the other is
 agree-so : (one other : Bool) → (one ≡ true → other ≡ true) → (other ≡ true → one ≡ true) → one ≡ other
 agree-so true other there back = sym (there refl)
 agree-so false true there back = back refl
 agree-so false false there back = refl
 
--- of the keys of rows that ask, a row's is one exactly where its Change is due
+-- of the keys of rows that ask, a row's is one exactly if its Change is due
 pub has-due : (rows : List Row) (k : Key) → IsNegotiation rows → has_key k (due_keys rows) ≡ is_due (row_at rows k.0 k.1)
 has-due rows k sound =
     let asks = due_asks rows k.0 k.1 sound in
@@ -110,7 +110,7 @@ due-few rows sound =
     let same : length (due_keys rows) ≡ length (filter is_due rows) = length-map {B = Key} (filter is_due rows) (λ (row : Row). (row.feature, row.place)) in
     omega (arith, few, size, same)
 
--- a filter keeps a key exactly where it passes
+-- a filter keeps a key exactly if it passes
 pub has-filter : (test : Key → Bool) (k : Key) (keys : List Key) → has_key k (filter test keys) ≡ (has_key k keys && test k)
 has-filter test k [] = refl
 has-filter test k (first ∷ rest) = by (test first) refl (is_key k first) refl (has-filter test k rest) where
@@ -149,7 +149,7 @@ has-asking rows confirms k sound =
 pub asking-distinct : (rows : List Row) (confirms : List DueConfirm) → IsNegotiation rows → AreDistinct (asking rows confirms)
 asking-distinct rows confirms sound = unconfirmed-distinct confirms (due_keys rows) (due_distinct rows sound)
 
--- a row has a Confirm exactly where one of them is for it
+-- a row has a Confirm exactly if one of them is for it
 pub confirm-none : (confirms : List DueConfirm) (k : Key) → is_confirmed confirms k ≡ false → confirm_for k confirms ≡ None
 confirm-none [] k is = refl
 confirm-none (due ∷ rest) k is =

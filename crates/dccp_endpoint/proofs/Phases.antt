@@ -17,7 +17,7 @@ use Rattle.dccp_endpoint.specs.Early.{is_part_open}
 use Rattle.dccp_endpoint.specs.Faults.{counts}
 use Rattle.dccp_endpoint.specs.End.{first_phase, is_begun, is_connected, is_live, is_open, is_phase_of, phase_entered}
 
--- where each role begins: in a phase of its own, in which nothing was received or sent
+-- where each role begins: in its own phase, in which nothing was received or sent
 pub record Begins (r : Role) : Type 0 where
   pub in_role : is_phase_of (first_phase r) r ≡ true
   pub not_live : is_live (first_phase r) ≡ false

@@ -277,7 +277,7 @@ length-confirms confirms due =
     let one = length-confirm due in
     omega (arith, all, parts, one)
 
--- a Change, by what its row answers, where there is one
+-- a Change, by what its row answers, if there is one
 answered-bounded : (h : ReadingState) (place : ℕ) (rows : List Row) (entry : Entry) (left : Bool) (number : ℕ) (answer : RowAnswer) (its : ℕ) → its ≤ 1
     → rows_used h.used every_place + its ≤ rows_used (slice_set h.used place true) every_place → IsBounded h → nat_lt h.changes 64 ≡ true → IsNegotiation rows
     → IsShort (9 * its) answer → IsBoundedReading (by_answered h place rows entry (answered left number answer))
@@ -475,7 +475,7 @@ confirms-small (due ∷ rest) short =
     All-cons IsSmall (confirm_item due) (confirm_items rest) (confirm-small due (All-head (λ (d : DueConfirm). length d.body ≤ 9) due rest short))
     (confirms-small rest (All-tail (λ (d : DueConfirm). length d.body ≤ 9) due rest short))
 
--- options of so many bytes can be sent on every type but Data
+-- options of this many bytes can be sent on every type but Data
 padded-room : (area : List ℕ) → length area ≤ 984 → length (padded area) ≤ 984
 padded-room area fits =
     let long = length-append area (replicate ((4 - length area % 4) % 4) 0) in

@@ -32,7 +32,7 @@ unexpected-no-ack role.Server phase.Respond types.Ack later is = cc is
 unexpected-no-ack _ _ types.DataAck later is = cc is
 unexpected-no-ack _ _ _ later is = cc
 
--- a Response for another service comes to REQUEST
+-- a Response for another service reaches REQUEST
 pub other-service-asked : (e : _) (ph : Phase) (t : PacketType) (service : Option ℕ) → is_other_service e ph t service ≡ true → ph ≡ phase.Request
 other-service-asked e phase.Request t service is = refl
 other-service-asked e _ t service is = absurd (false≢true is)

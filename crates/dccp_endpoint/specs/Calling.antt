@@ -79,7 +79,7 @@ closing_packet role.Server ack = kind.CloseReq ack
 abbrev pub closes_now : EndState → Role → Called CloseFault
 closes_now e who = sends (in_phase e (closing_phase who)) (alone (closing_packet who e.marks.gsr)) (Ok tt)
 
--- closing is open to PARTOPEN and OPEN alone (own)
+-- `close` is accepted only in PARTOPEN and OPEN (own)
 abbrev pub closes_in : EndState → Phase → Called CloseFault
 closes_in e phase = if is_connected phase then closes_now e e.config.role else idle e (Err NotOpen)
 
@@ -87,7 +87,7 @@ closes_in e phase = if is_connected phase then closes_now e e.config.role else i
 unfoldable pub closes : EndState → Called CloseFault
 closes e = closes_in e e.phase
 
--- abort: a Reset 2, Aborted, but nothing to a peer that was not heard
+-- abort: a Reset 2, Aborted, but nothing if nothing has come from the peer
 abbrev pub aborts_now : EndState → Called AbortFault
 aborts_now e = sends (in_phase e phases.Closed) (reset_of e.marks.gsr (without_detail (number_of_code codes.Aborted))) (Ok tt)
 
@@ -138,11 +138,11 @@ abbrev pub prefers_in : EndState → Bool → Key → List ℕ → Called Prefer
 prefers_in e true k values = prefers_wish e k (wish_of k.0 k.1 values)
 prefers_in e false k values = idle e (Err prefer.NotOpen)
 
--- a new preference is taken in PARTOPEN and OPEN alone
+-- a new preference is accepted only in PARTOPEN and OPEN
 unfoldable pub prefers : EndState → Key → List ℕ → Called PreferFault
 prefers e k values = prefers_in e (is_connected e.phase) k values
 
--- send: data go out in OPEN. A packet with them may be so long (own).
+-- send: data go out in OPEN. The most bytes of data of a packet (own):
 abbrev pub most_data : ℕ
 most_data = 1024
 
@@ -150,7 +150,7 @@ most_data = 1024
 abbrev pub lacks_vectors : List Row → Bool
 lacks_vectors rows = value_in rows Ccid Here == 2 && not (value_in rows SendAckVector There == 1)
 
--- why data are not sent, if it is so, by whether they may go in this phase; each reason before the next
+-- why data are not sent, or none if they are, by whether they may go in this phase; each reason before the next
 abbrev pub fault_where : Bool → List Row → List ℕ → Bool → Option SendFault
 fault_where fits_phase rows payload may_send =
     if not fits_phase then Some send.NotOpen
@@ -159,7 +159,7 @@ fault_where fits_phase rows payload may_send =
     else if not may_send then Some send.WindowFull
     else None
 
--- of `send` the phase is OPEN
+-- for `send` the phase has to be OPEN
 abbrev pub send_fault : EndState → List ℕ → Bool → Option SendFault
 send_fault e payload may_send = fault_where (is_open e.phase) e.rows payload may_send
 
@@ -174,8 +174,7 @@ abbrev pub sends_unless : EndState → List ℕ → Bool → Option SendFault �
 sends_unless e payload acknowledges (Some fault) = idle e (Err fault)
 sends_unless e payload acknowledges None = with_calls (Sends (next_number e) ∷ []) (sends_data e payload acknowledges)
 
--- A DataAck goes out where an acknowledgement is owed. Whether the congestion control lets a further packet be sent,
--- comes with the call.
+-- A DataAck goes out if an acknowledgement is owed. The call has as an argument whether the congestion control permits a further packet.
 unfoldable pub sends_payload : EndState → List ℕ → Bool → Called SendFault
 sends_payload e payload may_send = sends_unless e payload e.owed (send_fault e payload may_send)
 
@@ -229,7 +228,7 @@ abbrev pub has_keys : List Key → Bool
 has_keys [] = false
 has_keys (k ∷ keys) = true
 
--- What else it needs: the timer negotiate, that a row asks, and the timer rto, that something is in flight.
+-- What else a timer needs: negotiate needs a row that asks, and rto something in flight.
 abbrev pub has_cause : Timer → EndState → Bool → Bool
 has_cause timers.Request e in_flight = true
 has_cause timers.Ack e in_flight = true
@@ -238,7 +237,7 @@ has_cause timers.Rto e in_flight = in_flight
 has_cause timers.Close e in_flight = true
 has_cause timers.TimeWait e in_flight = true
 
--- a timer applies where its phase and its cause both hold
+-- a timer applies if its phase and its cause both hold
 abbrev pub applies : Timer → EndState → Bool → Bool
 applies timer e in_flight = applies_in timer e.phase && has_cause timer e in_flight
 
@@ -264,8 +263,8 @@ closing_again phases.Open ack = kind.Close ack
 closing_again phases.Closing ack = kind.Close ack
 closing_again phases.TimeWait ack = kind.Close ack
 
--- What a timer does where its phase holds: the Request, Close or CloseReq goes out again, an Ack goes out, alone or
--- with the Changes, the congestion control hears of it, and TIMEWAIT ends.
+-- What a timer does if its phase holds: the Request, Close or CloseReq goes out again, an Ack goes out, alone or with the Changes, the
+-- congestion control hears of it, and TIMEWAIT ends.
 abbrev pub fires_now : EndState → Timer → Bool → Phase → Step Bool
 fires_now e timers.Request in_flight phase = requests e true
 fires_now e timers.Ack in_flight phase = sends_ack e (alone (kind.Ack (Long e.marks.gsr))) true
@@ -278,6 +277,6 @@ fires_now e timers.TimeWait in_flight phase = idle (in_phase e phases.Closed) tr
 abbrev pub fires_in : EndState → Timer → Bool → Phase → Step Bool
 fires_in e timer in_flight phase = if applies_in timer phase then fires_now e timer in_flight phase else idle e false
 
--- Whether something is in flight comes with the timer.
+-- The timer has as an argument whether something is in flight.
 unfoldable pub fires : EndState → Timer → Bool → Step Bool
 fires e timer in_flight = fires_in e timer in_flight e.phase

@@ -1,4 +1,4 @@
--- Why a step has its effect: a cause for each part, of which a fact takes the one that it needs (own).
+-- Why a step has its effect: a cause for each part, so that a fact can use just the one that it needs (own).
 use Rattle.std.specs.Prelude.{◌≡◌, ◌≢◌, ◌⊎◌, ◌==◌, ◌||◌, ◌&&◌, ℕ, Bool, true, false, List, [], ◌∷◌, ◌++◌, Option, Some, None, Ok}
 use Rattle.std.specs.List.{All}
 use Rattle.congestion_trait.specs.Calls.{Call}
@@ -66,7 +66,7 @@ entrance_of e a = gate e.phase a.kind
 abbrev pub verdict_of : EndState → Incoming → Verdict
 verdict_of e a = verdict e.marks a.kind a.number a.ack
 
--- Step 7 refuses no Ack and no DataAck. Who answered with a Reset that closes is CLOSED.
+-- Step 7 refuses no Ack and no DataAck. An end that answered with a Reset that closes is CLOSED.
 abbrev pub FitsPassing : Phase → PacketType → PacketFate → Type 0
 FitsPassing phase type Refused = is_acking type ≡ false
 FitsPassing phase type Shut = phase ≡ phases.Closed
@@ -114,8 +114,8 @@ is_waiting phases.CloseReq = false
 is_waiting phases.Closing = false
 is_waiting phases.TimeWait = false
 
--- Where the phase may go. An end waits for a first packet as long as it heard nothing, or from `open` on; and it leaves
--- CLOSED by `open` alone.
+-- Where the phase may go. An end waits for a first packet only as long as it heard nothing, or from `open` on; and it leaves CLOSED only by
+-- `open`.
 pub record IsMoving (e : EndState) (hearing : HeardNumber) (opens : Bool) (sending : Transmission) (phase : Phase) : Type 0 where
   pub its_role : is_phase_of phase e.config.role ≡ true
   pub live : is_live phase ≡ true → (is_live e.phase ≡ true) ⊎ IsFirst hearing
@@ -170,7 +170,7 @@ HasFrame (WithoutConnection number packet) = IsSendable (alone packet)
 abbrev pub counts_in : EndState → Incoming → Bool
 counts_in e a = a.newest && counts (phase_entered e.phase) a.kind
 
--- The packet's options are read whole, and this is what they come to.
+-- The packet's options are read whole, and this is their result.
 abbrev pub AreOptionsRead : EndState → Incoming → ReadingState → Type 0
 AreOptionsRead e a h = heeds (counts_in e a) a.ack (unheeded e.rows) a.options ≡ Ok h
 
@@ -198,7 +198,7 @@ pub data AreHeard (e : EndState) (given : Input) (hearing : HeardNumber) : List 
 pub data Occasion (e : EndState) (given : Input) (heard : List Turn) (confirms : List DueConfirm) : List Turn → List Turn → List Key → Type 0 where
   -- nothing
   Plain : Occasion e given heard confirms [] [] []
-  -- A Request or a Response: all offers come up, and the Changes go out of the rows that ask then and have no Confirm in the packet.
+  -- A Request or a Response: all offers are made, and the Changes of the rows that then ask and have no Confirm in the packet go out.
   Offering : Occasion e given heard confirms (offerings (is_confirmed confirms) every_place) []
       (asking (turned e.rows (heard ++ offerings (is_confirmed confirms) every_place)) confirms)
   -- the timer negotiate: the Changes of all rows that ask go out again
@@ -241,8 +241,7 @@ asks_for_request (input.Fires timers.Rto in_flight) = false
 asks_for_request (input.Fires timers.Close in_flight) = false
 asks_for_request (input.Fires timers.TimeWait in_flight) = false
 
--- With what offers come up: the Request, as the client opens and again, and the Response to a packet that was taken
--- (own).
+-- When offers are made: with the Request, the first one and each repeated one, and with the Response to a packet that was taken (own).
 pub data IsOffering (given : Input) (hearing : HeardNumber) : Transmission → Type 0 where
   InRequest : (packet : Draft) → asks_for_request given ≡ true → packet_type packet.kind ≡ types.Request → IsOffering given hearing (Next packet)
   InResponse : (packet : Draft) (first : Bool) (number : ℕ) → hearing ≡ Heard first number Taken → packet_type packet.kind ≡ types.Response
@@ -272,8 +271,8 @@ HasData Silent = ⊥
 HasData (Next packet) = carries_data (packet_type packet.kind) ≡ true
 HasData (WithoutConnection number packet) = ⊥
 
--- Why the congestion control is called: for the report of a packet that was taken, and where the value of CCID changes;
--- for data that go out; and for its timer, while something is in flight.
+-- Why the congestion control is called: for the report of a packet that was taken, and if the value of CCID changes; for data that go out; and
+-- for its timer, while something is in flight.
 pub data IsCalling (e : EndState) (given : Input) (hearing : HeardNumber) (sending : Transmission) : List Call → Type 0 where
   CallsNothing : IsCalling e given hearing sending []
   CallsFor : (a : Incoming) (h : ReadingState) → WasTaken e given hearing a → AreOptionsRead e a h → IsCalling e given hearing sending (calls_for a e.rows h.rows)

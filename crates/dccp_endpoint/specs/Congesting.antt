@@ -12,7 +12,7 @@ use Rattle.feature_machine.specs.declared.row.Row.{Row}
 use Rattle.dccp_endpoint.specs.End.{value_in}
 use Rattle.dccp_endpoint.specs.Incoming.{Incoming}
 
--- The Ack Vectors of a packet with an acknowledgement number are a report, except for a Sync, whose number may be any.
+-- The Ack Vectors of a packet with an acknowledgement number are a report, except on a Sync, which may acknowledge any number.
 abbrev pub reported_from : PacketType → Option ℕ → Option ℕ
 reported_from types.Sync ack = None
 reported_from _ ack = ack
@@ -27,7 +27,7 @@ abbrev pub report_calls : Option ℕ → List (Result Entry OptFault) → ℕ �
 report_calls None options ratio = []
 report_calls (Some ack) options ratio = handing (report_of ack options) ratio
 
--- A congestion control is started where the value of CCID here changed, by its value before and after the packet.
+-- A congestion control is started if the value of CCID here changed, by its value before and after the packet.
 abbrev pub start_calls : ℕ → ℕ → List Call
 start_calls old new = if old == new then [] else Starts new ∷ []
 

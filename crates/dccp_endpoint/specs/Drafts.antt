@@ -69,7 +69,7 @@ pub record Fits (config : Config) : Type 0 where
   pub peer_port : config.peer_port < 2 ^ 16
   pub service : config.service < 2 ^ 32
   pub iss : config.iss < 2 ^ 48
-  -- what is wished and offered is so for each feature at each place
+  -- there is a wish and an offer for each feature at each place
   pub lists : IsLists config.lists
 
 -- A draft that has a frame: numbers in the long form, and an option area and data that fit. A Data packet has no
@@ -82,8 +82,7 @@ pub record IsSendable (draft : Draft) : Type 0 where
   pub area : fixed_length true (packet_type draft.kind) + length (padded (written draft.options)) ≤ 1020
   pub data_fits : length draft.payload ≤ 1024
 
--- The bytes are read as a packet with this header except for the checksum, and with the draft's options and data; the
--- checksum fits.
+-- The bytes are read as a packet with this header except for the checksum, and with the draft's options and data; the checksum is right.
 pub record ReadsAs (header : Header) (pseudo : Pseudo) (draft : Draft) (bytes : List ℕ) : Type 0 where
   pub sum : ℕ
   pub is_packet : decoded bytes

@@ -1,4 +1,4 @@
--- Data of a client that speaks first (RFC 4340, section 8.1.5, lets it; the call is own).
+-- Data of a client that speaks first (RFC 4340, section 8.1.5, permits it; the call is own).
 use Rattle.std.specs.Prelude.{ℕ, Bool, true, false, List, Option}
 use Rattle.dccp_states.specs.declared.phase.Phase.{Phase}
 use Rattle.dccp_states.specs.declared.phase.Phase.TheVariants as phases
@@ -18,11 +18,11 @@ is_part_open phases.CloseReq = false
 is_part_open phases.Closing = false
 is_part_open phases.TimeWait = false
 
--- why they are not sent, if it is so: for the reasons of `send`, with this phase
+-- why they are not sent, or none if they are: the reasons of `send`, with this phase
 abbrev pub early_fault : EndState → List ℕ → Bool → Option SendFault
 early_fault e payload may_send = fault_where (is_part_open e.phase) e.rows payload may_send
 
--- send_early: all that goes out in PARTOPEN acknowledges, so these data go out on a DataAck, whatever is owed.
+-- send_early: all that goes out in PARTOPEN acknowledges, so these data go out on a DataAck, even if no acknowledgement is owed.
 unfoldable pub sends_early : EndState → List ℕ → Bool → Called SendFault
 sends_early e payload may_send = sends_unless e payload true (early_fault e payload may_send)
 

@@ -43,7 +43,7 @@ pub data Transmission : Type 0 where
 
 -- all that a step changes, sends and owes
 pub record Effect : Type 0 where
-  -- sets ISR, raises GSR, and is marked where it was taken
+  -- sets ISR, raises GSR, and is marked if it was taken
   pub hearing : HeardNumber
   -- raises GAR
   pub acknowledged : Option ℕ
@@ -63,8 +63,8 @@ pub record Effect : Type 0 where
   pub owed : Bool
   pub unacked : ℕ
 
--- An acknowledgement is owed once a packet was taken. What is owed after a step is computed from what was heard and
--- what goes out, so a Close that is marked and answered with a Reset is no case of its own.
+-- An acknowledgement is owed once a packet was taken. What is owed after a step is computed from what was heard and what goes out, so a Close
+-- that is marked and answered with a Reset is no separate case.
 abbrev pub owed_as : PacketFate → Bool → Bool
 owed_as Taken old = true
 owed_as Refused old = old
@@ -97,13 +97,12 @@ effect_of e hearing acknowledged opening phase opens sending =
 abbrev pub effect_of_sending : EndState → Transmission → Effect
 effect_of_sending e sending = effect_of e Unheard None false e.phase false sending
 
--- What each part makes of the old value. A first number takes the place of the old one; any other leaves ISR and raises
--- GSR.
+-- The new value of each part. A first number replaces the old one; any other leaves ISR and raises GSR.
 abbrev pub isr_or : Bool → ℕ → ℕ → ℕ
 isr_or true number old = number
 isr_or false number old = old
 
--- GSR begins at the first number, and later rises to the number heard where this is after it in the circle
+-- GSR begins at the first number, and later rises to the number heard if this is after it on the circle
 abbrev pub greatest_or : Bool → ℕ → ℕ → ℕ
 greatest_or true number old = number
 greatest_or false number old = later_of old number
@@ -118,7 +117,7 @@ abbrev pub greatest_by : ℕ → HeardNumber → ℕ
 greatest_by old Unheard = old
 greatest_by old (Heard first number how) = greatest_or first number old
 
--- OSR begins at the first number, and moves to the number heard where the end becomes OPEN
+-- OSR begins at the first number, and moves to the number heard if the end becomes OPEN
 abbrev pub osr_by : ℕ → HeardNumber → Bool → ℕ
 osr_by old Unheard opening = old
 osr_by old (Heard first number how) opening = osr_after (isr_or first number old) number opening
@@ -186,7 +185,7 @@ abbrev pub last_by : ℕ → HeardNumber → ℕ
 last_by old Unheard = old
 last_by old (Heard first number how) = last_as how old number
 
--- What was marked and looked up: the Ack Vector of a packet that goes out tells of this.
+-- What was marked and looked up: the Ack Vector of a packet that goes out reports this.
 abbrev pub told_by : ReceivedState → Effect → ReceivedState
 told_by old f = looked_by (heard_by old f.hearing) f.looked_up
 

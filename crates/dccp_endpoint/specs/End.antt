@@ -57,7 +57,7 @@ with_widths m rows = record m { own_w = value_in rows SequenceWindow Here; peer_
 abbrev pub with_rows : EndState → List Row → EndState
 with_rows e rows = record e { marks = with_widths e.marks rows; rows = rows }
 
--- Each phase but CLOSED, OPEN, CLOSING and TIMEWAIT belongs to one role (section 4.3).
+-- Each phase except CLOSED, OPEN, CLOSING and TIMEWAIT belongs to one role (section 4.3).
 abbrev pub is_phase_of : Phase → Role → Bool
 is_phase_of phase.Closed _ = true
 is_phase_of phase.Listen Client = false
@@ -102,7 +102,7 @@ is_begun phase.CloseReq = true
 is_begun phase.Closing = true
 is_begun phase.TimeWait = true
 
--- those in which the handshake has got through to this end
+-- PARTOPEN and OPEN: this end has done its part of the handshake
 abbrev pub is_connected : Phase → Bool
 is_connected phase.Closed = false
 is_connected phase.Listen = false
@@ -138,10 +138,10 @@ phase_entered phase.CloseReq = phase.CloseReq
 phase_entered phase.Closing = phase.Closing
 phase_entered phase.TimeWait = phase.TimeWait
 
--- What holds of every end: its phase is one of its role's, and so are its rows, which are sound; and its windows are as
--- wide as the rows say and as they may be. Without the first a Request that opens could be unexpected, and `Synced`
--- would have to tell of packets that also set the first number received. That the set of marked numbers is sound is no
--- part of it: the type of `Received` keeps that, and crates above have it from `floor`.
+-- What holds of every end: its phase is one of its role's, and so are its rows, which are sound; and its windows are as wide as the rows say and
+-- as they may be. Without the first a Request that opens could be unexpected, and `Synced` would have to cover packets that also set the first
+-- number received. That the set of marked numbers is sound is no part of it: the type of `Received` keeps that, and crates above have it from
+-- `floor`.
 pub record IsProper (e : EndState) : Type 0 where
   pub phase_fits : is_phase_of e.phase e.config.role ≡ true
   pub rows : AreRowsOf (end_of e.config.role) e.rows

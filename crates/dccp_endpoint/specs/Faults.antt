@@ -1,4 +1,4 @@
--- What the options of a packet may be faulted for (RFC 4340, sections 5.8 and 8.5, step 8).
+-- What can be wrong with the options of a packet (RFC 4340, sections 5.8 and 8.5, step 8).
 use Rattle.std.specs.Prelude.{Bool, true, false, ◌&&◌}
 use Rattle.dccp_options.specs.Kinds as options
 use Rattle.dccp_packets.specs.ResetCodes.{number_of_code}

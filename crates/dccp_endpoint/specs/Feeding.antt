@@ -18,7 +18,7 @@ after_frame control e bytes = (receiving control e bytes).after
 abbrev pub fed : {C : Type 0} → Control C → End C → List (List ℕ) → End C
 fed control e frames = fold (after_frame control) e frames
 
--- a frame counts where it was taken
+-- a frame counts as 1 if it was taken
 abbrev pub count_of_outcome : Outcome → ℕ
 count_of_outcome (Took delivered) = 1
 count_of_outcome (Dropped why) = 0

@@ -1,9 +1,8 @@
 -- At which option of a packet the reading stops, and for which fault (RFC 4340, sections 5.8.2 and 8.5, step 8; which
 -- options count is own).
 --
--- It is above the fold of `specs/Heeding`: the fold is asked what the options before that one left in the rows, and whether
--- they were read; what counts is said of the list of them. That feature numbers are below 256, as bytes are, is a
--- premise.
+-- This is said above the fold of `specs/Heeding`. From the fold it takes the rows that the options before that one left, and whether these were
+-- read. What counts is said about the list of these options. A premise is that feature numbers are below 256, as bytes are.
 use Rattle.std.specs.Prelude.{◌≡◌, ◌↔◌, ◌<◌, ◌&&◌, not, ℕ, Bool, true, false, List, [], ◌∷◌, ◌++◌, length, Option, Result, Ok, Err}
 use Rattle.std.specs.List.{All, list_any}
 use Rattle.dccp_options.specs.Grammar.{Entry}
@@ -33,10 +32,9 @@ speaks_for left number (Err fault) = false
 abbrev pub IsFirstFor : Bool → ℕ → List (Result Entry OptFault) → Type 0
 IsFirstFor left number before = list_any (speaks_for left number) before ≡ false
 
--- What is wrong with an item, after these before it, which left these rows: Mandatory stands where it may not; an
--- option is not understood after Mandatory; a Change that counts is one that its row cannot accept; or a Confirm is. A
--- Change counts, and a Confirm does, as the first for its feature by its letter; and a Change only after fewer than 64
--- others.
+-- What is wrong with an item, after these before it, which left these rows: Mandatory is where it may not be; an option is not understood after
+-- Mandatory; a Change that counts is one that its row cannot accept; or a Confirm is. A Change counts, and a Confirm does, as the first for its
+-- feature by its letter; and a Change only after fewer than 64 others.
 pub data GoesWrong (count : Bool) (ack : Option ℕ) (before : List (Result Entry OptFault)) (rows : List Row) : Result Entry OptFault → Fault → Type 0 where
   MandatoryMisplaced : (fault : OptFault) → GoesWrong count ack before rows (Err fault) mandatory_fault
   NotUnderstood : (entry : Entry) → is_understood entry.kind (length entry.body) ≡ false → entry.mandatory ≡ true
@@ -69,13 +67,13 @@ abbrev pub ItemFits : Result Entry OptFault → Type 0
 ItemFits (Ok entry) = BeginsWithByte entry.body
 ItemFits (Err fault) = Unit {0}
 
--- Reading answers a fault exactly where an item goes wrong for it that is the first to.
+-- Reading answers a fault exactly if it is the fault of the first item that goes wrong.
 abbrev pub ReadingStopsAtTheFirstFault : Type 0
 ReadingStopsAtTheFirstFault =
     (count : Bool) (ack : Option ℕ) (rows : List Row) (options : List (Result Entry OptFault)) (fault : Fault) → All ItemFits options
     → (heeds count ack (unheeded rows) options ≡ Err fault) ↔ HasFirstFault count ack rows options fault
 
--- And it goes through exactly where none does.
+-- Reading goes through to the end exactly if no item goes wrong.
 abbrev pub ReadingGoesThrough : Type 0
 ReadingGoesThrough =
     (count : Bool) (ack : Option ℕ) (rows : List Row) (options : List (Result Entry OptFault)) → All ItemFits options

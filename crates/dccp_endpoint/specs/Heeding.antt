@@ -1,8 +1,8 @@
 -- What the options of a packet say to the rows: step 8 of RFC 4340, section 8.5, by section 6 (which options count is
 -- own).
 --
--- That is a fold over their list (`heeds`). Beside it stands what each row hears (`heard_turns`), so that an effect
--- tells of rows without the packet's other options.
+-- `heeds` is a fold over the list of options. `heard_turns` is what each row hears, so that an effect can speak of rows without the packet's
+-- other options.
 use Rattle.std.specs.Prelude.{◌==◌, ◌&&◌, ◌||◌, not, nat_le, nat_lt, if◌then◌else◌, ℕ, ◌+◌, ◌*◌, Bool, true, false, List, [], ◌∷◌, ◌++◌, length, replicate, slice_index, slice_index_or, slice_set, Option, Some, None, Result, Ok, Err}
 use Rattle.dccp_options.specs.Grammar.{Entry}
 use Rattle.dccp_options.specs.Kinds as options
@@ -35,8 +35,8 @@ pub record DueConfirm : Type 0 where
 abbrev pub due_of : ConfirmOut → DueConfirm
 due_of out = record { left = out.left; number = out.feature; body = out.body.items }
 
--- What reading has come to: the rows; which features were spoken of by L and by R; how many Changes were met, up to 64;
--- and the Confirms that are due, in order.
+-- The result so far of reading: the rows; which features had an option by L and by R; how many Changes were met, up to 64; and the Confirms that
+-- are due, in order.
 pub record ReadingState : Type 0 where
   pub rows : List Row
   pub used : List Bool
@@ -64,7 +64,7 @@ is_change kind = kind == options.change_l || kind == options.change_r
 abbrev pub is_of_negotiation : ℕ → Bool
 is_of_negotiation kind = nat_le options.change_l kind && nat_le kind options.confirm_r
 
--- A Reset Code with the option's type and the first two bytes of its data, zero where there are none (section 5.6).
+-- A Reset Code with the option's type and the first two bytes of its data, zero if there are none (section 5.6).
 abbrev pub fault_of : ResetCode → Entry → Fault
 fault_of code entry = record { code = number_of_code code; first = entry.kind; second = slice_index entry.body 0; third = slice_index entry.body 1 }
 
@@ -73,7 +73,7 @@ abbrev pub counted : ℕ → Bool → ℕ
 counted changes true = if nat_lt changes 64 then changes + 1 else changes
 counted changes false = changes
 
--- The option was met: no other one speaks of its feature by its letter.
+-- The option was met: from now on no other one for its feature by its letter counts.
 abbrev pub met : ReadingState → ℕ → Bool → List Row → List DueConfirm → ReadingState
 met h place change rows confirms =
     record { rows = rows; used = slice_set h.used place true; changes = counted h.changes change; confirms = confirms }
@@ -121,17 +121,17 @@ abbrev pub heeds_body : Option ℕ → ReadingState → Entry → List ℕ → R
 heeds_body ack h entry [] = Ok h
 heeds_body ack h entry (number ∷ body) = heeds_feature ack h entry (is_change entry.kind) (is_left entry.kind) number body
 
--- an option that is not understood is a fault after Mandatory alone (section 5.8.2)
+-- an option that is not understood is a fault only after Mandatory (section 5.8.2)
 abbrev pub misunderstood : ReadingState → Entry → Result ReadingState Fault
 misunderstood h entry = if entry.mandatory then Err (fault_of codes.MandatoryError entry) else Ok h
 
--- what reading has come to, or the fault, as a method leaves and answers it
+-- the result so far of reading, or the fault, as a method leaves and returns it
 abbrev pub heeding_or : ReadingState → Result (Unit {0}) Fault → Result ReadingState Fault
 heeding_or h (Ok _) = Ok h
 heeding_or h (Err fault) = Err fault
 
--- One of the negotiation is heeded where such options count, and elsewhere passed over with its Mandatory. All others
--- say nothing to the rows.
+-- An option of the negotiation is heeded where such options count, and elsewhere passed over with its Mandatory. All others say nothing to the
+-- rows.
 abbrev pub heeds_entry : Bool → Option ℕ → ReadingState → Entry → Result ReadingState Fault
 heeds_entry count ack h entry =
     if not (is_understood entry.kind (length entry.body)) then misunderstood h entry
@@ -148,23 +148,23 @@ abbrev pub heeds_then : Result ReadingState Fault → (ReadingState → Result R
 heeds_then (Ok h) rest = rest h
 heeds_then (Err fault) rest = Err fault
 
--- The options in order, up to the first fault; `count` tells whether those of the negotiation count, and `ack` is the
--- packet's acknowledgement number.
+-- The options in order, up to the first fault; `count` says whether those of the negotiation count, and `ack` is the packet's acknowledgement
+-- number.
 abbrev pub heeds : Bool → Option ℕ → ReadingState → List (Result Entry OptFault) → Result ReadingState Fault
 heeds count ack h [] = Ok h
 heeds count ack h (item ∷ rest) = heeds_then (heeds_item count ack h item) (λ next. heeds count ack next rest)
 
--- The turns of the rows beside it. Which options count depends on no row.
+-- The turns of the rows. Which options count does not depend on the rows.
 abbrev pub event_of : Option ℕ → Entry → Bool → List ℕ → RowEvent
 event_of ack entry true body = Change body entry.mandatory
 event_of ack entry false body = Confirm body ack
 
--- the turn of the feature with this number, where there is one
+-- the turn of the feature with this number, if there is one
 abbrev pub turn_known : Option Feature → Bool → RowEvent → List Turn
 turn_known None left event = []
 turn_known (Some feature) left event = turn_of (feature, place_of left) event ∷ []
 
--- a Change that is one too many turns no row
+-- a Change after the first 64 turns no row
 abbrev pub is_too_many : ReadingState → Bool → Bool
 is_too_many h change = change && not (nat_lt h.changes 64)
 
@@ -181,7 +181,7 @@ abbrev pub body_turns : Option ℕ → ReadingState → Entry → List ℕ → L
 body_turns ack h entry [] = []
 body_turns ack h entry (number ∷ body) = feature_turns ack h entry (is_change entry.kind) (is_left entry.kind) number body
 
--- only an understood option of the negotiation turns a row, and only where such options count
+-- only an understood option of the negotiation turns a row, and only if such options count
 abbrev pub entry_turns : Bool → Option ℕ → ReadingState → Entry → List Turn
 entry_turns count ack h entry =
     if not (is_understood entry.kind (length entry.body)) then []

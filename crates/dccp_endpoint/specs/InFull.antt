@@ -1,4 +1,4 @@
--- What an end reads of a frame, in which form its numbers ever are (RFC 4340, section 7.6).
+-- What an end reads from a frame, in whichever form its numbers are (RFC 4340, section 7.6).
 use Rattle.std.specs.Prelude.{◌≡◌, ℕ, ◌^◌, ◌<◌, Bool, true, false, Option}
 use Rattle.seq_circle.specs.Circle.{is_ack_far, is_far, residue}
 use Rattle.dccp_packets.specs.Forms.{may_be_short}
@@ -27,8 +27,7 @@ pub record IsInFull (number : ℕ) (draft : Draft) (a : Incoming) : Type 0 where
   pub type_is : a.kind ≡ packet_type draft.kind
   pub ack_is : a.ack ≡ ack_of (kind_in_widths draft.kind)
 
--- The frame of a draft that comes, also of another end's, is read as it was numbered, where its numbers are near if
--- they are short.
+-- The frame of a draft, even of another end's, is read with the numbers that it was given, if these are long or near.
 abbrev pub FramesAreReadInFull : Type 0
 FramesAreReadInFull =
     (e : EndState) (given : Input) (a : Incoming) (came : Came e given a) (config : Config) (short : Bool) (number : ℕ) (draft : Draft)

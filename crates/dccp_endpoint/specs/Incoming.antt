@@ -1,4 +1,4 @@
--- A packet that arrived, read once: what its type says of it, its numbers, its options and where its data lie.
+-- A packet that arrived, read once: its type with its fields, its numbers, its options, and where its data lie.
 use Rattle.std.specs.Prelude.{ℕ, ◌-◌, Bool, not, ◌||◌, List, length, Option, Result}
 use Rattle.seq_circle.specs.Circle.{is_before}
 use Rattle.dccp_options.specs.Grammar.{Entry, options_of}
@@ -10,12 +10,12 @@ use Rattle.dccp_packets.specs.declared.header.PacketType.{PacketType}
 use Rattle.dccp_packets.specs.declared.reading.Packet.{Packet}
 use Rattle.dccp_endpoint.specs.End.{EndState, is_live}
 
--- a packet without where its parts lie in memory
+-- the parts of a packet, without their places in memory
 abbrev pub parts_of_packet : Packet → Parts
 parts_of_packet p = record { header = p.header; options = p.options.now; payload = p.payload.now }
 
--- A packet of the connection, with its numbers in full. Its data lie in the input from the first place up to the
--- second. It is newest where no number was received before it, or none as great (own).
+-- A packet of the connection, with its numbers in full. Its data lie in the input from the first place up to the second. It is newest if no
+-- number was received before it, or none as great (own).
 pub record Incoming : Type 0 where
   pub kind : PacketType
   pub number : ℕ
@@ -30,7 +30,7 @@ pub record Incoming : Type 0 where
 abbrev pub is_newest : EndState → ℕ → Bool
 is_newest e number = not (is_live e.phase) || is_before e.marks.gsr number
 
--- What is read of a packet with these numbers in full, in an input of so many bytes.
+-- What is read of a packet with these numbers in full, in an input of this many bytes.
 abbrev pub incoming_of : Parts → ℕ → Option ℕ → ℕ → Bool → Incoming
 incoming_of p number ack size newest =
     record {
@@ -44,7 +44,7 @@ incoming_of p number ack size newest =
       newest = newest;
     }
 
--- The packet that was read from these bytes. Its acknowledgement number, where it is short, is the one near GSS, and
--- the end tells by its GSR whether it is newest.
+-- The packet that was read from these bytes. Its acknowledgement number, if it is short, is the one near GSS, and the end's GSR decides whether
+-- it is newest.
 abbrev pub incoming : EndState → List ℕ → Parts → ℕ → Incoming
 incoming e bytes p number = incoming_of p number (ack_near e.marks.gss p.header.kind) (length bytes) (is_newest e number)

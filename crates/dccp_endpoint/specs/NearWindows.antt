@@ -1,4 +1,4 @@
--- Which numbers are near where windows are not too wide for short numbers (own; RFC 4340, sections 7.5.1 and 7.6).
+-- Which numbers are near if the windows are not too wide for short numbers (own; RFC 4340, sections 7.5.1 and 7.6).
 use Rattle.std.specs.Prelude.{◌≡◌, ℕ, ◌+◌, ◌^◌, ◌<◌, ◌≤◌, true, false, Option}
 use Rattle.dccp_packets.specs.Forms.{may_be_short}
 use Rattle.dccp_packets.specs.declared.header.PacketType.{PacketType}

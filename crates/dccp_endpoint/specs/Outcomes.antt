@@ -1,12 +1,12 @@
 -- Why each outcome of `receive` comes, and what the step's effect then is (RFC 4340, section 8.5).
 --
--- The effect is proved from the steps directly. What the outcomes tell stands on it: a cause, and for each cause one
--- form of the effect. For a Sync and a Reset that is a function of the cause; a packet that was taken has a row for
--- each part. The frame and the end are said once, by the effect.
+-- The effect is proved directly from the steps. The statements about outcomes use it: each outcome has a cause, and each cause one form of the
+-- effect. For a Sync and a Reset that is a function of the cause; a packet that was taken has a row for each part. Only the effect says what the
+-- frame and the end are.
 --
--- Causes are said by the tables of the crates below, and not in the order of the steps: what a type means in the phase,
--- the verdict, what is unexpected, the phase after. They share with the steps what a packet raises, the test of the
--- ports, how options are read and faulted, and what a mark answers.
+-- Causes use the tables of the crates below, and not the order of the steps: what a type means in the phase, the verdict, what is unexpected,
+-- the phase after. They share with the steps what a packet raises, the test of the ports, how options are read and which of them is faulty, and
+-- what a mark answers.
 use Rattle.std.specs.Prelude.{◌≡◌, ◌≢◌, not, if◌then◌else◌, ℕ, Bool, true, false, List, [], Option, Some, None, Ok, Err, is_some}
 use Rattle.congestion_trait.specs.Calls.{Call}
 use Rattle.dccp_sum.specs.Checksum.{checked}
@@ -47,13 +47,13 @@ use Rattle.dccp_states.specs.declared.outcome.Outcome.{Outcome}
 use Rattle.dccp_states.specs.declared.outcome.Outcome.TheVariants.{Took, Dropped, Synced, WasReset, SentReset}
 use Rattle.dccp_states.specs.declared.outcome.Why.TheVariants as why
 
--- the packet's checksum does not fit
+-- the packet's checksum is wrong
 pub record HasWrongSum (e : EndState) (bytes : List ℕ) (fault : SumFault) : Type 0 where
   pub packet : Parts
   pub is_packet : decoded bytes ≡ Ok packet
   pub sum_fails : checked e.config.pseudo_in bytes ≡ Err fault
 
--- a packet whose checksum fits has other ports than the connection
+-- a packet with a right checksum has other ports than the connection
 pub record HasWrongPorts (e : EndState) (bytes : List ℕ) : Type 0 where
   pub packet : Parts
   pub is_packet : decoded bytes ≡ Ok packet
@@ -110,7 +110,7 @@ pub record IsValidPacket (e : EndState) (bytes : List ℕ) (a : Incoming) (enter
   pub came : Came e (Arrives bytes) a
   pub is_valid : IsValid e a entered
 
--- it is a Response for another service than was asked for
+-- it is a Response with another service than the one asked for
 abbrev pub is_for_another : EndState → Incoming → Bool
 is_for_another entered a = is_other_service entered entered.phase a.kind a.service
 
@@ -133,7 +133,7 @@ pub data IsNoAnswer (e : EndState) (a : Incoming) : Type 0 where
   OtherType : entrance_of e a ≡ entrance.PacketError → IsNoAnswer e a
   OtherRequest : entrance_of e a ≡ entrance.InRequest → a.kind ≢ types.Reset → acknowledges_in_window e a ≡ false → IsNoAnswer e a
 
--- why a Reset answers, and which fault it tells
+-- why a Reset answers, and which fault it names
 pub data IsReset (e : EndState) (bytes : List ℕ) : Fault → Type 0 where
   -- steps 2 and 3: No Connection, and Bad Service Code at a server
   NoConnection : (a : Incoming) → Came e (Arrives bytes) a → entrance_of e a ≡ entrance.NoConnection
@@ -151,15 +151,15 @@ pub data IsReset (e : EndState) (bytes : List ℕ) : Fault → Type 0 where
   AnswersClose : (a : Incoming) (entered : EndState) (h : ReadingState) (to : Phase) → IsAdmitted e bytes a entered → reads_options entered a ≡ Ok h
       → after entered.phase a.kind ≡ (to, reply.ResetClosed) → IsReset e bytes (without_detail (number_of_code codes.Closed))
 
--- it tells of this fault
+-- it names this fault
 pub record HasReset (e : EndState) (bytes : List ℕ) (code : ℕ) (detail : List ℕ) : Type 0 where
   pub fault : Fault
   pub why : IsReset e bytes fault
   pub has_code : code ≡ fault.code
   pub has_detail : detail ≡ detail_of fault
 
--- It was taken: the table of phases moves the end and answers with anything but a Reset. The place of its data is
--- delivered exactly where it is a Data or a DataAck, the end is OPEN then, and the number was not taken before.
+-- It was taken: the table of phases moves the end and answers with anything but a Reset. The place of its data is delivered exactly if it is a
+-- Data or a DataAck, the end is OPEN then, and the number was not taken before.
 pub record IsTaken (e : EndState) (bytes : List ℕ) (delivered : Option (ℕ × ℕ)) : Type 0 where
   pub packet : Incoming
   pub entered : EndState
@@ -185,11 +185,11 @@ HasCause e bytes (WasReset code) = IsEnding e bytes code
 HasCause e bytes (SentReset code detail) = HasReset e bytes code detail
 HasCause e bytes (Took delivered) = IsTaken e bytes delivered
 
--- No other outcome has its cause: whatever has one is the outcome.
+-- No other outcome has its cause: an outcome that has one is this outcome.
 abbrev pub HasNoOtherCause : EndState → List ℕ → Outcome → Type 0
 HasNoOtherCause e bytes outcome = (other : Outcome) → HasCause e bytes other → outcome ≡ other
 
--- A valid packet is the first of its connection, and sets ISR, where the end heard none before: in LISTEN and REQUEST.
+-- A valid packet is the first of its connection, and sets ISR, if the end heard none before: in LISTEN and REQUEST.
 abbrev pub hears_first : EndState → Bool
 hears_first e = not (is_live e.phase)
 
@@ -202,12 +202,11 @@ greatest_with e a = greatest_or (hears_first e) a.number e.marks.gsr
 abbrev pub effect_of_packet : EndState → Incoming → PacketFate → Phase → Transmission → Effect
 effect_of_packet e a how phase sending = effect_of e (Heard (hears_first e) a.number how) (raising a.kind a.ack) false phase false sending
 
--- The end closes, and its Reset tells of this fault and acknowledges GSR, the packet's number included.
+-- The end closes, and its Reset names this fault and acknowledges GSR, the packet's number included.
 abbrev pub effect_of_closing : EndState → Incoming → PacketFate → Fault → Effect
 effect_of_closing e a how fault = effect_of_packet e a how phases.Closed (Next (reset_of (greatest_with e a) fault))
 
--- The effect of a Sync, by its cause. Where the packet's numbers are not valid only GSS changes; where it is unexpected
--- GSR and GAR do, too.
+-- The effect of a Sync, by its cause. If the packet's numbers are not valid, only GSS changes; if it is unexpected, GSR and GAR do, too.
 abbrev pub effect_of_sync : (e : EndState) (bytes : List ℕ) (number : ℕ) → IsSynced e bytes number → Effect
 effect_of_sync e bytes number (OutOfWindow a came check bad) = effect_of_sending e (Next (alone (kind.Sync number)))
 effect_of_sync e bytes number (Unexpected a entered valid out same) = effect_of_packet e a Refused e.phase (Next (alone (kind.Sync number)))
@@ -217,9 +216,9 @@ abbrev pub effect_of_refusing : EndState → Incoming → Fault → Effect
 effect_of_refusing e a fault =
     effect_of_sending e (WithoutConnection (number_without_connection a.ack) (kind.Reset a.number fault.code (detail_of fault)))
 
--- The effect of a Reset, by its cause: nothing changes without a connection (codes 3 and 8); for the code 4 only GSS
--- does, and the Reset acknowledges the packet; another service and a fault of the options close the end, and nothing is
--- marked; and a Close was taken, so that it is marked, and what it reports is due to the congestion control.
+-- The effect of a Reset, by its cause: nothing changes without a connection (codes 3 and 8); for the code 4 only GSS changes, and the Reset
+-- acknowledges the packet; another service and a fault of the options close the end, and nothing is marked; and a Close was taken, so that it is
+-- marked, and what it reports is due to the congestion control.
 abbrev pub effect_of_reset : (e : EndState) (bytes : List ℕ) (fault : Fault) → IsReset e bytes fault → Effect
 effect_of_reset e bytes fault (NoConnection a came is) = effect_of_refusing e a fault
 effect_of_reset e bytes fault (OtherService a came is other) = effect_of_refusing e a fault
@@ -229,8 +228,8 @@ effect_of_reset e bytes fault (Faulted a entered first admitted is) = effect_of_
 effect_of_reset e bytes fault (AnswersClose a entered h to admitted is row) =
     record (effect_of_closing e a Taken fault) { calls = calls_for a e.rows h.rows }
 
--- The type with its fields of the packet that a row of the table answers with, if any. A SyncAck acknowledges the Sync,
--- and all others the greatest number received; where the row has none, an Ack goes out if it is needed.
+-- The type with its fields of the packet that a row of the table answers with, if any. A SyncAck acknowledges the Sync, and all others the
+-- greatest number received. If the row has no answer, an Ack goes out if one is needed.
 abbrev pub replying : EndState → Bool → ℕ → ℕ → Reply → Option Kind
 replying e needed greatest number reply.Nothing = if needed then Some (kind.Ack (Long greatest)) else None
 replying e needed greatest number reply.Response = Some (kind.Response greatest e.config.service)
@@ -256,14 +255,14 @@ data_sent Silent = []
 data_sent (Next packet) = packet.payload
 data_sent (WithoutConnection number packet) = []
 
--- the offers that come up with a reply: all that were not made yet with a Response, and none with another
+-- the offers that are made with a reply: with a Response all that were not made yet, and none with another
 abbrev pub offered_with : Reply → List DueConfirm → List Turn
 offered_with reply.Response confirms = offerings (is_confirmed confirms) every_place
 offered_with _ confirms = []
 
--- The effect of a packet that was taken. Its number and what it acknowledges are heard, and looked up; the row of the
--- table moves the phase and answers, without data; the rows hear its options, and the Confirms that come of them are
--- due; it is to be acknowledged, unless that was done; and the congestion control hears what it has for it.
+-- The effect of a packet that was taken. Its number and what it acknowledges are heard, and looked up; the row of the table moves the phase and
+-- answers, without data; the rows hear its options, and the Confirms that they lead to are due; it is to be acknowledged, unless the answer did
+-- so; and its report is due to the congestion control.
 pub record IsTaking (e : EndState) (bytes : List ℕ) (delivered : Option (ℕ × ℕ)) (taken : IsTaken e bytes delivered) (f : Effect)
     (turns : AreTurns e (Arrives bytes) f.hearing f.turns) : Type 0 where
   pub heard : f.hearing ≡ Heard (hears_first e) taken.packet.number Taken
@@ -301,7 +300,7 @@ pub record HasEffectOf (e : EndState) (bytes : List ℕ) (outcome : Outcome) (af
   pub cause : HasCause e bytes outcome
   pub form : HasForm e bytes outcome cause effect because.turns
 
--- what holds where the packet was dropped
+-- what holds if the packet was dropped
 abbrev pub OnDropped : Outcome → Type 0 → Type 0
 OnDropped (Dropped why) holds = holds
 OnDropped (Synced number) holds = Unit {0}

@@ -3,9 +3,8 @@
 -- `the_steps` lists steps 2 to 9 except for step 8, and `receives` at the foot joins step 1 before and steps 8 and 10 to
 -- 16 after them. Each step has one definition, above these.
 --
--- Any other body of a step is refused by the clause `step`, which is this equation. What is said wrongly here is
--- refused by the causes, the effect and the worked packets (`proofs/Rows` of tests_ends and the like); a must-fail
--- edit is a mistake that has a name.
+-- The clause `step` is this equation, and refuses any other body of a step. The causes, the effect and the worked packets (`proofs/Rows` of
+-- tests_ends, and others) refuse a mistake in these definitions. A must-fail edit is a mistake that has a name.
 use Rattle.std.specs.Prelude.{◌==◌, ◌&&◌, ◌||◌, not, if◌then◌else◌, ℕ, ◌+◌, Bool, true, false, List, [], ◌∷◌, Option, Some, None, Result, Ok, Err}
 use Rattle.ack_vectors.specs.Kept as kept
 use Rattle.seq_circle.specs.Circle.{residue, extended, is_before}
@@ -62,15 +61,13 @@ use Rattle.dccp_states.specs.declared.outcome.Outcome.TheVariants.{Took, Dropped
 use Rattle.dccp_states.specs.declared.outcome.Why.{Why}
 use Rattle.dccp_states.specs.declared.outcome.Why.TheVariants as why
 
--- Step 1 drops what is no packet, has a wrong checksum, comes over other ports or has a short number that is not taken,
--- in this order.
+-- Step 1 drops what is no packet, has a wrong checksum, has other ports, or has a short number that is not taken, in this order.
 
--- Short numbers are taken where the peer may send them (section 7.6.1), in the phases in which a first number was
--- received (own).
+-- Short numbers are taken if the peer may send them (section 7.6.1), in the phases in which a first number was received (own).
 abbrev pub takes_short : EndState → Bool
 takes_short e = is_live e.phase && (value_in e.rows ShortSeqnos There == 1)
 
--- by whether they are, the number near GSR that a short one stands for (section 7.6)
+-- the number near GSR that a short one means (section 7.6), if short numbers are taken
 abbrev pub short_number : Bool → ℕ → ℕ → Result ℕ Why
 short_number true number gsr = Ok (extended number gsr)
 short_number false number gsr = Err why.ShortOff
@@ -103,7 +100,7 @@ abbrev pub with_own_number : EndState → List ℕ → Parts → Result ℕ Why 
 with_own_number e bytes p (Ok number) = Ok (incoming e bytes p number)
 with_own_number e bytes p (Err why) = Err why
 
--- bytes that are no packet are dropped before the rest is asked
+-- bytes that are no packet are dropped before anything else is checked
 abbrev pub with_packet : EndState → List ℕ → Result Parts Malformed → Result Incoming Why
 with_packet e bytes (Ok p) = with_own_number e bytes p (checks_header e bytes p.header)
 with_packet e bytes (Err fault) = Err (why.Malformed fault)
@@ -122,7 +119,8 @@ abbrev pub course : EndState → Result (Unit {0}) Exit → Course
 course x (Ok _) = Goes x
 course x (Err exit) = Leaves x exit
 
--- Step 2: without a connection a packet gets a Reset, and a Reset nothing. So it is in step 3 with what opens none.
+-- Step 2: without a connection a Reset is dropped, and any other packet is answered with a Reset. Step 3 does the same with a packet that opens
+-- no connection.
 abbrev pub finds_connection : Entrance → EndState → Course
 finds_connection entrance.NoConnection x = Leaves x (exits.ResetWithoutConnection codes.NoConnection)
 finds_connection entrance.Stray x = Leaves x (exits.Drop why.StrayReset)
@@ -149,14 +147,14 @@ abbrev pub accepts_request : Incoming → Entrance → EndState → Course
 accepts_request a entrance.Accept x = opens_connection a x (is_own_service x a.service)
 accepts_request a _ x = Goes x
 
--- Step 4: in REQUEST a Response starts what is received, and a Reset goes on, where they acknowledge the Request.
+-- Step 4: in REQUEST a Response starts the receiving, and a Reset passes to the next steps, if they acknowledge the Request.
 abbrev pub answers : Incoming → EndState → PacketType → Bool → Course
 answers a x types.Reset true = Goes x
 answers a x types.Reset false = Leaves x (exits.Drop why.StrayReset)
 answers a x _ true = Goes (started x x.phase a)
 answers a x _ false = Leaves x exits.PacketError
 
--- its acknowledgement number, where it has one, lies in the window of what was sent (AWL to AWH)
+-- its acknowledgement number, if it has one, lies in the window of what was sent (AWL to AWH)
 abbrev pub acknowledges_in_window : EndState → Incoming → Bool
 acknowledges_in_window e a = is_ack_within (ack_low e.marks) (ack_high e.marks) a.ack
 
@@ -191,8 +189,8 @@ abbrev pub ends_by_reset : Incoming → PacketType → EndState → Course
 ends_by_reset a types.Reset x = Leaves x (exits.TimeWait a.code)
 ends_by_reset a _ x = Goes x
 
--- Step 7: a packet that its phase does not expect is answered with a Sync; a Response for another service than was
--- asked for ends the connection. Whether its phase expects it:
+-- Step 7: a packet that its phase does not expect is answered with a Sync; a Response with another service than the client's ends the
+-- connection. Whether its phase expects it:
 abbrev pub is_unexpected : EndState → Incoming → Bool
 is_unexpected x a = unexpected x.config.role x.phase a.kind (not (is_before a.number x.marks.osr))
 
@@ -238,8 +236,7 @@ through (Leaves x exit) steps = Leaves x exit
 through (Goes x) [] = Goes x
 through (Goes x) (step ∷ steps) = through (step x) steps
 
--- Steps 10 to 15: the phase moves by the table, and the number with which it becomes OPEN is OSR. OSR is set in that
--- case alone:
+-- Steps 10 to 15: the phase moves by the table, and the number with which it becomes OPEN is OSR. OSR is set only in that case:
 abbrev pub osr_after : ℕ → ℕ → Bool → ℕ
 osr_after osr number true = number
 osr_after osr number false = osr
@@ -262,7 +259,7 @@ resets e ack fault = sends e (reset_of ack fault) (SentReset fault.code (detail_
 abbrev pub responds_asking : EndState → List DueConfirm → List Key → Outcome → Step Outcome
 responds_asking e confirms keys took = sends e (saying (kind.Response e.marks.gsr e.config.service) confirms e.rows keys) took
 
--- once the offers have come up
+-- once the offers have been made
 abbrev pub responds_offering : EndState → List DueConfirm → List Key → Outcome → Step Outcome
 responds_offering e confirms keys took = responds_asking (asks e keys) confirms keys took
 
@@ -274,8 +271,8 @@ responds e confirms took = responds_offering (offers e confirms) confirms (askin
 abbrev pub acknowledges : EndState → List DueConfirm → Outcome → Step Outcome
 acknowledges e confirms took = sends_ack e (confirming (kind.Ack (Long e.marks.gsr)) confirms) took
 
--- Where the table has no reply, an Ack goes out in PARTOPEN and OPEN if Confirms are due (own), and in OPEN if enough
--- data packets are not acknowledged (section 11.3).
+-- If the table has no reply, an Ack goes out in PARTOPEN and OPEN if Confirms are due (own), and in OPEN if enough data packets are not
+-- acknowledged (section 11.3).
 abbrev pub needs_ack : Phase → List DueConfirm → List Row → ℕ → Bool
 needs_ack phase confirms rows unacked = is_connected phase && (has_confirms confirms || (is_open phase && is_enough rows unacked))
 
@@ -289,7 +286,7 @@ replies e a confirms took reply.ResetClosed = resets e e.marks.gsr (without_deta
 replies e a confirms took reply.SyncAck = sends e (confirming (kind.SyncAck a.number) confirms) took
 replies e a confirms took reply.Torn = idle e took
 
--- Step 16 comes before the reply, since data that are delivered count for it.
+-- Step 16 comes before the reply, since data that are delivered count towards the Ack Ratio.
 abbrev pub delivering : EndState → Incoming → List DueConfirm → Bool → Reply → Step Outcome
 delivering e a confirms new reply = replies (counts_data e new) a confirms (Took (delivered_if new a.data_place)) reply
 
@@ -305,13 +302,13 @@ accounted e a = looks_up (marks e a.number) (looked_up a.kind a.ack)
 abbrev pub processes : EndState → Incoming → List DueConfirm → Step Outcome
 processes e a confirms = moves (accounted e a) a confirms (answer_to e.received.set a.number) (after e.phase a.kind)
 
--- A Reset without a connection takes its numbers from the packet, and the end stays as it is (own). Its number is the
--- next after the acknowledgement:
+-- A Reset without a connection takes its numbers from the packet, and the end is unchanged (own). Its number is the next after the
+-- acknowledgement:
 abbrev pub number_without_connection : Option ℕ → ℕ
 number_without_connection None = 0
 number_without_connection (Some ack) = residue (ack + 1)
 
--- a Reset without a connection that tells of a fault
+-- a Reset without a connection that names a fault
 abbrev pub resets_without_connection : EndState → Incoming → Fault → Step Outcome
 resets_without_connection e a fault =
     record {
@@ -321,7 +318,7 @@ resets_without_connection e a fault =
       answer = SentReset fault.code (detail_of fault);
     }
 
--- Packet Error tells of the packet's type
+-- Packet Error names the packet's type
 abbrev pub packet_fault : Incoming → Fault
 packet_fault a = record { code = (number_of_code codes.PacketError); first = code_of a.kind; second = 0; third = 0 }
 
@@ -334,13 +331,12 @@ leaves e a exits.PacketError = resets e a.number (packet_fault a)
 leaves e a (exits.Shut fault) = resets (in_phase e phases.Closed) e.marks.gsr fault
 leaves e a (exits.TimeWait code) = idle (in_phase e phases.TimeWait) (WasReset code)
 
--- Step 8: what the options come to, or their first fault. Options of the negotiation are heeded on the newest packets
--- alone.
+-- Step 8: the result of the options, or their first fault. Options of the negotiation are heeded only on a newest packet.
 abbrev pub reads_options : EndState → Incoming → Result ReadingState Fault
 reads_options x a = heeds (a.newest && counts x.phase a.kind) a.ack (unheeded x.rows) a.options
 
--- The same of a Request for its service that reaches a server's end in LISTEN: what it makes of the option area depends
--- on its lists alone. The end has left LISTEN by then (step 3).
+-- The same for a Request for its service that reaches a server's end in LISTEN: the result of the option area depends only on the end's lists.
+-- The end has left LISTEN by then (step 3).
 abbrev pub reads_request : List RowSetup → List ℕ → Result ReadingState Fault
 reads_request lists area = heeds true None (unheeded (first_rows end.Server lists)) (options_of area false)
 

@@ -1,5 +1,4 @@
--- What an end marks of the packets that it takes, and how it reports them by Ack Vectors (RFC 4340, sections 11.2 to
--- 11.5).
+-- What an end notes about the packets that it takes, and how it reports them by Ack Vectors (RFC 4340, sections 11.2 to 11.5).
 use Rattle.std.specs.Prelude.{map, ◌==◌, ◌&&◌, not, nat_le, min, if◌then◌else◌, ℕ, ◌+◌, ◌-◌, ◌^◌, Bool, true, false, List, [], ◌++◌, Option, Some, None}
 use Rattle.ack_vectors.specs.Kept.{ReceivedState, acked, marked_by, recorded}
 use Rattle.ack_vectors.specs.Vector.{is_whole_under, option_data, vector_under}
@@ -71,7 +70,7 @@ marks e number =
 abbrev pub looked_up : PacketType → Option ℕ → Option ℕ
 looked_up kind ack = if is_acking kind then ack else None
 
--- where the number is that of a record, the floor rises after what its vector told
+-- if the number is that of a record, the floor rises past what its vector reported
 abbrev pub looked_by : ReceivedState → Option ℕ → ReceivedState
 looked_by old None = old
 looked_by old (Some number) = acked old number
@@ -80,7 +79,7 @@ looked_by old (Some number) = acked old number
 abbrev pub looks_up : EndState → Option ℕ → EndState
 looks_up e number = record e { received = looked_by e.received number }
 
--- Data are delivered where they are new and the phase is OPEN (section 8.5, step 16).
+-- Data are delivered if they are new and the phase is OPEN (section 8.5, step 16).
 abbrev pub delivers : PacketType → Phase → Marked → Bool
 delivers kind phase mark = carries_data kind && (is_open phase && is_new mark)
 
@@ -98,11 +97,11 @@ unacked_after unacked false = unacked
 abbrev pub counts_data : EndState → Bool → EndState
 counts_data e delivered = record e { unacked = unacked_after e.unacked delivered }
 
--- As many data packets are not acknowledged as the peer asks for by its Ack Ratio; 0 leaves all to the timer (own).
+-- As many data packets are not acknowledged as the peer's Ack Ratio says; with 0 only the timer ack acknowledges them (own).
 abbrev pub is_enough : List Row → ℕ → Bool
 is_enough rows unacked = not (value_in rows AckRatio There == 0) && nat_le (value_in rows AckRatio There) unacked
 
--- Ack Vectors go out where Send Ack Vector here is 1 (section 11.5).
+-- Ack Vectors go out if Send Ack Vector here is 1 (section 11.5).
 abbrev pub sends_vectors : List Row → Bool
 sends_vectors rows = value_in rows SendAckVector Here == 1
 
@@ -110,12 +109,12 @@ sends_vectors rows = value_in rows SendAckVector Here == 1
 abbrev pub vector_item : List ℕ → Item
 vector_item part = record { mandatory = false; kind = options.ack_vector_0; body = part }
 
--- The Ack Vector of an acknowledgement number, if one goes out: one option, or two where one has no room for it (own).
+-- The Ack Vector of an acknowledgement number, if one goes out: one option, or two if one has no room for it (own).
 abbrev pub vector_items : Bool → Vectors → MarkedSet → ℕ → List Item
 vector_items true vectors set ack = map vector_item (option_data (vector_under (has set.numbers) set.floor ack vectors))
 vector_items false vectors set ack = []
 
--- the record of it, under the packet's number: whole where its options hold all of it
+-- the record of it, under the packet's number: whole if its options hold all of it
 abbrev pub recorded_by : Bool → Vectors → ReceivedState → ℕ → ℕ → ReceivedState
 recorded_by true vectors kept number ack = recorded kept number ack (is_whole_under (has kept.set.numbers) kept.set.floor ack vectors)
 recorded_by false vectors kept number ack = kept

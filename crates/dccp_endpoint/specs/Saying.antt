@@ -32,8 +32,8 @@ speaks_to k entry = is_of_negotiation entry.kind && (begins_with_number (feature
 abbrev pub event_in : Option ℕ → Entry → RowEvent
 event_in ack entry = event_of ack entry (is_change entry.kind) (drop 1 entry.body)
 
--- What a packet with these options and this acknowledgement number says to a row: what the first option for it says,
--- and nothing where there is none or where such options do not count.
+-- What a packet with these options and this acknowledgement number says to a row: what the first option for it says, and nothing if there is
+-- none or if such options do not count.
 abbrev pub said_to : Bool → Option ℕ → Key → List (Result Entry OptFault) → List RowEvent
 said_to count ack k [] = []
 said_to count ack k (Err _ ∷ rest) = said_to count ack k rest
@@ -58,7 +58,7 @@ has_feature_number (number ∷ rest) = true
 abbrev pub negotiates_by : Entry → Bool
 negotiates_by entry = is_understood entry.kind (length entry.body) && (is_of_negotiation entry.kind && has_feature_number entry.body)
 
--- the item is a Change, of whatever feature, whether it is the first for that or not
+-- the item is a Change, of any feature, whether it is the first for that or not
 abbrev pub is_change_item : Result Entry OptFault → Bool
 is_change_item (Ok entry) = negotiates_by entry && is_change entry.kind
 is_change_item (Err fault) = false
@@ -67,8 +67,8 @@ is_change_item (Err fault) = false
 abbrev pub changes_among : List (Result Entry OptFault) → ℕ
 changes_among options = length (filter is_change_item options)
 
--- Of a packet that was read whole each row hears what the packet says to it, and nothing else, and the Confirm that is
--- due for it is the row's answer. The packet has at most 64 Changes, for all of which count.
+-- Of a packet that was read whole each row hears what the packet says to it, and nothing else, and the Confirm that is due for it is the row's
+-- answer. The packet has at most 64 Changes, so that all of them count.
 abbrev pub RowsHearThePacket : Type 0
 RowsHearThePacket =
     (count : Bool) (ack : Option ℕ) (rows : List Row) (options : List (Result Entry OptFault)) (h : ReadingState) (k : Key) → IsNegotiation rows
@@ -112,7 +112,7 @@ OwnPacketsSayOfARow =
     → said_to true ack (k.0, opposite k.1) (map Ok (entries_at 0 (own_options has_vector vectors set greatest confirms rows keys)))
     ≡ said_of (confirm_for k confirms) (has_key k keys) ack k (row_at rows k.0 k.1)
 
--- How often: once where it is so.
+-- How often: once if it is so, otherwise never.
 abbrev pub once_if : Bool → ℕ
 once_if true = 1
 once_if false = 0
@@ -134,8 +134,7 @@ ConfirmsAreSingle =
     (count : Bool) (ack : Option ℕ) (rows : List Row) (options : List (Result Entry OptFault)) (h : ReadingState) (k : Key) → IsNegotiation rows
     → changes_among options ≤ 64 → heeds count ack (unheeded rows) options ≡ Ok h → times_confirmed k h.confirms ≤ 1
 
--- So an end's own packet speaks to a row of the peer once at most: no row's Change goes out twice, nor beside a Confirm
--- for it.
+-- So an end's own packet speaks to a row of the peer at most once: no row's Change goes out twice, nor together with a Confirm for it.
 abbrev pub OwnPacketsSpeakOnce : Type 0
 OwnPacketsSpeakOnce =
     (has_vector : Bool) (vectors : Vectors) (set : MarkedSet) (greatest : ℕ) (confirms : List DueConfirm) (rows : List Row) (keys : List Key) (k : Key) → times_confirmed k confirms ≤ 1

@@ -1,4 +1,4 @@
--- Which packets of an end go out with short numbers (RFC 4340, section 7.6.1; where they may, an end sends them, own).
+-- Which packets of an end go out with short numbers (RFC 4340, section 7.6.1; that an end sends them wherever it may is own).
 use Rattle.std.specs.Prelude.{◌==◌, ◌&&◌, not, nat_le, ℕ, Bool, true, false}
 use Rattle.std.specs.List.{list_any}
 use Rattle.dccp_options.specs.Written.{Item}
@@ -37,7 +37,6 @@ allows_short e =
 abbrev pub is_negotiating : Item → Bool
 is_negotiating item = is_of_negotiation item.kind
 
--- A packet goes out with short numbers where its type may have them, the end may send them, and it says nothing of
--- features (own).
+-- A packet goes out with short numbers if its type may have them, the end may send them, and it says nothing about features (own).
 abbrev pub goes_short : EndState → Draft → Bool
 goes_short e draft = may_be_short (packet_type draft.kind) && (allows_short e && not (list_any is_negotiating draft.options))

@@ -1,5 +1,5 @@
--- What an end says of features on its packets, and what saying it changes (RFC 4340, section 6; the order of options is
--- own: the Confirms, then the Changes).
+-- What an end says about features on its packets, and what this changes at the end (RFC 4340, section 6; the order of options is own: the
+-- Confirms, then the Changes).
 use Rattle.std.specs.Prelude.{◌≡◌, ◌==◌, ◌≤◌, ◌&&◌, not, ℕ, Bool, true, false, List, [], ◌∷◌, ◌++◌, length, map, filter, Option, Some, None}
 use Rattle.std.specs.List.{list_any}
 use Rattle.byteorder.specs.Endian.{big_bytes}
@@ -69,8 +69,8 @@ confirm_item due = record { mandatory = false; kind = confirm_type due.left; bod
 abbrev pub confirm_items : List DueConfirm → List Item
 confirm_items confirms = map confirm_item confirms
 
--- Confirms that leave room for an Ack Vector or for all Changes: at most 64, of 3 bytes, and of 9 more where a row
--- answers, of which there are eighteen (own).
+-- Confirms that leave room for an Ack Vector or for all Changes: at most 64, of 3 bytes, and of 9 more if one of the eighteen rows answers
+-- (own).
 abbrev pub HaveRoom : List DueConfirm → Type 0
 HaveRoom confirms = length (written (confirm_items confirms)) ≤ 354
 
@@ -89,11 +89,11 @@ is_for k due = due.number == feature_number k.0 && is_of_place due.left k.1
 abbrev pub is_confirmed : List DueConfirm → Key → Bool
 is_confirmed confirms k = list_any (is_for k) confirms
 
--- the rows that none of the Confirms is for
+-- the rows that have none of the Confirms
 abbrev pub unconfirmed : List DueConfirm → List Key → List Key
 unconfirmed confirms keys = filter (λ k. not (is_confirmed confirms k)) keys
 
--- All offers that were not made yet come up; of the rows that meet a Confirm they are dropped.
+-- All offers that were not made yet are made; those of rows that have one of these Confirms are dropped.
 abbrev pub offers : EndState → List DueConfirm → EndState
 offers e confirms = with_rows e (turned e.rows (offerings (is_confirmed confirms) every_place))
 
@@ -110,7 +110,7 @@ saying kind confirms rows keys = record { kind = kind; options = confirm_items c
 abbrev pub asking_frame : EndState → Kind → List DueConfirm → List Key → Outgoing
 asking_frame e kind confirms keys = next_frame (asks e keys) (saying kind confirms (asks e keys).rows keys)
 
--- a packet with Confirms alone
+-- a packet with only Confirms
 abbrev pub confirming : Kind → List DueConfirm → Draft
 confirming kind confirms = record { kind = kind; options = confirm_items confirms; payload = [] }
 

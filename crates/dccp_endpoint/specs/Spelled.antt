@@ -1,4 +1,4 @@
--- That the numbers that are told of a frame are those that its bytes spell (RFC 4340, sections 5.1 and 7.6).
+-- The numbers that are returned with a frame are those that its bytes spell (RFC 4340, sections 5.1 and 7.6).
 use Rattle.std.specs.Prelude.{◌≡◌, ℕ, ◌%◌, ◌^◌, Bool, Option, Some, None, Ok, if◌then◌else◌}
 use Rattle.dccp_packets.specs.Grammar.{Parts, decoded, is_long}
 use Rattle.dccp_packets.specs.Kinds.{ack_of, value_of}
@@ -22,6 +22,6 @@ pub record IsSpelled (sent : Outgoing) : Type 0 where
   pub number : value_of packet.header.number ≡ in_width (is_long packet.header.number) sent.number
   pub ack : ack_of packet.header.kind ≡ ack_in_width (is_long packet.header.number) sent.ack
 
--- Whatever happens to an end, what goes out spells the numbers that are told with it.
+-- Whatever happens to an end, what goes out spells the numbers that are returned with it.
 abbrev pub FramesSpellWhatIsTold : Type 0
 FramesSpellWhatIsTold = (e : EndState) (given : Input) (sent : Outgoing) → IsProper e → (end_stepped e given).frame ≡ Some sent → IsSpelled sent

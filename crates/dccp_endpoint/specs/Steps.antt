@@ -51,7 +51,7 @@ detail_of fault = fault.first ∷ fault.second ∷ fault.third ∷ []
 abbrev pub without_detail : ℕ → Fault
 without_detail code = record { code = code; first = 0; second = 0; third = 0 }
 
--- a Reset that acknowledges this number and tells of a fault
+-- a Reset that acknowledges this number and names a fault
 abbrev pub reset_of : ℕ → Fault → Draft
 reset_of ack fault = alone (kind.Reset ack fault.code (detail_of fault))
 

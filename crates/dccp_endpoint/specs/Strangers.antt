@@ -1,5 +1,4 @@
--- What a server's end that has heard nothing makes of a packet, told without the end where it does not stay (RFC 4340,
--- section 8.5).
+-- How a server's end that has received nothing yet answers a packet, if it does not stay: for an answer without the end (RFC 4340, section 8.5).
 use Rattle.std.specs.Prelude.{◌≡◌, Bool, true, false, Option, Some, None, Result, Ok, Err, ℕ}
 use Rattle.dccp_packets.specs.Outgoing.{Outgoing}
 use Rattle.dccp_states.specs.declared.phase.Phase.{Phase}
@@ -24,8 +23,7 @@ stays_in phases.CloseReq = true
 stays_in phases.Closing = true
 stays_in phases.TimeWait = true
 
--- what is told of the step of a fresh end, with the frame that goes out: its answer where it does not stay, and else
--- nothing
+-- what is returned for the step of a fresh end, with the frame that goes out: its answer if it does not stay, and otherwise nothing
 abbrev pub IsStrangerAnswered : Step Outcome → Option Outgoing → Option Outcome → Type 0
 IsStrangerAnswered step frame (Some outcome) = (step.frame ≡ frame) × (step.answer ≡ outcome) × (stays_in step.after.phase ≡ false)
 IsStrangerAnswered step frame None = (frame ≡ None) × (stays_in step.after.phase ≡ true)

@@ -1,7 +1,7 @@
 -- What happens to the rows of the negotiation in one step, in order (RFC 4340, section 6).
 --
--- Offers come up for a Request that is asked for or a packet that was taken, and Changes go out again for the timer
--- negotiate. So a packet that is not heard turns no row, and nobody above has to look into a step for that.
+-- Offers are made for a Request that is due or a packet that was taken, and Changes go out again for the timer negotiate. So a packet that is
+-- not heard turns no row, which crates above need not prove again.
 use Rattle.std.specs.Prelude.{ℕ, Bool, List, map}
 use Rattle.feature_lists.specs.declared.features.Feature.{Feature}
 use Rattle.feature_lists.specs.declared.features.Place.{Place}
@@ -20,6 +20,6 @@ turn_of k event = turn k.0 k.1 event
 abbrev pub sendings : ℕ → List Key → List Turn
 sendings number keys = map (λ k. turn_of k (Sends number)) keys
 
--- the offers of these rows come up; a Confirm for some of them goes out on the same packet
+-- the offers of these rows are made; a Confirm for some of them goes out on the same packet
 abbrev pub offerings : (Key → Bool) → List Key → List Turn
 offerings is_confirmed keys = map (λ k. turn_of k (Offers (is_confirmed k))) keys

@@ -1,4 +1,4 @@
--- A call of an end by its user as one value: the input that it is, and what is seen of its step (own).
+-- A call of an end by its user as one value: its input, and what the step answers (own).
 use Rattle.std.specs.Prelude.{Bool, Result, Ok, Err}
 use Rattle.congestion_trait.specs.Control.{Control, may_send}
 use Rattle.dccp_endpoint.specs.Controlled.{End, EndStep, has_in_flight, with_control}
@@ -24,7 +24,7 @@ input_of call.Close may_send in_flight = input.Closes
 input_of call.Abort may_send in_flight = input.Aborts
 input_of (call.Timer timer) may_send in_flight = input.Fires timer in_flight
 
--- what is seen of a call, where a refusal has this name
+-- the answer to a call, with this name for a refusal
 abbrev pub seen_of_call : {Fault : Type 0} → (Fault → Refusal) → Result (Unit {0}) Fault → Seen
 seen_of_call named (Ok _) = seen.Called (Ok tt)
 seen_of_call named (Err fault) = seen.Called (Err (named fault))
@@ -39,11 +39,11 @@ seen_of (input.Closed result) = seen_of_call (λ fault. refusal.NotOpen) result
 seen_of (input.Aborted result) = seen_of_call (λ fault. refusal.NotLive) result
 seen_of (input.Fired applies) = seen.Fired applies
 
--- a step with what is seen of it
+-- a step with its answer as a `Seen`
 abbrev pub step_seen : Step EndAnswer → Step Seen
 step_seen step = record { after = step.after; frame = step.frame; calls = step.calls; answer = seen_of step.answer }
 
--- What an end does on its user's call, whose congestion control hears of it, and what is seen.
+-- What an end does on its user's call, with its congestion control, and what it answers.
 abbrev pub call_step : {C : Type 0} → Control C → End C → UserCall → EndStep C Seen
 call_step control e call =
     with_control control e.congestion

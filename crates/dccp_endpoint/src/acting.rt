@@ -9,7 +9,7 @@ use crate::{
 };
 use congestion_trait::Congestion;
 
-// What is seen of data that were sent or refused.
+// The answer to `send` as a `Seen`.
 fn seen_sent(answered: Result<(), SendFault>) -> Seen
     ensures { result ≡ seen_of_call send_refusal_of answered }
 {
@@ -19,7 +19,7 @@ fn seen_sent(answered: Result<(), SendFault>) -> Seen
     }
 }
 
-// What is seen of a wish that was taken or refused.
+// The answer to `prefer` as a `Seen`.
 fn seen_preferred(answered: Result<(), PreferFault>) -> Seen
     ensures { result ≡ seen_of_call refusal_of answered }
 {
@@ -30,9 +30,9 @@ fn seen_preferred(answered: Result<(), PreferFault>) -> Seen
 }
 
 impl<C: Congestion> Endpoint<C> {
-    /// Takes a call that is a value: exactly what the call that it names does (own). What is seen is whether a timer
-    /// applied, or whether the call was refused, by the name of its fault; each comes as that call says. An owner that
-    /// reads calls, keeps them or hands them on needs no match of its own.
+    /// Makes the call that a value names, exactly as that call does (own). The answer says whether a timer applied, or
+    /// whether the call was refused and for which fault. So an owner that reads calls, keeps them or hands them on
+    /// needs no match over them.
     pub fn act(&mut self, call: UserCall<'_>, out: &mut Outbox) -> Seen
         ensures { record { after = self.new; frame = out.new; answer = result } ≡ call_step C.control self.old call.entry }
     {

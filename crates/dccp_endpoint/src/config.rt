@@ -33,9 +33,9 @@ fn reversed(addresses: &Pseudo) -> Pseudo
 /// The ports of a connection, as one of its ends sees them.
 #[derive(Clone, Copy, Debug, PartialEq, Eq)]
 pub struct Ports {
-    /// The end's own.
+    /// The end's own port.
     pub own: u16,
-    /// That of its peer.
+    /// The peer's port.
     pub peer: u16,
 }
 
@@ -56,7 +56,7 @@ pub struct Config {
     pub service: u32,
     /// The sequence number of its first packet (RFC 4340, section 7.2).
     pub iss: Seq48,
-    /// What it wishes for each feature at each place, and what of it it offers by itself (RFC 4340, section 6).
+    /// Its wish for each feature at each place, and which of these it offers by itself (RFC 4340, section 6).
     pub lists: Lists,
     /// How many Ack Vector options its packets carry at most (own). The usual ends carry one.
     pub vectors: Vectors,
@@ -71,9 +71,9 @@ impl Config {
     ghost use Rattle.dccp_endpoint.specs.Usual.{usual};
     ghost use Rattle.dccp_states.specs.declared.phase.Role.TheVariants.{Client, Server};
 
-    /// A client that asks for a service. The addresses are those of the packets that it sends, its own the first; the
-    /// service is a Service Code (RFC 4340, section 8.1.2); the number of its first packet is to be one that nobody can
-    /// guess (section 7.2).
+    /// A client that asks for a service, by its Service Code (RFC 4340, section 8.1.2). The addresses are those of the
+    /// packets that it sends, its own first. `iss` is the number of its first packet: take one that nobody can guess
+    /// (section 7.2).
     ///
     /// Its wishes and offers are those of `Lists::usual`, which are enough for data under CCID 2. `set`, `offer` and
     /// `plain` change them.
@@ -153,8 +153,8 @@ impl Config {
         let _wish = self.lists.wish(Feature::Ccid, Place::Here);
     }
 
-    /// Wishes these values, best first, for the feature at this place from the start on, in place of what was wished
-    /// there.
+    /// Makes these values, best first, the end's wish for the feature at this place when the connection starts, in
+    /// place of an earlier wish.
     ///
     /// Refused, with nothing changed, as `feature_lists::wish` refuses: BadList, then NotOurs.
     pub fn set(&mut self, feature: Feature, place: Place, values: &[u64]) -> Result<(), PreferFault>
@@ -184,7 +184,7 @@ impl Config {
         self.lists.offer(feature, place, mandatory)
     }
 
-    /// Takes all offers away, and leaves the wishes.
+    /// Removes all offers, and keeps the wishes.
     pub fn plain(&mut self)
         ensures { self.new ≡ record self.old { lists = without_offers self.old.lists } }
     {

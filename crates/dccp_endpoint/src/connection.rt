@@ -25,7 +25,7 @@ mod sending;
 pub use calling::{MOST_DATA_BYTES, applies_in};
 pub(crate) use classes::is_open;
 
-// Whose end the rows of the negotiation are of.
+// The end to which the rows of the negotiation belong.
 fn end_of(role: Role) -> Role2
     ensures { result ≡ end_of role }
 {
@@ -53,7 +53,7 @@ fn fit(marks: &mut Marks, rows: &Negotiation)
     marks.peer_w = rows.held(Feature::SequenceWindow, Place::There).value;
 }
 
-/// One end of a connection except for its congestion control, which is lent to it where something is due to it. Its calls
+/// One end of a connection without its congestion control, which is lent to it when something is due to that. Its calls
 /// are those of `Endpoint`.
 #[derive(Drop)]
 pub(crate) struct Connection {
@@ -86,7 +86,7 @@ impl Connection {
     ghost use Rattle.run_list.specs.MarkedSet.{IsSound};
     ghost use Rattle.validity_windows.specs.Windows.{InRange};
 
-    /// An end of its configuration: CLOSED for a client, LISTEN for a server (RFC 4340, section 8.1).
+    /// An end of this configuration: CLOSED for a client, LISTEN for a server (RFC 4340, section 8.1).
     pub(crate) fn new(alloc: Global, config: Config) -> Result<Connection, NoMemory>
         ensures { IfOk result (λ e. e ≡ new_end config) }
     {
@@ -140,7 +140,8 @@ impl Connection {
         self.marks
     }
 
-    /// What the end holds for a feature at a place, and where its negotiation stands (RFC 4340, section 6.6.2).
+    /// The value that the end holds for a feature at a place, and the stand of its negotiation (RFC 4340, section
+    /// 6.6.2).
     pub(crate) fn held(&self, feature: Feature, place: Place) -> Held
         ensures { result ≡ held_of self.now feature place }
     {

@@ -26,7 +26,7 @@ const FIRST_CCID: u8 = 2;
 /// - `receive` for each datagram of the peer, of at most [`MOST_FRAME_BYTES`](crate::MOST_FRAME_BYTES) bytes: the owner
 ///   drops a longer one
 /// - `timer` for each timer that has run out
-/// - `send` for data, in OPEN, `send_early` of a client that speaks first, in PARTOPEN, and `send_soon` in both
+/// - `send` for data in OPEN, `send_early` for data of a client that speaks first, in PARTOPEN, and `send_soon` in both
 /// - `prefer` for another value of a feature, in PARTOPEN and OPEN
 /// - `close` to end the connection in order, in PARTOPEN and OPEN, and `abort` to end it at once
 /// - `act` for any of the calls above except `receive`, handed in as a value
@@ -55,22 +55,21 @@ const FIRST_CCID: u8 = 2;
 /// # What is left to the owner
 ///
 /// - The timers. Each runs in the phases that [`Endpoint::timer`] lists, and begins anew once `timer` was called for
-///   it.
-///   The waits of RFC 4340: for Request a second at first (section 8.1.1), for Ack 200 milliseconds in PARTOPEN
+///   it. The waits of RFC 4340: for Request a second at first (section 8.1.1), for Ack 200 milliseconds in PARTOPEN
 ///   (section 8.1.5), for Negotiate a round trip (section 6.6.3), for Close two (section 8.3), each doubled from time
-///   to time, up to 64 seconds; for TimeWait two lifetimes of a segment, four minutes. Rto is TCP's, and begins anew
-///   where something came out of flight (RFC 4341, section 5). In OPEN an Ack is due within a short wait after data
+///   to time, up to 64 seconds; for TimeWait two maximum segment lifetimes, four minutes. Rto is TCP's, and begins anew
+///   when a packet is no longer in flight (RFC 4341, section 5). In OPEN an Ack is due within a short wait after data
 ///   were delivered (own).
 /// - Initial sequence numbers that nobody can guess (section 7.2).
 /// - Limits: how many Syncs and Resets go out in a second, and for how many peers ends are made.
 /// - Giving up: `abort` after minutes without an answer to the Request, or in PARTOPEN (sections 8.1.1 and 8.1.5).
-/// - Whether short numbers are asked for ([`Feature::ShortSeqnos`]). A packet with short numbers that comes 2^23
-///   packets late or more may be taken for another (section 7.6); the proofs about two ends assume that none does.
+/// - Whether short numbers are asked for ([`Feature::ShortSeqnos`]). A packet with short numbers that comes 2^23 or
+///   more packets late may be taken for another (section 7.6). The proofs about two ends assume that none does.
 /// - Data that `send` refuses with `WindowFull`: to be offered again, or dropped.
 ///
 /// # Sizes
 ///
-/// An end has 3,280 bytes beside its congestion control's, which are 184 for `Kinds` of ccid_two, and takes two blocks
+/// An end has 3,280 bytes besides its congestion control's, which are 184 for `Kinds` of ccid_two, and takes two blocks
 /// in `new`, of 17,920 bytes together. A flight list takes one of 32,768; `Kinds` has two. An [`Outbox`] has 2,088
 /// bytes: one may serve all ends of a thread.
 #[derive(Drop)]
@@ -178,14 +177,14 @@ impl<C: Congestion> Endpoint<C> {
         self.congestion.window()
     }
 
-    /// How many data packets are in flight: sent, and neither reported nor taken for lost.
+    /// How many data packets are in flight: sent, and neither reported nor found lost.
     pub fn in_flight(&self) -> u32
         ensures { result ≡ in_flight_of C.control self.now.congestion }
     {
         self.congestion.in_flight()
     }
 
-    /// Tells whether the end believes that its data packet of this number was received.
+    /// Whether the end believes that its data packet of this number was received.
     pub fn is_reported(&self, number: Seq48) -> bool
         ensures { IsTrue result ↔ Has (C.control.flight self.now.congestion) number Reported }
     {
@@ -210,15 +209,15 @@ impl<C: Congestion> Endpoint<C> {
     }
 
     /// The number of the packet that was taken last, in full, or 0 before the first was (own): after a `receive` that
-    /// answers `Took` that packet's, whatever the form of its number (RFC 4340, section 7.6).
+    /// answers `Took`, the number of its packet, in whichever form that came (RFC 4340, section 7.6).
     pub fn last_taken(&self) -> Seq48
         ensures { result ≡ last_taken self.now.state }
     {
         self.connection.last_taken()
     }
 
-    /// Tells whether packets with short numbers are taken (RFC 4340, section 7.6.1): the peer's Allow Short Sequence
-    /// Numbers is 1, and a first number was received.
+    /// Whether packets with short numbers are taken (RFC 4340, section 7.6.1): the peer's Allow Short Sequence Numbers
+    /// is 1, and a first number was received.
     pub fn takes_short(&self) -> bool
         ensures { result ≡ takes_short self.now.state }
     {
@@ -232,8 +231,8 @@ impl<C: Congestion> Endpoint<C> {
         self.connection.marked()
     }
 
-    /// The client sends its Request (RFC 4340, section 8.1.1). Refused with `NotFresh` exactly where the end is a
-    /// server or was opened before.
+    /// The client sends its Request (RFC 4340, section 8.1.1). Refused with `NotFresh` exactly if the end is a server
+    /// or was opened before.
     pub fn open(&mut self, out: &mut Outbox) -> Result<(), OpenFault>
         ensures step { record { after = self.new; frame = out.new; answer = result } ≡ with_control C.control self.old.congestion (opens self.old.state) }
         ensures not_fresh { (result ≡ Err OpenFault.NotFresh) ↔ ((self.old.state.config.role ≡ Role.Server) ⊎ (self.old.state.opened ≡ true)) }
@@ -245,9 +244,9 @@ impl<C: Congestion> Endpoint<C> {
 
     /// Sends data, at most 1,024 bytes: in a DataAck if an acknowledgement is owed, with an Ack Vector if Send Ack
     /// Vector is 1, else in a Data (RFC 4340, section 8.1.5). The congestion control counts the packet as in flight.
-    /// Refused with `NotOpen` exactly outside OPEN; then with `TooLong` exactly where the data are longer; then with
-    /// `NotNegotiated` exactly where CCID here is 2 and the peer sends no Ack Vectors (RFC 4341, section 4); then with
-    /// `WindowFull` exactly where as many packets are in flight as may be.
+    /// Refused with `NotOpen` exactly outside OPEN; then with `TooLong` exactly if the data are longer; then with
+    /// `NotNegotiated` exactly if CCID here is 2 and the peer sends no Ack Vectors (RFC 4341, section 4); then with
+    /// `WindowFull` exactly if as many packets are in flight as the window allows.
     #[tactic(auto, unfolding(crate::specs::Calling::sends_payload))]
     pub fn send(&mut self, payload: &[u8], out: &mut Outbox) -> Result<(), SendFault>
         ensures step { record { after = self.new; frame = out.new; answer = result } ≡ with_control C.control self.old.congestion (sends_payload self.old.state payload.now (may_send C.control self.old.congestion)) }
@@ -271,11 +270,11 @@ impl<C: Congestion> Endpoint<C> {
         Ok(())
     }
 
-    /// Sends data of a client that speaks first, at most 1,024 bytes, after the Response alone (own; RFC 4340, section
-    /// 8.1.5, permits it): in PARTOPEN, in a DataAck, which acknowledges the greatest number
-    /// received and has an Ack Vector where Send Ack Vector is 1. The phase stays, and nothing is owed then. The
-    /// congestion control counts the packet as in flight. Refused with `NotOpen` exactly outside PARTOPEN; then as
-    /// `send` is, with `TooLong`, then `NotNegotiated`, then `WindowFull`.
+    /// Sends data of a client that speaks first, at most 1,024 bytes, in PARTOPEN, when it has received only the
+    /// Response (own; RFC 4340, section 8.1.5, permits it). They go in a DataAck, which acknowledges the greatest
+    /// number received, and has an Ack Vector if Send Ack Vector is 1. The phase stays, and no acknowledgement is owed
+    /// then. The congestion control counts the packet as in flight. Refused with `NotOpen` exactly outside PARTOPEN;
+    /// then as `send` is, with `TooLong`, then `NotNegotiated`, then `WindowFull`.
     #[tactic(auto, unfolding(crate::specs::Early::sends_early))]
     pub fn send_early(&mut self, payload: &[u8], out: &mut Outbox) -> Result<(), SendFault>
         ensures step { record { after = self.new; frame = out.new; answer = result } ≡ with_control C.control self.old.congestion (sends_early self.old.state payload.now (may_send C.control self.old.congestion)) }
@@ -325,9 +324,9 @@ impl<C: Congestion> Endpoint<C> {
         self.connection.close(out)
     }
 
-    /// Ends the connection at once: the phase is CLOSED, and a Reset with the code Aborted goes out, but in REQUEST
-    /// nothing, since the other end was not heard (RFC 4340, section 8.3). Refused with `NotLive` exactly in CLOSED,
-    /// LISTEN and TIMEWAIT.
+    /// Ends the connection at once: the phase is CLOSED, and a Reset with the code Aborted goes out. In REQUEST nothing
+    /// goes out, since nothing has come from the other end (RFC 4340, section 8.3). Refused with `NotLive` exactly in
+    /// CLOSED, LISTEN and TIMEWAIT.
     pub fn abort(&mut self, out: &mut Outbox) -> Result<(), AbortFault>
         ensures step { record { after = self.new; frame = out.new; answer = result } ≡ with_control C.control self.old.congestion (aborts self.old.state) }
         ensures not_live { (result ≡ Err AbortFault.NotLive) ↔ ((self.old.state.phase ≡ Phase.Closed) ⊎ (self.old.state.phase ≡ Phase.Listen) ⊎ (self.old.state.phase ≡ Phase.TimeWait)) }
@@ -357,7 +356,7 @@ impl<C: Congestion> Endpoint<C> {
         self.connection.prefer(feature, place, values, out)
     }
 
-    /// A timer has run out. True exactly where it has something to do in this phase (`applies`):
+    /// A timer has run out. True exactly if it has something to do in this phase (`applies`):
     ///
     /// | Timer | Phases | Does |
     /// |---|---|---|
@@ -368,7 +367,7 @@ impl<C: Congestion> Endpoint<C> {
     /// | Close | CLOSEREQ; CLOSING | CloseReq; Close goes out again |
     /// | TimeWait | TIMEWAIT | the phase is CLOSED |
     ///
-    /// Where it is false, nothing changes and nothing is sent (RFC 4340, section 8; for Rto RFC 4341, section 5).
+    /// If it is false, nothing changes and nothing is sent (RFC 4340, section 8; for Rto RFC 4341, section 5).
     pub fn timer(&mut self, timer: Timer, out: &mut Outbox) -> bool
         ensures step { record { after = self.new; frame = out.new; answer = result } ≡ with_control C.control self.old.congestion (fires self.old.state timer (has_in_flight C.control self.old.congestion)) }
         ensures applies { result ≡ applies timer self.old.state (has_in_flight C.control self.old.congestion) }
@@ -383,7 +382,7 @@ impl<C: Congestion> Endpoint<C> {
         }
     }
 
-    // The timer of the congestion control has run out: true where it hears of it.
+    // The timer of the congestion control has run out. True exactly if the congestion control is told.
     #[tactic(auto, unfolding(crate::specs::Calling::fires))]
     fn time_out(&mut self, out: &mut Outbox) -> bool
         ensures step { record { after = self.new; frame = out.new; answer = result } ≡ with_control C.control self.old.congestion (fires self.old.state timers.Rto (has_in_flight C.control self.old.congestion)) }
@@ -399,38 +398,38 @@ impl<C: Congestion> Endpoint<C> {
         true
     }
 
-    /// Takes bytes that arrived, as RFC 4340, section 8.5 says under this profile, at most 2,044 of them. Bytes that
-    /// are no packet, whose checksum does not fit, whose ports are not those of the connection or whose numbers are
-    /// short where no short ones are taken are dropped, in this order. Where they are taken, the peer's Allow Short
-    /// Sequence Numbers being 1, they are read near the greatest number received and the greatest sent. The phase
-    /// decides whether the packet may enter, the windows whether its numbers are valid, its type whether it is
-    /// unexpected; then its options are read, its number is marked, what it acknowledges is looked up among the Ack
-    /// Vectors that were sent, and it moves the phase and is answered. Options of the negotiation count on newest
-    /// packets alone, in RESPOND, PARTOPEN and OPEN and on the Response in REQUEST.
+    /// Takes bytes that arrived, as RFC 4340, section 8.5 says under this profile, at most 2,044 of them. Bytes are
+    /// dropped, for the first of these causes, if they are no packet, if the checksum is wrong, if the ports are not
+    /// those of the connection, or if the numbers are short and short ones are not taken. If short ones are taken,
+    /// since the peer's Allow Short Sequence Numbers is 1, they are read near the greatest number received and the
+    /// greatest sent. The phase decides whether the packet may enter, the windows whether its numbers are valid, its
+    /// type whether it is unexpected; then its options are read, its number is marked, what it acknowledges is looked
+    /// up among the Ack Vectors that were sent, and it moves the phase and is answered. Options of the negotiation
+    /// count only on newest packets, in RESPOND, PARTOPEN and OPEN, and on the Response in REQUEST.
     ///
     /// Once the options are read without a fault, the congestion control hears of them: first of the Ack Vectors, on
-    /// every packet with an acknowledgement number but a Sync, with the Ack Ratio here after the packet; and then it is
-    /// started with the new CCID where that of this end changed, if it knows it.
+    /// every packet with an acknowledgement number except a Sync, with the Ack Ratio that holds here after the packet.
+    /// Then, if this end's CCID changed, it is started with the new CCID, if it knows that.
     ///
-    /// Each outcome comes exactly for its causes (`cause`, `no_other_cause`), and each cause has one effect (`effect`).
-    /// A packet that is dropped changes nothing and sends nothing (`dropped`). A valid Reset moves the phase to
-    /// TIMEWAIT, and nothing else. A Sync takes the next number and acknowledges the number that `Synced` has; nothing
-    /// else changes where the packet's numbers are not valid, and where it is unexpected it has raised the greatest
-    /// number received and, unless it is a Sync, the greatest acknowledged. A Reset has the code and the detail that
+    /// Each outcome has exactly its causes (`cause`, `no_other_cause`), and each cause has one effect (`effect`). A
+    /// packet that is dropped changes nothing and sends nothing (`dropped`). A valid Reset moves the phase to TIMEWAIT,
+    /// and nothing else. A Sync takes the next number and acknowledges the number that `Synced` has. If the packet's
+    /// numbers are not valid, nothing else changes. If the packet is unexpected, it has raised the greatest number
+    /// received and, unless it is a Sync, the greatest acknowledged. A Reset has the code and the detail that
     /// `SentReset` has. Without a connection (codes 3 and 8) it changes nothing. In REQUEST, where the packet is
     /// neither a Reset nor a Response that acknowledges within the window (code 4), it takes the next number and
     /// acknowledges the packet, and nothing else changes. Otherwise (codes 1, 5, 6 and 8) the packet's numbers were
     /// taken, the end closes, and the Reset takes the next number and acknowledges the greatest number received.
     /// Another service (8) and the first fault of the options (5 and 6) leave what was negotiated as it was before the
-    /// packet, and its number unmarked; a Close (1) was marked. Which option goes wrong first is said by
-    /// `reading_stops_at_the_first_fault`.
+    /// packet, and its number unmarked; a Close (1) was marked. `reading_stops_at_the_first_fault` says which option
+    /// goes wrong first.
     ///
-    /// A packet that is `Took` moves the phase and is answered by the table of phases; its data are delivered where it
-    /// is a Data or a DataAck, the end is OPEN then and its number is new. The rows have heard its options in their
-    /// order, and the Confirms that they answer go out on the packet that acknowledges it: the table's, or an Ack where
-    /// the table has none in PARTOPEN and OPEN. In OPEN an Ack goes out as well where as many data packets were
-    /// delivered since the last one as the peer's Ack Ratio says. Each Ack has an Ack Vector where Send Ack Vector is
-    /// 1. A Response lets all offers come up, and carries the Changes of all rows that ask and have no Confirm in it.
+    /// A packet that is `Took` moves the phase and is answered by the table of phases; its data are delivered if it is
+    /// a Data or a DataAck, the end is OPEN then, and its number is new. The rows have heard its options in their
+    /// order, and the Confirms that they answer go out on the packet that acknowledges it: the table's, or an Ack if
+    /// the table has none in PARTOPEN and OPEN. In OPEN an Ack also goes out if as many data packets were delivered
+    /// since the last one as the peer's Ack Ratio says. Each Ack has an Ack Vector if Send Ack Vector is 1. With a
+    /// Response all offers are made, and it carries the Changes of all rows that ask and have no Confirm in it.
     pub fn receive(&mut self, bytes: &[u8], out: &mut Outbox) -> Outcome
         requires { length bytes.now ≤ 2044 }
         ensures step { record { after = self.new; frame = out.new; answer = result } ≡ with_control C.control self.old.congestion (receives self.old.state bytes.now) }
@@ -442,7 +441,7 @@ impl<C: Congestion> Endpoint<C> {
         self.connection.receive(bytes, out, &mut self.congestion)
     }
 
-    /// Takes bytes that arrived, as [`Endpoint::receive`] does, of an owner that has decoded them: `packet` is what
+    /// Takes bytes that arrived, as [`Endpoint::receive`] does, for an owner that has decoded them: `packet` is what
     /// `decode` made of `bytes`.
     pub fn receive_packet(&mut self, packet: &Packet<'_>, bytes: &[u8], out: &mut Outbox) -> Outcome
         requires short { length bytes.now ≤ 2044 }

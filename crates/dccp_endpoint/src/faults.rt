@@ -1,4 +1,4 @@
-//! What the options of a packet may be faulted for, and where they count (RFC 4340, sections 5.8 and 8.5, step 8).
+//! What can be wrong with the options of a packet, and where they count (RFC 4340, sections 5.8 and 8.5, step 8).
 ghost use Rattle.std.specs.Prelude.{◌≡◌, ◌&&◌, slice_index};
 ghost use Rattle.dccp_options.specs.Left.{entry_of_option};
 ghost use Rattle.dccp_endpoint.specs.Faults.{counts, mandatory_fault};
@@ -41,7 +41,7 @@ pub(crate) fn mandatory_fault() -> Fault
     }
 }
 
-/// Tells whether options of the negotiation count on a packet of this type.
+/// Whether options of the negotiation count on a packet of this type.
 pub(crate) fn counts(phase: Phase, kind: PacketType) -> bool
     ensures { result ≡ counts phase kind }
 {
@@ -77,7 +77,7 @@ pub(crate) fn counts(phase: Phase, kind: PacketType) -> bool
     }
 }
 
-/// Tells whether the options of the negotiation are heeded: on the newest packets alone, where they count.
+/// Whether the options of the negotiation are heeded: only on a newest packet, and if they count there.
 pub(crate) fn heeds_negotiation(newest: bool, phase: Phase, kind: PacketType) -> bool
     ensures { result ≡ (newest && counts phase kind) }
 {

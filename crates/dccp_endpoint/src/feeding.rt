@@ -6,7 +6,7 @@ use crate::{Endpoint, Outcome};
 use congestion_trait::Congestion;
 use dccp_packets::{Frame, Outbox};
 
-// Hands one frame to the end, and answers 1 where it was taken and else 0.
+// Hands one frame to the end, and returns 1 if it was taken, otherwise 0.
 fn feed_one<C: Congestion>(end: &mut Endpoint<C>, frame: &Frame) -> u32
     ensures after { end.new ≡ after_frame C.control end.old frame.now }
     ensures count { result ≡ count_of_outcome (receiving C.control end.old frame.now).answer }
@@ -19,9 +19,9 @@ fn feed_one<C: Congestion>(end: &mut Endpoint<C>, frame: &Frame) -> u32
     }
 }
 
-/// Hands the frames to [`Endpoint::receive`] in order, each with an Outbox of its own, and answers how many were `Took`
-/// (own). The end afterwards is the step of receiving, folded over the frames, whatever bytes they are; what it answers
-/// goes nowhere. It takes no memory.
+/// Hands the frames to [`Endpoint::receive`] in order, each with its own Outbox, and returns how many were `Took`
+/// (own). The end is then as the step of receiving, folded over the frames, leaves it, whatever bytes they are. What
+/// the end sends is dropped. It takes no memory.
 pub fn feed<C: Congestion>(end: &mut Endpoint<C>, frames: &[Frame]) -> u32
     requires few { length frames.now < 2 ^ 32 }
     ensures after { end.new ≡ fed C.control end.old frames.now }

@@ -19,7 +19,7 @@ use std::marker::Model;
 // How many Changes of a packet count.
 const MOST_CHANGES: usize = 64;
 
-/// What reading the options of a packet has come to: the rows, which features were spoken of by L and by R, how many
+/// The result so far of reading the options of a packet: the rows, which features had an option by L and by R, how many
 /// Changes were met, and the Confirms that are due, in order.
 #[derive(Drop)]
 pub(crate) struct Reading {
@@ -107,7 +107,7 @@ impl Reading {
         }
     }
 
-    // The option was met: no other one speaks of its feature by its letter.
+    // Notes the option: from now on no other one for its feature by its letter counts.
     fn meet(&mut self, place: usize, change: bool)
         requires { place < 512 }
         ensures { self.new ≡ met self.old place change self.old.rows self.old.confirms }
@@ -229,7 +229,7 @@ impl Reading {
         }
     }
 
-    // An option that is not understood is a fault after Mandatory alone.
+    // An option that is not understood is a fault only after Mandatory.
     fn misunderstand(&self, option: &Opt<'_>) -> Result<(), Fault>
         ensures { heeding_or self.now result ≡ misunderstood self.now (entry_of_option option.now) }
     {
@@ -239,7 +239,7 @@ impl Reading {
         Ok(())
     }
 
-    // An option of the negotiation is heeded where such options count. All others say nothing to the rows.
+    // An option of the negotiation is heeded if such options count. All others say nothing to the rows.
     fn heed_option(
         &mut self,
         option: &Opt<'_>,
@@ -257,7 +257,7 @@ impl Reading {
         Ok(())
     }
 
-    // An option, or a fault of Mandatory itself; `count` tells whether options of the negotiation count.
+    // An option, or a fault of Mandatory itself; `count` says whether options of the negotiation count.
     fn heed_item(
         &mut self,
         item: &Result<Opt<'_>, OptFault>,
@@ -273,7 +273,7 @@ impl Reading {
     }
 }
 
-/// Reads the options of an area, on a Data packet or on another, in order, up to the first fault; `count` tells whether
+/// Reads the options of an area, on a Data packet or on another, in order, up to the first fault; `count` says whether
 /// those of the negotiation count, and `ack` is the packet's acknowledgement number.
 pub(crate) fn heed(
     reading: &mut Reading,
@@ -302,8 +302,7 @@ fn is_silent(item: &Result<Opt<'_>, OptFault>, count: bool) -> bool
     }
 }
 
-/// Tells that no option of an area has a fault or says anything to the rows, as nearly always: then there is nothing to
-/// read.
+/// Whether no option of an area has a fault or says anything to the rows, as is usual: then there is nothing to read.
 pub(crate) fn are_silent(area: &[u8], on_data: bool, count: bool) -> bool
     requires { length area.now ≤ 1008 }
     ensures { result ≡ true → (ack : Option ℕ) (heeding : ReadingState)
@@ -317,7 +316,7 @@ pub(crate) fn are_silent(area: &[u8], on_data: bool, count: bool) -> bool
     true
 }
 
-// Reads an option area of a Request, where the rows are these.
+// Reads an option area of a Request, if the rows are these.
 fn heed_beside(rows: &Negotiation, area: &[u8]) -> Result<(), Fault>
     requires { length area.now ≤ 1008 }
     ensures { result ≡ fault_if (heeds true None (unheeded rows.now) (options_of area.now false)) }
@@ -327,8 +326,8 @@ fn heed_beside(rows: &Negotiation, area: &[u8]) -> Result<(), Fault>
     Ok(())
 }
 
-// The same, where they are fresh. It stands apart, for the room of the rows is made ready where it begins, and few
-// Requests come here.
+// The same, if they are fresh. It is a separate function, since the room of the rows is made ready at its beginning,
+// and few Requests come here.
 fn heed_freshly(lists: &Lists, area: &[u8]) -> Result<(), Fault>
     requires { length area.now ≤ 1008 }
     ensures { result ≡ fault_if (reads_request lists.now area.now) }
@@ -336,9 +335,9 @@ fn heed_freshly(lists: &Lists, area: &[u8]) -> Result<(), Fault>
     heed_beside(&Negotiation::new(Role2::Server, lists), area)
 }
 
-/// Reads the option area of a Request for its service that reaches a server's end in LISTEN, without such an end, whose
-/// configuration has these lists: Ok where the end would answer the Request, and else the fault for which it would
-/// close and that its Reset would tell (RFC 4340, sections 5.8 and 8.5, step 8). It takes no memory.
+/// Reads the option area of a Request without an end, as a server's end in LISTEN would whose configuration has these
+/// lists and whose service the Request asks for. Ok if that end would answer the Request, and otherwise the fault for
+/// which it would close, which its Reset would name (RFC 4340, sections 5.8 and 8.5, step 8). It takes no memory.
 pub(crate) fn heed_request(lists: &Lists, area: &[u8]) -> Result<(), Fault>
     requires { length area.now ≤ 1008 }
     ensures { result ≡ fault_if (reads_request lists.now area.now) }

@@ -38,7 +38,7 @@ impl<'a> IncomingPacket<'a> {
     ghost use Rattle.dccp_packets.specs.Kinds.{has_ack};
     ghost use Rattle.dccp_endpoint.specs.Incoming.{incoming_of, parts_of_packet};
 
-    // What is read of a packet with these numbers in full, in an input of so many bytes.
+    // What is read of a packet with these numbers in full, in an input of this many bytes.
     pub(crate) fn of(
         packet: &Packet<'a>,
         number: Seq48,

@@ -14,7 +14,7 @@ use crate::{Config, Fault, Outcome};
 use dccp_packets::{Header, Kind, Number, Numbers, Outbox, encode};
 use seq_circle::Seq48;
 
-/// Leaves a packet in the Outbox, where it is written: a frame is large.
+/// Writes a packet directly into the Outbox, since a frame is large.
 #[tactic(auto, unfolding(crate::specs::Drafts::framed), using(crate::proofs::Short::is_formed, crate::proofs::Short::no_longer))]
 pub(crate) fn put_frame(
     config: &Config,
@@ -49,7 +49,7 @@ pub(crate) fn put_frame(
     seal_frame(&config.pseudo_out, frame);
 }
 
-/// Leaves a packet without options and data in the Outbox; its type has long numbers alone.
+/// Leaves a packet without options and data in the Outbox; its type has only long numbers.
 #[tactic(auto, using(crate::proofs::Frames::fixed_part_is_short))]
 pub(crate) fn put_alone(config: &Config, number: Seq48, kind: Kind, out: &mut Outbox)
     requires { may_be_short (packet_type kind) ≡ false }
@@ -68,9 +68,9 @@ pub(crate) fn number_without_connection(ack: Option<Seq48>) -> Seq48
     }
 }
 
-/// Leaves a Reset in the Outbox that tells of a fault, under this number, with this acknowledgement number, and between
-/// the ends of the configuration; answers that it did (RFC 4340, section 5.6). It is for who answers without an end:
-/// one that has a connection sends its own Resets.
+/// Leaves a Reset in the Outbox that names a fault, under this number, with this acknowledgement number, and between
+/// the ends of the configuration; answers that it did (RFC 4340, section 5.6). It is for an owner that answers without
+/// an end; an end with a connection sends its own Resets.
 pub fn put_reset(
     config: &Config,
     number: Seq48,

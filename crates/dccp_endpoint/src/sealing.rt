@@ -6,7 +6,7 @@ use dccp_packets::Frame;
 use dccp_sum::{Pseudo, seal};
 
 /// Writes a frame's checksum for these addresses, over what was there (RFC 4340, section 9.1). A frame whose coverage
-/// passes its end stays as it is.
+/// passes its end is unchanged.
 pub fn seal_frame(pseudo: &Pseudo, frame: &mut Frame)
     requires { 8 ≤ length frame.old }
     ensures { frame.new ≡ sealed pseudo.now frame.old }

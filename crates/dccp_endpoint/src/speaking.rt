@@ -1,8 +1,8 @@
-//! What an end says of features on its packets (RFC 4340, section 6).
+//! What an end says about features on its packets (RFC 4340, section 6).
 //!
-//! That all that is due fits a packet is shown by lengths. A vector takes at most 510 bytes, and 18 Changes take 12
-//! each. There are at most 64 Confirms, of which only those for a known feature can take more than 3 bytes, at most
-//! one for each of the 18 rows: 354 bytes. Counted as 12 each they would not fit beside a vector.
+//! The lengths show that all that is due fits into a packet. A vector takes at most 510 bytes, and 18 Changes take 12
+//! each. There are at most 64 Confirms, of which only those for a known feature can take more than 3 bytes, at most one
+//! for each of the 18 rows: 354 bytes. If each were counted as 12, they would not fit together with a vector.
 ghost use Rattle.std.specs.Prelude.{◌≡◌, ◌+◌, ◌*◌, ◌^◌, ◌<◌, ◌≤◌, ◌++◌, [], ◌∷◌, length, map, true, false, Some};
 ghost use Rattle.arrayvec.specs.ArrayVec.{array_vec_len};
 ghost use Rattle.dccp_options.specs.Written.{written};
@@ -137,7 +137,7 @@ fn is_confirmed(confirms: &[ConfirmOut], feature: Feature, place: Place) -> bool
     false
 }
 
-// The offer of a row comes up; of one that asks already nothing does.
+// Makes the offer of a row, unless the row asks already.
 fn open_offer(rows: &mut Negotiation, feature: Feature, place: Place, confirmed: bool)
     ensures { rows.new ≡ turned rows.old (offerings (λ k. confirmed) ((feature, place) ∷ [])) }
 {
@@ -146,7 +146,7 @@ fn open_offer(rows: &mut Negotiation, feature: Feature, place: Place, confirmed:
     }
 }
 
-/// All offers that were not made yet come up; of the rows that meet a Confirm they are dropped.
+/// Makes all offers that were not made yet; those of rows that have one of these Confirms are dropped.
 pub(crate) fn open_offers(rows: &mut Negotiation, confirms: &[ConfirmOut])
     ensures { rows.new ≡ turned rows.old (offerings (is_confirmed (map due_of confirms.now)) every_place) }
 {
@@ -157,7 +157,7 @@ pub(crate) fn open_offers(rows: &mut Negotiation, confirms: &[ConfirmOut])
     }
 }
 
-/// The rows whose Change is due and that none of the Confirms is for.
+/// The rows whose Change is due and that have none of these Confirms.
 pub(crate) fn asking(rows: &Negotiation, confirms: &[ConfirmOut]) -> Keys
     requires { IsNegotiation rows.now }
     ensures keys { result ≡ asking rows.now (map due_of confirms.now) }
@@ -172,7 +172,7 @@ pub(crate) fn asking(rows: &Negotiation, confirms: &[ConfirmOut]) -> Keys
     keys
 }
 
-/// These rows' Changes go out under this number.
+/// The Changes of these rows go out under this number.
 pub(crate) fn send_all(rows: &mut Negotiation, keys: &[(Feature, Place)], number: Seq48)
     requires sound { IsNegotiation rows.old }
     requires due { AreDue rows.old keys.now }

@@ -1,4 +1,4 @@
-//! What is answered without an end: a packet that opens no connection (RFC 4340, section 8.5, steps 1 to 8).
+//! The answer, without an end, to a packet that opens no connection (RFC 4340, section 8.5, steps 1 to 8).
 ghost use Rattle.std.specs.Prelude.{◌≡◌, ◌≤◌, ℕ, List, Some, None, Ok, false, length};
 ghost use Rattle.dccp_endpoint.specs.Drafts.{sent_of};
 ghost use Rattle.dccp_endpoint.specs.End.{new_end};
@@ -30,7 +30,7 @@ pub(crate) fn without_detail(code: ResetCode) -> Fault
     }
 }
 
-/// Tells whether the ports of a packet are those of its peer and of the end with this configuration.
+/// Whether the ports of a packet are those of its peer and of the end with this configuration.
 pub(crate) fn is_of_connection(config: &Config, header: &Header) -> bool
     ensures { result ≡ is_of_connection (new_end config.now) header.now }
 {
@@ -56,7 +56,7 @@ fn check_header(config: &Config, bytes: &[u8], header: &Header) -> Result<Seq48,
     }
 }
 
-// A Request for the service. A fresh end hears its options (step 8), and answers it; or it closes, and tells of their
+// A Request for the service. A fresh end hears its options (step 8), and answers it; or it closes, and names their
 // fault under its first number.
 fn hear_request(config: &Config, area: &[u8], number: Seq48, out: &mut Outbox) -> Option<Outcome>
     requires empty { out.old ≡ None }
@@ -72,7 +72,7 @@ fn hear_request(config: &Config, area: &[u8], number: Seq48, out: &mut Outbox) -
     }
 }
 
-// Steps 2 and 3, where the packet leaves there with a Reset of no connection.
+// Steps 2 and 3, if the packet leaves there with a Reset of no connection.
 fn reset_stranger(
     config: &Config,
     packet: &Packet<'_>,
@@ -129,10 +129,10 @@ fn turn_away(
     }
 }
 
-/// Answers a packet as a server's end of this configuration would that has heard nothing, where that end would not
-/// stay: its answer, with its frame in the Outbox, which has to be empty before. None where it would stay, in RESPOND,
-/// and then nothing is sent: an end has to hear the packet (RFC 4340, section 8.5). `packet` is what `decode` makes of
-/// `bytes`, at most 2,044 of them. It takes no memory.
+/// Answers a packet as a server's end of this configuration would that has received nothing yet, if that end would not
+/// stay. Returns its answer, and leaves its frame in the Outbox, which has to be empty before. Returns None, and sends
+/// nothing, if the end would stay, in RESPOND: then an end has to receive the packet (RFC 4340, section 8.5). `packet`
+/// is what `decode` makes of `bytes`, at most 2,044 of them. It takes no memory.
 #[tactic(auto, unfolding(crate::specs::Receiving::receives))]
 pub fn answer_stranger(
     config: &Config,

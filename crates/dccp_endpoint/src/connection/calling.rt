@@ -11,9 +11,9 @@ use dccp_states::{Phase, Role};
 use feature_lists::{Feature, Place, PreferFault, Wanted, wish};
 use feature_machine::Opening;
 
-/// Tells whether a timer has something to do in a phase: Request in REQUEST; Ack and Negotiate in PARTOPEN and OPEN;
-/// Rto in OPEN; Close in CLOSEREQ and CLOSING; TimeWait in TIMEWAIT. Negotiate needs a row that asks beside it, and Rto
-/// something in flight (RFC 4340, sections 8.1.1, 8.1.5, 6.6.3 and 8.3; RFC 4341, section 5).
+/// Whether a timer has something to do in a phase: Request in REQUEST; Ack and Negotiate in PARTOPEN and OPEN; Rto in
+/// OPEN; Close in CLOSEREQ and CLOSING; TimeWait in TIMEWAIT. Negotiate also needs a row that asks, and Rto something
+/// in flight (RFC 4340, sections 8.1.1, 8.1.5, 6.6.3 and 8.3; RFC 4341, section 5).
 pub fn applies_in(timer: Timer, phase: Phase) -> bool
     ensures { result ≡ applies_in timer phase }
 {
@@ -180,7 +180,7 @@ impl Connection {
         }
     }
 
-    // The row has this wish from now on, and the windows stay as wide as the rows say. Tells whether the row asks at
+    // The row has this wish from now on, and the windows stay as wide as the rows say. Returns whether the row asks at
     // once.
     fn want(&mut self, feature: Feature, place: Place, wish: Wanted) -> bool
         requires { is_wish feature place wish ≡ true }
@@ -205,8 +205,8 @@ impl Connection {
         self.send_ack_asking(Kind::Ack { ack }, keys, out);
     }
 
-    /// A timer has run out, other than that of the congestion control. True exactly where it has something to do in
-    /// this phase.
+    /// A timer has run out, other than that of the congestion control. True exactly if it has something to do in this
+    /// phase.
     #[tactic(auto, unfolding(crate::specs::Calling::fires))]
     pub(crate) fn timer(&mut self, timer: Timer, out: &mut Outbox) -> bool
         requires { timer ≢ Timer.Rto }
@@ -239,14 +239,14 @@ impl Connection {
         }
     }
 
-    /// Why data are not sent, if it is so.
+    /// Why data are not sent, or None if they are.
     pub(crate) fn send_fault(&self, payload: &[u8], may_send: bool) -> Option<SendFault>
         ensures { result ≡ send_fault self.now payload.now may_send }
     {
         self.fault_where(is_open(self.phase), payload, may_send)
     }
 
-    // Why data are not sent, if it is so, by whether they may go in this phase.
+    // Why data are not sent, or None if they are, by whether they may go in this phase.
     pub(crate) fn fault_where(
         &self,
         fits_phase: bool,
@@ -276,7 +276,7 @@ impl Connection {
             && self.rows.held(Feature::SendAckVector, Place::There).value != 1
     }
 
-    // An Ack, which nothing asks for.
+    // Sends an Ack, whether or not one is owed.
     fn acknowledge_now(&mut self, out: &mut Outbox)
         ensures { record { after = self.new; frame = out.new; calls = []; answer = true } ≡ sends_ack self.old (alone (kind.Ack (Long self.old.marks.gsr))) true }
     {

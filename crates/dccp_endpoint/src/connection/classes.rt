@@ -1,4 +1,4 @@
-//! Classes of phases and of packet types that the steps of an end ask for (RFC 4340, sections 8.1 and 8.5).
+//! Classes of phases and of packet types that the steps of an end distinguish (RFC 4340, sections 8.1 and 8.5).
 ghost use Rattle.std.specs.Prelude.{◌≡◌};
 ghost use Rattle.dccp_endpoint.specs.End.{is_connected, is_live, is_open};
 ghost use Rattle.dccp_endpoint.specs.Reporting.{carries_data, is_acking};
@@ -23,7 +23,7 @@ pub(super) fn is_live(phase: Phase) -> bool
     )
 }
 
-// The phases in which the handshake has got through to this end.
+// PARTOPEN and OPEN: this end has done its part of the handshake.
 pub(super) fn is_connected(phase: Phase) -> bool
     ensures { result ≡ is_connected phase }
 {

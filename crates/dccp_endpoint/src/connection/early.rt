@@ -1,4 +1,4 @@
-//! Data of a client that speaks first, in PARTOPEN (own; RFC 4340, section 8.1.5, lets it).
+//! Data of a client that speaks first, in PARTOPEN (own; RFC 4340, section 8.1.5, permits it).
 ghost use Rattle.std.specs.Prelude.{◌≡◌};
 ghost use Rattle.dccp_endpoint.specs.Early.{is_part_open};
 
@@ -21,21 +21,21 @@ impl Connection {
     ghost use Rattle.dccp_endpoint.specs.Early.{early_fault, is_part_open};
     ghost use Rattle.dccp_endpoint.specs.Steps.{next_number};
 
-    /// Data that are sent now are early.
+    /// Whether data that are sent now are early.
     pub(crate) fn is_part_open(&self) -> bool
         ensures { result ≡ is_part_open self.now.phase }
     {
         is_part_open(self.phase)
     }
 
-    /// Why early data are not sent, if it is so.
+    /// Why early data are not sent, or None if they are.
     pub(crate) fn early_fault(&self, payload: &[u8], may_send: bool) -> Option<SendFault>
         ensures { result ≡ early_fault self.now payload.now may_send }
     {
         self.fault_where(self.is_part_open(), payload, may_send)
     }
 
-    /// Sends data on a DataAck, whatever is owed, and tells under which number.
+    /// Sends data on a DataAck, even if no acknowledgement is owed, and returns its number.
     pub(crate) fn send_early_data(&mut self, payload: &[u8], out: &mut Outbox) -> Seq48
         requires { length payload.now ≤ 1024 }
         ensures step { record { after = self.new; frame = out.new; calls = []; answer = Ok (tt {0}) } ≡ sends_data self.old payload.now true }

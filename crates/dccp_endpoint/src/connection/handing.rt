@@ -32,7 +32,7 @@ fn ratio(rows: &Negotiation) -> u16
     held.value as u16
 }
 
-// The number from which the Ack Vectors of a packet report; the number that a Sync acknowledges may be any.
+// The number from which the Ack Vectors of a packet report. None for a Sync, which may acknowledge any number.
 fn reported_from(packet: &IncomingPacket<'_>) -> Option<Seq48>
     ensures { result ≡ reported_from packet.now.kind packet.now.ack }
 {
@@ -63,7 +63,7 @@ fn report<C: Congestion>(packet: &IncomingPacket<'_>, ratio: u16, congestion: &m
     }
 }
 
-// Where the CCID changes, the congestion control is started, unless it does not know the new one.
+// If the CCID changes, starts the congestion control with the new one, if it knows that.
 fn start<C: Congestion>(old: u8, new: u8, congestion: &mut C)
     ensures { congestion.new ≡ after_calls C.control congestion.old (start_calls old new) }
 {
@@ -72,7 +72,7 @@ fn start<C: Congestion>(old: u8, new: u8, congestion: &mut C)
     }
 }
 
-// What is due for a packet, by the rows before and after it.
+// Hands over what is due for a packet, by the rows before and after it.
 pub(crate) fn hand_over<C: Congestion>(
     packet: &IncomingPacket<'_>,
     old: &Negotiation,

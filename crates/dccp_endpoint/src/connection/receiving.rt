@@ -1,6 +1,5 @@
-//! What an end does with a packet that arrives: the sixteen steps of RFC 4340, section 8.5. `take_packet`,
-//! `take`, `take_steps`, `take_options`, `negotiate` and `process` list them, and each has a function of its own, below or in
-//! `replying`.
+//! What an end does with a packet that arrives: the sixteen steps of RFC 4340, section 8.5. `take_packet`, `take`,
+//! `take_steps`, `take_options`, `negotiate` and `process` list them, and each is a function, below or in `replying`.
 use super::Connection;
 use super::classes::{carries_data, is_acking, is_live, is_open};
 use super::handing::hand_over;
@@ -85,7 +84,7 @@ impl Connection {
         let _phase = self.phase;
     }
 
-    // Step 1, and with what it lets pass the others.
+    // Step 1, and the other steps for a packet that it lets pass.
     #[tactic(auto, unfolding(crate::specs::Receiving::receives))]
     fn take_bytes<C: Congestion>(
         &mut self,
@@ -103,8 +102,8 @@ impl Connection {
         }
     }
 
-    // The same of bytes that were decoded: what the header and the checksum say, and with what they let pass the other
-    // steps.
+    // The same for bytes that were decoded: the checks of header and checksum, and the other steps for a packet that
+    // they let pass.
     #[tactic(auto, unfolding(crate::specs::Receiving::receives))]
     fn take_packet<C: Congestion>(
         &mut self,
@@ -146,8 +145,8 @@ impl Connection {
         }
     }
 
-    // Step 8. Most packets have no option that says anything to the rows: then these stay, and the windows too, which
-    // are as wide as they say, and no Confirm is due.
+    // Step 8. Most packets have no option that says anything to the rows. Then the rows stay, and so do the windows,
+    // whose widths are values of rows; and no Confirm is due.
     fn take_options<C: Congestion>(
         &mut self,
         packet: &IncomingPacket<'_>,
@@ -165,9 +164,9 @@ impl Connection {
         self.process(packet, &[], out)
     }
 
-    // Step 8, whole: the first fault of the options ends the connection, and else the rows are stored, once the
-    // congestion control has what is due to it. With the Confirms that are due come steps 10 to 16. It stands apart,
-    // for the room that it takes for a copy of the rows is large, and few packets come here.
+    // Step 8, whole: the first fault of the options ends the connection; without one the rows are stored, once the
+    // congestion control has what is due to it. Steps 10 to 16 follow, with the Confirms that are due. It is a separate
+    // function, since its copy of the rows is large, and few packets come here.
     #[inline(never)]
     fn negotiate<C: Congestion>(
         &mut self,
@@ -190,7 +189,7 @@ impl Connection {
         }
     }
 
-    // Steps 2 to 7 and 9, in their order; an error where the packet leaves at one.
+    // Steps 2 to 7 and 9, in their order; an error if the packet leaves at one of them.
     #[tactic(auto, using(crate::proofs::Phases::accept_fits))]
     fn take_steps(&mut self, packet: &IncomingPacket<'_>) -> Result<(), Exit>
         ensures course { course self.new result ≡ through (Goes self.old) (the_steps packet.now (gate self.old.phase packet.now.kind)) }
@@ -206,8 +205,8 @@ impl Connection {
         self.check_type(packet) // 7
     }
 
-    // Step 1 drops what has a wrong checksum, comes over other ports or has a short number that is not taken, in this
-    // order.
+    // Step 1 drops a packet that has a wrong checksum, has other ports, or has a short number that is not taken, in
+    // this order.
     fn check_header(&self, bytes: &[u8], header: &Header) -> Result<Seq48, Why>
         requires low { 8 ≤ length bytes.now }
         requires high { length bytes.now ≤ 65535 }
@@ -222,7 +221,7 @@ impl Connection {
         self.read_number(&header.number)
     }
 
-    // The number in full: a short one is near GSR, where short numbers are taken.
+    // The number in full: a short one is read near GSR, if short numbers are taken.
     fn read_number(&self, number: &Number) -> Result<Seq48, Why>
         ensures { result ≡ read_number self.now number.now }
     {
@@ -252,7 +251,7 @@ impl Connection {
         !is_live(self.phase) || self.marks.gsr.before(number)
     }
 
-    // Step 2: without a connection a packet gets a Reset, and a Reset nothing.
+    // Step 2: without a connection a Reset is dropped, and any other packet is answered with a Reset.
     fn find_connection(&self, entrance: Entrance) -> Result<(), Exit>
         ensures { course self.now result ≡ finds_connection entrance self.now }
     {
@@ -305,7 +304,8 @@ impl Connection {
         self.received.start(packet.number);
     }
 
-    // Step 4: in REQUEST a Response starts what is received, and a Reset goes on, where they acknowledge the Request.
+    // Step 4: in REQUEST a Response starts the receiving, and a Reset passes to the next steps, if they acknowledge the
+    // Request.
     fn take_answer(&mut self, packet: &IncomingPacket<'_>, entrance: Entrance) -> Result<(), Exit>
         ensures course { course self.new result ≡ takes_answer packet.now entrance self.old }
         ensures config { self.new.config ≡ self.old.config }
@@ -334,7 +334,7 @@ impl Connection {
         }
     }
 
-    // Whether the acknowledgement number, where there is one, lies in the window of what was sent.
+    // Whether the acknowledgement number, if there is one, lies in the window of what was sent.
     fn acknowledges_in_window(&self, packet: &IncomingPacket<'_>) -> bool
         ensures { result ≡ acknowledges_in_window self.now packet.now }
     {
@@ -389,8 +389,8 @@ impl Connection {
         }
     }
 
-    // Step 7: a packet that its phase does not expect is answered with a Sync; a Response for another service than was
-    // asked for ends the connection.
+    // Step 7: a packet that its phase does not expect is answered with a Sync. A Response with another service than the
+    // client's ends the connection.
     fn check_type(&self, packet: &IncomingPacket<'_>) -> Result<(), Exit>
         ensures { course self.now result ≡ checks_type packet.now self.now }
     {
@@ -427,7 +427,7 @@ impl Connection {
         are_silent(packet.options, packet.kind.is_data(), count)
     }
 
-    // Reads the options, where nothing of them was read yet.
+    // Reads the options into `reading`, which has read nothing yet.
     fn read_options(&self, packet: &IncomingPacket<'_>, reading: &mut Reading) -> Result<(), Fault>
         requires { reading.old ≡ unheeded self.now.rows }
         ensures { heeding_or reading.new result ≡ reads_options self.now packet.now }

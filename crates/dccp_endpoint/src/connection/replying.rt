@@ -15,7 +15,7 @@ use feature_lists::{Feature, Place};
 use feature_machine::ConfirmOut;
 use seq_circle::Seq48;
 
-// Packet Error tells of the packet's type.
+// Packet Error names the packet's type.
 fn packet_fault(packet: &IncomingPacket<'_>) -> Fault
     ensures { result ≡ packet_fault packet.now }
 {
@@ -66,7 +66,7 @@ impl Connection {
         }
     }
 
-    // As many data packets are not acknowledged as the peer asks for by its Ack Ratio.
+    // Whether as many data packets are not acknowledged as the peer's Ack Ratio says.
     fn is_enough(&self) -> bool
         ensures { result ≡ is_enough self.now.rows self.now.unacked }
     {
@@ -74,8 +74,8 @@ impl Connection {
         ratio != 0 && ratio <= u64::from(self.unacked)
     }
 
-    // Where the table has no reply: an Ack is needed in PARTOPEN and OPEN if Confirms are due, and in OPEN for enough
-    // data packets.
+    // Whether an Ack is needed if the table has no reply: in PARTOPEN and OPEN if Confirms are due, and in OPEN after
+    // enough data packets.
     fn needs_ack(&self, confirms: &[ConfirmOut]) -> bool
         ensures { result ≡ needs_ack self.now.phase (map due_of confirms.now) self.now.rows self.now.unacked }
     {
@@ -83,7 +83,7 @@ impl Connection {
             && (!confirms.is_empty() || (is_open(self.phase) && self.is_enough()))
     }
 
-    // Where the table has no reply, an Ack goes out if it is needed.
+    // If the table has no reply, sends an Ack if one is needed.
     fn acknowledge_if_due(
         &mut self,
         confirms: &[ConfirmOut],
@@ -190,7 +190,7 @@ impl Connection {
         Outcome::SentReset { code, detail }
     }
 
-    // A Reset without a connection takes its numbers from the packet, and the end stays as it is (own).
+    // A Reset without a connection takes its numbers from the packet, and the end is unchanged (own).
     fn reset_without_connection(
         &mut self,
         packet: &IncomingPacket<'_>,

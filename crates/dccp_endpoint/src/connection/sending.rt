@@ -54,8 +54,7 @@ fn put_two(area: &mut OptWriter, bytes: &[u8])
     put_option(area, second);
 }
 
-// Writes the options of an Ack Vector with these bytes: one where it has room for them, otherwise a full one and a
-// second.
+// Writes the options of an Ack Vector with these bytes: one if it has room for them, otherwise a full one and a second.
 fn put_options(area: &mut OptWriter, bytes: &[u8])
     requires fits { length bytes.now ≤ 506 }
     requires room { length area.old + 510 ≤ 1008 }
@@ -87,7 +86,7 @@ impl Connection {
     ghost use Rattle.dccp_endpoint.specs.Speaking.{HaveRoom, AreChanging, AreDue, asking, asking_frame, asks, confirming, offers, saying};
     ghost use Rattle.dccp_endpoint.specs.Steps.{next_frame, next_number, with_next_number};
 
-    // Sends a packet without options and data under the next number; its type has long numbers alone.
+    // Sends a packet without options and data under the next number; its type has only long numbers.
     pub(crate) fn send(&mut self, kind: Kind, out: &mut Outbox)
         requires { may_be_short (packet_type kind) ≡ false }
         ensures counted { self.new ≡ with_next_number self.old }
@@ -125,7 +124,7 @@ impl Connection {
         );
     }
 
-    // Sends a packet with Confirms alone under the next number.
+    // Sends a packet with only Confirms under the next number.
     #[tactic(auto, using(crate::proofs::Frames::fixed_part_is_short))]
     pub(crate) fn send_confirming(&mut self, kind: Kind, confirms: &[ConfirmOut], out: &mut Outbox)
         requires form { may_be_short (packet_type kind) ≡ false }
@@ -176,8 +175,8 @@ impl Connection {
             && self.marks.peer_w <= WIDEST_SHORT
     }
 
-    // Whether a packet goes out with short numbers that says nothing of features but these Confirms and the Changes of
-    // these rows.
+    // Whether a packet goes out with short numbers, if all that it says of features is these Confirms and the Changes
+    // of these rows.
     fn goes_short(&self, confirms: &[ConfirmOut], keys: &[(Feature, Place)]) -> bool
         ensures { result ≡ (allows_short self.now && not (has_confirms (map due_of confirms.now) || has_keys keys.now)) }
     {
@@ -191,7 +190,7 @@ impl Connection {
         self.rows.held(Feature::SendAckVector, Place::Here).value == 1
     }
 
-    // Writes the Ack Vector of the greatest number received into its options; true where they hold it whole.
+    // Writes the Ack Vector of the greatest number received into its options; true if they hold all of it.
     fn put_vector(&self, area: &mut OptWriter) -> bool
         requires room { length area.old + 510 ≤ 1008 }
         ensures bytes { area.new ≡ area.old ++ written (vector_items true self.now.config.vectors self.now.received.set self.now.marks.gsr) }
@@ -206,7 +205,7 @@ impl Connection {
         whole
     }
 
-    // Writes the Ack Vector if it goes out, and tells then whether it is whole.
+    // Writes the Ack Vector if one goes out, and then returns whether it is whole.
     fn report(&self, area: &mut OptWriter) -> Option<bool>
         requires room { length area.old + 510 ≤ 1008 }
         ensures bytes { area.new ≡ area.old ++ written (vector_items (sends_vectors self.now.rows) self.now.config.vectors self.now.received.set self.now.marks.gsr) }
@@ -231,7 +230,7 @@ impl Connection {
         self.unacked = 0;
     }
 
-    // Sends an Ack: after its Ack Vector the Confirms. Beside these there is no room for Changes of all rows.
+    // Sends an Ack with its Ack Vector, then the Confirms. With these there is no room for the Changes of all rows.
     #[tactic(auto, using(crate::proofs::Frames::fixed_part_is_short))]
     pub(crate) fn send_ack_confirming(
         &mut self,
@@ -253,7 +252,7 @@ impl Connection {
         self.record(whole);
     }
 
-    // Sends an Ack: after its Ack Vector the Changes of these rows, which are in CHANGING.
+    // Sends an Ack with its Ack Vector, then the Changes of these rows, which are in CHANGING.
     #[tactic(auto, using(crate::proofs::Frames::fixed_part_is_short))]
     pub(crate) fn send_ack_asking(
         &mut self,
@@ -276,7 +275,7 @@ impl Connection {
         self.record(whole);
     }
 
-    // Sends a DataAck, which has its Ack Vector alone beside the data.
+    // Sends a DataAck, which has no options except its Ack Vector.
     #[tactic(auto, using(crate::proofs::Frames::fixed_part_is_short))]
     pub(crate) fn send_data_ack(&mut self, payload: &[u8], out: &mut Outbox)
         requires { length payload.now ≤ 1024 }
@@ -303,7 +302,7 @@ impl Connection {
         put_frame(&self.config, number, short, Kind::Data, &[], payload, out);
     }
 
-    /// Sends data, and tells under which number: on a DataAck where an acknowledgement is owed, else on a Data.
+    /// Sends data, and returns the number of their packet: a DataAck if an acknowledgement is owed, else a Data.
     pub(crate) fn send_data(&mut self, payload: &[u8], out: &mut Outbox) -> Seq48
         requires { length payload.now ≤ 1024 }
         ensures step { record { after = self.new; frame = out.new; calls = []; answer = Ok (tt {0}) } ≡ sends_data self.old payload.now self.old.owed }
@@ -346,7 +345,7 @@ impl Connection {
         self.send_saying(kind, confirms, keys, out);
     }
 
-    // All offers that were not made yet come up; of the rows that meet a Confirm they are dropped.
+    // Makes all offers that were not made yet; those of rows that have a Confirm on the packet are dropped.
     fn offer(&mut self, confirms: &[ConfirmOut])
         ensures { self.new ≡ offers self.old (map due_of confirms.now) }
     {
@@ -354,7 +353,7 @@ impl Connection {
         fit(&mut self.marks, &self.rows);
     }
 
-    // No offer is left to come up and no row asks, as mostly: then a packet says no more than its Confirms.
+    // Whether no offer is left and no row asks, as is usual: then a packet says no more than its Confirms.
     fn asks_nothing(&self) -> bool
         ensures stays { result ≡ true → (confirms : List DueConfirm)
             → asks (offers self.now confirms) (asking (offers self.now confirms).rows confirms) ≡ self.now }
@@ -365,8 +364,8 @@ impl Connection {
         self.rows().is_quiet()
     }
 
-    // Sends a packet with these Confirms, once all offers have come up: it carries the Changes of all rows that ask and
-    // have no Confirm in it.
+    // Makes all offers, and then sends a packet with these Confirms, and with the Changes of all rows that ask and have
+    // no Confirm in it.
     pub(crate) fn send_offering(&mut self, kind: Kind, confirms: &[ConfirmOut], out: &mut Outbox)
         requires form { may_be_short (packet_type kind) ≡ false }
         requires room { HaveRoom (map due_of confirms.now) }
