@@ -16,7 +16,7 @@ use Rattle.dccp_uses.specs.declared.holding.Reading.{Reading}
 use Rattle.init_cookies.specs.Appending.{appended}
 use Rattle.init_cookies.specs.Cookies.{cookie_bytes}
 use Rattle.init_cookies.specs.Openings.{OpeningState, request_bytes}
-use Rattle.init_cookies.specs.Routes.{back}
+use Rattle.dccp_sum.specs.Checksum.{reversed}
 use Rattle.init_cookies.specs.declared.cookie.CookieKeys.{CookieKeys}
 use Rattle.init_cookies.specs.declared.route.Route.{Route}
 use Rattle.dccp_c.specs.Accepting.{first_heard}
@@ -49,7 +49,7 @@ is_heard_so (Some outcome) = is_taken outcome
 -- where it has not taken the Request.
 abbrev pub greeting_of : CookieKeys → Route → OpeningState → CStep Reading → Option Outgoing
 greeting_of keys route o step =
-    if is_heard_so step.answer.heard then appended (back route.pseudo) (spelled false init_cookie (cookie_bytes keys route o)) step.frame else step.frame
+    if is_heard_so step.answer.heard then appended (reversed route.pseudo) (spelled false init_cookie (cookie_bytes keys route o)) step.frame else step.frame
 
 -- What greeting comes to once an end has heard it: 0, or 13 where it has not taken the Request; or no memory is found for
 -- one, by 2.

@@ -1,17 +1,12 @@
 -- What an end of each role is made from (RFC 4340, sections 7.2, 8.1.2 and 9.1).
 use Rattle.std.specs.Prelude.{ℕ}
 use Rattle.dccp_sum.specs.declared.pseudo_header.Pseudo.{Pseudo}
-use Rattle.dccp_sum.specs.declared.pseudo_header.Pseudo.TheVariants.{V4, V6}
+use Rattle.dccp_sum.specs.Checksum.{reversed}
 use Rattle.dccp_states.specs.declared.phase.Role.{Role}
 use Rattle.feature_machine.specs.Lists.{usual_lists}
 use Rattle.ack_vectors.specs.declared.room.Vectors.TheVariants.{One}
 use Rattle.dccp_endpoint.specs.declared.config.Config.{Config}
 use Rattle.dccp_endpoint.specs.declared.config.Ports.{Ports}
-
--- the addresses of the packets that come back
-abbrev pub reversed : Pseudo → Pseudo
-reversed (V4 from to) = V4 to from
-reversed (V6 from to) = V6 to from
 
 -- between these addresses and ports, for this service, with this first number and the usual lists
 abbrev pub configured : Role → Pseudo → Ports → ℕ → ℕ → Config

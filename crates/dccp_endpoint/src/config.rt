@@ -1,6 +1,5 @@
 //! What an end is made from.
 ghost use Rattle.std.specs.Prelude.{◌≡◌, ◌<◌, ◌^◌};
-ghost use Rattle.dccp_endpoint.specs.Configured.{reversed};
 
 use ack_vectors::Vectors;
 use dccp_states::Role;
@@ -17,16 +16,6 @@ pub(crate) fn number(n: u64) -> Seq48
     match Seq48::new(n) {
         Some(number) => number,
         None => unreachable!(),
-    }
-}
-
-// The addresses of the packets that come back.
-fn reversed(addresses: &Pseudo) -> Pseudo
-    ensures { result ≡ reversed addresses.now }
-{
-    match *addresses {
-        Pseudo::V4 { from, to } => Pseudo::V4 { from: to, to: from },
-        Pseudo::V6 { from, to } => Pseudo::V6 { from: to, to: from },
     }
 }
 
@@ -93,7 +82,7 @@ impl Config {
     fn of_role(role: Role, addresses: Pseudo, ports: Ports, service: u32, iss: Seq48) -> Config
         ensures { result ≡ configured role addresses ports service iss }
     {
-        let pseudo_in = reversed(&addresses);
+        let pseudo_in = addresses.reversed();
         Config {
             role,
             pseudo_out: addresses,

@@ -1,4 +1,5 @@
 -- What is computed of a list of deeds is a run: one deed by cases on what its peer has, and the induction over all.
+use Rattle.dccp_states.specs.Phases.{is_closed}
 use Rattle.std.proofs.Common.{◌≡◌, refl, ap, sym, ◌∙◌, ℕ, Bool, true, false, cond, if◌then◌else◌, List, [], ◌∷◌, Option, Some, None, IsSome, is_some}
 use Rattle.std.proofs.lemmas.Map.{lookup-remove_entry, lookup-set_value}
 use Rattle.std.proofs.lemmas.Map.Keys.{IsDistinct-from_sorted}
@@ -9,7 +10,7 @@ use Rattle.dccp_endpoint.specs.Inputs.{EndAnswer}
 use Rattle.dccp_endpoint.specs.UserCalls.{seen_of}
 use Rattle.dccp_endpoint.specs.Strangers.{stays_in}
 use Rattle.dccp_listener.specs.Calls.{IsStep}
-use Rattle.dccp_listener.specs.Chain.{Arrives, Calls, ChainStep, Deed, chain_step, flow_step, fresh_end, is_given_up}
+use Rattle.dccp_listener.specs.Chain.{Arrives, Calls, ChainStep, Deed, chain_step, flow_step, fresh_end}
 use Rattle.dccp_listener.specs.Listens.{AreInOrder, WhatIsComputedIsARun, is_table_full, listening_after, listens_by, fresh_met, with_end}
 use Rattle.dccp_listener.specs.Peers.{FlowEnd, Flows, ListenerState, end_of_peer, is_peer, peer_cmp}
 use Rattle.dccp_listener.specs.Runs.{IsTurnSo}
@@ -51,9 +52,9 @@ stands-step l peer deed e found ordered =
     let there : IsSome (end_of_peer l.flows peer) = ap is_some found in
     let shown = λ (after : Option FlowEnd). shows after (flow_step e deed) in
     record {
-      own = ap shown (own-after peer next l.flows (is_given_up next.state.phase) ordered there)
+      own = ap shown (own-after peer next l.flows (is_closed next.state.phase) ordered there)
           ∙ ap (λ (x : Option FlowEnd). chain_step l.config peer x deed) (sym found);
-      others = λ other apart. others-after peer other next l.flows (is_given_up next.state.phase) ordered there apart;
+      others = λ other apart. others-after peer other next l.flows (is_closed next.state.phase) ordered there apart;
       same_config = refl;
     }
 
@@ -116,7 +117,7 @@ order-met l peer iss bytes step true false ordered = in_order_insert peer step.a
 
 order-so : (l : ListenerState) (peer : Peer) (found : Option FlowEnd) (deed : Deed) → AreInOrder l.flows → AreInOrder (listens_by l peer found deed).flows
 order-so l peer (Some e) deed ordered =
-    order-with peer (flow_step e deed).after l.flows (is_given_up (flow_step e deed).after.state.phase) ordered
+    order-with peer (flow_step e deed).after l.flows (is_closed (flow_step e deed).after.state.phase) ordered
 order-so l peer None (Arrives iss bytes) ordered =
     order-met l peer iss bytes (flow_step (fresh_end l.config peer iss bytes) (Arrives iss bytes))
     (stays_in (flow_step (fresh_end l.config peer iss bytes) (Arrives iss bytes)).after.state.phase) (is_table_full l) ordered

@@ -1,4 +1,5 @@
 -- The end of a peer stands: after each step of a chain, and so in each listener.
+use Rattle.dccp_states.specs.Phases.{is_closed}
 use Rattle.std.proofs.Common.{◌≡◌, ◌⊎◌, inl, inr, refl, ap, sym, subst, ◌∙◌, ◌≤◌, ℕ, Bool, true, false, if◌then◌else◌, List, [], length, Option, Some, None, Result, Ok, Err, IfSome, zero-le}
 use Rattle.std.proofs.lemmas.Bool.{false≢true}
 use Rattle.dccp_endpoint.proofs.Calling.{every_step_has_an_effect}
@@ -17,7 +18,7 @@ use Rattle.dccp_states.specs.declared.seen.Seen.{Seen}
 use Rattle.dccp_packets.specs.Outgoing.{Outgoing}
 use Rattle.dccp_endpoint.specs.Strangers.{stays_in}
 use Rattle.dccp_listener.specs.Calls.{Arrived, IsStep}
-use Rattle.dccp_listener.specs.Chain.{Arrives, Calls, ChainStep, Deed, chain_step, config_for, flow_step, fresh_end, input_of_deed, is_given_up}
+use Rattle.dccp_listener.specs.Chain.{Arrives, Calls, ChainStep, Deed, chain_step, config_for, flow_step, fresh_end, input_of_deed}
 use Rattle.dccp_listener.specs.Peers.{FlowEnd, ListenerState, end_of_peer, is_peer}
 use Rattle.dccp_listener.specs.Standing.{ChainsStand, IsSoundListener, IsFlowOf}
 use Rattle.dccp_listener.specs.declared.calls.Heard.{Heard}
@@ -46,7 +47,7 @@ no-wait e given _ hearing server live proper NotNow (inr is) = false≢true is
 no-wait e given _ hearing server live proper (ByCall call client fresh) (inr is) = cc (sym server ∙ client)
 
 -- so it never goes back to LISTEN
-stays-live : (phase : Phase) → (is_waiting phase ≡ true → ⊥) → is_given_up phase ≡ false → stays_in phase ≡ true
+stays-live : (phase : Phase) → (is_waiting phase ≡ true → ⊥) → is_closed phase ≡ false → stays_in phase ≡ true
 stays-live phases.Closed not over = sym over
 stays-live phases.Listen not over = absurd (not refl)
 stays-live phases.Request not over = refl
@@ -58,7 +59,7 @@ stays-live phases.Closing not over = refl
 stays-live phases.TimeWait not over = refl
 
 live-after : (e : EndState) (given : Input) → e.config.role ≡ roles.Server → stays_in e.phase ≡ true → IsProper e
-    → is_given_up (end_stepped e given).after.phase ≡ false → stays_in (end_stepped e given).after.phase ≡ true
+    → is_closed (end_stepped e given).after.phase ≡ false → stays_in (end_stepped e given).after.phase ≡ true
 live-after e given server live proper over =
     let step = every_step_has_an_effect e given proper in
     let same = ap (λ (x : EndState). x.phase) step.after_is in
@@ -97,7 +98,7 @@ ends_stand config peer (Some e) deed lists stands =
     let next : FlowEnd = (flow_step e deed).after in
     let given : Input = input_of_deed deed e.congestion in
     let server : e.state.config.role ≡ roles.Server = ap (λ c. c.role) stands.made_for in
-    if-not-over config peer next (is_given_up next.state.phase)
+    if-not-over config peer next (is_closed next.state.phase)
     (λ over. stands-after config peer stands.iss stands.bytes e.state given next stands.made_for stands.proper refl
     (live-after e.state given server stands.phase_is stands.proper over))
 ends_stand config peer None (Arrives iss bytes) lists none =

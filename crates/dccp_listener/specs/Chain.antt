@@ -1,6 +1,7 @@
 -- What a server of its own would give one peer: the chain of that peer's calls (RFC 4340, section 8.1.2; the rest is
 -- own).
-use Rattle.std.specs.Prelude.{◌==◌, ℕ, Bool, true, false, List, Option, Some, None, Result, Ok, Err, if◌then◌else◌, slice_get, unwrap_or}
+use Rattle.dccp_states.specs.Phases.{is_closed}
+use Rattle.std.specs.Prelude.{◌==◌, ℕ, List, Option, Some, None, Result, Ok, Err, if◌then◌else◌, slice_get, unwrap_or}
 use Rattle.std.specs.List.{list_any}
 use Rattle.congestion_trait.specs.Control.{may_send}
 use Rattle.ccid_two.specs.Kinds.{Both, at_first, kinds_control}
@@ -9,8 +10,6 @@ use Rattle.dccp_packets.specs.declared.header.Kind.{Kind}
 use Rattle.dccp_packets.specs.declared.header.Kind.TheVariants as kind
 use Rattle.dccp_packets.specs.declared.reading.Malformed.{Malformed}
 use Rattle.dccp_sum.specs.declared.pseudo_header.Pseudo.TheVariants.{V4}
-use Rattle.dccp_states.specs.declared.phase.Phase.{Phase}
-use Rattle.dccp_states.specs.declared.phase.Phase.TheVariants as phases
 use Rattle.dccp_states.specs.declared.phase.Role.TheVariants.{Server}
 use Rattle.dccp_states.specs.declared.calls.Timer.{Timer}
 use Rattle.feature_lists.specs.declared.features.Feature.{Feature}
@@ -111,25 +110,13 @@ config_for config peer iss bytes = config_asked config peer iss (asked_service (
 abbrev pub fresh_end : ListenConfig → Peer → ℕ → List ℕ → FlowEnd
 fresh_end config peer iss bytes = begins kinds_control (config_for config peer iss bytes) at_first
 
--- the phase in which an end is given up
-abbrev pub is_given_up : Phase → Bool
-is_given_up phases.Closed = true
-is_given_up phases.Listen = false
-is_given_up phases.Request = false
-is_given_up phases.Respond = false
-is_given_up phases.PartOpen = false
-is_given_up phases.Open = false
-is_given_up phases.CloseReq = false
-is_given_up phases.Closing = false
-is_given_up phases.TimeWait = false
-
 -- a fresh end stays where it has left LISTEN and is not CLOSED
 abbrev pub kept_if_open : FlowEnd → Option FlowEnd
 kept_if_open e = if stays_in e.state.phase then Some e else None
 
 -- an end that stands is given up where it is CLOSED
 abbrev pub kept_until_over : FlowEnd → Option FlowEnd
-kept_until_over e = if is_given_up e.state.phase then None else Some e
+kept_until_over e = if is_closed e.state.phase then None else Some e
 
 -- a step of the chain: the end that the peer has then, the frame that goes to it, and what was seen; nothing was where
 -- there is no end to call

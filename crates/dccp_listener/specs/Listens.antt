@@ -1,4 +1,5 @@
 -- What a call of a listener comes to, computed (own).
+use Rattle.dccp_states.specs.Phases.{is_closed}
 use Rattle.std.specs.Prelude.{◌≡◌, nat_le, ℕ, Bool, true, false, List, [], ◌∷◌, length, Option, Some, None, if◌then◌else◌, slice_get}
 use Rattle.std.specs.BTreeMap.{insert_entry}
 use Rattle.std.specs.List.Sorted.{IsStrictlySortedBy}
@@ -11,7 +12,7 @@ use Rattle.dccp_endpoint.specs.UserCalls.{seen_of}
 use Rattle.dccp_packets.specs.Outgoing.{Outgoing}
 use Rattle.dccp_endpoint.specs.Strangers.{stays_in}
 use Rattle.dccp_listener.specs.Calls.{busy_frame}
-use Rattle.dccp_listener.specs.Chain.{Arrives, Calls, Deed, config_for, flow_step, fresh_end, is_given_up}
+use Rattle.dccp_listener.specs.Chain.{Arrives, Calls, Deed, config_for, flow_step, fresh_end}
 use Rattle.dccp_listener.specs.Peers.{FlowEnd, Flows, ListenerState, end_of_peer, is_peer, peer_cmp}
 use Rattle.dccp_listener.specs.Runs.{IsRunOfTurns, Stepped, CallTold, CallTurn, WasBusy}
 use Rattle.dccp_listener.specs.declared.peer.Peer.{Peer}
@@ -24,7 +25,7 @@ pub record ListenerStep : Type 0 where
 
 -- the flows once the peer's end is this one, which goes where it is CLOSED
 abbrev pub with_end : Flows → Peer → FlowEnd → Flows
-with_end flows peer e = if is_given_up e.state.phase then remove_entry (is_peer peer) flows else set_value (is_peer peer) flows e
+with_end flows peer e = if is_closed e.state.phase then remove_entry (is_peer peer) flows else set_value (is_peer peer) flows e
 
 -- an end has flow_answered, and these are the flows then
 abbrev pub flow_answered : Flows → EndStep Both EndAnswer → ListenerStep

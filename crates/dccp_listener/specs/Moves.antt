@@ -1,5 +1,6 @@
 -- What one deed makes of a peer's end where it is among the others, in two halves: it moves, and goes where it is
 -- over (own).
+use Rattle.dccp_states.specs.Phases.{is_closed}
 use Rattle.std.specs.Prelude.{◌≡◌, ℕ, Bool, List, Option, Some, None}
 use Rattle.std.specs.BTreeMap.{insert_entry}
 use Rattle.std.specs.Map.{set_value}
@@ -7,7 +8,7 @@ use Rattle.ccid_two.specs.Kinds.{Both}
 use Rattle.dccp_endpoint.specs.Controlled.{EndStep}
 use Rattle.dccp_states.specs.declared.outcome.Outcome.{Outcome}
 use Rattle.dccp_packets.specs.Outgoing.{Outgoing}
-use Rattle.dccp_listener.specs.Chain.{is_given_up, kept_until_over}
+use Rattle.dccp_listener.specs.Chain.{kept_until_over}
 use Rattle.dccp_listener.specs.Listens.{with_end}
 use Rattle.dccp_listener.specs.Peers.{FlowEnd, Flows, end_of_peer, is_peer, peer_cmp}
 use Rattle.dccp_listener.specs.declared.peer.Peer.{Peer}
@@ -18,7 +19,7 @@ abbrev pub FlowMoves : {A B : Type 0} → (FlowEnd → EndStep Both A) → (A �
     → Option Outgoing → Option (B × Bool) → Type 0
 FlowMoves step show (Some e) own before after peer frame told =
     (own ≡ Some (step e).after) × (after ≡ set_value (is_peer peer) before (step e).after) × (frame ≡ (step e).frame)
-    × (told ≡ Some (show (step e).answer, is_given_up (step e).after.state.phase))
+    × (told ≡ Some (show (step e).answer, is_closed (step e).after.state.phase))
 FlowMoves step show None own before after peer frame told = (own ≡ None) × (after ≡ before) × (frame ≡ None) × (told ≡ None)
 
 -- the same after both

@@ -5,18 +5,11 @@ ghost use Rattle.dccp_endpoint.specs.Feeding.{receiving};
 ghost use Rattle.dccp_endpoint.specs.Incoming.{parts_of_packet};
 ghost use Rattle.dccp_packets.specs.Grammar.{decoded};
 ghost use Rattle.dccp_endpoint.specs.UserCalls.{seen_of};
-ghost use Rattle.dccp_listener.specs.Chain.{Calls, asked, flow_step, is_given_up};
+ghost use Rattle.dccp_listener.specs.Chain.{Calls, asked, flow_step};
 
 use ccid_two::Kinds;
-use dccp_endpoint::{Endpoint, NoMemory, Outbox, Outcome, Phase, Seen, UserCall};
+use dccp_endpoint::{Endpoint, NoMemory, Outbox, Outcome, Seen, UserCall};
 use dccp_packets::Packet;
-
-/// The phase in which an end is given up.
-pub(crate) fn is_given_up(phase: Phase) -> bool
-    ensures { result ≡ is_given_up phase }
-{
-    matches!(phase, Phase::Closed)
-}
 
 /// The end takes a call of its user.
 pub(crate) fn answer(end: &mut Endpoint<Kinds>, call: UserCall<'_>, out: &mut Outbox) -> Seen

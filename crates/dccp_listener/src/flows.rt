@@ -11,7 +11,7 @@ ghost use Rattle.dccp_listener.specs.Peers.{end_of_peer, is_peer, peer_cmp};
 ghost use Rattle.dccp_listener.specs.declared.peer.Peer.{Peer};
 
 use crate::Peer;
-use crate::answers::{answer, is_given_up, receive};
+use crate::answers::{answer, receive};
 use ccid_two::Kinds;
 use dccp_endpoint::{Endpoint, NoMemory, Outbox, Outcome, Seen, UserCall};
 use std::alloc::Global;
@@ -59,7 +59,7 @@ fn call_flow(
     match flows.get_mut(&peer) {
         Some(held) => {
             let seen = answer(&mut held.end, call, out);
-            let over = is_given_up(held.end.phase());
+            let over = held.end.phase().is_closed();
             Some((seen, over))
         }
         None => None,
@@ -83,7 +83,7 @@ fn receive_at(
     match flows.get_mut(&peer) {
         Some(held) => {
             let outcome = receive(&mut held.end, bytes, out);
-            let over = is_given_up(held.end.phase());
+            let over = held.end.phase().is_closed();
             Some((outcome, over))
         }
         None => None,

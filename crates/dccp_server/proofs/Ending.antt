@@ -1,4 +1,5 @@
 -- Ticks of a listener come to an end: each leaves less that is due.
+use Rattle.dccp_states.specs.Phases.{is_closed}
 use Rattle.std.proofs.Common.{◌≡◌, refl, sym, ap, ◌∙◌, subst, ℕ, zero, suc, ◌+◌, ◌*◌, ◌≤◌, Bool, true, false, if◌then◌else◌, List, [], ◌∷◌, length, Option, Some, None, is_some, IsSome, IfSome, arith}
 use Rattle.std.proofs.lemmas.Bool.{false≢true}
 use Rattle.std.proofs.lemmas.List.Sums.{sum_by-cons}
@@ -12,7 +13,7 @@ use Rattle.ccid_two.specs.Kinds.{Both, kinds_control}
 use Rattle.dccp_packets.specs.Outgoing.{Outgoing}
 use Rattle.dccp_listener.proofs.Computing.{computed_runs}
 use Rattle.dccp_listener.proofs.OnePeer.{peers_total}
-use Rattle.dccp_listener.specs.Chain.{Calls, ChainStep, Fires, FlowCall, chain_step, flow_step, is_given_up}
+use Rattle.dccp_listener.specs.Chain.{Calls, ChainStep, Fires, FlowCall, chain_step, flow_step}
 use Rattle.dccp_listener.specs.Listens.{listening_after, listens, listens_by}
 use Rattle.dccp_listener.specs.Peers.{FlowEnd, ListenerState, end_of_peer, is_peer, peer_cmp}
 use Rattle.dccp_listener.specs.Runs.{CallTold, HadNoMemory, IsTurnSo, Stepped, WasBusy}
@@ -267,7 +268,7 @@ module _ (now : ℕ) where
       → end_of_peer l.flows peer ≡ Some e → is-stepped told ≡ true
       → IsTurnSo l after (record { peer = peer; deed = Calls call; frame = frame; told = turned }) told
       → end_of_peer after.flows peer
-      ≡ (if is_given_up (flow_step e (Calls call)).after.state.phase then None else Some (flow_step e (Calls call)).after)
+      ≡ (if is_closed (flow_step e (Calls call)).after.state.phase then None else Some (flow_step e (Calls call)).after)
   unfolding is-stepped
   end-then l after peer call e frame turned (Stepped it) found is step =
       ap (λ (s : ChainStep). s.after) step.own ∙ ap (λ (x : Option FlowEnd). (chain_step l.config peer x (Calls call)).after) found
@@ -283,13 +284,13 @@ module _ (now : ℕ) where
     abbrev Left : Peer → FlowEnd → Option FlowCall → Type 0
     Left peer e call =
         end_of_peer (listening_if s.listening peer call).flows peer
-        ≡ (if is_given_up (flow_after e call).state.phase then None else Some (flow_after e call))
+        ≡ (if is_closed (flow_after e call).state.phase then None else Some (flow_after e call))
 
     left : (peer : Peer) (e : FlowEnd) (call : Option FlowCall) → end_of_peer s.listening.flows peer ≡ Some e → Left peer e call
     unfolding is-stepped
     left peer e None found =
-        let live : is_given_up e.state.phase ≡ false =
-        subst (λ (x : Option FlowEnd). IfSome x (λ e. is_given_up e.state.phase ≡ false)) found (is.live peer)
+        let live : is_closed e.state.phase ≡ false =
+        subst (λ (x : Option FlowEnd). IfSome x (λ e. is_closed e.state.phase ≡ false)) found (is.live peer)
         in
         found ∙ sym (ap (λ (b : Bool). if b then None else Some e) live)
     left peer e (Some call) found =
@@ -310,7 +311,7 @@ module _ (now : ℕ) where
         → total (serves_on now s (listening_if s.listening peer call) peer it).upkeeps + 1 ≤ total s.upkeeps
     falls-by peer e call it found falls =
         subst (λ (x : Option FlowEnd). total (upkeeps_then now s.pace s.upkeeps peer x (u peer) it) + 1 ≤ total s.upkeeps) (sym (left peer e call found))
-        (less-by s.pace s.upkeeps peer (u peer) it (flow_after e call) (is_given_up (flow_after e call).state.phase) sorted
+        (less-by s.pace s.upkeeps peer (u peer) it (flow_after e call) (is_closed (flow_after e call).state.phase) sorted
         (kept_at s peer is.tied (ap is_some found)) falls)
 
     fewer-by : (peer : Peer) (it : Due) (found : Option FlowEnd) → end_of_peer s.listening.flows peer ≡ found → IsSome found

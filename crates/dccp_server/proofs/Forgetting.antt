@@ -1,4 +1,5 @@
 -- A peer whose flow is forgotten has none.
+use Rattle.dccp_states.specs.Phases.{is_closed}
 use Rattle.std.proofs.Common.{◌≡◌, ◌⊎◌, inl, inr, refl, sym, ap, ◌∙◌, subst, ℕ, Bool, true, false, cond, if◌then◌else◌, List, [], ◌∷◌, Option, Some, None, is_some, IsSome, IfSome}
 use Rattle.std.proofs.lemmas.Bool.{false≢true}
 use Rattle.std.proofs.lemmas.Map.{lookup-remove_entry, lookup-set_value}
@@ -11,7 +12,7 @@ use Rattle.dccp_listener.proofs.Chains.{each_has_its_chain}
 use Rattle.dccp_listener.proofs.Computing.{computed_runs}
 use Rattle.dccp_listener.proofs.EndsStand.{ends_stand}
 use Rattle.dccp_listener.proofs.OnePeer.{peers_alike}
-use Rattle.dccp_listener.specs.Chain.{Aborts, Calls, Fires, FlowCall, chain_step, flow_step, is_given_up}
+use Rattle.dccp_listener.specs.Chain.{Aborts, Calls, Fires, FlowCall, chain_step, flow_step}
 use Rattle.dccp_listener.specs.Listens.{AreInOrder, listening_after, listens_by, turns_of}
 use Rattle.dccp_listener.specs.Peers.{FlowEnd, Flows, ListenerState, end_of_peer, is_peer, peer_cmp}
 use Rattle.dccp_listener.specs.Runs.{IsChain, PeerTurn, peer_turns}
@@ -72,7 +73,7 @@ module _ (peer : Peer) where
   none-stays l call none = ap (λ (found : Option FlowEnd). end_of_peer (listens_by l peer found (Calls call)).flows peer) none ∙ none
 
   -- one that is over goes, and any other stays
-  step-by : (l : ListenerState) (e : FlowEnd) (call : FlowCall) (over : Bool) → end_at l ≡ Some e → is_given_up (flow_step e (Calls call)).after.state.phase ≡ over
+  step-by : (l : ListenerState) (e : FlowEnd) (call : FlowCall) (over : Bool) → end_at l ≡ Some e → is_closed (flow_step e (Calls call)).after.state.phase ≡ over
       → end_at (called l call)
       ≡ end_of_peer (if over then remove_entry (is_peer peer) l.flows else set_value (is_peer peer) l.flows (flow_step e (Calls call)).after) peer
   step-by l e call over is is-over =
@@ -83,7 +84,7 @@ module _ (peer : Peer) where
 
   over-goes : (l : ListenerState) (e : FlowEnd) (call : FlowCall) → AreInOrder l.flows → end_at l ≡ Some e
       → (flow_step e (Calls call)).after.state.phase ≡ phases.Closed → end_at (called l call) ≡ None
-  over-goes l e call ordered is closed = step-by l e call true is (ap is_given_up closed) ∙ removed l.flows ordered
+  over-goes l e call ordered is closed = step-by l e call true is (ap is_closed closed) ∙ removed l.flows ordered
 
   in-order : (l : ListenerState) (call : FlowCall) → AreInOrder l.flows → AreInOrder (called l call).flows
   in-order l call ordered = (computed_runs l ((peer, Calls call) ∷ []) ordered).1
@@ -93,7 +94,7 @@ module _ (peer : Peer) where
   waits-goes l e ordered is waits =
       let next : FlowEnd = (flow_step e (Calls Aborts)).after in
       let stays : end_at (called l Aborts) ≡ Some next =
-      step-by l e Aborts false is (ap is_given_up waits) ∙ replaced l.flows next (ap is_some is) in
+      step-by l e Aborts false is (ap is_closed waits) ∙ replaced l.flows next (ap is_some is) in
       over-goes (called l Aborts) next (Fires timers.TimeWait) (in-order l Aborts ordered) stays (fired next.state _ waits)
 
   gone-so : (l : ListenerState) (e : FlowEnd) → AreInOrder l.flows → end_at l ≡ Some e → IsOverOrWaits (aborts e.state).after.phase

@@ -1,4 +1,5 @@
 -- A call that is refused changes nothing, neither the listener nor what is kept of its flows.
+use Rattle.dccp_states.specs.Phases.{is_closed}
 use Rattle.std.proofs.Common.{◌≡◌, refl, sym, ap, ◌∙◌, subst, ℕ, Bool, true, false, cond, if◌then◌else◌, List, [], ◌∷◌, Option, Some, None, is_some, IsSome, IfSome, Ordering, Less, Equal, Greater, is_eq, Result, Ok, Err}
 use Rattle.std.proofs.lemmas.Bool.{false≢true}
 use Rattle.std.proofs.lemmas.Map.Steps.{set_value_same}
@@ -30,7 +31,7 @@ use Rattle.feature_lists.specs.declared.wishes.PreferFault.{PreferFault}
 use Rattle.feature_lists.specs.declared.wishes.Wanted.{Wanted}
 use Rattle.dccp_listener.proofs.Computing.{computed_runs}
 use Rattle.dccp_listener.proofs.OnePeer.{one_peer}
-use Rattle.dccp_listener.specs.Chain.{Aborts, Arrives, Calls, ChainStep, Closes, Deed, Fires, FlowCall, Opens, Prefers, Sends, SendsEarly, chain_step, flow_step, fresh_end, is_given_up}
+use Rattle.dccp_listener.specs.Chain.{Aborts, Arrives, Calls, ChainStep, Closes, Deed, Fires, FlowCall, Opens, Prefers, Sends, SendsEarly, chain_step, flow_step, fresh_end}
 use Rattle.dccp_listener.specs.Listens.{AreInOrder, listening_after, listens, listens_by, with_end}
 use Rattle.dccp_listener.specs.Peers.{FlowEnd, Flows, ListenerState, end_of_peer, is_peer, peer_cmp}
 use Rattle.dccp_listener.specs.Runs.{CallTold, HadNoMemory, IsTurnSo, Stepped, WasBusy}
@@ -148,16 +149,16 @@ found-so None none is = absurd (false≢true is)
 -- In each listener no flow's end is CLOSED.
 
 abbrev IsLive : FlowEnd → Type 0
-IsLive e = is_given_up e.state.phase ≡ false
+IsLive e = is_closed e.state.phase ≡ false
 
 abbrev pub AllLive : ListenerState → Type 0
-AllLive l = (q : Peer) → IfSome (end_of_peer l.flows q) (λ e. is_given_up e.state.phase ≡ false)
+AllLive l = (q : Peer) → IfSome (end_of_peer l.flows q) (λ e. is_closed e.state.phase ≡ false)
 
-live-until : (e : FlowEnd) (over : Bool) → is_given_up e.state.phase ≡ over → IfSome (if over then None else Some e) IsLive
+live-until : (e : FlowEnd) (over : Bool) → is_closed e.state.phase ≡ over → IfSome (if over then None else Some e) IsLive
 live-until e true is = tt
 live-until e false is = is
 
-flow-lives : (phase : Phase) → stays_in phase ≡ true → is_given_up phase ≡ false
+flow-lives : (phase : Phase) → stays_in phase ≡ true → is_closed phase ≡ false
 flow-lives phases.Closed is = absurd (false≢true is)
 flow-lives phases.Listen is = refl
 flow-lives phases.Request is = refl
@@ -175,7 +176,7 @@ live-if e false is = tt
 chain-lives : (config : ListenConfig) (peer : Peer) (before : Option FlowEnd) (deed : Deed) → IfSome (chain_step config peer before deed).after IsLive
 chain-lives config peer (Some e) deed =
     let next : FlowEnd = (flow_step e deed).after in
-    live-until next (is_given_up next.state.phase) refl
+    live-until next (is_closed next.state.phase) refl
 chain-lives config peer None (Arrives iss bytes) =
     let next : FlowEnd = (flow_step (fresh_end config peer iss bytes) (Arrives iss bytes)).after in
     live-if next (stays_in next.state.phase) refl
@@ -260,7 +261,7 @@ module _ (now : ℕ) (s : ServedListener) (peer : Peer) (call : FlowCall) (is : 
       ap (λ (x : Option FlowEnd). served s.listening s.pace (upkeeps_then now s.pace s.upkeeps peer x u happening.Refused)) none
       ∙ ap (λ (t : Upkeeps). served s.listening s.pace t) (none_gone peer s.upkeeps (none-kept none))
   refused (Some e) found told =
-      let live : is_given_up e.state.phase ≡ false = subst (λ (x : Option FlowEnd). IfSome x IsLive) found (is.live peer) in
+      let live : is_closed e.state.phase ≡ false = subst (λ (x : Option FlowEnd). IfSome x IsLive) found (is.live peer) in
       let flows : Flows = (listens_by s.listening peer (Some e) (Calls call)).flows in
       let kept : flows ≡ s.listening.flows =
       ap (λ (x : FlowEnd). with_end s.listening.flows peer x) (refused_same e call told)

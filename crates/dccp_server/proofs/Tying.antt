@@ -1,4 +1,5 @@
 -- The peers of which something is kept are those that have a flow, and who has a flow has a place for it.
+use Rattle.dccp_states.specs.Phases.{is_closed}
 use Rattle.std.proofs.Common.{◌≡◌, refl, sym, ap, ◌∙◌, subst, ℕ, Bool, true, false, cond, ◌||◌, if◌then◌else◌, List, [], ◌∷◌, Option, Some, None, is_some, IsSome, inl, inr, Result, Ok, Err, OnOk, OnErr, Ordering, Less, Equal, Greater, is_eq}
 use Rattle.std.proofs.lemmas.Bool.{false≢true}
 use Rattle.std.proofs.lemmas.Map.{keys-set_value, lookup-remove_entry, lookup-set_value}
@@ -17,7 +18,7 @@ use Rattle.dccp_listener.proofs.Computing.{computed_runs}
 use Rattle.dccp_listener.proofs.InOrder.{found_insert}
 use Rattle.dccp_listener.proofs.OnePeer.{peers_alike, peers_total}
 use Rattle.dccp_listener.specs.Calls.{Arrived}
-use Rattle.dccp_listener.specs.Chain.{Arrives, Calls, Deed, FlowCall, flow_step, fresh_end, is_given_up}
+use Rattle.dccp_listener.specs.Chain.{Arrives, Calls, Deed, FlowCall, flow_step, fresh_end}
 use Rattle.dccp_listener.specs.Listens.{AreInOrder, fresh_met, is_table_full, listens_by}
 use Rattle.dccp_listener.specs.Peers.{FlowEnd, Flows, ListenerState, end_of_peer, is_peer, peer_cmp}
 use Rattle.dccp_listener.specs.declared.calls.Heard.{Heard}
@@ -161,7 +162,7 @@ module _ {V : Type 0} (peer : Peer) (kept : List (Peer × V)) (value : FlowEnd �
   pub tied_by : (l : ListenerState) (found : Option FlowEnd) (deed : Deed) → end_of_peer l.flows peer ≡ found → keys_of kept ≡ keys_of l.flows → AreInOrder l.flows
       → then' (end_of_peer (listens_by l peer found deed).flows peer) ≡ keys_of (listens_by l peer found deed).flows
   tied_by l (Some e) deed is tied ordered =
-      stepped l.flows (flow_step e deed).after (is_given_up (flow_step e deed).after.state.phase) tied ordered (ap is_some is)
+      stepped l.flows (flow_step e deed).after (is_closed (flow_step e deed).after.state.phase) tied ordered (ap is_some is)
   tied_by l None (Arrives iss bytes) is tied ordered =
       met l iss bytes (flow_step (fresh_end l.config peer iss bytes) (Arrives iss bytes))
       (stays_in (flow_step (fresh_end l.config peer iss bytes) (Arrives iss bytes)).after.state.phase) (is_table_full l) tied is

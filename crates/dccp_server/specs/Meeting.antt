@@ -28,7 +28,7 @@ use Rattle.init_cookies.specs.Appending.{appended}
 use Rattle.init_cookies.specs.CookieOptions.{first_cookie}
 use Rattle.init_cookies.specs.Cookies.{cookie_bytes, cookie_opening}
 use Rattle.init_cookies.specs.Openings.{OpeningState, request_bytes}
-use Rattle.init_cookies.specs.Routes.{back}
+use Rattle.dccp_sum.specs.Checksum.{reversed}
 use Rattle.init_cookies.specs.declared.cookie.CookieKeys.{CookieKeys}
 use Rattle.init_cookies.specs.declared.route.Route.{Route}
 use Rattle.seq_circle.specs.declared.memory.NoMemory.{NoMemory}
@@ -172,7 +172,7 @@ cookie_at keys s peer o = spelled false init_cookie (cookie_bytes keys (route_to
 -- The frame that answers a Request without a flow: the Response of a fresh end to it, with an Init Cookie.
 abbrev pub greeting_frame : CookieKeys → RuledRoom → Peer → OpeningState → Option Outgoing
 greeting_frame keys s peer o =
-    appended (back (route_to s peer).pseudo) (cookie_at keys s peer o) (greets s.room.served.listening peer o.iss (request_at s peer o)).frame
+    appended (reversed (route_to s peer).pseudo) (cookie_at keys s peer o) (greets s.room.served.listening peer o.iss (request_at s peer o)).frame
 
 -- the server without a peer's flow that is half open
 abbrev pub cleared_if : ℕ → RuledRoom → Peer → Option FlowEnd → RuledRoom

@@ -5,7 +5,7 @@ ghost use Rattle.dccp_server.specs.Meeting.{MovesNobody, entry_by, hurried, is_e
 ghost use Rattle.init_cookies.specs.Appending.{appended};
 ghost use Rattle.init_cookies.specs.Cookies.{cookie_bytes};
 ghost use Rattle.init_cookies.specs.Openings.{request_bytes};
-ghost use Rattle.init_cookies.specs.Routes.{back};
+ghost use Rattle.dccp_sum.specs.Checksum.{reversed};
 ghost use Rattle.dccp_options.specs.Written.{spelled};
 
 use crate::asking::{DatagramRequest, route_of};
@@ -239,7 +239,7 @@ fn put_option(keys: &CookieKeys, route: &Route, opening: &FirstRequest, out: &mu
 // The frame in the box goes back by a route with an option.
 fn append_option(route: &Route, option: &CookieOption, out: &mut Outbox)
     requires { length option.now.items ≤ 255 }
-    ensures { out.new ≡ appended (back route.now.pseudo) option.now.items out.old }
+    ensures { out.new ≡ appended (reversed route.now.pseudo) option.now.items out.old }
 {
     let pseudo = route.back();
     append_options(out, option.as_slice(), &pseudo);
@@ -247,7 +247,7 @@ fn append_option(route: &Route, option: &CookieOption, out: &mut Outbox)
 
 /// The frame in the box goes back by a route with the cookie of an opening, where it has room for it.
 pub fn append_cookie(keys: &CookieKeys, route: &Route, opening: &FirstRequest, out: &mut Outbox)
-    ensures { out.new ≡ appended (back route.now.pseudo) (spelled false 36 (cookie_bytes keys.now route.now opening.now)) out.old }
+    ensures { out.new ≡ appended (reversed route.now.pseudo) (spelled false 36 (cookie_bytes keys.now route.now opening.now)) out.old }
 {
     let mut option = CookieOption::new();
     put_option(keys, route, opening, &mut option);
@@ -262,7 +262,7 @@ fn put_cookie(
     opening: &FirstRequest,
     out: &mut Outbox,
 )
-    ensures { out.new ≡ appended (back (route_of timed.now.listening.config peer).pseudo) (spelled false 36 (cookie_bytes keys.now (route_of timed.now.listening.config peer) opening.now)) out.old }
+    ensures { out.new ≡ appended (reversed (route_of timed.now.listening.config peer).pseudo) (spelled false 36 (cookie_bytes keys.now (route_of timed.now.listening.config peer) opening.now)) out.old }
 {
     let route = route_of(timed.config(), peer);
     append_cookie(keys, &route, opening, out);
@@ -277,7 +277,7 @@ pub(crate) fn greet_with_cookie(
     opening: &FirstRequest,
     out: &mut Outbox,
 ) -> Result<Outcome, NoMemory>
-    ensures sent { OnOk result (out.new ≡ appended (back (route_of timed.now.listening.config peer).pseudo) (spelled false 36 (cookie_bytes keys.now (route_of timed.now.listening.config peer) opening.now)) (greets timed.now.listening peer opening.now.iss (request_bytes (route_of timed.now.listening.config peer) opening.now)).frame) }
+    ensures sent { OnOk result (out.new ≡ appended (reversed (route_of timed.now.listening.config peer).pseudo) (spelled false 36 (cookie_bytes keys.now (route_of timed.now.listening.config peer) opening.now)) (greets timed.now.listening peer opening.now.iss (request_bytes (route_of timed.now.listening.config peer) opening.now)).frame) }
     ensures told { IfOk result (λ outcome. outcome ≡ (greets timed.now.listening peer opening.now.iss (request_bytes (route_of timed.now.listening.config peer) opening.now)).answer) }
     ensures unmet { OnErr result (out.new ≡ None) }
 {

@@ -1,4 +1,5 @@
 -- The phase after a packet and the reply to it (RFC 4340, section 8.5, steps 9 to 15).
+use Rattle.std.specs.Prelude.{Bool, true, false}
 use Rattle.dccp_packets.specs.declared.header.PacketType.{PacketType}
 use Rattle.dccp_packets.specs.declared.header.PacketType.TheVariants as types
 use Rattle.dccp_states.specs.declared.phase.Phase.{Phase}
@@ -40,3 +41,15 @@ after phases.CloseReq types.Sync = (phases.CloseReq, replies.SyncAck)
 after phases.Closing types.Sync = (phases.Closing, replies.SyncAck)
 -- all others
 after phase _ = (phase, replies.Nothing)
+
+-- the connection is over, or was never begun
+abbrev pub is_closed : Phase → Bool
+is_closed phases.Closed = true
+is_closed phases.Listen = false
+is_closed phases.Request = false
+is_closed phases.Respond = false
+is_closed phases.PartOpen = false
+is_closed phases.Open = false
+is_closed phases.CloseReq = false
+is_closed phases.Closing = false
+is_closed phases.TimeWait = false

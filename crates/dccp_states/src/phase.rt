@@ -33,3 +33,15 @@ pub enum Phase {
     /// An end that keeps the connection's numbers after a Reset.
     TimeWait,
 }
+
+impl Phase {
+    ghost use Rattle.std.specs.Prelude.{◌≡◌};
+    ghost use Rattle.dccp_states.specs.Phases.{is_closed};
+
+    /// The connection is over, or was never begun.
+    pub fn is_closed(self) -> bool
+        ensures { result ≡ is_closed self }
+    {
+        matches!(self, Phase::Closed)
+    }
+}

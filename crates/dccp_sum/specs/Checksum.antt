@@ -13,6 +13,11 @@ abbrev pub pseudo_header : Pseudo → ℕ → List ℕ
 pseudo_header (V4 from to) size = from ++ to ++ 0 ∷ 33 ∷ [] ++ big_bytes 2 size
 pseudo_header (V6 from to) size = from ++ to ++ big_bytes 4 size ++ 0 ∷ 0 ∷ 0 ∷ 33 ∷ []
 
+-- the addresses of the packets that go back
+abbrev pub reversed : Pseudo → Pseudo
+reversed (V4 from to) = V4 to from
+reversed (V6 from to) = V6 to from
+
 -- the packet with a checksum in its bytes 6 and 7
 abbrev pub with_checksum : ℕ → List ℕ → List ℕ
 with_checksum sum bytes = take 6 bytes ++ big_bytes 2 sum ++ drop 8 bytes

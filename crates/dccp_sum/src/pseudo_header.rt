@@ -18,6 +18,21 @@ pub enum Pseudo {
     V6 { from: [u8; 16], to: [u8; 16] },
 }
 
+impl Pseudo {
+    ghost use Rattle.std.specs.Prelude.{◌≡◌};
+    ghost use Rattle.dccp_sum.specs.Checksum.{reversed};
+
+    /// The addresses of the packets that go back.
+    pub fn reversed(&self) -> Pseudo
+        ensures { result ≡ reversed self.now }
+    {
+        match *self {
+            Pseudo::V4 { from, to } => Pseudo::V4 { from: to, to: from },
+            Pseudo::V6 { from, to } => Pseudo::V6 { from: to, to: from },
+        }
+    }
+}
+
 // The sum of the words of two addresses of IPv4.
 fn add_v4(from: [u8; 4], to: [u8; 4]) -> u64
     ensures value { IsSameSum result (word_sum from + word_sum to) }

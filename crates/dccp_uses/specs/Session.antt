@@ -1,4 +1,5 @@
 -- An end with the timers that its owner keeps for it (own; the end is RFC 4340's).
+use Rattle.dccp_states.specs.Phases.{is_closed}
 use Rattle.std.specs.Prelude.{nat_lt, nat_le, ℕ, Bool, true, false, not, ◌&&◌, List, [], ◌∷◌, length, Option, Some, None, is_some, Result, Ok, Err, if◌then◌else◌}
 use Rattle.congestion_trait.specs.Control.{Control}
 use Rattle.dccp_packets.specs.Outgoing.{Outgoing}
@@ -59,18 +60,6 @@ calls control now s step = called control now s s.alarms step step.answer
 -- a wish for a feature: the timer negotiate starts anew
 abbrev pub calls_anew : {C Fault : Type 0} → Control C → ℕ → SessionState C → EndStep C (Result (Unit {0}) Fault) → SessionStep C (Result (Unit {0}) Fault)
 calls_anew control now s step = called control now s (record s.alarms { negotiate = None }) step step.answer
-
--- the connection is over, or was never begun
-abbrev pub is_closed : Phase → Bool
-is_closed phases.Closed = true
-is_closed phases.Listen = false
-is_closed phases.Request = false
-is_closed phases.Respond = false
-is_closed phases.PartOpen = false
-is_closed phases.Open = false
-is_closed phases.CloseReq = false
-is_closed phases.Closing = false
-is_closed phases.TimeWait = false
 
 -- the connection has come to its end with this step
 abbrev pub has_closed : Phase → Phase → Bool

@@ -1,6 +1,6 @@
 //! What a datagram means to the owner of a session.
 ghost use Rattle.std.specs.Prelude.{◌≡◌};
-ghost use Rattle.dccp_uses.specs.Session.{has_closed, is_closed, is_delivery, news_of};
+ghost use Rattle.dccp_uses.specs.Session.{has_closed, is_delivery, news_of};
 ghost use Rattle.dccp_uses.specs.Sessions.{news_if, news_kept};
 ghost use Rattle.dccp_uses.specs.Timed.{is_taken};
 
@@ -26,17 +26,11 @@ pub enum News {
     TooLong,
 }
 
-fn is_closed(phase: Phase) -> bool
-    ensures { result ≡ is_closed phase }
-{
-    matches!(phase, Phase::Closed)
-}
-
 // The connection has come to its end.
 fn has_closed(was: Phase, is: Phase) -> bool
     ensures { result ≡ has_closed was is }
 {
-    !is_closed(was) && is_closed(is)
+    !was.is_closed() && is.is_closed()
 }
 
 // What an outcome means, by the phases before and after it.

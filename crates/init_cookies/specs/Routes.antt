@@ -5,11 +5,6 @@ use Rattle.dccp_sum.specs.declared.pseudo_header.Pseudo.{Pseudo}
 use Rattle.dccp_sum.specs.declared.pseudo_header.Pseudo.TheVariants.{V4, V6}
 use Rattle.init_cookies.specs.declared.route.Route.{Route}
 
--- the addresses of packets that go back
-abbrev pub back : Pseudo → Pseudo
-back (V4 from to) = V4 to from
-back (V6 from to) = V6 to from
-
 -- the family of IP as a byte, then both addresses (own)
 abbrev pub address_bytes : Pseudo → List ℕ
 address_bytes (V4 from to) = 4 ∷ (from ++ to)

@@ -23,16 +23,14 @@ pub(crate) type RouteBytes = ArrayVec<u8, 40>;
 
 impl Route {
     ghost use Rattle.std.specs.Prelude.{◌≡◌, ◌≤◌, [], length};
-    ghost use Rattle.init_cookies.specs.Routes.{back, route_bytes};
+    ghost use Rattle.dccp_sum.specs.Checksum.{reversed};
+    ghost use Rattle.init_cookies.specs.Routes.{route_bytes};
 
     /// The addresses of packets that go back.
     pub fn back(&self) -> Pseudo
-        ensures { result ≡ back self.now.pseudo }
+        ensures { result ≡ reversed self.now.pseudo }
     {
-        match self.pseudo {
-            Pseudo::V4 { from, to } => Pseudo::V4 { from: to, to: from },
-            Pseudo::V6 { from, to } => Pseudo::V6 { from: to, to: from },
-        }
+        self.pseudo.reversed()
     }
 
     // The bytes of the route that the tag of a cookie covers.

@@ -1,5 +1,6 @@
 -- The timers of an end, one by one, computed from the definitions. The waits are those of RFC 4340, sections 3.4, 6.6.3, 8.1.1, 8.1.5 and 8.3, and
 -- of RFC 2988, sections 2 and 5; the times were worked out by hand.
+use Rattle.dccp_states.specs.Phases.{is_closed}
 use Rattle.std.proofs.Common.{◌≡◌, refl, ℕ, true, false, [], Option, Some, None, Ok, Err}
 use Rattle.ccid_two.specs.Kinds.{Both}
 use Rattle.dccp_endpoint.specs.Controlled.{End}
@@ -13,7 +14,7 @@ use Rattle.data_dropped.specs.declared.answers.Arrival.TheVariants.{Kept}
 use Rattle.data_dropped.specs.declared.answers.Arrival.TheVariants as arrival
 use Rattle.dccp_uses.specs.Alarms.{ack_hurried_by, alarm_after, alarm_of, arranged_by, classic_waits, first_again, has_run_out, next_wait, no_alarms, progressed_by, rung_by, runs_in, set_back, sooner, starting_wait_by, time_left, timer_wait, until_first, with_alarm}
 use Rattle.dccp_uses.specs.Path.{path_begins, usual_pace}
-use Rattle.dccp_uses.specs.Session.{has_closed, is_closed, is_delivery, is_listening, news_of}
+use Rattle.dccp_uses.specs.Session.{has_closed, is_delivery, is_listening, news_of}
 use Rattle.dccp_uses.specs.Sessions.{news_if, news_kept}
 use Rattle.dccp_uses.specs.Timed.{TimedState, acks_now, every_due, first_due_of, first_wait_left, is_taken, refusal_named}
 use Rattle.dccp_uses.specs.declared.alarms.Alarm.{Alarm}

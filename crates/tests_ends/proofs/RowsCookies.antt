@@ -4,12 +4,13 @@ use Rattle.std.proofs.Common.{◌≡◌, refl, ℕ, List, true, false, [], ◌�
 use Rattle.dccp_options.specs.Grammar.{Entry}
 use Rattle.dccp_options.specs.declared.option.OptFault.TheVariants as faults
 use Rattle.dccp_packets.specs.Outgoing.{Outgoing}
+use Rattle.dccp_sum.specs.Checksum.{reversed}
 use Rattle.dccp_sum.specs.declared.pseudo_header.Pseudo.TheVariants.{V4, V6}
 use Rattle.init_cookies.specs.Appending.{appended}
 use Rattle.init_cookies.specs.CookieOptions.{cookie_options, first_cookie, one_cookie}
 use Rattle.init_cookies.specs.Cookies.{cookie_opening, is_fresh, key_at}
 use Rattle.init_cookies.specs.Openings.{FitsCookie, OpeningState, opening_bytes, opening_read, request_bytes}
-use Rattle.init_cookies.specs.Routes.{back, route_bytes}
+use Rattle.init_cookies.specs.Routes.{route_bytes}
 use Rattle.init_cookies.specs.declared.cookie.CookieKeys.{CookieKeys}
 use Rattle.init_cookies.specs.declared.route.Route.{Route}
 
@@ -33,8 +34,8 @@ option kind body = record { place = 0; mandatory = false; kind = kind; body = bo
 routes_have_their_bytes :
     (route_bytes four ≡ 4 ∷ 10 ∷ 0 ∷ 0 ∷ 1 ∷ 10 ∷ 0 ∷ 0 ∷ 2 ∷ 156 ∷ 64 ∷ 19 ∷ 137 ∷ [])
     × (route_bytes (record { pseudo = V6 (0 ∷ 1 ∷ 2 ∷ 3 ∷ 4 ∷ 5 ∷ 6 ∷ 7 ∷ 8 ∷ 9 ∷ 10 ∷ 11 ∷ 12 ∷ 13 ∷ 14 ∷ 15 ∷ []) (16 ∷ 17 ∷ 18 ∷ 19 ∷ 20 ∷ 21 ∷ 22 ∷ 23 ∷ 24 ∷ 25 ∷ 26 ∷ 27 ∷ 28 ∷ 29 ∷ 30 ∷ 31 ∷ []); from = 1; to = 256 }) ≡ 6 ∷ 0 ∷ 1 ∷ 2 ∷ 3 ∷ 4 ∷ 5 ∷ 6 ∷ 7 ∷ 8 ∷ 9 ∷ 10 ∷ 11 ∷ 12 ∷ 13 ∷ 14 ∷ 15 ∷ 16 ∷ 17 ∷ 18 ∷ 19 ∷ 20 ∷ 21 ∷ 22 ∷ 23 ∷ 24 ∷ 25 ∷ 26 ∷ 27 ∷ 28 ∷ 29 ∷ 30 ∷ 31 ∷ 0 ∷ 1 ∷ 1 ∷ 0 ∷ [])
-    × (back (V4 (10 ∷ 0 ∷ 0 ∷ 1 ∷ []) (10 ∷ 0 ∷ 0 ∷ 2 ∷ [])) ≡ V4 (10 ∷ 0 ∷ 0 ∷ 2 ∷ []) (10 ∷ 0 ∷ 0 ∷ 1 ∷ []))
-    × (back (V6 (0 ∷ 1 ∷ 2 ∷ 3 ∷ 4 ∷ 5 ∷ 6 ∷ 7 ∷ 8 ∷ 9 ∷ 10 ∷ 11 ∷ 12 ∷ 13 ∷ 14 ∷ 15 ∷ []) (16 ∷ 17 ∷ 18 ∷ 19 ∷ 20 ∷ 21 ∷ 22 ∷ 23 ∷ 24 ∷ 25 ∷ 26 ∷ 27 ∷ 28 ∷ 29 ∷ 30 ∷ 31 ∷ [])) ≡ V6 (16 ∷ 17 ∷ 18 ∷ 19 ∷ 20 ∷ 21 ∷ 22 ∷ 23 ∷ 24 ∷ 25 ∷ 26 ∷ 27 ∷ 28 ∷ 29 ∷ 30 ∷ 31 ∷ []) (0 ∷ 1 ∷ 2 ∷ 3 ∷ 4 ∷ 5 ∷ 6 ∷ 7 ∷ 8 ∷ 9 ∷ 10 ∷ 11 ∷ 12 ∷ 13 ∷ 14 ∷ 15 ∷ []))
+    × (reversed (V4 (10 ∷ 0 ∷ 0 ∷ 1 ∷ []) (10 ∷ 0 ∷ 0 ∷ 2 ∷ [])) ≡ V4 (10 ∷ 0 ∷ 0 ∷ 2 ∷ []) (10 ∷ 0 ∷ 0 ∷ 1 ∷ []))
+    × (reversed (V6 (0 ∷ 1 ∷ 2 ∷ 3 ∷ 4 ∷ 5 ∷ 6 ∷ 7 ∷ 8 ∷ 9 ∷ 10 ∷ 11 ∷ 12 ∷ 13 ∷ 14 ∷ 15 ∷ []) (16 ∷ 17 ∷ 18 ∷ 19 ∷ 20 ∷ 21 ∷ 22 ∷ 23 ∷ 24 ∷ 25 ∷ 26 ∷ 27 ∷ 28 ∷ 29 ∷ 30 ∷ 31 ∷ [])) ≡ V6 (16 ∷ 17 ∷ 18 ∷ 19 ∷ 20 ∷ 21 ∷ 22 ∷ 23 ∷ 24 ∷ 25 ∷ 26 ∷ 27 ∷ 28 ∷ 29 ∷ 30 ∷ 31 ∷ []) (0 ∷ 1 ∷ 2 ∷ 3 ∷ 4 ∷ 5 ∷ 6 ∷ 7 ∷ 8 ∷ 9 ∷ 10 ∷ 11 ∷ 12 ∷ 13 ∷ 14 ∷ 15 ∷ []))
 routes_have_their_bytes = (refl, refl, refl, refl)
 
 -- 8 bytes of time, 6 of either number, 4 of the service, and the options
@@ -70,8 +71,8 @@ one_cookie_goes_back = (refl, refl, refl, refl, refl)
 
 -- a Response with the option after its own, padded, and its sum anew; bytes that are no packet go out as they are
 cookies_are_appended :
-    (appended (back four.pseudo) (36 ∷ 42 ∷ 153 ∷ 25 ∷ 156 ∷ 179 ∷ 209 ∷ 187 ∷ 65 ∷ 143 ∷ 0 ∷ 0 ∷ 0 ∷ 0 ∷ 0 ∷ 0 ∷ 3 ∷ 232 ∷ 0 ∷ 0 ∷ 0 ∷ 0 ∷ 7 ∷ 208 ∷ 0 ∷ 0 ∷ 0 ∷ 0 ∷ 3 ∷ 232 ∷ 0 ∷ 0 ∷ 0 ∷ 42 ∷ 32 ∷ 4 ∷ 1 ∷ 2 ∷ 34 ∷ 4 ∷ 6 ∷ 1 ∷ []) (Some (record { bytes = 19 ∷ 137 ∷ 156 ∷ 64 ∷ 7 ∷ 0 ∷ 38 ∷ 20 ∷ 3 ∷ 0 ∷ 0 ∷ 0 ∷ 0 ∷ 0 ∷ 7 ∷ 208 ∷ 0 ∷ 0 ∷ 0 ∷ 0 ∷ 0 ∷ 0 ∷ 3 ∷ 232 ∷ 0 ∷ 0 ∷ 0 ∷ 42 ∷ []; number = 2000; ack = Some 1000 }))
+    (appended (reversed four.pseudo) (36 ∷ 42 ∷ 153 ∷ 25 ∷ 156 ∷ 179 ∷ 209 ∷ 187 ∷ 65 ∷ 143 ∷ 0 ∷ 0 ∷ 0 ∷ 0 ∷ 0 ∷ 0 ∷ 3 ∷ 232 ∷ 0 ∷ 0 ∷ 0 ∷ 0 ∷ 7 ∷ 208 ∷ 0 ∷ 0 ∷ 0 ∷ 0 ∷ 3 ∷ 232 ∷ 0 ∷ 0 ∷ 0 ∷ 42 ∷ 32 ∷ 4 ∷ 1 ∷ 2 ∷ 34 ∷ 4 ∷ 6 ∷ 1 ∷ []) (Some (record { bytes = 19 ∷ 137 ∷ 156 ∷ 64 ∷ 7 ∷ 0 ∷ 38 ∷ 20 ∷ 3 ∷ 0 ∷ 0 ∷ 0 ∷ 0 ∷ 0 ∷ 7 ∷ 208 ∷ 0 ∷ 0 ∷ 0 ∷ 0 ∷ 0 ∷ 0 ∷ 3 ∷ 232 ∷ 0 ∷ 0 ∷ 0 ∷ 42 ∷ []; number = 2000; ack = Some 1000 }))
     ≡ Some (record { bytes = 19 ∷ 137 ∷ 156 ∷ 64 ∷ 18 ∷ 0 ∷ 84 ∷ 208 ∷ 3 ∷ 0 ∷ 0 ∷ 0 ∷ 0 ∷ 0 ∷ 7 ∷ 208 ∷ 0 ∷ 0 ∷ 0 ∷ 0 ∷ 0 ∷ 0 ∷ 3 ∷ 232 ∷ 0 ∷ 0 ∷ 0 ∷ 42 ∷ 36 ∷ 42 ∷ 153 ∷ 25 ∷ 156 ∷ 179 ∷ 209 ∷ 187 ∷ 65 ∷ 143 ∷ 0 ∷ 0 ∷ 0 ∷ 0 ∷ 0 ∷ 0 ∷ 3 ∷ 232 ∷ 0 ∷ 0 ∷ 0 ∷ 0 ∷ 7 ∷ 208 ∷ 0 ∷ 0 ∷ 0 ∷ 0 ∷ 3 ∷ 232 ∷ 0 ∷ 0 ∷ 0 ∷ 42 ∷ 32 ∷ 4 ∷ 1 ∷ 2 ∷ 34 ∷ 4 ∷ 6 ∷ 1 ∷ 0 ∷ 0 ∷ []; number = 2000; ack = Some 1000 }))
-    × (appended (back four.pseudo) (36 ∷ 3 ∷ 7 ∷ []) (Some (record { bytes = 1 ∷ []; number = 5; ack = None })) ≡ Some (record { bytes = 1 ∷ []; number = 5; ack = None }))
-    × (appended (back four.pseudo) (36 ∷ 3 ∷ 7 ∷ []) None ≡ None)
+    × (appended (reversed four.pseudo) (36 ∷ 3 ∷ 7 ∷ []) (Some (record { bytes = 1 ∷ []; number = 5; ack = None })) ≡ Some (record { bytes = 1 ∷ []; number = 5; ack = None }))
+    × (appended (reversed four.pseudo) (36 ∷ 3 ∷ 7 ∷ []) None ≡ None)
 cookies_are_appended = (refl, refl, refl)
