@@ -3,11 +3,9 @@
 //! The lengths show that all that is due fits into a packet. A vector takes at most 510 bytes, and 18 Changes take 12
 //! each. There are at most 64 Confirms, of which only those for a known feature can take more than 3 bytes, at most one
 //! for each of the 18 rows: 354 bytes. If each were counted as 12, they would not fit together with a vector.
-ghost use Rattle.std.specs.Prelude.{◌≡◌, ◌+◌, ◌*◌, ◌^◌, ◌<◌, ◌≤◌, ◌++◌, [], ◌∷◌, length, map, true, false, Some};
+ghost use Rattle.std.specs.Prelude.{◌≡◌, ◌+◌, ◌*◌, ◌<◌, ◌≤◌, ◌++◌, [], ◌∷◌, length, map, true, false, Some};
 ghost use Rattle.arrayvec.specs.ArrayVec.{array_vec_len};
 ghost use Rattle.dccp_options.specs.Written.{written};
-ghost use Rattle.byteorder.specs.Endian.{big_bytes};
-ghost use Rattle.feature_lists.specs.Features.{described};
 ghost use Rattle.feature_lists.specs.Wishes.{is_wish};
 ghost use Rattle.feature_machine.specs.Negotiating.{IsNegotiation, every_place, row_at};
 ghost use Rattle.feature_machine.specs.Turns.{turned};
@@ -17,11 +15,10 @@ ghost use Rattle.dccp_endpoint.specs.Speaking.{AreChanging, AreDue, asking, chan
 ghost use Rattle.dccp_endpoint.specs.Turns.{offerings, sendings};
 
 use arrayvec::ArrayVec;
-use byteorder::{BigEndian, ByteOrder};
 use dccp_options::OptWriter;
 use dccp_options::kinds::{CHANGE_L, CHANGE_R, CONFIRM_L, CONFIRM_R};
 use feature_lists::{Feature, Place, Wanted};
-use feature_machine::{ConfirmOut, Negotiation, Stand};
+use feature_machine::{ConfirmOut, Negotiation, Stand, put_value};
 use seq_circle::Seq48;
 use std::marker::Model;
 
@@ -184,27 +181,6 @@ pub(crate) fn send_all(rows: &mut Negotiation, keys: &[(Feature, Place)], number
     }
 }
 
-// Writes a value of a non-negotiable feature in its bytes.
-fn put_number(body: &mut ArrayVec<u8, 9>, feature: Feature, value: u64)
-    requires negotiable { (described feature).is_server_priority ≡ false }
-    requires fits { value < 256 ^ (described feature).width }
-    requires room { array_vec_len body.old ≤ 1 }
-    ensures { body.new.items ≡ body.old.items ++ big_bytes (described feature).width value }
-{
-    match feature {
-        Feature::SequenceWindow => {
-            let mut six = [0; 6];
-            BigEndian::write_u48(&mut six, value);
-            let _ = body.try_extend_from_slice(&six);
-        }
-        _ => {
-            let mut two = [0; 2];
-            BigEndian::write_u16(&mut two, value as u16);
-            let _ = body.try_extend_from_slice(&two);
-        }
-    }
-}
-
 // Writes the bytes of a wish: the list, or the one value in as many bytes as the feature has.
 #[tactic(auto, using(crate::proofs::Wishes::number_wish))]
 fn put_wish(body: &mut ArrayVec<u8, 9>, feature: Feature, place: Place, wish: Wanted)
@@ -216,7 +192,7 @@ fn put_wish(body: &mut ArrayVec<u8, 9>, feature: Feature, place: Place, wish: Wa
         Wanted::List(list) => {
             let _ = body.try_extend_from_slice(list.bytes());
         }
-        Wanted::Number(number) => put_number(body, feature, number),
+        Wanted::Number(number) => put_value(body, feature, number),
     }
 }
 

@@ -53,7 +53,13 @@ fn number_of_bytes(feature: Feature, bytes: &[u8]) -> u64
     match feature {
         Feature::SequenceWindow => BigEndian::read_u48(bytes),
         Feature::AckRatio => u64::from(BigEndian::read_u16(bytes)),
-        _ => u64::from(bytes[0]),
+        Feature::Ccid
+        | Feature::ShortSeqnos
+        | Feature::EcnIncapable
+        | Feature::SendAckVector
+        | Feature::SendNdpCount
+        | Feature::MinCsCov
+        | Feature::CheckDataChecksum => u64::from(bytes[0]),
     }
 }
 

@@ -15,6 +15,7 @@ mod offers;
 mod row;
 mod rows;
 mod stands;
+mod values;
 
 pub use crate::answers::{Answer, ConfirmOut, Opening, Settling};
 pub use crate::due::DueRows;
@@ -30,3 +31,4 @@ pub use crate::rows::{
     turns_are_of_their_rows,
 };
 pub use crate::stands::{Held, Role2, Stand};
+pub use crate::values::put_value;

@@ -10,10 +10,7 @@
 //!
 //! A Change of the peer changes no stand: a row in CHANGING answers it, takes its value and still waits for its own
 //! Confirm. If it went to STABLE there, the Confirm under way could have another value than the peer then holds.
-ghost use Rattle.std.specs.Prelude.{◌≡◌, ◌≢◌, ◌++◌, ◌∷◌, [], ℕ, ◌<◌, ◌^◌, length, true, false};
-ghost use Rattle.arrayvec.specs.ArrayVec.{array_vec_len};
-ghost use Rattle.byteorder.specs.Endian.{big_bytes};
-ghost use Rattle.feature_lists.specs.Features.{IsNonNegotiable, described};
+ghost use Rattle.std.specs.Prelude.{◌≡◌, ◌≢◌, ◌++◌, ◌∷◌, [], ℕ, length, true, false};
 ghost use Rattle.feature_lists.specs.Wishes.{is_wish};
 ghost use Rattle.feature_machine.specs.Rows.{row_step, Change, Confirm, Prefers, Offers, Sends, confirm_body};
 ghost use Rattle.feature_machine.specs.Answers.{reply_of, settling_of, opening_of, is_opening};
@@ -24,9 +21,9 @@ ghost use Rattle.feature_machine.specs.declared.stands.Stand.TheVariants.{Stable
 
 use crate::judging::{Confirmation, Proposal};
 use crate::offers::{Offer, RowSetup};
+use crate::values::put_value;
 use crate::{Opening, Role2, Settling, Stand};
 use arrayvec::ArrayVec;
-use byteorder::{BigEndian, ByteOrder};
 use feature_lists::{Feature, Place, Wanted, initial};
 use seq_circle::Seq48;
 
@@ -60,28 +57,6 @@ pub enum RowReply {
     Ignored,
     /// Reset 6.
     Fatal,
-}
-
-// A value of a non-negotiable feature in its bytes.
-fn number_bytes(feature: Feature, value: u64) -> ArrayVec<u8, 9>
-    requires negotiable { IsNonNegotiable feature }
-    requires fits { value < 256 ^ (described feature).width }
-    ensures { result.items ≡ big_bytes (described feature).width value }
-{
-    let mut bytes = ArrayVec::new();
-    match feature {
-        Feature::SequenceWindow => {
-            let mut six = [0; 6];
-            BigEndian::write_u48(&mut six, value);
-            let _ = bytes.try_extend_from_slice(&six);
-        }
-        _ => {
-            let mut two = [0; 2];
-            BigEndian::write_u16(&mut two, value as u16);
-            let _ = bytes.try_extend_from_slice(&two);
-        }
-    }
-    bytes
 }
 
 impl Row {
@@ -128,14 +103,14 @@ impl Row {
         requires { is_lawful self.now.feature self.now.place self.now.value ≡ true }
         ensures { result.items ≡ confirm_body self.now }
     {
+        let mut body = ArrayVec::new();
         if self.feature.is_server_priority() {
-            let mut body = ArrayVec::new();
             body.push(self.value as u8);
             let _ = body.try_extend_from_slice(self.entries());
-            body
         } else {
-            number_bytes(self.feature, self.value)
+            put_value(&mut body, self.feature, self.value);
         }
+        body
     }
 
     // A Change comes.
