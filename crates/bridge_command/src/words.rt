@@ -8,7 +8,7 @@ use tool_forms::{FlowSide, SeedRange, SeedRun, flow_side_of, is_word, seed_range
 use tool_text::{is_text, number_up_to};
 
 /// A job of the second tool (own).
-#[derive(Clone, Copy, Debug, PartialEq, Eq)]
+#[derive(Clone, Copy)]
 pub enum BridgeForm {
     /// `capture` makes a capture of the frames that `run` or `replay` told.
     Capture,
@@ -29,7 +29,7 @@ pub enum BridgeForm {
 }
 
 /// What a picture shows (own).
-#[derive(Clone, Copy, Debug, PartialEq, Eq)]
+#[derive(Clone, Copy)]
 pub enum Picture {
     /// The packets between both ends.
     Ladder,

@@ -13,7 +13,7 @@ use std::alloc::Global;
 use tool_text::put;
 
 /// The header after the extension headers of an IPv6 packet.
-#[derive(Clone, Copy, Debug, PartialEq, Eq)]
+#[derive(Clone, Copy)]
 pub struct Upper {
     /// Its protocol.
     pub kind: u8,

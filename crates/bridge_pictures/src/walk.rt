@@ -18,7 +18,7 @@ use world_events::Side;
 const HALF: u64 = 1 << 47;
 
 /// The ends of a flow of a capture (own): the one that was seen to send first, and whether it is the client.
-#[derive(Clone, Copy, Debug, PartialEq, Eq)]
+#[derive(Clone, Copy)]
 pub struct FlowEnds {
     pub first: FlowEnd,
     pub is_client: bool,

@@ -2,7 +2,7 @@
 use capture_reader::RecordHeader;
 
 /// What a piece of a capture holds (own).
-#[derive(Clone, Copy, Debug, PartialEq, Eq)]
+#[derive(Clone, Copy)]
 pub enum Content {
     /// The capture begins; the fractions of its records are nanoseconds, or microseconds.
     Begins(bool),

@@ -51,14 +51,14 @@ pub trait RecordJob {
 }
 
 /// Why a capture is refused, and after how many records (own).
-#[derive(Clone, Copy, Debug, PartialEq, Eq)]
+#[derive(Clone, Copy)]
 pub struct CaptureRefusal {
     pub fault: PieceFault,
     pub records: u64,
 }
 
 /// How a job over records ended, why the capture is refused, if it is, and what of it was skipped (own).
-#[derive(Clone, Copy, Debug, PartialEq, Eq)]
+#[derive(Clone, Copy)]
 pub struct RecordsEnd {
     pub end: JobEnd,
     pub refusal: Option<CaptureRefusal>,

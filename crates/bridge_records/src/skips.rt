@@ -3,7 +3,7 @@ ghost use Rattle.std.specs.Prelude.{◌≡◌};
 ghost use Rattle.bridge_records.specs.Skips as spec;
 
 /// How many of one kind were skipped (own).
-#[derive(Clone, Copy, Debug, PartialEq, Eq)]
+#[derive(Clone, Copy)]
 pub struct Tally {
     pub count: u64,
     /// What is told of the first, and 0 where there is none.
@@ -11,7 +11,7 @@ pub struct Tally {
 }
 
 /// What of a pcapng file is skipped (own).
-#[derive(Clone, Copy, Debug, PartialEq, Eq)]
+#[derive(Clone, Copy)]
 pub struct Skips {
     /// Packets whose link type is not known, which are records without IP; of the first its link type.
     pub links: Tally,

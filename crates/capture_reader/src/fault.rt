@@ -2,7 +2,7 @@
 use thiserror::Error;
 
 /// What is wrong with the 24 bytes of a file header (own): the first of these that holds.
-#[derive(Clone, Copy, Debug, PartialEq, Eq)]
+#[derive(Clone, Copy)]
 pub enum FormatFault {
     /// The first four bytes are no magic number of a classic capture, in either byte order.
     BadMagic,

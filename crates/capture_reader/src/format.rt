@@ -6,7 +6,7 @@ use crate::FormatFault;
 use byteorder::{BigEndian, ByteOrder, LittleEndian};
 
 /// The byte order of a capture's own numbers. The packets in it have theirs.
-#[derive(Clone, Copy, Debug, PartialEq, Eq)]
+#[derive(Clone, Copy)]
 pub enum Order {
     /// The most significant byte first.
     Big,
@@ -15,7 +15,7 @@ pub enum Order {
 }
 
 /// What a capture's file header says about its records.
-#[derive(Clone, Copy, Debug, PartialEq, Eq)]
+#[derive(Clone, Copy)]
 pub struct Format {
     /// The byte order of the header's fields.
     pub order: Order,

@@ -7,7 +7,7 @@ ghost use Rattle.capture_reader.specs.declared.fault.CaptureFault.TheVariants.{R
 use crate::{CaptureFault, Order};
 
 /// One record of a capture, with its bytes lent from the reader's block until the next record is asked for.
-#[derive(Clone, Copy, Debug, PartialEq, Eq)]
+#[derive(Clone, Copy)]
 pub struct Record<'a> {
     /// The record's number, counted from 1.
     pub number: u64,
@@ -26,7 +26,7 @@ pub struct Record<'a> {
 }
 
 /// What a record's header says (the savefile format of libpcap).
-#[derive(Clone, Copy, Debug, PartialEq, Eq)]
+#[derive(Clone, Copy)]
 pub struct RecordHeader {
     /// When it was captured, in seconds since 1970.
     pub seconds: u32,

@@ -9,7 +9,7 @@ use dccp_endpoint::Outcome;
 use two_ends::Seen;
 
 /// What is counted of one run or of many (own).
-#[derive(Clone, Copy, Debug, PartialEq, Eq)]
+#[derive(Clone, Copy, PartialEq, Eq)]
 pub struct Report {
     /// The seeds that were run.
     pub seeds: u64,

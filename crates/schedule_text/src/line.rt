@@ -10,7 +10,7 @@ use tool_text::Digits;
 use world_events::Side;
 
 /// What a line of a schedule says (own).
-#[derive(Debug, Drop)]
+#[derive(Drop)]
 pub enum Line {
     /// Nothing: it is empty or a comment.
     Nothing,

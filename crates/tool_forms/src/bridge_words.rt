@@ -13,7 +13,7 @@ use std::alloc::Global;
 use world_events::Side;
 
 /// The run of a campaign's seed (own).
-#[derive(Clone, Copy, Debug, PartialEq, Eq)]
+#[derive(Clone, Copy)]
 pub struct SeedRun {
     /// The seed, below 2^64.
     pub seed: u64,
@@ -22,7 +22,7 @@ pub struct SeedRun {
 }
 
 /// Seeds of a campaign, one after the other (own).
-#[derive(Clone, Copy, Debug, PartialEq, Eq)]
+#[derive(Clone, Copy)]
 pub struct SeedRange {
     /// The first seed. The last one is below 2^64.
     pub first: u64,
@@ -33,7 +33,7 @@ pub struct SeedRange {
 }
 
 /// A side of a capture's flow (own): of its packets, those that go there.
-#[derive(Clone, Copy, Debug, PartialEq, Eq)]
+#[derive(Clone, Copy)]
 pub struct FlowSide {
     /// The flow's number, from 1 in the order first seen.
     pub flow: u64,

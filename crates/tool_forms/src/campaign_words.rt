@@ -12,7 +12,7 @@ use seq_circle::NoMemory;
 use std::alloc::Global;
 
 /// The job of the form `campaign` (own): which seeds are run, with how many events each, and by how many workers.
-#[derive(Clone, Copy, Debug, PartialEq, Eq)]
+#[derive(Clone, Copy)]
 pub struct Campaign {
     /// The first seed. The last one is below 2^64.
     pub first: u64,

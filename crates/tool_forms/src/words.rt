@@ -14,7 +14,7 @@ use tool_text::is_text;
 use world_events::Side;
 
 /// A job of the tool (own).
-#[derive(Clone, Copy, Debug, PartialEq, Eq)]
+#[derive(Clone, Copy)]
 pub enum Form {
     /// `run` plays a schedule.
     Run,

@@ -10,7 +10,7 @@ use tool_jobs::role_of;
 use world_events::Side;
 
 /// What of an end's configuration the packets that it gets depend on (own).
-#[derive(Clone, Copy, Debug, PartialEq, Eq)]
+#[derive(Clone, Copy)]
 pub(crate) struct UsualEnd {
     /// Their destination port.
     pub(crate) own_port: u16,
@@ -23,7 +23,7 @@ pub(crate) struct UsualEnd {
 }
 
 /// Why a packet has no frame in a replay (own).
-#[derive(Clone, Copy, Debug, PartialEq, Eq)]
+#[derive(Clone, Copy)]
 pub(crate) enum NoFrame {
     /// It has an acknowledgement number, and the captured end sent no number of 48 bits before it, from which that
     /// could be counted.

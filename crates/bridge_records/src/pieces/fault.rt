@@ -3,7 +3,7 @@ use capture_reader::FormatFault;
 use seq_circle::NoMemory;
 
 /// Why an input of pieces is refused (own).
-#[derive(Clone, Copy, Debug, PartialEq, Eq)]
+#[derive(Clone, Copy)]
 pub enum PieceFault {
     /// The first bytes are no magic number of a capture.
     BadMagic,
@@ -37,7 +37,7 @@ impl From<FormatFault> for PieceFault {
 }
 
 /// Why a job does not accept a piece (own).
-#[derive(Clone, Copy, Debug, PartialEq, Eq)]
+#[derive(Clone, Copy)]
 pub(crate) enum PieceError {
     /// The input is refused at the piece for this fault.
     Refused(PieceFault),

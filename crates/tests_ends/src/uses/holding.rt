@@ -15,7 +15,7 @@ const CAPACITY: u16 = 8;
 
 // What the reader's owner was told: how many packets wait or waited, how many were dropped and with which code the last,
 // how many came in another way, and the code with which the connection has ended.
-#[derive(Clone, Copy, Debug, PartialEq, Eq)]
+#[derive(Clone, Copy)]
 struct ReaderNews {
     waited: u32,
     dropped: u32,

@@ -5,7 +5,7 @@ use crate::words::LineFault;
 use seq_circle::NoMemory;
 
 /// Why a job does not accept a line (own).
-#[derive(Clone, Copy, Debug, PartialEq, Eq)]
+#[derive(Clone, Copy)]
 pub enum LineError {
     /// The line is refused for this fault.
     Refused(LineFault),

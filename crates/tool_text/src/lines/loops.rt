@@ -62,7 +62,7 @@ fn end<J: LineJob, K: Sink>(
 }
 
 /// How a job over lines ended (own), and the line that was refused, if one was.
-#[derive(Clone, Copy, Debug, PartialEq, Eq)]
+#[derive(Clone, Copy)]
 pub struct LinesEnd {
     pub end: JobEnd,
     pub refusal: Option<LineRefusal>,

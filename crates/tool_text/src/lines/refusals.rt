@@ -18,7 +18,7 @@ pub(crate) fn too_long() -> LineFault
 }
 
 /// A line that is refused (own): its number, from 1, and its first fault.
-#[derive(Clone, Copy, Debug, PartialEq, Eq)]
+#[derive(Clone, Copy)]
 pub struct LineRefusal {
     pub number: u64,
     pub fault: LineFault,

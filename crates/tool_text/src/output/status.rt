@@ -3,7 +3,7 @@ ghost use Rattle.std.specs.Prelude.{◌≡◌, ◌≢◌, if◌then◌else◌};
 ghost use Rattle.tool_text.specs.Ends.{status_of};
 
 /// How a job of the tool ended (own).
-#[derive(Clone, Copy, Debug, PartialEq, Eq)]
+#[derive(Clone, Copy)]
 pub enum JobEnd {
     /// The whole job was done; an input that it has was read to its end.
     Done,
@@ -34,7 +34,7 @@ impl JobEnd {
 }
 
 /// How a program ends (own): as the job that its words ask for, or with Words if they ask for none.
-#[derive(Clone, Copy, Debug, PartialEq, Eq)]
+#[derive(Clone, Copy, PartialEq, Eq)]
 pub enum Status {
     /// The whole job was done; an input that it has was read to its end.
     Done,

@@ -3,7 +3,7 @@ ghost use Rattle.std.specs.Prelude.{◌≡◌};
 ghost use Rattle.tool_text.specs.Refusals.{line_why_name, whole_line};
 
 /// What is wrong with a line, and where (own).
-#[derive(Clone, Copy, Debug, PartialEq, Eq)]
+#[derive(Clone, Copy, PartialEq, Eq)]
 pub struct LineFault {
     /// The column, in bytes from 1.
     pub column: u32,
@@ -12,7 +12,7 @@ pub struct LineFault {
 
 /// What may be wrong with a line, in the order in which it is judged (own). Missing, UnknownWord, BadPeer, BadNumber
 /// and BadHex are judged together, word by word from the left. Each grammar of lines says which of these it answers.
-#[derive(Clone, Copy, Debug, PartialEq, Eq)]
+#[derive(Clone, Copy, PartialEq, Eq)]
 pub enum LineWhy {
     /// It ends past the input's limit. The program judges this.
     TooMuchInput,

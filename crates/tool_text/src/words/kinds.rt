@@ -13,7 +13,7 @@ use crate::words::faults::{LineFault, LineWhy};
 use crate::words::split::Word;
 
 /// What is wrong with a word, and how many of its bytes come before that (own).
-#[derive(Clone, Copy, Debug, PartialEq, Eq)]
+#[derive(Clone, Copy)]
 pub struct Flaw {
     pub place: u32,
     pub why: LineWhy,
