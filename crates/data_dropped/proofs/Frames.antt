@@ -7,7 +7,8 @@ use Rattle.dccp_packets.specs.declared.header.Kind.{Kind}
 use Rattle.dccp_packets.specs.declared.header.Kind.TheVariants as kind
 use Rattle.dccp_sum.specs.declared.pseudo_header.Pseudo.{Pseudo}
 use Rattle.dccp_endpoint.proofs.AnyFrames.{IsSealed, sealed-read}
-use Rattle.data_dropped.specs.Frames.{acknowledged_by, has_room_for, lengthened, says_more}
+use Rattle.dccp_endpoint.specs.Lengthening.{has_room_for, lengthened, says_more}
+use Rattle.data_dropped.specs.Frames.{acknowledged_by}
 
 acking-detail : (told : Option ℕ) (ack : ℕ) (k : Kind) → acknowledged_by told k ≡ Some ack → HasDetail k
 acking-detail told ack (kind.Ack n) is = tt

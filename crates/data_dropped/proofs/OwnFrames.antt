@@ -44,7 +44,8 @@ use Rattle.feature_lists.specs.declared.features.Place.TheVariants.{Here, There}
 use Rattle.feature_machine.specs.Negotiating.{row_at}
 use Rattle.feature_machine.specs.declared.row.Row.{Row}
 use Rattle.data_dropped.specs.Drops.{drop_bytes}
-use Rattle.data_dropped.specs.Frames.{acknowledged_by, buffered_ack, buffered_packet, buffered_sent, lengthened, lengthened_if, said, says_more}
+use Rattle.dccp_endpoint.specs.Lengthening.{lengthened, lengthened_if, says_more}
+use Rattle.data_dropped.specs.Frames.{acknowledged_by, buffered_ack, buffered_packet, buffered_sent, said}
 use Rattle.data_dropped.specs.Inbox.{InboxState}
 use Rattle.data_dropped.specs.Reports.{drop_options}
 use Rattle.data_dropped.specs.Telling.{IsPassedOver, TellsItsDrops, options_in_packet, told_by_ack, told_if}

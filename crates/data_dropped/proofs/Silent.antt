@@ -6,7 +6,8 @@ use Rattle.dccp_packets.specs.Outgoing.{Outgoing}
 use Rattle.dccp_packets.specs.declared.reading.Malformed.{Malformed}
 use Rattle.dccp_sum.specs.declared.pseudo_header.Pseudo.{Pseudo}
 use Rattle.data_dropped.specs.Drops.{before_codes, drop_bytes, drop_coding, up_to_last_code}
-use Rattle.data_dropped.specs.Frames.{acknowledged_by, buffered_ack, buffered_frame, buffered_packet, drops_said, lengthened_if, said, says_more, slow_said}
+use Rattle.dccp_endpoint.specs.Lengthening.{lengthened_if, says_more}
+use Rattle.data_dropped.specs.Frames.{acknowledged_by, buffered_ack, buffered_frame, buffered_packet, drops_said, said, slow_said}
 use Rattle.data_dropped.specs.Inbox.{InboxState, is_slow}
 use Rattle.data_dropped.specs.declared.drops.DropEntry.{DropEntry}
 use Rattle.data_dropped.proofs.Table.{table-none}

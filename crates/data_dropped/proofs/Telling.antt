@@ -8,7 +8,8 @@ use Rattle.dccp_packets.specs.Outgoing.{Outgoing}
 use Rattle.dccp_endpoint.specs.End.{EndState, IsProper}
 use Rattle.dccp_endpoint.specs.Inputs.{Input, end_stepped}
 use Rattle.data_dropped.specs.Drops.{HaveCodes, drop_bytes}
-use Rattle.data_dropped.specs.Frames.{acknowledged_by, buffered_frame, buffered_sent, said, says_more}
+use Rattle.dccp_endpoint.specs.Lengthening.{says_more}
+use Rattle.data_dropped.specs.Frames.{acknowledged_by, buffered_frame, buffered_sent, said}
 use Rattle.data_dropped.specs.Inbox.{InboxState}
 use Rattle.data_dropped.specs.Telling.{FrameTells, IsReadAsDrops, TellsItsDrops, drops_in_packet, one_option, report_in_packet, told_by_ack, told_if}
 use Rattle.data_dropped.proofs.OwnFrames.{step-tells}

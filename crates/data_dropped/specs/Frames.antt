@@ -1,14 +1,14 @@
 -- What an end with a bounded inbox says after the options of its acknowledgements (own; RFC 4340, sections 11.6 and
 -- 11.7).
-use Rattle.std.specs.Prelude.{ℕ, ◌+◌, ◌==◌, ◌&&◌, not, nat_le, Bool, true, false, List, [], ◌∷◌, ◌++◌, length, Option, Some, None, Result, Ok, Err, if◌then◌else◌}
+use Rattle.std.specs.Prelude.{ℕ, ◌==◌, Bool, true, false, List, [], ◌∷◌, ◌++◌, length, Option, Some, None, Result, Ok, Err, if◌then◌else◌}
 use Rattle.dccp_options.specs.Kinds.{data_dropped, slow_receiver}
 use Rattle.dccp_options.specs.Written.{spelled}
-use Rattle.dccp_packets.specs.Grammar.{Parts, decoded, header_length, packet_type, padded, spelling}
+use Rattle.dccp_packets.specs.Grammar.{Parts, decoded, packet_type}
 use Rattle.dccp_packets.specs.Outgoing.{Outgoing}
 use Rattle.dccp_packets.specs.declared.header.Kind.{Kind}
 use Rattle.dccp_packets.specs.declared.reading.Malformed.{Malformed}
-use Rattle.dccp_sum.specs.Checksum.{sealed}
 use Rattle.dccp_sum.specs.declared.pseudo_header.Pseudo.{Pseudo}
+use Rattle.dccp_endpoint.specs.Lengthening.{lengthened_if, says_more}
 use Rattle.dccp_endpoint.specs.Reporting.{is_acking}
 use Rattle.data_dropped.specs.Drops.{drop_bytes}
 use Rattle.data_dropped.specs.Inbox.{InboxState, is_slow}
@@ -29,24 +29,6 @@ said held ack = drops_said (drop_bytes held.drops ack) ++ slow_said (is_slow hel
 -- the acknowledgement number that the end states for a frame that is an Ack or a DataAck
 abbrev pub acknowledged_by : Option ℕ → Kind → Option ℕ
 acknowledged_by told kind = if is_acking (packet_type kind) then told else None
-
--- The packet has room for these options after its own: a Data Offset counts 1,020 bytes at most (section 5.1), and a
--- frame has room for 1,024 bytes of data (own).
-abbrev pub has_room_for : Parts → List ℕ → Bool
-has_room_for p more = nat_le (header_length p.header + length (padded (p.options ++ more))) 1020 && nat_le (length p.payload) 1024
-
--- something is to be said, and the packet has room for it
-abbrev pub says_more : Parts → List ℕ → Bool
-says_more p more = not (length more == 0) && has_room_for p more
-
--- the packet with these options after its own, and its checksum made anew
-abbrev pub lengthened : Pseudo → Parts → List ℕ → List ℕ
-lengthened pseudo p more = sealed pseudo (spelling p.header (p.options ++ more) p.payload)
-
--- the packet lengthened, or the frame as it is
-abbrev pub lengthened_if : Bool → Pseudo → Parts → List ℕ → List ℕ → List ℕ
-lengthened_if true pseudo p frame more = lengthened pseudo p more
-lengthened_if false pseudo p frame more = frame
 
 -- a frame that is this packet, by the number that it acknowledges: any other type than Ack and DataAck goes out as it
 -- is

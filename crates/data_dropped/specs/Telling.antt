@@ -12,7 +12,8 @@ use Rattle.dccp_packets.specs.Outgoing.{Outgoing}
 use Rattle.dccp_sum.specs.Checksum.{checked}
 use Rattle.dccp_sum.specs.declared.pseudo_header.Pseudo.{Pseudo}
 use Rattle.data_dropped.specs.Drops.{code_at, drop_bytes, drop_code, tells_all}
-use Rattle.data_dropped.specs.Frames.{acknowledged_by, said, says_more}
+use Rattle.dccp_endpoint.specs.Lengthening.{says_more}
+use Rattle.data_dropped.specs.Frames.{acknowledged_by, said}
 use Rattle.data_dropped.specs.Inbox.{InboxState}
 use Rattle.data_dropped.specs.Reports.{drop_options}
 

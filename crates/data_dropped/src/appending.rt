@@ -1,28 +1,20 @@
 //! What the acknowledgements of an end with a bounded inbox say after their own options.
-//!
-//! A frame is read, and its packet is written again with a longer option area. So no byte is moved by hand, and the
-//! end's own options read as before: they are padded with zeros, which list nothing.
-ghost use Rattle.std.specs.Prelude.{◌≡◌, ◌≤◌, [], IsTrue, length};
+ghost use Rattle.std.specs.Prelude.{◌≡◌, ◌≤◌, [], length};
 ghost use Rattle.std.specs.Bool.{OnFalse, OnTrue};
-ghost use Rattle.dccp_endpoint.specs.Incoming.{parts_of_packet};
-ghost use Rattle.dccp_packets.specs.Grammar.{HeaderFits, is_valid};
 ghost use Rattle.data_dropped.specs.Drops.{HaveCodes};
-ghost use Rattle.data_dropped.specs.Frames.{acknowledged_by, buffered, buffered_frame, drops_said, lengthened, said, says_more};
+ghost use Rattle.data_dropped.specs.Frames.{acknowledged_by, buffered, buffered_frame, drops_said, said};
 
 use crate::drops::DropBytes;
 use crate::inbox::BoundedInbox;
 use arrayvec::ArrayVec;
-use dccp_endpoint::{MOST_DATA_BYTES, seal_frame};
+use dccp_endpoint::lengthen;
 use dccp_options::kinds::{DATA_DROPPED, SLOW_RECEIVER};
-use dccp_packets::{Frame, Kind, Numbers, Outbox, Packet, decode, encode};
+use dccp_packets::{Frame, Kind, Numbers, Outbox, decode};
 use dccp_sum::Pseudo;
 use seq_circle::Seq48;
 
 // A full Data Dropped option and Slow Receiver.
 type ReportBytes = ArrayVec<u8, 256>;
-
-// An option area with what is said after it.
-type Area = ArrayVec<u8, 1264>;
 
 // The acknowledgement number that the end states for a frame that is an Ack or a DataAck.
 fn acknowledged_by(kind: &Kind, told: &Option<Seq48>) -> Option<Seq48>
@@ -67,28 +59,6 @@ fn put_said<const MOST: usize>(out: &mut ReportBytes, inbox: &BoundedInbox<MOST>
     if inbox.slow() {
         out.push(SLOW_RECEIVER);
     }
-}
-
-/// Writes the packet with more options after its own, if there are any and it has room, and sets its checksum again: a
-/// Data Offset counts 1,020 bytes at most (RFC 4340, section 5.1). True exactly if it did.
-pub fn lengthen(packet: &Packet<'_>, more: &[u8], pseudo: &Pseudo, longer: &mut Frame) -> bool
-    requires valid { IsTrue (is_valid packet.now.header) }
-    requires area { length packet.now.options.now ≤ 1008 }
-    requires short { length more.now ≤ 256 }
-    ensures says { result ≡ says_more (parts_of_packet packet.now) more.now }
-    ensures written { OnTrue result (longer.new ≡ lengthened pseudo.now (parts_of_packet packet.now) more.now) }
-{
-    if more.is_empty() || MOST_DATA_BYTES < packet.payload.len() {
-        return false;
-    }
-    let mut area = Area::new();
-    let _ = area.try_extend_from_slice(packet.options);
-    let _ = area.try_extend_from_slice(more);
-    let Ok(()) = encode(&packet.header, area.as_slice(), packet.payload, longer) else {
-        return false;
-    };
-    seal_frame(pseudo, longer);
-    true
 }
 
 // Writes a frame with what is to be said after its options, if there is anything and it has room. True exactly if it

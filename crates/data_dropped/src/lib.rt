@@ -21,7 +21,6 @@ mod report;
 mod writing;
 
 pub use crate::answers::{Arrival, Got};
-pub use crate::appending::lengthen;
 pub use crate::buffered_end::BufferedEnd;
 pub use crate::drops::{DropBytes, DropEntry};
 pub use crate::inbox::{BoundedInbox, Inbox, LongInbox};

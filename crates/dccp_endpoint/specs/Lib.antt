@@ -13,6 +13,7 @@ pub mod Steps
 pub mod Strangers
 pub mod Speaking
 pub mod Reporting
+pub mod Lengthening
 pub mod Saying
 pub mod FirstFault
 pub mod Receiving

@@ -21,6 +21,7 @@ mod feeding;
 mod heeding;
 mod incoming;
 mod laws;
+mod lengthening;
 mod outgoing;
 mod sealing;
 mod speaking;
@@ -36,6 +37,7 @@ pub use crate::laws::{
     own_packets_say_one_thing_of_a_row, own_packets_speak_once, packets_say_one_thing_to_a_row,
     reading_stops_at_the_first_fault, told_numbers_are_spelled, valid_numbers_are_near,
 };
+pub use crate::lengthening::lengthen;
 pub use crate::outgoing::put_reset;
 pub use crate::sealing::seal_frame;
 pub use crate::strangers::answer_stranger;

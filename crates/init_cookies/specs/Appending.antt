@@ -4,7 +4,7 @@ use Rattle.dccp_packets.specs.Grammar.{Parts, decoded}
 use Rattle.dccp_packets.specs.Outgoing.{Outgoing}
 use Rattle.dccp_packets.specs.declared.reading.Malformed.{Malformed}
 use Rattle.dccp_sum.specs.declared.pseudo_header.Pseudo.{Pseudo}
-use Rattle.data_dropped.specs.Frames.{lengthened_if, says_more}
+use Rattle.dccp_endpoint.specs.Lengthening.{lengthened_if, says_more}
 
 -- a frame that is this packet, with these options after its own, or as it is where it has no room for them
 abbrev pub appended_packet : Pseudo → List ℕ → List ℕ → Result Parts Malformed → List ℕ

@@ -3,7 +3,7 @@ ghost use Rattle.std.specs.Prelude.{◌≡◌, ◌≤◌, length};
 ghost use Rattle.std.specs.Bool.{OnFalse, OnTrue};
 ghost use Rattle.init_cookies.specs.Appending.{appended, appended_bytes};
 
-use data_dropped::lengthen;
+use dccp_endpoint::lengthen;
 use dccp_packets::{Frame, Numbers, Outbox, decode};
 use dccp_sum::Pseudo;
 

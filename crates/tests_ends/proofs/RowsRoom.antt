@@ -1,7 +1,8 @@
 -- Worked acknowledgements with as many bytes of options as two full Ack Vectors and many Confirms have, here zeros, computed from the definitions:
 -- whether one has room for what an inbox has to say (RFC 4340, sections 5.1 and 5.8; the numbers were worked out by hand).
 use Rattle.std.proofs.Common.{◌≡◌, refl, ℕ, ◌+◌, true, false, List, [], ◌∷◌, ◌++◌, replicate, length, Result, Ok, Err}
-use Rattle.data_dropped.specs.Frames.{drops_said, lengthened_if, says_more}
+use Rattle.data_dropped.specs.Frames.{drops_said}
+use Rattle.dccp_endpoint.specs.Lengthening.{lengthened_if, says_more}
 use Rattle.dccp_endpoint.specs.Drafts.{framed, own_header}
 use Rattle.dccp_endpoint.specs.Usual.{to_client, usual}
 use Rattle.dccp_packets.specs.Grammar.{Parts, decoded}
