@@ -1,7 +1,7 @@
 /* Ten megabytes over UDP on this machine, from one process to another: by a connection, and as plain datagrams beside it.
  *
  * A line each says how many packets of 1,024 bytes came of 10,240, in how many seconds, how many packets and megabytes a second that is, and
- * the most memory that the receiver had; a third line how many times as long and as much the connection took. What is lost stays lost. The
+ * the most memory that the receiver had. A third line says how many times as long and as much the connection took. What is lost stays lost. The
  * plain datagrams are as many in flight as a connection may have, and each is answered. Neither goes on for over a minute. */
 #include <arpa/inet.h>
 #include <poll.h>

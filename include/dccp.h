@@ -378,8 +378,8 @@ typedef struct dccp_told {
 } dccp_told;
 
 /* What can be read of an end: ISS, GSS, GAR, ISR and GSR of RFC 4340, section 7.1 (ISR and GSR are 0 before the first packet was received), how
- * many packets were taken, its phase, and in packets its window, or what the application that reads its data leaves of that, and how much is in
- * flight. */
+ * many packets were taken, and its phase. Its window and its flight are in packets; the window is less if the application that reads its data
+ * leaves less of it. */
 typedef struct dccp_view {
     size_t size; /* sizeof(dccp_view) */
     uint64_t iss;
@@ -591,8 +591,8 @@ void dccp_listener_free(dccp_listener *listener);
 
 /* A datagram has come from this peer. Its flow hears it; or it opens a flow, if it is a Request that a server's end accepts. The number of the first
  * packet of that flow is `first_number`, below 2^48, which nobody can guess: draw one for each datagram, or for each whose peer has no flow, or by
- * dccp_listener_number. If the table is full, the rules may end a flow to make room, which dccp_listener_evicted names. If the datagram shows that
- * the peer has begun anew from its port (a Reset with code 4 that acknowledges the last Sync of its flow), the rules end that flow and leave no
+ * dccp_listener_number. If the table is full, the rules may end a flow to make room, which dccp_listener_evicted names. A Reset with
+ * code 4 that acknowledges the last Sync of its flow shows that the peer has begun anew from its port. The rules then end that flow and leave no
  * frame (DCCP_TOLD_SYNCED), and the peer's next Request opens another. Answers that anybody may cause are limited: a datagram that its flow would
  * answer by one Sync too many is ignored (DCCP_CAUSE_LIMIT), and a frame for a peer without a flow that is one too many is not made.
  * With cookies a Request needs no flow, and the packet that returns its cookie opens one: dccp_listener_way shows both.

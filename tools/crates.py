@@ -6,7 +6,7 @@ TOP = Path(__file__).resolve().parent.parent
 
 
 def lines():
-    """Yields for each line of the map its crate, what kind of crate it says that it is, mostly nothing, and what the crate uses."""
+    """Yields for each line of the map its crate, the kinds that it names, mostly none, and the crates that it uses."""
     for line in (TOP / "crates.txt").read_text(encoding="utf-8").splitlines():
         front, colon, rest = line.partition("#")[0].partition(":")
         if colon:

@@ -308,8 +308,8 @@ refusals! {
     ListenError {
         /// There is no memory.
         NoMemory = NO_MEMORY, "no memory for a listener";
-        /// The flows at a time are not 1 to 1,024, or there are over 16 Service Codes or one twice, or the configuration is of IPv6, and
-        /// so not a [`Config::listener`](crate::Config::listener).
+        /// There are not 1 to 1,024 flows at a time, or over 16 Service Codes, or one twice; or the configuration is of IPv6, and so not a
+        /// [`Config::listener`](crate::Config::listener).
         Limit = NO_SUCH_LISTENER, "not 1 to 1,024 flows, or not the configuration of a listener";
         /// The first number is not below 2^48.
         FirstNumber = NO_NUMBER, "the first number is not below 2^48";
