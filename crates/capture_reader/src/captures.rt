@@ -12,7 +12,7 @@ use crate::CaptureFault;
 use crate::format::{FILE_HEADER, Format, LINKS, Order};
 use crate::gather::gather;
 use crate::record::{
-    MOST_BYTES, MOST_CAPTURED, RECORD_HEADER, Record, RecordHeader, header_in, missing,
+    MOST_CAPTURE_BYTES, MOST_CAPTURED, RECORD_HEADER, Record, RecordHeader, header_in, missing,
 };
 use dccp_io::{ReadAhead, Source};
 use std::alloc::Global;
@@ -213,7 +213,7 @@ impl<S: Source + Drop> Captures<S> {
         }
         self.ahead.pass(self.lent);
         self.lent = 0;
-        let room = MOST_BYTES - self.given;
+        let room = MOST_CAPTURE_BYTES - self.given;
         match read_record(&mut self.source, &mut self.ahead, self.format.order, room) {
             Err(fault) => {
                 self.fault = Some(fault);
@@ -273,7 +273,7 @@ impl<S: Source + Drop> Captures<S> {
             return true;
         }
         let (_, pending) = self.ahead.pending().split_at(self.lent);
-        is_record_settled(self.format.order, MOST_BYTES - self.given, pending)
+        is_record_settled(self.format.order, MOST_CAPTURE_BYTES - self.given, pending)
     }
 
     /// The source, in its present state.

@@ -16,4 +16,4 @@ pub use crate::captures::Captures;
 pub use crate::fault::{CaptureFault, FormatFault};
 pub use crate::format::{Format, MICROSECONDS, NANOSECONDS, Order};
 pub use crate::laws::{a_capture_has_one_list_of_records, cut_short_comes_before_too_large};
-pub use crate::record::{MOST_CAPTURED, Record, RecordHeader, rest_after};
+pub use crate::record::{MOST_CAPTURE_BYTES, MOST_CAPTURED, Record, RecordHeader, rest_after};

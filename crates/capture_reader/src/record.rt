@@ -68,7 +68,7 @@ pub(crate) const RECORD_HEADER: usize = 16;
 pub const MOST_CAPTURED: usize = 262_144;
 
 /// The most bytes of a capture that count.
-pub(crate) const MOST_BYTES: u64 = 4_294_967_296;
+pub const MOST_CAPTURE_BYTES: u64 = 4_294_967_296;
 
 const SECONDS: usize = 0;
 

@@ -2,7 +2,7 @@
 ghost use Rattle.std.specs.Prelude.{◌≡◌, ℕ, ◌≤◌, IfOk};
 ghost use Rattle.ccid_two.specs.Window.{first_state, halved, grown_in_slow_start, grown_in_avoidance, capped, ccid_control};
 
-use congestion_trait::{Congestion, Flight, Standing};
+use congestion_trait::{Congestion, Flight, LARGEST_WINDOW, Standing};
 use dccp_options::AckReport;
 use seq_circle::{NoMemory, Seq48};
 use std::alloc::Global;
@@ -11,8 +11,6 @@ use std::marker::Model;
 const CCID: u8 = 2;
 
 const INITIAL_WINDOW: u32 = 4;
-
-const LARGEST_WINDOW: u32 = 1024;
 
 /// TCP-like congestion control (RFC 4341, section 5): the window doubles in a round trip until it reaches the
 /// threshold, then grows by a packet in each, is halved once for all losses of a window, and falls to one packet at a

@@ -9,6 +9,9 @@ use crate::flight::Standing;
 use dccp_options::AckReport;
 use seq_circle::Seq48;
 
+/// How many packets a window has at most, of any kind (own).
+pub const LARGEST_WINDOW: u32 = 1024;
+
 /// The congestion control of one sender (RFC 4340, section 10). Every kind keeps a flight list. Each call changes the
 /// list by the list's rules, and the rest of the state by the kind's rules. No call takes memory.
 ///

@@ -11,7 +11,7 @@ mod flight;
 mod laws;
 mod walk;
 
-pub use crate::congestion::Congestion;
+pub use crate::congestion::{Congestion, LARGEST_WINDOW};
 pub use crate::fixed::FixedWindow;
 pub use crate::flight::{Flight, FlightEntry, FlightNews, Standing};
 pub use crate::laws::{

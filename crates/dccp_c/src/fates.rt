@@ -11,7 +11,8 @@ ghost use Rattle.dccp_c.specs.Fates.{IsFate, StandSo, end_alone, left_beside, lo
 use crate::end::End;
 use crate::held::OwnedEnd;
 use ccid_two::Kinds;
-use dccp_endpoint::{Endpoint, Feature, Phase, Place, Seq48, Standing};
+use dccp_endpoint::{Endpoint, Feature, MOST_DATA_BYTES, Phase, Place, Seq48, Standing};
+use dccp_options::MOST_OPTION_BYTES;
 use dccp_uses::{ClientCookie, DropRecord};
 use std::alloc::Global;
 
@@ -31,13 +32,8 @@ pub const FATE_LOST: u32 = 3;
 /// 7 (RFC 4340, section 11.7).
 pub const FATE_DROPPED: u32 = 4;
 
-// The bytes of data that one option has room for (RFC 4340, section 5.8).
-const OPTION_ROOM: u64 = 253;
-
 // The header of a DataAck with a long number (RFC 4340, section 5.1).
 const LONGEST_HEADER: usize = 24;
-
-const MOST_DATA_BYTES: usize = 1024;
 
 // Of data that have come, by the code with which they were dropped, if they were.
 fn fate_by(code: Option<u8>) -> u32
@@ -106,7 +102,7 @@ fn numbers_told(end: &Endpoint<Kinds>) -> u64
 fn most_vector_bytes(numbers: u64) -> usize
     ensures { result ≡ most_vector_bytes numbers }
 {
-    let bytes = numbers.min(OPTION_ROOM) as usize + 2;
+    let bytes = numbers.min(MOST_OPTION_BYTES as u64) as usize + 2;
     bytes.div_ceil(4) * 4
 }
 

@@ -3,15 +3,13 @@
 //! experiments, RFC 4340, section 10).
 ghost use Rattle.std.specs.Prelude.{IfOk, [], ◌≡◌};
 
-use congestion_trait::{Flight, Standing};
+use congestion_trait::{Flight, LARGEST_WINDOW, Standing};
 use dccp_endpoint::{Congestion, NoMemory, Seq48};
 use dccp_options::AckReport;
 use std::alloc::Global;
 use std::marker::Model;
 
 const CCID: u8 = 249;
-
-const LARGEST: u32 = 1024;
 
 /// A window that grows by a packet and is halved.
 #[derive(Drop)]
@@ -86,7 +84,7 @@ impl Congestion for AdditiveWindow {
         let news = self.flight.report(report, None);
         if news.congested {
             self.window = (self.window / 2).max(1);
-        } else if news.acked > 0 && self.window < LARGEST {
+        } else if news.acked > 0 && self.window < LARGEST_WINDOW {
             self.window += 1;
         }
     }

@@ -2,15 +2,12 @@
 ghost use Rattle.std.specs.Prelude.{◌≡◌, ◌≤◌, ◌++◌, [], length, OnOk};
 ghost use Rattle.two_ends.specs.World.{HasPlace, HasRoomForFrame, as_sent};
 
-use dccp_packets::Outbox;
+use dccp_packets::{MOST_FRAME_BYTES, Outbox};
 use seq_circle::{NoMemory, Seq48};
 use smallvec::SmallVec;
 use std::alloc::Global;
 use std::marker::Model;
 use std::mem;
-
-// No frame is longer.
-const MOST_BYTES: usize = 2044;
 
 // A frame of no more bytes, as most are, takes no block of its own.
 const FEW_BYTES: usize = 48;
@@ -65,7 +62,7 @@ pub(crate) fn take_memory(frames: &mut Vec<SentFrame>, spare: &mut Vec<u8>) -> R
     ensures room { OnOk result (HasRoomForFrame spare.new) }
 {
     frames.reserve(1)?;
-    spare.reserve(MOST_BYTES)?;
+    spare.reserve(MOST_FRAME_BYTES)?;
     Ok(())
 }
 

@@ -6,6 +6,7 @@ ghost use Rattle.bridge_command.specs.TranscriptLines.{CanArrive, came_said, fra
 use crate::capture::records::Travel;
 use bridge_pictures::without_colon;
 use dccp_listener::Peer;
+use dccp_packets::MOST_FRAME_BYTES;
 use schedule_text::{FrameLine, FrameWords};
 use tool_jobs::peer_of;
 use tool_text::{
@@ -13,9 +14,6 @@ use tool_text::{
     number_up_to, read_line, read_word,
 };
 use world_events::Side;
-
-// A packet that is too long for this has no frame.
-const MOST_OF_FRAME: usize = 2044;
 
 // A side's frames are numbered below this.
 const INDICES: u64 = 1 << 47;
@@ -128,7 +126,8 @@ fn sent<'a>(words: &mut Words<'a>) -> Result<TranscriptLine<'a>, LineFault>
 {
     let all = *words;
     let (travel, (digits, ())) = <(SentName, (Hex, ()))>::read(words)?;
-    if MOST_OF_FRAME < digits.len() {
+    // A packet that is longer has no frame.
+    if MOST_FRAME_BYTES < digits.len() {
         return Err(LineFault {
             column: all.column_of(1),
             why: LineWhy::FrameTooLong,

@@ -5,6 +5,7 @@ ghost use Rattle.tool_text.specs.Ends.{EndsForCause, SinkFails};
 ghost use Rattle.bridge_records.specs.Pieces.{GoesThroughPieces};
 ghost use Rattle.bridge_records.specs.Turns.{LeavesText};
 
+use crate::blocks::MOST_BLOCK;
 use crate::pieces::fault::PieceFault;
 use crate::pieces::job::PieceJob;
 use crate::pieces::turns::{Turn, flush_if_due, take_turn};
@@ -12,9 +13,6 @@ use dccp_io::{ReadAhead, Sink, Source, write_all};
 use seq_circle::NoMemory;
 use std::alloc::Global;
 use tool_text::{JobEnd, answered, cut_off};
-
-// The bytes of the block.
-const BLOCK: usize = 524_288;
 
 // Writes the rest of the text, and what follows the last piece.
 fn close<J: PieceJob, K: Sink>(
@@ -105,7 +103,7 @@ pub(crate) fn run_pieces<J: PieceJob, S: Source, K: Sink>(
     ensures cause { EndsForCause result.end (Rose (S.faults input.old) (S.faults input.new)) (SinkFails K.faults K.empty_takes output.old output.new) }
 {
     let mut text = Vec::new(alloc);
-    let Ok(mut ahead) = ReadAhead::new(alloc, BLOCK) else {
+    let Ok(mut ahead) = ReadAhead::new(alloc, MOST_BLOCK as usize) else {
         return PiecesEnd {
             end: JobEnd::Memory,
             fault: None,

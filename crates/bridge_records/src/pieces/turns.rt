@@ -7,12 +7,10 @@ ghost use Rattle.bridge_records.specs.Turns.{KeepsBlock, TurnsPiece};
 
 use crate::pieces::fault::{PieceError, PieceFault};
 use crate::pieces::job::PieceJob;
+use capture_reader::MOST_CAPTURE_BYTES;
 use dccp_io::{Failed, ReadAhead, Sink, Source};
 use seq_circle::NoMemory;
 use tool_text::{flush, flush_if_full};
-
-/// The most bytes of an input.
-const MOST_BYTES: u64 = 4_294_967_296;
 
 /// What one turn came to.
 pub(crate) enum Turn {
@@ -130,7 +128,7 @@ pub(crate) fn take_turn<J: PieceJob, S: Source>(
 {
     let wanted = job.wanted();
     let held = ahead.len();
-    if 0 < held && MOST_BYTES - given < wanted as u64 {
+    if 0 < held && MOST_CAPTURE_BYTES - given < wanted as u64 {
         return Ok(Turn::Over(Some(PieceFault::TooLarge)));
     }
     if held < wanted {
