@@ -1,6 +1,7 @@
 -- Records with at most this many steps between their numbers, and how a number further below one of them is none before it.
 use Rattle.std.proofs.Common.{◌≡◌, ℕ, zero, suc, ◌-◌, ◌≤◌, ◌<◌, false, ◌==◌, List, [], ◌∷◌, ◌++◌, Some, None, length, take, drop, slice_get, refl, sym, ◌∙◌, subst, inl, inr, arith}
 use Rattle.std.proofs.lemmas.Bool.{cases_Bool, and_parts, eqb-true}
+use Rattle.std.specs.List.{AllByRecursion}
 use Rattle.std.proofs.lemmas.List.{drop-map}
 use mathlib.Core.List.{map-append}
 use Rattle.circular_buffer.specs.Buffer.{keep_last}
@@ -51,3 +52,19 @@ none_to n span (suc k) (q ∷ rs) r there near past =
     let close : distance q.number r.number ≤ span = all_to (λ o. distance q.number o ≤ span) k (record_numbers rs) r.number (number_at (λ (e : VectorRecord). e.number) rs k r there) near.1 in
     let other : is_whole_at n q ≡ false = not_at n q (λ is. absurd (omega (arith, past, subst (λ (m : ℕ). distance m r.number ≤ span) is close))) in
     pass n q (take (suc k) rs) other ∙ none_to n span k rs r there near.2 past
+
+-- of records in two parts, those of each part are as near
+module _ (span : ℕ) where
+  pub near_later : (earlier later : List VectorRecord) → AreNear span (record_numbers (earlier ++ later)) → AreNear span (record_numbers later)
+  near_later [] later near = near
+  near_later (q ∷ earlier) later near = near_later earlier later near.2
+
+  all_earlier : (P : ℕ → Type 0) (earlier later : List VectorRecord) → AllByRecursion P (record_numbers (earlier ++ later))
+      → AllByRecursion P (record_numbers earlier)
+  all_earlier P [] later all = tt
+  all_earlier P (q ∷ earlier) later all = (all.0, all_earlier P earlier later all.1)
+
+  pub near_earlier : (earlier later : List VectorRecord) → AreNear span (record_numbers (earlier ++ later)) → AreNear span (record_numbers earlier)
+  near_earlier [] later near = tt
+  near_earlier (q ∷ earlier) later near =
+      (near.0, all_earlier (λ other. distance q.number other ≤ span) earlier later near.1, near_earlier earlier later near.2)

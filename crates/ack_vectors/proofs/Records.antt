@@ -1,10 +1,10 @@
 -- Records of sent vectors: which one counts, and what acknowledging does.
-use Rattle.std.proofs.Common.{◌≡◌, ℕ, suc, ◌+◌, ◌-◌, Bool, true, false, ◌||◌, ◌==◌, List, [], ◌∷◌, ◌++◌, length, take, drop, Option, Some, None, if◌then◌else◌, refl, ap, sym, subst, ◌∙◌, arith, inl, inr, ◌⊎◌, ⊎_elim}
+use Rattle.std.proofs.Common.{◌≡◌, ℕ, suc, ◌+◌, ◌-◌, ◌<◌, Bool, true, false, ◌||◌, ◌==◌, List, [], ◌∷◌, ◌++◌, length, take, drop, get_or, Option, Some, None, if◌then◌else◌, refl, ap, sym, subst, ◌∙◌, arith, inl, inr, ◌⊎◌, ⊎_elim}
 use Rattle.std.specs.Prelude.{is_some}
 use Rattle.std.specs.List.{list_any, Contains, slice_get}
 use Rattle.std.proofs.lemmas.Bool.{cases_Bool, and_parts, eqb-true, or_right}
 use Rattle.std.proofs.Math.Seq.{take-suc}
-use Rattle.std.proofs.lemmas.Option.{get_or_from_slice_get, slice_get_within}
+use Rattle.std.proofs.lemmas.Option.{get_or_from_slice_get, slice_get_cases, slice_get_within}
 use Rattle.std.proofs.lemmas.List.{take-append-drop}
 use Rattle.std.proofs.lemmas.List.Elements.{Contains-append_right, Contains-push_cases}
 use Rattle.seq_circle.specs.Circle.{residue}
@@ -36,6 +36,49 @@ newest_from-some n found (r ∷ rs) =
       | inl fits ↦ rw fits (newest_from-some n (Some r) rs ∙ sym (or_right (is_some found) true refl))
       | inr other ↦ rw other (newest_from-some n found rs)
     ]
+
+-- the record that is read at a place is there
+pub record_there : (rs : List VectorRecord) (k : ℕ) (r : VectorRecord) → k < length rs → r ≡ get_or rs k r → slice_get rs k ≡ Some r
+record_there rs k r inside is =
+    elim ((slice_get_cases rs k).1) [
+      | inl found ↦ subst (λ (x : VectorRecord). slice_get rs k ≡ Some x) (sym (get_or_from_slice_get rs k found.0 r found.2) ∙ sym is) found.2
+      | inr past ↦ absurd omega (arith, past.0)
+    ]
+
+-- of records in two parts, one that counts in the later part comes first, and else one of the earlier part
+newest_from-append : (n : ℕ) (found : Option VectorRecord) (rs later : List VectorRecord)
+    → newest_from n found (rs ++ later) ≡ newest_from n (newest_from n found rs) later
+newest_from-append n found [] later = refl
+newest_from-append n found (q ∷ rs) later = newest_from-append n (if is_whole_at n q then Some q else found) rs later
+
+newest_from-found : (n : ℕ) (found : Option VectorRecord) (rs : List VectorRecord) (r : VectorRecord) → newest_whole n rs ≡ Some r → newest_from n found rs ≡ Some r
+newest_from-found n found [] r there = absurd cc
+newest_from-found n found (q ∷ rs) r there =
+    elim (cases_Bool (is_whole_at n q)) [
+      | inl fits ↦ rw fits (rw fits at there)
+      | inr other ↦ rw other (newest_from-found n found rs r (rw other at there))
+    ]
+
+newest_from-none : (n : ℕ) (found : Option VectorRecord) (rs : List VectorRecord) → newest_whole n rs ≡ None → newest_from n found rs ≡ found
+newest_from-none n found [] none = refl
+newest_from-none n found (q ∷ rs) none =
+    elim (cases_Bool (is_whole_at n q)) [
+      | inl fits ↦
+          let gone : newest_from n (Some q) rs ≡ None = rw fits at none in
+          let bad : false ≡ true = sym (ap is_some gone) ∙ newest_from-some n (Some q) rs in
+          absurd cc
+      | inr other ↦ rw other (newest_from-none n found rs (rw other at none))
+    ]
+
+pub newest_whole-later : (n : ℕ) (earlier later : List VectorRecord) (r : VectorRecord) → newest_whole n later ≡ Some r
+    → newest_whole n (earlier ++ later) ≡ Some r
+newest_whole-later n earlier later r there =
+    newest_from-append n None earlier later ∙ newest_from-found n (newest_whole n earlier) later r there
+
+pub newest_whole-earlier : (n : ℕ) (earlier later : List VectorRecord) → newest_whole n later ≡ None
+    → newest_whole n (earlier ++ later) ≡ newest_whole n earlier
+newest_whole-earlier n earlier later none =
+    newest_from-append n None earlier later ∙ newest_from-none n (newest_whole n earlier) later none
 
 -- a record that counts is the first, or follows it
 found_first : (n : ℕ) (q : VectorRecord) (rs : List VectorRecord) (r : VectorRecord) → is_whole_at n q ≡ true → ◌≡◌ {A = Option VectorRecord} (Some q) (Some r)

@@ -62,8 +62,26 @@ fn is_whole_at(sent: &VectorRecord, n: Seq48) -> bool
     sent.number == n && sent.whole
 }
 
-// The newest record of a whole vector under the number. What the peer acknowledges is mostly the last of them, or data
-// that were sent after it. So the search ends once the number is further below a record than any earlier record can be.
+// The newest of these records of a whole vector under the number. What the peer acknowledges is mostly the last of them,
+// or data that were sent after it. So the search ends once the number is further below a record than any earlier record
+// can be.
+fn newest_among(records: &[VectorRecord], span: u64, n: Seq48) -> Option<VectorRecord>
+    requires { span < 2 ^ 48 → AreNear span (record_numbers records.now) }
+    ensures { result ≡ newest_whole n records.now }
+{
+    for index in (0..records.len()).rev() {
+        let record = records[index];
+        if is_whole_at(&record, n) {
+            return Some(record);
+        }
+        if span < n.distance(record.number) {
+            return None;
+        }
+    }
+    None
+}
+
+// The same in the ring: the newer records are those in its second part.
 fn newest_whole(
     records: &HeapCircularBuffer<VectorRecord>,
     span: u64,
@@ -72,17 +90,11 @@ fn newest_whole(
     requires { span < 2 ^ 48 → AreNear span (record_numbers records.now.items) }
     ensures { result ≡ newest_whole n records.now.items }
 {
-    for index in (0..records.len()).rev() {
-        if let Some(record) = records.get(index) {
-            if is_whole_at(record, n) {
-                return Some(*record);
-            }
-            if span < n.distance(record.number) {
-                return None;
-            }
-        }
+    let (earlier, later) = records.as_slices();
+    match newest_among(later, span, n) {
+        Some(record) => Some(record),
+        None => newest_among(earlier, span, n),
     }
-    None
 }
 
 // How many steps up a number is from the newest record's.
