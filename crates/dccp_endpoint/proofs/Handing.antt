@@ -1,5 +1,5 @@
 -- What is handed to the congestion control, in order; and the values that go with it fit.
-use Rattle.std.proofs.Common.{◌≡◌, ◌<◌, ◌^◌, true, List, sym, ap, ◌∙◌, subst}
+use Rattle.std.proofs.Common.{◌≡◌, ◌<◌, ◌^◌, ◌++◌, ◌==◌, ℕ, true, List, [], refl, sym, ap, ◌∙◌, subst, append-nil, eq-eqb}
 use Rattle.congestion_trait.specs.Calls.{Call}
 use Rattle.congestion_trait.specs.Control.{Control}
 use Rattle.feature_lists.specs.Features.{described}
@@ -12,7 +12,10 @@ use Rattle.feature_machine.specs.Negotiating.{held_by}
 use Rattle.feature_machine.specs.Sound.{IsRowOf, is_lawful}
 use Rattle.feature_machine.specs.declared.row.Row.{Row}
 use Rattle.feature_machine.specs.declared.stands.Held.{Held}
+use Rattle.dccp_endpoint.specs.Congesting.{calls_for, report_calls, reported_from, start_calls}
 use Rattle.dccp_endpoint.specs.Controlled.{EndStep, after_calls, with_control}
+use Rattle.dccp_endpoint.specs.End.{value_in}
+use Rattle.dccp_endpoint.specs.Incoming.{Incoming}
 use Rattle.dccp_endpoint.specs.Steps.{Step, with_calls}
 
 -- the value of a row fits the bytes of its feature
@@ -31,6 +34,17 @@ ccid_fits held row is its = held_fits Ccid Here held row is its
 -- an Ack Ratio has two bytes
 pub ratio_fits : (held : Held) (row : Row) → held ≡ held_by row → IsRowOf AckRatio Here row → held.value < 65536
 ratio_fits held row is its = held_fits AckRatio Here held row is its
+
+-- a CCID that stays starts nothing
+starts_nothing : (ccid : ℕ) → start_calls ccid ccid ≡ []
+starts_nothing ccid = rw (eq-eqb ccid ccid refl) refl
+
+-- where the rows stay, a packet's report alone is due
+pub due_where_rows_stay : (a : Incoming) (rows : List Row)
+    → report_calls (reported_from a.kind a.ack) a.options (value_in rows AckRatio Here) ≡ calls_for a rows rows
+due_where_rows_stay a rows =
+    let calls = report_calls (reported_from a.kind a.ack) a.options (value_in rows AckRatio Here) in
+    sym (append-nil calls) ∙ ap (λ (more : List Call). calls ++ more) (sym (starts_nothing (value_in rows Ccid Here)))
 
 module _ {C EndAnswer : Type 0} (control : Control C) (old : C) where
   -- a step beside a congestion control

@@ -50,16 +50,17 @@ fn reported_from(packet: &IncomingPacket<'_>) -> Option<Seq48>
     }
 }
 
-// A packet's report, if it has one.
-fn report<C: Congestion>(packet: &IncomingPacket<'_>, ratio: u16, congestion: &mut C)
-    ensures { congestion.new ≡ after_calls C.control congestion.old (report_calls (reported_from packet.now.kind packet.now.ack) packet.now.options ratio) }
+// A packet's report, if it has one, with the Ack Ratio of these rows.
+fn report<C: Congestion>(packet: &IncomingPacket<'_>, rows: &Negotiation, congestion: &mut C)
+    ensures { congestion.new ≡ after_calls C.control congestion.old
+        (report_calls (reported_from packet.now.kind packet.now.ack) packet.now.options (value_in rows.now feature.AckRatio place.Here)) }
 {
     let Some(ack) = reported_from(packet) else {
         return;
     };
     let list = options(packet.options, packet.kind.is_data());
     if let Some(report) = AckReport::of(ack, list) {
-        congestion.on_report(&report, ratio);
+        congestion.on_report(&report, ratio(rows));
     }
 }
 
@@ -81,6 +82,18 @@ pub(crate) fn hand_over<C: Congestion>(
 )
     ensures { congestion.new ≡ after_calls C.control congestion.old (calls_for packet.now old.now new.now) }
 {
-    report(packet, ratio(new), congestion);
+    report(packet, new, congestion);
     start(ccid(old), ccid(new), congestion);
+}
+
+// The same of a packet whose options say nothing to the rows: then no CCID changes.
+#[tactic(auto, using(crate::proofs::Handing::due_where_rows_stay))]
+pub(crate) fn hand_over_report<C: Congestion>(
+    packet: &IncomingPacket<'_>,
+    rows: &Negotiation,
+    congestion: &mut C,
+)
+    ensures { congestion.new ≡ after_calls C.control congestion.old (calls_for packet.now rows.now rows.now) }
+{
+    report(packet, rows, congestion);
 }

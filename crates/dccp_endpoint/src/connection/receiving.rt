@@ -2,7 +2,7 @@
 //! `take_steps`, `take_options`, `negotiate` and `process` list them, and each is a function, below or in `replying`.
 use super::Connection;
 use super::classes::{carries_data, is_acking, is_live, is_open};
-use super::handing::hand_over;
+use super::handing::{hand_over, hand_over_report};
 use crate::faults::heeds_negotiation;
 use crate::heeding::{Reading, are_silent, heed};
 use crate::incoming::IncomingPacket;
@@ -160,7 +160,7 @@ impl Connection {
         if !self.is_silent(packet) {
             return self.negotiate(packet, out, congestion);
         }
-        hand_over(packet, self.rows(), self.rows(), congestion);
+        hand_over_report(packet, self.rows(), congestion);
         self.process(packet, &[], out)
     }
 
