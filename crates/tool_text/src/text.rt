@@ -33,12 +33,27 @@ pub fn put(text: &mut Vec<u8>, piece: &[u8]) -> Result<(), NoMemory>
     Ok(())
 }
 
+// Puts a number of one digit.
+#[tactic(auto, using(std::proofs::lemmas::Fmt::decimal_digit, crate::proofs::Keeping::keeps_itself, crate::proofs::Keeping::keeps_more))]
+fn put_digit(text: &mut Vec<u8>, number: u8) -> Result<(), NoMemory>
+    requires { number < 10 }
+    ensures ok { OnOk result (text.new.items ≡ text.old.items ++ decimal number) }
+    ensures err { OnErr result (SameText text.old text.new) }
+    ensures front { Keeps text.old.items text.new.items }
+{
+    text.push(b'0' + number)?;
+    Ok(())
+}
+
 /// Puts a number in decimal (own). NoMemory means that the text could not grow; it is then as it was.
 pub fn put_number(text: &mut Vec<u8>, number: u64) -> Result<(), NoMemory>
     ensures ok { OnOk result (text.new.items ≡ text.old.items ++ decimal number) }
     ensures err { OnErr result (SameText text.old text.new) }
     ensures front { Keeps text.old.items text.new.items }
 {
+    if number < 10 {
+        return put_digit(text, number as u8);
+    }
     let mut buffer = Buffer::new();
     put(text, buffer.format(number).as_bytes())
 }
@@ -107,17 +122,6 @@ pub fn put_hex_or_dash(text: &mut Vec<u8>, bytes: &[u8]) -> Result<(), NoMemory>
         [] => put(text, b"-"),
         _ => put_hex(text, bytes),
     }
-}
-
-// Puts a number of one digit.
-#[tactic(auto, using(std::proofs::lemmas::Fmt::decimal_digit, crate::proofs::Keeping::keeps_itself, crate::proofs::Keeping::keeps_more))]
-fn put_digit(text: &mut Vec<u8>, number: u8) -> Result<(), NoMemory>
-    requires { number < 10 }
-    ensures ok { OnOk result (text.new.items ≡ text.old.items ++ decimal number) }
-    ensures front { Keeps text.old.items text.new.items }
-{
-    text.push(b'0' + number)?;
-    Ok(())
 }
 
 // Puts a number of at most two digits.
