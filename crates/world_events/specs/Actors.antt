@@ -9,7 +9,7 @@ abbrev pub other : Side → Side
 other Client = Server
 other Server = Client
 
--- open is the client's call, and of a delivery the receiving side acts
+-- `open` is the client's call, and in a delivery the receiving side acts
 abbrev pub actor : Event → Side
 actor event.Open = Client
 actor (event.Deliver from index) = other from

@@ -1,4 +1,4 @@
--- What data to be sent are once a `&mut` into them, which was returned, is given back.
+-- What data to be sent hold once a `&mut` into them, which a call returned, has ended.
 use Rattle.std.specs.Prelude.{ℕ, List, length}
 use Rattle.std.specs.Borrow.{Lends, MutBor, Fml, Array, u8}
 use Rattle.std.specs.List.{refill}

@@ -18,8 +18,8 @@ pub enum Side {
     Server,
 }
 
-/// The numbers that are asked for a feature, best first: at most nine, in the value itself. Contracts see the list of
-/// numbers.
+/// The numbers that a side asks for as values of a feature, best first: at most nine, in the value itself. Contracts
+/// see the list of numbers.
 #[derive(Debug, Drop)]
 pub struct Values {
     numbers: ArrayVec<u64, MOST_VALUES>,
@@ -43,7 +43,8 @@ impl Values {
         }
     }
 
-    /// Puts a number after the others, or answers false and changes nothing, exactly where nine are there.
+    /// Puts a number after the others and returns true. Returns false, and changes nothing, exactly if there are nine
+    /// already.
     pub fn push(&mut self, number: u64) -> bool
         ensures put { result ≡ true → (length self.old < 9) × (self.new ≡ self.old ++ number ∷ []) }
         ensures full { result ≡ false → (length self.old ≡ 9) × (self.new ≡ self.old) }
@@ -75,8 +76,8 @@ pub enum Event {
         side: Side,
         payload: Payload,
     },
-    /// The side, in PARTOPEN, sends these data before it has heard more than the Response (own; RFC 4340, section
-    /// 8.1.5, lets it). No line of a schedule says this.
+    /// The side, in PARTOPEN, sends these data when it has received only the Response (own; RFC 4340, section 8.1.5,
+    /// permits it). No line of a schedule says this.
     SendEarly {
         side: Side,
         payload: Payload,
@@ -110,16 +111,16 @@ pub enum WorldFault {
     NoSuchFrame,
     /// The side that would act has sent 2^47 - 1 frames.
     Full,
-    /// The frame has short numbers that are ambiguous for the end that takes it: its number lies 2^23 or more from that
-    /// end's greatest number received, or the one that it acknowledges from the greatest number sent, up and down the
-    /// circle (RFC 4340, section 7.6).
+    /// The frame has short numbers that are ambiguous for the end that takes it (RFC 4340, section 7.6): its number
+    /// lies 2^23 or more from that end's greatest number received, or the one that it acknowledges lies so far from the
+    /// greatest number sent, up and down the circle.
     FarShort,
     /// No memory was left for what the step may have to keep.
     NoMemory,
 }
 
 impl Side {
-    /// The other one.
+    /// The other side.
     pub fn other(self) -> Side
         ensures { result ≡ other self }
     {
@@ -144,9 +145,9 @@ impl Event {
         }
     }
 
-    /// Makes it the arrival of a frame (own): of the one with this index, from 0, among all that the side `from` ever
-    /// sent. An event is large, since it has room for data. One of the same kind is changed in place, and its room is
-    /// not cleared again.
+    /// Turns the event into the arrival of a frame (own): the one with this index, from 0, among all that the side
+    /// `from` ever sent. An event is large, since it has room for data. So an event of the same kind is changed in
+    /// place, and its room is not cleared again.
     pub fn become_delivery(&mut self, from: Side, index: u64)
         ensures { self.new ≡ Event.Deliver from index }
     {
@@ -162,7 +163,7 @@ impl Event {
         }
     }
 
-    /// Makes it a timer of this side that has run out (own), in the same way.
+    /// Turns the event into a timer of this side that has run out (own), in the same way.
     pub fn become_timer(&mut self, side: Side, timer: Timer)
         ensures { self.new ≡ Event.Timer side timer }
     {
@@ -178,7 +179,7 @@ impl Event {
         }
     }
 
-    /// Makes it the sending of these data by this side (own), at most 2,048 bytes, in the same way.
+    /// Turns the event into the sending of these data by this side (own), at most 2,048 bytes, in the same way.
     pub fn become_sending(&mut self, side: Side, data: &[u8])
         requires { length data.now ≤ 2048 }
         ensures { self.new ≡ Event.Send side data.now }
@@ -198,7 +199,7 @@ impl Event {
         }
     }
 
-    /// Makes it this side's wish for these values of a feature, best first (own), in the same way.
+    /// Turns the event into this side's wish for these values of a feature, best first (own), in the same way.
     pub fn become_wish(&mut self, side: Side, feature: Feature, place: Place, values: Values)
         ensures { self.new ≡ Event.Prefer side feature place values }
     {
@@ -218,7 +219,7 @@ impl Event {
         }
     }
 
-    // Makes one of another kind a wish. The values are put there last, so that they are moved alone.
+    // Turns an event of another kind into a wish. The values are put there last, so that only they are moved.
     fn begin_wish(&mut self, side: Side, feature: Feature, place: Place, values: Values)
         ensures { self.new ≡ Event.Prefer side feature place values }
     {

@@ -36,7 +36,7 @@ impl Payload {
         }
     }
 
-    /// These bytes, or None exactly where there are more than 2,048.
+    /// These bytes, or None exactly if there are more than 2,048.
     pub fn of(bytes: &[u8]) -> Option<Payload>
         ensures made { IsSome result ↔ (length bytes.now ≤ 2048) }
         ensures value { IfSome result (λ p. p ≡ bytes.now) }
@@ -57,7 +57,7 @@ impl Payload {
         payload
     }
 
-    /// Makes it these bytes, at most 2,048, where it stands.
+    /// Replaces the data by these bytes, at most 2,048, in place.
     pub fn set(&mut self, bytes: &[u8])
         requires { length bytes.now ≤ 2048 }
         ensures { self.new ≡ bytes.now }
@@ -74,8 +74,8 @@ impl Payload {
         self.bytes.as_slice()
     }
 
-    /// Makes it so many bytes, at most 2,048, which are to be written in place; until then it is open what they are. If
-    /// there are as many already, nothing is moved or cleared.
+    /// Makes the data `size` bytes long, at most 2,048, to be written in place; until then their values are not
+    /// specified. If the length is right already, nothing is moved or cleared.
     pub fn resize(&mut self, size: usize)
         requires { size ≤ 2048 }
         ensures { length self.new ≡ size }
