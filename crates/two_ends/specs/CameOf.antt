@@ -7,8 +7,7 @@ use Rattle.two_ends.specs.Negotiated.{list_said, value_said}
 use Rattle.two_ends.specs.Pairs.{FeatureAt, said_by}
 use Rattle.two_ends.specs.World.{WorldState, half_of}
 
--- A frame of the server and one of the client say a list each, and the value is the first of the server's that stands
--- in the client's.
+-- A frame of the server and one of the client carry a list each, and the value is the first of the server's list that is in the client's.
 pub record CameOfLists (w : WorldState) (pair : FeatureAt) (value : ℕ) : Type 0 where
   pub servers_place : ℕ
   pub clients_place : ℕ
@@ -22,7 +21,7 @@ pub record CameOfLists (w : WorldState) (pair : FeatureAt) (value : ℕ) : Type 
   pub client_said : list_said (said_by pair Client clients_frame.bytes) ≡ Some clients
   pub is_shared : IsFirstShared servers clients value
 
--- a frame of the location says the value
+-- a frame of the location carries the value
 pub record CameOfLocation (w : WorldState) (pair : FeatureAt) (value : ℕ) : Type 0 where
   pub place : ℕ
   pub frame : SentFrame

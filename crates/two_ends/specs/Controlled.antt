@@ -1,4 +1,4 @@
--- Two ends with their congestion controls (own): each event asks that of the side that acts, and its step calls it.
+-- Two ends with their congestion controls (own): each event asks the congestion control of the side that acts, and its step calls it.
 use Rattle.std.specs.Prelude.{◌≢◌, ℕ, ◌^◌, ◌<◌, List, [], ◌∷◌, length, Option, Result, Ok, Err}
 use Rattle.congestion_trait.specs.Control.{Control, may_send}
 use Rattle.dccp_endpoint.specs.Controlled.{End, after_calls, begins, has_in_flight}
@@ -34,7 +34,7 @@ pub record ControlledHalfStep (C : Type 0) : Type 0 where
   pub after : ControlledHalf C
   pub seen : Seen
 
--- each side has a congestion control of its own
+-- each side has its own congestion control
 abbrev pub congestion_of : {C : Type 0} → ControlledWorld C → Side → C
 congestion_of w Client = w.for_client
 congestion_of w Server = w.for_server
@@ -78,12 +78,12 @@ abbrev pub controlled_after : {C : Type 0} → ControlledWorld C → Result (Con
 controlled_after w (Ok step) = step.after
 controlled_after w (Err _) = w
 
--- a whole schedule
+-- the world after a whole schedule
 abbrev pub plays : {C : Type 0} → Control C → ControlledWorld C → List Event → ControlledWorld C
 plays control w [] = w
 plays control w (event ∷ events) = plays control (controlled_after w (happens_to control w event)) events
 
--- a side that has sent and received nothing, and two
+-- a side that has sent and received nothing
 abbrev pub half_begins : {C : Type 0} → Control C → Config → C → ControlledHalf C
 half_begins control config congestion = record { half = half_at_start config; congestion = (begins control config congestion).congestion }
 
@@ -96,11 +96,11 @@ begins_with control client server for_client for_server =
       for_server = (begins control server for_server).congestion;
     }
 
--- A whole schedule of two ends that have sent and received nothing.
+-- The world after a whole schedule of two ends that had sent and received nothing.
 abbrev pub plays_from_start : {C : Type 0} → Control C → Config → Config → C → C → List Event → ControlledWorld C
 plays_from_start control client server for_client for_server events = plays control (begins_with control client server for_client for_server) events
 
--- Where each side has sent fewer than 2^23 frames, the event is not refused for a frame that is far (own).
+-- If each side has sent fewer than 2^23 frames, the event is not refused for a frame that is far (own).
 abbrev pub IsNeverFar : {C : Type 0} → Control C → ControlledWorld C → Event → Type 0
 IsNeverFar control w event =
     length w.world.client.frames < 2 ^ 23 → length w.world.server.frames < 2 ^ 23 → happens_to control w event ≢ Err fault.FarShort

@@ -6,14 +6,14 @@ use Rattle.seq_circle.specs.Counts.{number_of}
 use Rattle.two_ends.specs.declared.frames.SentFrame.{SentFrame}
 use Rattle.two_ends.specs.Frames.{packet_of}
 
--- The number is that of one of the first packets of an end whose first number is ISS, `most` of them.
+-- The number is that of one of the first `most` packets of an end whose first number is ISS.
 pub record IsAmongFirst (iss most number : ℕ) : Type 0 where
   pub count : ℕ
   pub some : 1 ≤ count
   pub early : count ≤ most
   pub same : number ≡ number_of iss count
 
--- all of these numbers are
+-- all of these numbers are among those of the first packets
 abbrev pub AreAmongFirst : ℕ → ℕ → List ℕ → Type 0
 AreAmongFirst iss most numbers = (number : ℕ) → Contains numbers number → IsAmongFirst iss most number
 

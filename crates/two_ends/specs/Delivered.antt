@@ -1,7 +1,7 @@
 -- Data that the ends deliver, frame by frame (RFC 4340, section 8.5, step 16).
 --
--- A step that delivers data is told by its outcome: the place there is tied to the frame's bytes, and the number to the
--- world's list. A law over schedules names frames by sender and index, as events do.
+-- The outcome of a step says whether it delivers data: its place is one in the frame's bytes, and the frame's number is in the world's list. A
+-- law over schedules names frames by sender and index, as events do.
 use Rattle.std.specs.Prelude.{◌≡◌, ℕ, ◌≤◌, true, List, [], ◌∷◌, ◌++◌, length, drop, slice_get, Option, Some, None, Result, Ok, Err}
 use Rattle.congestion_trait.specs.Control.{Control}
 use Rattle.dccp_endpoint.specs.Reporting.{carries_data}
@@ -19,7 +19,7 @@ use Rattle.two_ends.specs.Controlled.{ControlledWorld, ControlledStep, controlle
 use Rattle.two_ends.specs.Frames.{packet_of}
 use Rattle.two_ends.specs.World.{WorldState, half_of}
 
--- where in the bytes that arrived the data lie that are delivered, if some are
+-- the place, in the bytes that arrived, of the data that are delivered, if some are
 abbrev pub place_delivered : Seen → Option (ℕ × ℕ)
 place_delivered (seen.Received (outcome.Took delivered)) = delivered
 place_delivered _ = None
@@ -37,7 +37,7 @@ pub record DeliversFrame (old new : WorldState) (from : Side) (index : ℕ) (pla
   pub are_its_data : drop place.0 frame.bytes ≡ packet.payload
   pub is_processed : (half_of new (other from)).processed ≡ (half_of old (other from)).processed ++ frame.number ∷ []
 
--- Data are delivered by the arrival of their frame alone.
+-- Data are delivered only by the arrival of their frame.
 abbrev pub DeliversIn : WorldState → Event → WorldState → ℕ × ℕ → Type 0
 DeliversIn old (event.Deliver from index) new place = DeliversFrame old new from index place
 DeliversIn old event.Open new place = ⊥
@@ -52,7 +52,7 @@ DeliversIn old (event.Abort side) new place = ⊥
 abbrev pub DeliversItsData : WorldState → Event → WorldState → Seen → Type 0
 DeliversItsData old event new seen = (place : ℕ × ℕ) → place_delivered seen ≡ Some place → DeliversIn old event new place
 
--- a frame by its sender and its place among all that this sent, where data were delivered
+-- a frame by its sender and its place among all that this side sent, if data were delivered
 abbrev pub named_if : Side → ℕ → Option (ℕ × ℕ) → List (Side × ℕ)
 named_if from index (Some place) = (from, index) ∷ []
 named_if from index None = []
@@ -79,7 +79,7 @@ frames_delivered control w [] = []
 frames_delivered control w (event ∷ events) =
     delivered_by event (happens_to control w event) ++ frames_delivered control (controlled_after w (happens_to control w event)) events
 
--- No frame stands twice among them.
+-- No frame is twice among them.
 abbrev pub IsDeliveredOnce : {C : Type 0} → Control C → ControlledWorld C → List Event → Type 0
 IsDeliveredOnce control w events =
     (i j : ℕ) (frame : Side × ℕ) → slice_get (frames_delivered control w events) i ≡ Some frame

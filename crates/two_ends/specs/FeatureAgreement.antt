@@ -1,5 +1,4 @@
--- What holds of two sides: they agree, and their values were given to them. Both are read from frames, stands and
--- values alone (own).
+-- What holds of two sides: they agree, and their values were given to them. Both depend only on frames, stands and values (own).
 use Rattle.std.specs.Prelude.{◌≡◌, ℕ, Bool, Some, is_some, List, [], ◌∷◌, ◌||◌, IsTrue}
 use Rattle.two_ends.specs.FeatureView.{FeatureNews, FeatureSide, carried_at, wish_carried, has_change, last_change, last_wish}
 use Rattle.feature_machine.specs.declared.stands.Stand.TheVariants.{Stable}
@@ -14,8 +13,8 @@ was_negotiated server client = has_change server.frames || has_change client.fra
 abbrev pub AreStable : FeatureSide → FeatureSide → Type 0
 AreStable server client = (server.stand ≡ Stable) × (client.stand ≡ Stable)
 
--- Where both rows are STABLE, their values are equal. Where the feature was negotiated, both sides have sent a wish,
--- and if the rule gives a value for the last ones, it is that value.
+-- If both rows are STABLE, their values are equal. If the feature was negotiated, both sides have sent a wish, and if the rule gives a value for
+-- the last ones, it is that value.
 pub record SidesAgree (rule : Rule) (server client : FeatureSide) : Type 0 where
   pub equal : AreStable server client → server.value ≡ client.value
   pub both_sent : AreStable server client → IsTrue (was_negotiated server client)
@@ -36,8 +35,8 @@ pub record SidesAreGiven (initial : ℕ) (rule : Rule) (server client : FeatureS
   pub servers : IsGiven initial rule server.frames client.frames server.value
   pub clients : IsGiven initial rule server.frames client.frames client.value
 
--- A feature that is not negotiable: where both rows are STABLE, their values are equal, and where the feature was
--- negotiated, the value is the one in the last Change of the end where it is located.
+-- A feature that is not negotiable: if both rows are STABLE, their values are equal, and if the feature was negotiated, the value is the one in
+-- the last Change of the end where it is located.
 pub record AgreeByLocation (location remote : FeatureSide) : Type 0 where
   pub equal : AreStable location remote → location.value ≡ remote.value
   pub last_sent : AreStable location remote → IsTrue (was_negotiated location remote)

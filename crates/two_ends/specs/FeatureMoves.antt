@@ -1,8 +1,8 @@
--- What one step of one side may do to its row and its frames, and which pairs of sides such steps reach (own). The
--- moves allow more than a row does where that costs nothing: a row opens from any stand, and answers a Change in any.
+-- What one step of one side may do to its row and its frames, and which pairs of sides such steps reach (own). The moves allow more than a row
+-- does if that costs nothing: a row opens from any stand, and answers a Change in any.
 --
--- An empty Confirm is no move: it could settle a row that nobody answered. Nor is a Confirm without a list where a
--- feature is negotiated by lists. Between our ends they do not occur (`what_rows_say_is_whole`).
+-- An empty Confirm is no move: it could settle a row that nobody answered. Nor is a Confirm without a list if the feature is negotiated by
+-- lists. Between two ends of this project they do not occur (`what_rows_say_is_whole`).
 use Rattle.std.specs.Prelude.{◌≡◌, ℕ, ◌+◌, ◌<◌, ◌≤◌, Bool, true, false, Option, None, Some, List, [], ◌∷◌, length, unwrap_or}
 use Rattle.two_ends.specs.FeatureView.{FeatureNews, FeatureSide, carried_at, with_frame}
 use Rattle.feature_machine.specs.declared.stands.Stand.TheVariants.{Stable, Changing, Unstable}
@@ -16,7 +16,7 @@ Rule = List ℕ → List ℕ → Option ℕ
 abbrev pub swapped : Rule → Rule
 swapped rule own peers = rule peers own
 
--- a frame of the peer is taken, and nothing of the feature from it: it carries none, or what is ignored or refused
+-- a frame of the peer is taken, but nothing in it for the feature: there is nothing, or it is ignored or refused
 abbrev pub passing_side : FeatureSide → ℕ → FeatureSide
 passing_side side count = record side { greatest = count }
 
@@ -47,8 +47,7 @@ opening side wish =
 abbrev pub sending_side : FeatureSide → FeatureNews → FeatureSide
 sending_side side frame = record side { frames = with_frame side.frames frame }
 
--- What a step of a side makes of it. Of its peer it sees the frames alone. `opens` tells the wishes that its row may
--- open with.
+-- What a step does to a side. Of its peer the side sees only the frames. `opens` says with which wishes its row may open.
 pub data Move (rule : Rule) (opens : List ℕ → Bool) (there : List FeatureNews) (side : FeatureSide) : FeatureSide → Type 0 where
   Passes : (count : ℕ) → side.greatest < count → count ≤ length there → Move rule opens there side (passing_side side count)
   Settles : (count acknowledged value : ℕ) (wish : List ℕ) → side.greatest < count
@@ -61,8 +60,7 @@ pub data Move (rule : Rule) (opens : List ℕ → Bool) (there : List FeatureNew
   Sends : Move rule opens there side (sending_side side Nothing)
   Sends_again : (side.stand ≡ Stable → ⊥) → Move rule opens there side (sending_side side (Change side.active))
 
--- what one step of a side does to one feature: some moves after each other, since one step of an end may take a packet
--- and open an offer
+-- what one step of a side does to one feature: some moves one after another, since a step of an end may take a packet and open an offer
 pub data Moves (rule : Rule) (opens : List ℕ → Bool) (there : List FeatureNews) : FeatureSide → FeatureSide → Type 0 where
   Done : (side : FeatureSide) → Moves rule opens there side side
   Next : (before middle after : FeatureSide) → Move rule opens there before middle → Moves rule opens there middle after
@@ -107,7 +105,7 @@ one_value [] = false
 one_value (value ∷ []) = true
 one_value (value ∷ (more ∷ rest)) = false
 
--- the wish of the end where the feature is located decides alone
+-- only the wish of the end where the feature is located decides
 abbrev pub own_value : Rule
 own_value [] peers = None
 own_value (value ∷ rest) peers = Some value

@@ -26,18 +26,18 @@ IsHeardOf iss row there count (machine.Offers confirmed ∷ []) = ⊥
 IsHeardOf iss row there count (machine.Sends number ∷ []) = ⊥
 IsHeardOf iss row there count (first ∷ (second ∷ rest)) = ⊥
 
--- what a frame carries for the feature that has the Confirm that is due, or else nothing of it
+-- what a frame carries for the feature: the Confirm that is due, or nothing if none is
 abbrev pub carried_reply : Feature → ℕ → Option (List ℕ) → FeatureNews
 carried_reply feature count None = Nothing
 carried_reply feature count (Some body) = confirm_in feature count body
 
--- the frames with one that has the Confirm that is due, or else no further one
+-- the frames, and one more with the Confirm that is due, if one is
 abbrev pub with_reply : Feature → ℕ → Option (List ℕ) → List FeatureNews → List FeatureNews
 with_reply feature count None frames = frames
 with_reply feature count (Some body) frames = with_frame frames (confirm_in feature count body)
 
--- a newest packet with all that a row's move in its step is made of: the end's first number, the greatest count that it
--- took before and the packet's own, the row and its end's frames, the peer's frames, and what the row hears
+-- a newest packet with all that a row's move in its step depends on: the end's first number, the greatest count that it took before and the
+-- packet's own, the row and its end's frames, the peer's frames, and what the row hears
 pub record RowPacket : Type 0 where
   pub iss : ℕ
   pub greatest : ℕ

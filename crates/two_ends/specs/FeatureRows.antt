@@ -25,7 +25,7 @@ location_of role place.Here = role
 location_of end.Client place.There = end.Server
 location_of end.Server place.There = end.Client
 
--- a server-priority feature is negotiable; of any other the location decides (RFC 4340, sections 6.3.1 and 6.3.2)
+-- a server-priority feature is negotiable; for any other the location decides (RFC 4340, sections 6.3.1 and 6.3.2)
 abbrev pub pair_by : Bool → ℕ → Role2 → Pair
 pair_by true initial location = negotiable initial reconciled
 pair_by false initial end.Server = at_server initial
@@ -136,8 +136,8 @@ with_answer feature acknowledged Opens frames = frames
 with_answer feature acknowledged Waits frames = frames
 with_answer feature acknowledged Quiet frames = frames
 
--- The side once a Change with these data was taken, from the peer's frame with this count: where a Confirm is due, it
--- is on a frame of the same step.
+-- The side once a Change with these data was taken, from the peer's frame with this count: if a Confirm is due, it is on a frame of the same
+-- step.
 abbrev pub after_change : ℕ → Row → ℕ → List FeatureNews → List ℕ → Bool → FeatureSide
 after_change iss row count frames body mandatory =
     let step = row_step row (machine.Change body mandatory) in

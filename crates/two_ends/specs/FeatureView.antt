@@ -62,9 +62,8 @@ abbrev pub last_change : List FeatureNews → Option (List ℕ)
 last_change [] = None
 last_change (frame ∷ frames) = option_or (last_change frames) (change_of frame)
 
--- The wish in the last frame with a Change or a Confirm. A Confirm without a list counts as an empty wish, so one
--- invariant serves both kinds of features. Where every Confirm has its list, it is the last list that was sent
--- (`whole_confirms_have_lists`).
+-- The wish in the last frame with a Change or a Confirm. A Confirm without a list counts as an empty wish, so one invariant serves both kinds of
+-- features. If every Confirm has its list, this is the last list that was sent (`whole_confirms_have_lists`).
 abbrev pub last_wish : List FeatureNews → Option (List ℕ)
 last_wish [] = None
 last_wish (frame ∷ frames) = option_or (last_wish frames) (wish_carried frame)

@@ -23,7 +23,7 @@ is_short_packet (Some p) = not (is_long p.header.number)
 abbrev pub SpellsItsNumbers : SentFrame → Type 0
 SpellsItsNumbers frame = IsSpelled (record { bytes = frame.bytes; number = frame.number; ack = frame.ack })
 
--- of the ten packet types Reset alone
+-- of the ten packet types only Reset
 abbrev pub is_reset : Kind → Bool
 is_reset (kind.Reset ack code detail) = true
 is_reset (kind.Request service) = false

@@ -1,7 +1,7 @@
--- Words on lists of frames.
+-- Definitions on lists of frames.
 use Rattle.std.specs.Prelude.{List, [], ◌∷◌, Option, Some, None}
 
--- what the last member shows that shows something
+-- what the later shows, or else what the earlier shows
 abbrev pub some_or : {A : Type 0} → Option A → Option A → Option A
 some_or (Some last) earlier = Some last
 some_or None earlier = earlier

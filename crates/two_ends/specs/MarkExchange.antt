@@ -1,5 +1,4 @@
--- A run of a pair of sides, to show that moves lead somewhere: a whole vector is heard, and a floor rises above what it
--- told (own).
+-- A run of a pair of sides, to show that moves lead somewhere: a whole vector is heard, and a floor rises above what it reported (own).
 use Rattle.std.specs.Prelude.{◌==◌, true}
 use Rattle.two_ends.specs.MarkView.{MarkSide}
 use Rattle.two_ends.specs.MarkMoves.{with_first_frame, with_processed, with_floor, told, ack_frame, other_frame, with_sent_frame, unmoved_side}
@@ -24,7 +23,7 @@ client_answered = with_first_frame client_requesting 1
 abbrev pub client_acking : MarkSide
 client_acking = with_sent_frame client_answered (ack_frame client_answered true true)
 
--- the server takes the Ack, and its own Ack tells of both frames that it has processed
+-- the server takes the Ack, and its own Ack reports both frames that it has processed
 abbrev pub server_acked : MarkSide
 server_acked = with_processed server_answering 2
 
@@ -44,7 +43,7 @@ client_learning = told client_told (λ n. n == 2)
 abbrev pub client_exchanged : MarkSide
 client_exchanged = with_sent_frame client_learning (ack_frame client_learning true true)
 
--- the server takes that, and need not speak of the first two any more
+-- the server takes that, and need not report the first two any more
 abbrev pub server_heard : MarkSide
 server_heard = with_processed server_telling 3
 

@@ -1,12 +1,10 @@
--- Why the laws hold: what each side knows of its peer's frames, after every move (own). Of the peer it needs the frames
--- alone.
+-- Why the laws hold: what each side knows of its peer's frames, after every move (own). Of the peer it needs only the frames.
 --
--- That each frame is processed once, vectors are true, floors are told and reports are heard holds after every step,
--- but does not by itself survive one. What is needed besides: the marks are just the processed frames from the floor
--- up, else a frame that comes again could be new; an Ack or DataAck acknowledges a frame that its sender took, else a
--- record could lift the floor above what comes next; such a frame was processed if it is an Ack or DataAck itself, else
--- a vector would be told that nobody read; and no frame's count of processed ones is above its sender's, else a later
--- one would fall under a vector already sent.
+-- After every step each frame was processed once, vectors are true, what is below floors was reported, and reports were heard. But this alone is
+-- not kept by a step. Four more facts are needed. The marks are just the processed frames from the floor up; otherwise a frame that comes again
+-- could be new. An Ack or DataAck acknowledges a frame that its sender took; otherwise a record could raise the floor above what comes next.
+-- Such a frame was processed if it is an Ack or DataAck itself; otherwise a vector that nobody read would count. No frame's count of processed
+-- ones is above its sender's; otherwise a later one would come under a vector already sent.
 use Rattle.std.specs.Prelude.{◌≡◌, ℕ, ◌+◌, ◌<◌, ◌≤◌, true, false, List, length}
 use Rattle.two_ends.specs.MarkView.{MarkFrame, MarkSide, frame_at}
 
@@ -14,7 +12,7 @@ use Rattle.two_ends.specs.MarkView.{MarkFrame, MarkSide, frame_at}
 pub record AreSoundNumbers (side : MarkSide) (there : List MarkFrame) : Type 0 where
   pub first_taken : side.first ≤ side.greatest
   pub greatest_sent : side.greatest ≤ length there
-  -- before the first frame was taken: nothing was, and no Ack went out
+  -- before the first frame was taken, nothing was processed, and no Ack went out
   pub unheard_greatest : side.first ≡ 0 → side.greatest ≡ 0
   pub unheard_floor : side.first ≡ 0 → side.floor ≡ 0
   pub unheard_processed : side.first ≡ 0 → length side.processed ≡ 0

@@ -2,7 +2,7 @@
 use Rattle.std.specs.Prelude.{◌≡◌, ℕ, ◌+◌, ◌<◌, ◌≤◌, ◌↔◌, true, false, List, length, slice_index}
 use Rattle.two_ends.specs.MarkView.{MarkFrame, MarkSide, frame_at, processed_at}
 
--- among the first frames that a side processed, as many as this, is the one with this count
+-- among the first frames that a side processed, this many of them, is the one with this count
 abbrev pub IsAmong : (ℕ → ℕ) → ℕ → ℕ → Type 0
 IsAmong place many count = (0 < place count) × (place count ≤ many)
 
@@ -13,7 +13,7 @@ pub record ArePlaces (side : MarkSide) : Type 0 where
       → (side.place count ≤ length side.processed) × (processed_at side.processed (side.place count) ≡ count)
   pub processed : (place : ℕ) → 0 < place → place ≤ length side.processed → side.place (processed_at side.processed place) ≡ place
 
--- Each frame is processed once, and only where the peer sent it.
+-- Each frame is processed once, and only if the peer sent it.
 pub record ProcessesOnce (side : MarkSide) (there : List MarkFrame) : Type 0 where
   pub distinct : (i j : ℕ) → i < length side.processed → j < length side.processed
       → slice_index side.processed i ≡ slice_index side.processed j → i ≡ j
@@ -35,14 +35,14 @@ pub record IsFarBelow (place : ℕ → ℕ) (n : ℕ) : Type 0 where
   pub is_processed : 0 < place processed
   pub far : n + 2047 < processed
 
--- Why a side need not speak of a count any more: it lies far below one that the side processed, or a whole vector of
--- the side told of it and the peer processed its frame.
+-- Why a side need not report a count any more: it lies far below one that the side processed, or a whole vector of the side reported it and the
+-- peer processed its frame.
 pub data IsAccountedFor (frames : List MarkFrame) (place heard : ℕ → ℕ) (n : ℕ) : Type 0 where
   Far : IsFarBelow place n → IsAccountedFor frames place heard n
   WasTold : (k : ℕ) → (frame_at frames k).has_vector ≡ true → (frame_at frames k).is_whole ≡ true
       → (frame_at frames k).floor ≤ n → n ≤ (frame_at frames k).acknowledged → 0 < heard k → IsAccountedFor frames place heard n
 
--- of a count of the side towards its peer
+-- the same for a count of this side towards this peer
 abbrev pub IsSettledFor : MarkSide → MarkSide → ℕ → Type 0
 IsSettledFor side peer n = IsAccountedFor side.frames side.place peer.place n
 

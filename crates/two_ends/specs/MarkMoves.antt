@@ -1,9 +1,9 @@
--- What one step of one side may do to its marks and its frames, and which pairs of sides such steps reach (own). The
--- moves allow more than an end does where that costs nothing: a side raises its floor, and hears a report, at any time.
+-- What one step of one side may do to its marks and its frames, and which pairs of sides such steps reach (own). The moves allow more than an
+-- end does if that costs nothing: a side raises its floor, and hears a report, at any time.
 --
--- While the phase is not CLOSED, the greatest frame taken is processed, or is no Ack and no DataAck. That is false
--- inside the taking of a packet, so the greatest frame rises and is marked in one move; and it is false of an end that
--- answered the greatest frame with a Reset, so the fact asks for the phase.
+-- While the phase is not CLOSED, the greatest frame taken is processed, or is no Ack and no DataAck. This is false while a packet is being
+-- taken, so the greatest frame rises and is marked in one move. It is also false of an end that answered the greatest frame with a Reset, so the
+-- fact has the phase as a condition.
 use Rattle.std.specs.Prelude.{◌≡◌, ℕ, ◌+◌, ◌<◌, ◌≤◌, ◌==◌, ◌&&◌, ◌||◌, ◌⊎◌, max, nat_le, Bool, true, false, List, [], ◌∷◌, ◌++◌, length}
 use Rattle.two_ends.specs.MarkView.{MarkFrame, MarkSide, frame_at, frames_with, floor_with, placed_with}
 
@@ -56,8 +56,7 @@ with_floor side to =
 abbrev pub told : MarkSide → (ℕ → Bool) → MarkSide
 told side reported = record side { reported = reported }
 
--- an Ack or a DataAck, with a vector or without: it acknowledges the greatest frame taken, and a vector says what is
--- marked
+-- an Ack or a DataAck, with or without a vector: it acknowledges the greatest frame taken, and a vector says what is marked
 abbrev pub ack_frame : MarkSide → Bool → Bool → MarkFrame
 ack_frame side has_vector is_whole =
     record {
@@ -94,7 +93,7 @@ pub record IsReportedBy (frame : MarkFrame) (count : ℕ) : Type 0 where
   pub up_to : count ≤ frame.acknowledged
   pub received : frame.says count ≡ true
 
--- What a step of a side makes of it. Of its peer it sees the frames alone.
+-- What a step does to a side. Of its peer the side sees only the frames.
 pub data MarkMove (there : List MarkFrame) (side : MarkSide) : MarkSide → Type 0 where
   -- the first frame, in LISTEN or REQUEST
   Begins : (count : ℕ) → side.first ≡ 0 → side.closed ≡ false → 1 ≤ count → count ≤ length there → MarkMove there side (with_first_frame side count)
@@ -121,7 +120,7 @@ pub data MarkMove (there : List MarkFrame) (side : MarkSide) : MarkSide → Type
       → MarkMove there side (with_sent_frame side (ack_frame side has_vector is_whole))
   Sends : (acknowledged : ℕ) → MarkMove there side (with_sent_frame side (other_frame side acknowledged))
 
--- what one step of one side does: some moves after each other
+-- what one step of one side does: some moves one after another
 pub data MarkMoves (there : List MarkFrame) : MarkSide → MarkSide → Type 0 where
   Done : (side : MarkSide) → MarkMoves there side side
   Next : (before middle after : MarkSide) → MarkMove there before middle → MarkMoves there middle after → MarkMoves there before after

@@ -1,11 +1,10 @@
--- The two ends of a connection as a pair of sides, by what they mark, acknowledge and tell (own; Ack Vectors are RFC
--- 4340's, section 11.4). A frame goes by its count: a side's first numbered frame has count 1, and 0 is none.
+-- The two ends of a connection as a pair of sides, by what they mark, acknowledge and report (own; Ack Vectors are RFC 4340's, section 11.4). A
+-- frame goes by its count: a side's first numbered frame has count 1, and 0 is none.
 --
--- The records of vectors sent are left out: a side may raise its floor for any whole vector among its frames that the
--- peer acknowledged, and the ring of records only forgets some. So are the number of bytes of a vector and its runs: it
--- says something of each count from the acknowledged one to the floor, and a side may believe any part of it. The list
--- of what was processed is beside the place of each frame in it, so that no fact says that something exists;
--- `each_frame_is_processed_once` says that they are one.
+-- The records of vectors sent are left out: a side may raise its floor for any whole vector among its frames that the peer acknowledged, and the
+-- ring of records only forgets some. The number of bytes of a vector and its runs are left out, too: a vector says something about each count
+-- from the acknowledged one to the floor, and a side may believe any part of it. Besides the list of what was processed there is the place of
+-- each frame in it, so that no fact has to say that something exists; `each_frame_is_processed_once` says that the two agree.
 use Rattle.std.specs.Prelude.{ℕ, ◌+◌, ◌-◌, ◌==◌, max, Bool, false, List, [], ◌∷◌, ◌++◌, slice_index_or, if◌then◌else◌}
 
 -- one numbered frame
@@ -31,17 +30,17 @@ pub record MarkSide : Type 0 where
   -- the first frame that it took (ISR), and the greatest (GSR); 0 before that
   pub first : ℕ
   pub greatest : ℕ
-  -- it speaks of no count below its floor any more
+  -- it no longer reports any count below its floor
   pub floor : ℕ
   -- its phase is CLOSED, after it had another
   pub closed : Bool
   -- the frames that it processed, in order
   pub processed : List ℕ
-  -- where among them a frame stands, from 1; 0 where it was not processed
+  -- the place of a frame among them, from 1; 0 if it was not processed
   pub place : ℕ → ℕ
   -- the set of marks, from the floor up
   pub marked : ℕ → Bool
-  -- which of its own frames it believes received
+  -- which of its frames it believes received
   pub reported : ℕ → Bool
 
 -- what is read at a count that no frame has

@@ -57,7 +57,7 @@ last_value w pair = last_some (λ (frame : SentFrame). value_said (said_by pair 
 abbrev pub IsServerPriority : FeatureAt → Type 0
 IsServerPriority pair = (described pair.feature).is_server_priority ≡ true
 
--- a feature whose value its location tells, and which the other end has to take (RFC 4340, section 6.3.2)
+-- a feature whose value its location decides, and which the other end has to take (RFC 4340, section 6.3.2)
 abbrev pub IsNotNegotiable : FeatureAt → Type 0
 IsNotNegotiable pair = (described pair.feature).is_server_priority ≡ false
 
@@ -65,9 +65,8 @@ IsNotNegotiable pair = (described pair.feature).is_server_priority ≡ false
 abbrev pub IsSettled : WorldState → FeatureAt → Type 0
 IsSettled w pair = ((held_at w pair Client).stand ≡ Stable) × ((held_at w pair Server).stand ≡ Stable)
 
--- They hold one value. Where the feature was negotiated by lists, each side has sent one, and if the last ones share an
--- entry, the value is their reconciliation, the server's first. A value that is not negotiable is the last one that its
--- location sent.
+-- They hold the same value. If the feature was negotiated by lists, each side has sent one, and if the last ones share an entry, the value is
+-- their reconciliation, the server's first. A value that is not negotiable is the last one that its location sent.
 pub record AgreeOn (w : WorldState) (pair : FeatureAt) : Type 0 where
   pub equal : (held_at w pair Client).value ≡ (held_at w pair Server).value
   pub both_sent : IsServerPriority pair → IsTrue (pair_was_negotiated w pair)
@@ -94,7 +93,7 @@ pub record HasTold (w : WorldState) (pair : FeatureAt) (value : ℕ) : Type 0 wh
   pub is_there : slice_get (half_of w pair.location).frames index ≡ Some frame
   pub is_said : value_said (said_by pair pair.location frame.bytes) ≡ Some value
 
--- where a value may come from: the beginning, two lists that were sent, or a value that was told
+-- where a value may come from: the beginning, two lists that were sent, or a value that its location sent
 pub data Origin (w : WorldState) (pair : FeatureAt) (value : ℕ) : Type 0 where
   Initial : value ≡ initial_of pair.feature → Origin w pair value
   Reconciled : (servers clients : List ℕ) → IsServerPriority pair → HasSent w pair Server servers → HasSent w pair Client clients

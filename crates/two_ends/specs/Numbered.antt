@@ -30,16 +30,15 @@ pub record IsNumberedFrame (role : Role) (number : ℕ) (frame : SentFrame) : Ty
   pub of_connection : is_without_connection role spells.packet.header.kind ≡ false
   pub has_number : frame.number ≡ number
 
--- All frames but Resets without a connection are numbered. Of these, so many went before the list, and `count` there
--- are with the list: each carries the next number.
+-- All frames except Resets without a connection are numbered: each carries the next number. The second argument is how many of them went before
+-- the list, and `count` is how many there are with the list.
 abbrev pub AreNumbered : Role → ℕ → ℕ → List SentFrame → ℕ → Type 0
 AreNumbered role iss before [] count = count ≡ before
 AreNumbered role iss before (frame ∷ frames) count =
     (IsNumberedFrame role (residue (iss + before)) frame × AreNumbered role iss (before + 1) frames count)
     ⊎ (IsResetWithoutConnection role frame × AreNumbered role iss before frames count)
 
--- A side's numbered frames carry ISS, ISS + 1, and so on up to GSS, in this order. With the others they are fewer than
--- 2^47.
+-- A side's numbered frames carry ISS, ISS + 1, and so on up to GSS, in this order. Together with the other frames there are fewer than 2^47.
 pub record IsNumbered (half : Half) : Type 0 where
   pub count : ℕ
   pub in_order : AreNumbered half.end.config.role half.end.marks.iss 0 half.frames count
@@ -47,7 +46,7 @@ pub record IsNumbered (half : Half) : Type 0 where
   pub few : count < 2 ^ 47
   pub few_frames : length half.frames < 2 ^ 47
 
--- no first number was received yet, as far as the marks and the phase tell
+-- no first number was received yet, as far as the marks and the phase show
 pub record IsUnset (e : EndState) : Type 0 where
   pub not_live : is_live e.phase ≡ false
   pub no_first : e.marks.isr ≡ 0
@@ -70,8 +69,8 @@ pub record AreSentNumbers (iss count isr gsr : ℕ) : Type 0 where
 abbrev pub Hears : ℕ → ℕ → EndState → Type 0
 Hears iss count e = IsUnset e ⊎ AreSentNumbers iss count e.marks.isr e.marks.gsr
 
--- An end keeps the numbers that it received, what it knows acknowledged, its rows, and its set with the floor, the
--- records and the count of what was marked.
+-- The end is unchanged in the numbers that it received, in what it knows acknowledged, in its rows, and in its set with the floor, the records
+-- and the count of what was marked.
 pub record KeepsReceived (before after : EndState) : Type 0 where
   pub first : after.marks.isr ≡ before.marks.isr
   pub greatest : after.marks.gsr ≡ before.marks.gsr
@@ -81,18 +80,18 @@ pub record KeepsReceived (before after : EndState) : Type 0 where
   pub set : after.received ≡ before.received
   pub marked : after.marked ≡ before.marked
 
--- So it does where the bytes are a Reset.
+-- This is so if the bytes are a Reset.
 abbrev pub ResetsMoveNothing : EndState → Type 0
 ResetsMoveNothing e = (bytes : List ℕ) (packet : Parts) → packet_of bytes ≡ Some packet → is_reset packet.header.kind ≡ true
     → KeepsReceived e (receives e bytes).after
 
--- No frame says two things of one feature and side, and none has an Ack Vector without an acknowledgement number.
+-- No frame says two things about one feature and side, and none has an Ack Vector without an acknowledgement number.
 pub record SpeaksOnce (side : Side) (bytes : List ℕ) : Type 0 where
   pub of_each_pair : (pair : FeatureAt) → times_said pair side bytes ≤ 1
   pub vectors_acknowledge : (packet : Parts) → packet_of bytes ≡ Some packet → ack_of packet.header.kind ≡ None
       → ack_vectors (options_in bytes) ≡ []
 
--- What each schedule keeps.
+-- What holds after each schedule.
 pub record Facts (w : WorldState) : Type 0 where
   pub numbered : (side : Side) → IsNumbered (half_of w side)
   pub heard : (side : Side) → Hears (half_of w (other side)).end.marks.iss (numbered (other side)).count (half_of w side).end

@@ -1,4 +1,4 @@
--- A feature at its location, as the two ends hold it and as their frames speak of it (RFC 4340, sections 6 and 6.1).
+-- A feature at its location, with what the two ends hold and what their frames say about it (RFC 4340, sections 6 and 6.1).
 use Rattle.std.specs.Prelude.{ℕ, ◌+◌, ◌==◌, ◌||◌, Bool, List, [], ◌∷◌, Option, Some, None, Result, Ok, Err, if◌then◌else◌}
 use Rattle.dccp_options.specs.Grammar.{Entry}
 use Rattle.dccp_options.specs.declared.option.OptFault.{OptFault}
@@ -35,7 +35,7 @@ pub data PairStatement : Type 0 where
   Change : (values : List ℕ) → PairStatement
   Confirm : (values : List ℕ) → PairStatement
 
--- the option types by which a side speaks of a feature Here and There: Change L and Confirm L, Change R and Confirm R
+-- the option types with which a side speaks of a feature: Change L and Confirm L for one Here, Change R and Confirm R for one There
 abbrev pub change_option : Place → ℕ
 change_option Here = 32
 change_option There = 34

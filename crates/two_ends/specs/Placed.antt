@@ -1,4 +1,4 @@
--- How many frames of a side have numbers of its connection, in the words of laws (RFC 4340, section 7.1).
+-- How many frames of a side have numbers of its connection, as laws say it (RFC 4340, section 7.1).
 use Rattle.std.specs.Prelude.{ℕ, zero, suc, not, Bool, false, if◌then◌else◌, List, [], ◌∷◌, Option, Some, None}
 use Rattle.dccp_packets.specs.Grammar.{Parts}
 use Rattle.dccp_states.specs.declared.phase.Role.{Role}
@@ -6,7 +6,7 @@ use Rattle.dccp_endpoint.specs.Causes.{is_without_connection}
 use Rattle.two_ends.specs.declared.frames.SentFrame.{SentFrame}
 use Rattle.two_ends.specs.Frames.{packet_of}
 
--- the bytes are a packet with a number of its side's own: no Reset without a connection
+-- the bytes are a packet with one of its side's numbers: no Reset without a connection
 abbrev pub has_own_number : Role → Option Parts → Bool
 has_own_number role None = false
 has_own_number role (Some packet) = not (is_without_connection role packet.header.kind)

@@ -1,4 +1,4 @@
--- What the owner of an end asked for last, and what a row makes of it (RFC 4340, section 6; the call `prefer` is own).
+-- What the owner of an end asked for last, and what a row does with it (RFC 4340, section 6; the call `prefer` is own).
 use Rattle.std.specs.Prelude.{◌≡◌, ℕ, List, [], ◌∷◌, ◌++◌, Ok}
 use Rattle.congestion_trait.specs.Control.{Control}
 use Rattle.two_ends.specs.FeatureRows.{entries_of}
@@ -28,12 +28,12 @@ abbrev pub AsksFor : Side → Feature → Place → Event → Type 0
 AsksFor side feature place (event.Prefer asked other there values) = (asked ≡ side) × (other ≡ feature) × (there ≡ place)
 AsksFor side feature place _ = ⊥
 
--- The event takes place, and the call that it is is not refused.
+-- The event takes place, and its call is not refused.
 pub record IsAccepted {C : Type 0} (control : Control C) (w : ControlledWorld C) (given : Event) : Type 0 where
   pub after : ControlledWorld C
   pub takes_place : happens_to control w given ≡ Ok (record { after = after; seen = seen.Called (Ok tt) })
 
--- In this schedule the side is asked for no values of the feature, or refuses them.
+-- In this schedule the side is asked for no values of the feature, or refuses all of them.
 abbrev pub AsksNothing : {C : Type 0} → Control C → ControlledWorld C → List Event → Side → Feature → Place → Type 0
 AsksNothing control w [] side feature place = Unit {0}
 AsksNothing control w (first ∷ later) side feature place =

@@ -20,7 +20,7 @@ use Rattle.two_ends.specs.World.{Half, WorldState, half_of}
 pub record MarksWhatItProcessed (half : Half) : Type 0 where
   -- no number that it processed is after GSR
   pub none_after : (n : ℕ) → Contains half.processed n → IsBefore half.end.marks.gsr n → ⊥
-  -- once it has processed one, its set has from the floor up to GSR just the numbers that it processed
+  -- once it has processed one, its set has, from the floor up to GSR, just the numbers that it processed
   pub set : (n : ℕ) → 1 ≤ length half.processed → n < 2 ^ 48 → IsFrom (floor_of half.end) n → IsFrom n half.end.marks.gsr
       → (has half.end.received.set.numbers n ≡ true) ↔ Contains half.processed n
   -- the end counts them
@@ -32,10 +32,9 @@ pub record MarksWhatItProcessed (half : Half) : Type 0 where
 abbrev pub HasHeardFirst : Half → Type 0
 HasHeardFirst half = (is_live half.end.phase ≡ true) ⊎ (1 ≤ length half.processed)
 
--- Once a first number was received, GSR is a number that the side processed, if its frame is an Ack or a DataAck. A
--- packet of another type may have raised it and be out of place in the phase, and then it is never processed; no list
--- of such numbers is kept. Of an end that is CLOSED this is not claimed, since a Reset 5, 6 or 8 answers a packet that
--- was not processed; of one in TIMEWAIT it is.
+-- Once a first number was received, GSR is a number that the side processed, if its frame is an Ack or a DataAck. A packet of another type may
+-- have raised it and be out of place in the phase, and then it is never processed; no list of such numbers is kept. This does not cover an end
+-- that is CLOSED, since a Reset 5, 6 or 8 answers a packet that was not processed. It does cover one in TIMEWAIT.
 abbrev pub NewestIsProcessed : WorldState → Side → Type 0
 NewestIsProcessed w side = (index : ℕ) (frame : SentFrame) (packet : Parts) → (half_of w side).end.phase ≢ phases.Closed
     → HasHeardFirst (half_of w side) → slice_get (half_of w (other side)).frames index ≡ Some frame → packet_of frame.bytes ≡ Some packet
@@ -56,6 +55,6 @@ pub record IsRecordOf (w : WorldState) (side : Side) (r : VectorRecord) : Type 0
   pub tells_whole : r.whole ≡ is_whole_under (has (processed_by (half_of w side) frame)) frame.floor r.ack (half_of w side).end.config.vectors
   pub floor_rises : IsBefore (floor_of (half_of w side).end) frame.floor → ⊥
 
--- No record of an end says what its frames do not.
+-- The records of an end agree with its frames.
 abbrev pub AreRecordsHonest : WorldState → Side → Type 0
 AreRecordsHonest w side = (r : VectorRecord) → Contains (half_of w side).end.received.records r → IsRecordOf w side r

@@ -15,8 +15,8 @@ use Rattle.world_events.specs.Actors.{other}
 use Rattle.two_ends.specs.Controlled.{ControlledWorld, congestion_of}
 use Rattle.two_ends.specs.Frames.{packet_of, options_in, is_reset}
 
--- A side sent a packet with this number that is no Reset. The number of a Reset without a connection comes from the
--- packet that it answers, and says nothing of its sender's.
+-- A side sent a packet with this number that is no Reset. The number of a Reset without a connection comes from the packet that it answers, and
+-- says nothing about the numbers of its sender.
 pub record HasSentNumber (w : WorldState) (side : Side) (n : ℕ) : Type 0 where
   pub index : ℕ
   pub frame : SentFrame
@@ -26,7 +26,7 @@ pub record HasSentNumber (w : WorldState) (side : Side) (n : ℕ) : Type 0 where
   pub is_numbered : frame.number ≡ n
   pub is_no_reset : is_reset packet.header.kind ≡ false
 
--- Each number is processed once, and only where the other side sent it.
+-- Each number is processed once, and only if the other side sent it.
 pub record IsOnce (w : WorldState) (side : Side) : Type 0 where
   pub distinct : (i j : ℕ) → i < length (half_of w side).processed → j < length (half_of w side).processed
       → slice_index (half_of w side).processed i ≡ slice_index (half_of w side).processed j → i ≡ j
@@ -63,8 +63,8 @@ pub record HasSentVector (half : Half) (frame : SentFrame) (ack : ℕ) (bytes : 
   pub is_there : slice_get half.frames index ≡ Some frame
   pub carries : CarriesVector frame ack bytes
 
--- A whole vector speaks of this number: it lies from the frame's floor up to the acknowledged number, which is not
--- before the floor. All three are numbers of 48 bits.
+-- A whole vector covers this number: it lies from the frame's floor up to the acknowledged number, which is not before the floor. All three are
+-- numbers of 48 bits.
 pub record IsSpokenOf (frame : SentFrame) (ack n : ℕ) : Type 0 where
   pub floor_fits : frame.floor < 2 ^ 48
   pub ack_fits : ack < 2 ^ 48
@@ -72,14 +72,14 @@ pub record IsSpokenOf (frame : SentFrame) (ack n : ℕ) : Type 0 where
   pub in_order : IsFrom frame.floor ack
   pub within : IsWithin n frame.floor ack
 
--- They are the vector of just what the side had processed, from the acknowledged number down to its floor, as far as
--- its options have room, and it had processed nothing after that number.
+-- The bytes are the vector of just what the side had processed, from the acknowledged number down to its floor, as far as its options have room.
+-- The side had processed nothing after that number.
 pub record TellsTruth (half : Half) (frame : SentFrame) (ack : ℕ) (bytes : List ℕ) : Type 0 where
   pub is_vector : bytes ≡ vector_under (has (processed_by half frame)) frame.floor ack half.end.config.vectors
   pub none_after : (n : ℕ) → Contains (processed_by half frame) n → IsBefore ack n → ⊥
 
--- No whole vector that the other side processed has told of this number, from the frame's floor up to the acknowledged
--- number (RFC 4340, section 11.4).
+-- No whole vector that the other side processed has reported this number, from the frame's floor up to the acknowledged number (RFC 4340,
+-- section 11.4).
 abbrev pub IsUntold : WorldState → Side → ℕ → Type 0
 IsUntold w side n = (frame : SentFrame) (ack : ℕ) (bytes : List ℕ) → HasSentVector (half_of w side) frame ack bytes
     → IsUncut (half_of w side) frame ack → IsWithin n frame.floor ack → Contains (half_of w (other side)).processed frame.number → ⊥
@@ -89,7 +89,7 @@ abbrev pub Truthful : WorldState → Type 0
 Truthful w = (side : Side) (index : ℕ) (frame : SentFrame) (ack : ℕ) (bytes : List ℕ) → slice_get (half_of w side).frames index ≡ Some frame
     → CarriesVector frame ack bytes → TellsTruth (half_of w side) frame ack bytes
 
--- A frame whose vector told of a number, down to the floor, and which the other side processed.
+-- A frame whose vector reported a number, down to the floor, and which the other side processed.
 pub record ToldIn (w : WorldState) (side : Side) (n : ℕ) : Type 0 where
   pub index : ℕ
   pub frame : SentFrame
@@ -101,13 +101,12 @@ pub record ToldIn (w : WorldState) (side : Side) (n : ℕ) : Type 0 where
   pub heard : Contains (half_of w (other side)).processed frame.number
   pub reaches : IsWithin n frame.floor ack
 
--- why a side need not speak of a number any more: it lies more than 2,047 below one that it processed, or the other
--- side was told
+-- why a side need not report a number any more: it lies more than 2,047 below one that it processed, or it was reported to the other side
 pub data NeedsNoReport (w : WorldState) (side : Side) (n : ℕ) : Type 0 where
   Far : (processed : ℕ) → Contains (half_of w side).processed processed → IsBefore n (floor_under processed) → NeedsNoReport w side n
   WasTold : ToldIn w side n → NeedsNoReport w side n
 
--- every number from the first received up to the floor
+-- every number from the first received up to the floor needs no report
 abbrev pub Told : WorldState → Type 0
 Told w = (side : Side) (n : ℕ) → n < 2 ^ 48 → LiesBelowFloor (half_of w side) n
     → NeedsNoReport w side n

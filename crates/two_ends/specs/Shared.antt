@@ -1,4 +1,4 @@
--- By what the value of a feature changes that is negotiated by lists (RFC 4340, section 6.3.1).
+-- What changes the value of a feature that is negotiated by lists (RFC 4340, section 6.3.1).
 use Rattle.std.specs.Prelude.{◌≡◌, ◌≢◌, ℕ, List, Option, Some}
 use Rattle.two_ends.specs.FeatureRows.{entries_of}
 use Rattle.feature_lists.specs.Lists.{reconciled}
@@ -15,8 +15,8 @@ abbrev pub reconciled_for : Side → List ℕ → List ℕ → Option ℕ
 reconciled_for Client own theirs = reconciled theirs own
 reconciled_for Server own theirs = reconciled own theirs
 
--- The value that a side holds in the new world is what its active list in the old one shared first with a list in a
--- frame of the other side.
+-- The value that a side holds in the new world is the first entry that its active list in the old world shares with a list in a frame of the
+-- other side.
 pub record IsShared (old new : WorldState) (pair : FeatureAt) (side : Side) : Type 0 where
   pub theirs : List ℕ
   pub was_sent : HasSent old pair (other side) theirs

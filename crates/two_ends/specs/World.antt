@@ -1,5 +1,5 @@
--- Two ends, all frames that they ever sent, and what happens to them (own). Losing, repeating and reordering frames is
--- the choice of deliveries.
+-- Two ends, all frames that they ever sent, and what happens to them (own). The choice of deliveries covers frames that are lost, repeated or
+-- reordered.
 use Rattle.std.specs.Prelude.{◌≡◌, ℕ, ◌-◌, ◌^◌, ◌≤◌, ◌&&◌, ◌||◌, Bool, true, false, nat_le, nat_lt, if◌then◌else◌, List, [], ◌∷◌, ◌++◌, length, Option, Some, None, Result, Ok, Err, slice_get, ◌<◌, Vec, vec_len, vec_capacity}
 use Rattle.dccp_endpoint.specs.End.{EndState, new_end, floor_of, marked_of}
 use Rattle.dccp_endpoint.specs.Inputs.{Input, end_stepped}
@@ -34,27 +34,27 @@ pub record WorldState : Type 0 where
   pub client : Half
   pub server : Half
 
--- a side's next state with what is due to its congestion control, in order, and what was seen of its step
+-- a side's next state, with what is due to its congestion control, in order, and what its step answered
 pub record HalfStep : Type 0 where
   pub half : Half
   pub calls : List Call
   pub seen : Seen
 
--- the world's
+-- the same for the world
 pub record WorldStep : Type 0 where
   pub world : WorldState
   pub calls : List Call
   pub seen : Seen
 
--- A frame as it is kept: with the numbers that its sender tells of it, how many numbers its sender had processed, that
--- step's included, and its floor.
+-- A frame as it is kept: with the numbers that its sender gives it, how many numbers its sender had processed, that step's included, and its
+-- floor.
 abbrev pub as_sent : ℕ → ℕ → Option Outgoing → List SentFrame
 as_sent processed floor None = []
 as_sent processed floor (Some sent) =
     record { bytes = sent.bytes; number = sent.number; ack = sent.ack; processed = processed; floor = floor } ∷ []
 
--- A step processes the number of the frame that arrives, if one does, where the end's count of numbers that were taken
--- rises. An end hands out no list of them. A side is full long before that count could stop at 2^64 - 1.
+-- A step processes the number of the frame that arrives, if one does, exactly if the end's count of numbers that were taken rises, since an end
+-- hands out no list of them. A side is full long before that count could stop at 2^64 - 1.
 abbrev pub number_if : Bool → Option ℕ → List ℕ
 number_if true (Some number) = number ∷ []
 number_if true None = []
@@ -105,9 +105,8 @@ in_world w side (Err why) = Err why
 abbrev pub unless_full : WorldState → Side → Result HalfStep WorldFault → Result WorldStep WorldFault
 unless_full w side step = if is_full (half_of w side) then Err fault.Full else in_world w side step
 
--- A frame with short numbers, at an end that takes these, lies so far from what the end sent and received that the
--- numbers cannot be told: its number is 2^23 or more from GSR, or the one that it acknowledges from GSS, up and down
--- the circle (RFC 4340, section 7.6).
+-- A frame with short numbers, at an end that takes these, is so far from what the end sent and received that its numbers are ambiguous: its
+-- number is 2^23 or more from GSR, or the one that it acknowledges from GSS, up and down the circle (RFC 4340, section 7.6).
 abbrev pub is_far_frame : EndState → SentFrame → Bool
 is_far_frame e frame =
     takes_short e && (is_short_packet (packet_of frame.bytes) && (is_far frame.number e.marks.gsr || is_ack_far frame.ack e.marks.gss))
@@ -117,7 +116,7 @@ abbrev pub unless_far : Half → SentFrame → Bool → Result HalfStep WorldFau
 unless_far half frame true = Err fault.FarShort
 unless_far half frame false = Ok (half_steps half (Some frame.number) (input.Arrives frame.bytes))
 
--- a frame arrives at a side, if its numbers can be told there
+-- a frame arrives at a side, if its numbers are not ambiguous there
 abbrev pub arrives_at : Half → SentFrame → Result HalfStep WorldFault
 arrives_at half frame = unless_far half frame (is_far_frame half.end frame)
 
@@ -181,7 +180,7 @@ LacksFrame w (event.Abort side) = ⊥
 abbrev pub ActorIsFull : WorldState → Event → Type 0
 ActorIsFull w event = 2 ^ 47 - 1 ≤ length (half_of w (actor event)).frames
 
--- the frame, if there is one, has short numbers that the end that takes them could not tell
+-- the frame, if there is one, has short numbers that the end that takes them could not read in full
 abbrev pub is_far_at : EndState → Option SentFrame → Bool
 is_far_at e None = false
 is_far_at e (Some frame) = is_far_frame e frame
@@ -207,7 +206,7 @@ pub record Occurrence : Type 0 where
   pub event : Event
   pub said : Said
 
--- a whole schedule, whatever is said in it
+-- the world after a whole schedule, whatever the congestion controls say in it
 abbrev pub world_after_all : WorldState → List Occurrence → WorldState
 world_after_all w [] = w
 world_after_all w (now ∷ later) = world_after_all (world_after w (happens w now.event now.said)) later

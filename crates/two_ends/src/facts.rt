@@ -1,4 +1,4 @@
-//! What each fact of a world comes to, in plain words: a function for each, whose clauses follow from it and from no
+//! What each fact of a world means, in plain words: a function for each, whose clauses follow from it and from no
 //! weaker one.
 ghost use Rattle.std.specs.Prelude.{◌≡◌, ◌≢◌, ◌⊎◌, ◌↔◌, ℕ, ◌+◌, ◌-◌, ◌^◌, ◌<◌, ◌≤◌, List, [], length, true, false, Some, None, Contains, take, slice_get};
 ghost use Rattle.ack_vectors.specs.Vector.{is_whole_under};
@@ -21,9 +21,9 @@ ghost use Rattle.two_ends.specs.Pairs.{FeatureAt, times_said};
 ghost use Rattle.two_ends.specs.Placed.{count_of_own_numbers, has_own_number};
 ghost use Rattle.two_ends.specs.World.{WorldState, half_of};
 
-/// A side's frames carry its first number, the next, and so on up to its greatest number sent, Resets without a
-/// connection left out: a frame's number lies as far after the first as frames went before it. There are fewer than
-/// 2^47 (RFC 4340, section 7.1). A Reset without a connection carries no option (own).
+/// Except for Resets without a connection, a side's frames carry its first number, the next, and so on up to its
+/// greatest number sent: a frame's number is as many steps after the first as frames went before it. There are fewer
+/// than 2^47 (RFC 4340, section 7.1). A Reset without a connection carries no option (own).
 pub fn frames_are_numbered_in_order()
     ensures number { (w : WorldState) → Facts w → (side : Side) (index : ℕ) (frame : SentFrame)
         → slice_get (half_of w side).frames index ≡ Some frame
@@ -39,9 +39,9 @@ pub fn frames_are_numbered_in_order()
         → has_own_number (half_of w side).end.config.role (packet_of frame.bytes) ≡ false → options_in frame.bytes ≡ [] }
 {}
 
-/// In a phase in which a first number was received, that number and the greatest received lie after the other side's
-/// first by less than it sent frames of the connection, and the first is not the later one; so it is where one of the
-/// two is not 0. What is known acknowledged is a number of the own side, once this has sent one (RFC 4340, section
+/// In a phase in which a first number was received, that number and the greatest received are numbers of frames of the
+/// connection that the other side sent, and the first is not the later one. The same holds if one of the two is not 0.
+/// The greatest number known acknowledged is one that the side itself sent, once it has sent one (RFC 4340, section
 /// 7.1).
 pub fn what_is_heard_was_sent()
     ensures heard { (w : WorldState) → Facts w → (side : Side)
@@ -57,8 +57,8 @@ pub fn what_is_heard_was_sent()
         × ((half_of w side).end.marks.gar ≡ residue ((half_of w side).end.marks.iss + place)) }
 {}
 
-/// No number that a side processed is after its greatest number received; from its floor up to that its set has just
-/// the numbers that it processed; its end counts them; and the floor lies from the first number received up to the one
+/// No number that a side processed is after its greatest number received. From its floor up to that, its set has just
+/// the numbers that it processed, and its end counts them. The floor lies between the first number received and the one
 /// after the greatest (RFC 4340, section 11.4; the floor is own).
 pub fn sets_hold_what_was_processed()
     ensures none_after { (w : WorldState) → Facts w → (side : Side) (n : ℕ) → Contains (half_of w side).processed n
@@ -71,7 +71,7 @@ pub fn sets_hold_what_was_processed()
         → IsWithin (floor_of (half_of w side).end) (half_of w side).end.marks.isr (residue ((half_of w side).end.marks.gsr + 1)) }
 {}
 
-/// A Reset that arrives moves no number received, none acknowledged, no row, and nothing that was marked (own).
+/// A Reset that arrives changes no number received, none acknowledged, no row, and nothing that was marked (own).
 pub fn resets_move_nothing()
     ensures numbers { (w : WorldState) → Facts w → (side : Side) (bytes : List ℕ) (packet : Parts) → packet_of bytes ≡ Some packet
         → is_reset packet.header.kind ≡ true
@@ -86,8 +86,9 @@ pub fn resets_move_nothing()
         × ((receives (half_of w side).end bytes).after.marked ≡ (half_of w side).end.marked) }
 {}
 
-/// The greatest number received, where its frame is an Ack or a DataAck, was processed: once a number was, in every
-/// phase but CLOSED, TIMEWAIT among them; and in a phase in which a first number was received (own).
+/// If the frame of the greatest number received is an Ack or a DataAck, the number was processed. This holds once some
+/// number was processed, in every phase except CLOSED, also in TIMEWAIT; and in each phase in which a first number was
+/// received (own).
 pub fn the_newest_acknowledgement_was_processed()
     ensures processed { (w : WorldState) → Facts w → (side : Side) (index : ℕ) (frame : SentFrame) (packet : Parts)
         → (half_of w side).end.phase ≢ phases.Closed → 1 ≤ length (half_of w side).processed
@@ -101,8 +102,9 @@ pub fn the_newest_acknowledgement_was_processed()
         → Contains (half_of w side).processed (half_of w side).end.marks.gsr }
 {}
 
-/// Each record of an Ack Vector is of a frame of the own side, an Ack or a DataAck, with that frame's number and the one
-/// that it acknowledges, and tells whether the vector of what was processed then was whole (RFC 4340, section 11.4.2).
+/// Each record of an Ack Vector is of a frame of its own side, an Ack or a DataAck, with that frame's number and the
+/// one that it acknowledges, and says whether the vector of what was processed then was whole (RFC 4340, section
+/// 11.4.2).
 pub fn records_are_of_own_frames()
     ensures { (w : WorldState) → Facts w → (side : Side) (r : VectorRecord) → Contains (half_of w side).end.received.records r
         → (index : ℕ) × (frame : SentFrame) × (packet : Parts) × (slice_get (half_of w side).frames index ≡ Some frame)
@@ -112,8 +114,8 @@ pub fn records_are_of_own_frames()
         (half_of w side).end.config.vectors) × (IsBefore (floor_of (half_of w side).end) frame.floor → ⊥) }
 {}
 
-/// No frame says two things of one feature and side, and none has an Ack Vector without an acknowledgement number (RFC
-/// 4340, sections 6 and 11.4).
+/// No frame says two things about one feature and side, and none has an Ack Vector without an acknowledgement number
+/// (RFC 4340, sections 6 and 11.4).
 pub fn frames_say_one_thing_of_a_feature()
     ensures once { (w : WorldState) → Facts w → (side : Side) (index : ℕ) (frame : SentFrame) (pair : FeatureAt)
         → slice_get (half_of w side).frames index ≡ Some frame → times_said pair side frame.bytes ≤ 1 }

@@ -1,5 +1,5 @@
-//! Which frames with short numbers are too far from what their receiver sent and received for it to tell these numbers
-//! (RFC 4340, section 7.6).
+//! Which frames with short numbers are too far from the numbers that their receiver sent and received for it to read
+//! them in full (RFC 4340, section 7.6).
 ghost use Rattle.std.specs.Prelude.{◌≡◌, ◌||◌};
 ghost use Rattle.seq_circle.specs.Circle.{is_ack_far, is_far};
 ghost use Rattle.two_ends.specs.Frames.{is_short_packet, packet_of};
@@ -12,7 +12,8 @@ use dccp_packets::{Number, decode};
 use seq_circle::Seq48;
 use validity_windows::Marks;
 
-// The end is asked first, and then the numbers, which were told: so a frame is decoded only where one of them is far.
+// Looks first at the end, and then at the frame's numbers, which are known: so a frame is decoded only if one of them
+// is far.
 #[tactic(auto, using(crate::proofs::Forms::none_is_far, crate::proofs::Forms::form_decides))]
 pub(crate) fn is_far_frame<C: Congestion>(end: &Endpoint<C>, frame: &SentFrame) -> bool
     ensures { result ≡ is_far_frame end.now.state frame.now }
@@ -33,7 +34,7 @@ fn is_short_packet(bytes: &[u8]) -> bool
     }
 }
 
-// A number of the frame is far from the one that it would be read by.
+// Whether a number of the frame is far from the reference by which it would be read.
 fn has_far_numbers(frame: &SentFrame, marks: &Marks) -> bool
     ensures { result ≡ (is_far frame.now.number marks.now.gsr || is_ack_far frame.now.ack marks.now.gss) }
 {

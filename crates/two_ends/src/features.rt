@@ -1,13 +1,13 @@
-//! Why the two ends of a connection agree on a feature: a law on its pair of rows (own; the negotiation is that of RFC
+//! Why the two ends of a connection agree on a feature: laws on its pair of rows (own; the negotiation is that of RFC
 //! 4340, section 6, as this profile restricts it).
 //!
-//! No code runs here: the functions have empty bodies, and their contracts are the laws. They say nothing of phases or
-//! windows, and never that a negotiation settles.
+//! No code runs here: the functions have empty bodies, and their contracts are the laws. They say nothing about phases
+//! or windows, and never that a negotiation settles.
 //!
-//! With no code there are no tests and no must-fail edits. In a copy wrong moves and wrong lines of the table were
-//! tried, and the proofs refuse them: a Change that settles the row; a Confirm from before the last opening; a Confirm
-//! whose value is adopted where nothing is shared, or not looked at; frames that are not newest; an opening that keeps
-//! the old opening's mark; the client's order at the server.
+//! Since there is no code, there are no tests and no must-fail edits. Wrong moves and wrong lines of the table were
+//! tried in a copy, and the proofs refuse them: a Change that settles the row; a Confirm from before the last opening;
+//! a Confirm whose value is adopted although nothing is shared, or is not looked at; frames that are not newest; an
+//! opening that keeps the old opening's mark; the client's order at the server.
 
 mod counts;
 mod each_feature;

@@ -9,7 +9,7 @@ use std::alloc::Global;
 use std::marker::Model;
 use std::mem;
 
-// A frame of no more bytes, as most are, takes no block of its own.
+// A frame of no more bytes, as most are, takes no separate block.
 const FEW_BYTES: usize = 48;
 
 /// The bytes of a frame that was sent, at most 2,044. Contracts see the list of bytes.
@@ -66,8 +66,8 @@ pub(crate) fn take_memory(frames: &mut Vec<SentFrame>, spare: &mut Vec<u8>) -> R
     Ok(())
 }
 
-/// Keeps the frame that a step sent, if any, in memory that was taken before the step: a place in the list, and a block
-/// that is given only where a long frame gets none of its own.
+/// Keeps the frame that a step sent, if any, in memory that was taken before the step: a place in the list, and the
+/// spare block if a long frame gets no block of its own.
 pub(crate) fn keep_frame(
     alloc: Global,
     frames: &mut Vec<SentFrame>,
@@ -97,7 +97,7 @@ pub(crate) fn keep_frame(
     }
 }
 
-// The bytes, where they are many in a block of their own, or else in the spare one.
+// The bytes; if they are many, in a separate block, or in the spare one if there is no other.
 fn copied(alloc: Global, bytes: &[u8], spare: &mut Vec<u8>) -> FrameBytes
     requires room { HasRoomForFrame spare.old }
     requires empty { spare.old.items ≡ [] }
@@ -112,7 +112,7 @@ fn copied(alloc: Global, bytes: &[u8], spare: &mut Vec<u8>) -> FrameBytes
     }
 }
 
-// The bytes in the spare block, for which no other was to be had.
+// The bytes in the spare block, since there was no other.
 fn in_spare(alloc: Global, bytes: &[u8], spare: &mut Vec<u8>) -> FrameBytes
     requires room { HasRoomForFrame spare.old }
     requires empty { spare.old.items ≡ [] }

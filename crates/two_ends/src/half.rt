@@ -151,7 +151,7 @@ impl<C: Congestion> HalfWorld<C> {
     }
 }
 
-// The call of the end alone, and what is seen of it.
+// Only the call of the end, with its answer.
 fn act<C: Congestion>(end: &mut Endpoint<C>, call: UserCall<'_>, out: &mut Outbox) -> Seen
     ensures after { end.new.state ≡ (end_stepped end.old.state (input_said call.entry (said_by C.control end.old.congestion))).after }
     ensures called { end.new.congestion ≡ after_calls C.control end.old.congestion (end_stepped end.old.state (input_said call.entry (said_by C.control end.old.congestion))).calls }
@@ -176,7 +176,7 @@ fn keep_number(processed: &mut Vec<u64>, taken: bool, number: Seq48)
     }
 }
 
-// The step of the end alone.
+// Only the step of the end.
 fn arrive<C: Congestion>(end: &mut Endpoint<C>, bytes: &[u8], out: &mut Outbox) -> Outcome
     requires { length bytes.now ≤ 2044 }
     ensures { record { after = end.new; frame = out.new; answer = result } ≡ with_control C.control end.old.congestion (receives end.old.state bytes.now) }

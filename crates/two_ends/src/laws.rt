@@ -1,7 +1,8 @@
-//! What safe worlds come to, in other words, and what else holds of frames' numbers and of what the ends ask for.
+//! What it means that a world is safe, in other words, and what else holds of frames' numbers and of what the ends ask
+//! for.
 //!
-//! Each part of `Safe` has a function whose clauses follow from it and from no weaker one. They are what a reader may
-//! hold against the definitions, by plain counts where numbers are in them.
+//! Each part of `Safe` has a function whose clauses follow from it and from no weaker one. A reader can compare them
+//! with the definitions; numbers are plain counts in them.
 ghost use Rattle.std.specs.Prelude.{◌≡◌, ◌≢◌, ◌⊎◌, ℕ, ◌+◌, ◌^◌, ◌<◌, ◌≤◌, true, false, List, [], ◌∷◌, ◌++◌, Some, None, IsTrue, IsSome, Contains, length, take, drop, slice_get};
 ghost use Rattle.ack_vectors.specs.Vector.{is_whole_under};
 ghost use Rattle.congestion_trait.specs.Flight.{Has};
@@ -51,10 +52,10 @@ ghost use Rattle.two_ends.specs.World.{WorldState, half_of};
 use congestion_trait::Congestion;
 use dccp_endpoint::every_step_has_one_effect;
 
-/// What *agree* comes to. A feature that both ends call settled has one value: what the client holds of its own is what
-/// the server holds of the client's, and the other way round. Where it was negotiated by lists both have sent one, and
-/// the value is the server's first entry, in its last list, that is in the client's last (RFC 4340, section
-/// 6.3.1). The value of a feature that is not negotiable is, at the other end too, the last one that its location told.
+/// What *agree* means. A feature that both ends call settled has one value: the client holds for its own feature the
+/// value that the server holds for the client's, and the other way round. If it was negotiated by lists, both have sent
+/// one, and the value is the first entry of the server's last list that is in the client's last list (RFC 4340, section
+/// 6.3.1). The value of a feature that is not negotiable is, at the other end too, the last one that its location sent.
 pub fn settled_features_are_alike<C: Congestion>()
     ensures clients { (w : ControlledWorld C) → Safe C.control w → (feature : Feature)
         → (held_of w.world.client.end feature place.Here).stand ≡ Stable → (held_of w.world.server.end feature place.There).stand ≡ Stable
@@ -78,10 +79,10 @@ pub fn settled_features_are_alike<C: Congestion>()
         → IsTrue (pair_was_negotiated w.world pair) → last_value w.world pair ≡ Some value → (held_at w.world pair side).value ≡ value }
 {}
 
-/// What *given* comes to, whatever the stands. An end holds the initial value of a feature as long as one of the two
-/// sides has sent no list for it; or no list of the server's shares an entry with one of the client's; or, if it is not
-/// negotiable, its location has told no value. Another value is the first entry in a list of the server's that stands
-/// in one of the client's too, or else one that the location told.
+/// What *given* means, in all stands. An end holds the initial value of a feature in three cases: as long as one of the
+/// two sides has sent no list for it; if no list of the server's shares an entry with one of the client's; or, if the
+/// feature is not negotiable, as long as its location has sent no value. Another value is the first entry in a list of
+/// the server's that is in one of the client's too, or else one that the location sent.
 pub fn values_come_from_both_sides<C: Congestion>()
     ensures silent { (w : ControlledWorld C) → Safe C.control w → (pair : FeatureAt) (quiet side : Side)
         → IsServerPriority pair
@@ -99,9 +100,10 @@ pub fn values_come_from_both_sides<C: Congestion>()
         → (held_at w.world pair side).value ≢ initial_of pair.feature → CameOfLocation w.world pair (held_at w.world pair side).value }
 {}
 
-/// What *truthful* comes to. A number that a vector tells received is one that its sender had processed when it sent
-/// it; a number that it tells not received, whole or cut, is none of those; a whole vector tells received each of those
-/// from the frame's floor up to the number that it acknowledges; and none of them is after that.
+/// What *truthful* means. A number that a vector reports as received is one that its sender had processed when it sent
+/// the vector. A number that it reports as not received, whole or cut, is none of those. A whole vector reports as
+/// received each of those from the frame's floor up to the number that it acknowledges. The sender had processed no
+/// number after that.
 pub fn vectors_tell_what_was_processed<C: Congestion>()
     ensures received { (w : ControlledWorld C) → Safe C.control w → (side : Side) (frame : SentFrame) (ack n : ℕ) (bytes : List ℕ)
         → HasSentVector (half_of w.world side) frame ack bytes → ack < 2 ^ 48 → n < 2 ^ 48
@@ -119,10 +121,9 @@ pub fn vectors_tell_what_was_processed<C: Congestion>()
         → Contains (processed_by (half_of w.world side) frame) n → IsBefore ack n → ⊥ }
 {}
 
-/// What *told* comes to, by plain counts. If no whole vector that the other side processed has told of a number below
-/// an end's floor, then not all numbers that the end processed are among those of the first packets, up to 2,047 after
-/// that number's: it has processed one that is 2,048 after it or more. Below the floor lies a packet of a count from
-/// that of ISR on, and less than that of the floor.
+/// What *told* means, by plain counts. Take a number below an end's floor that no whole vector which the other side
+/// processed has reported. Then the end has processed a number that is 2,048 or more after it. A packet lies below the
+/// floor if its count is from that of ISR on, and less than that of the floor.
 pub fn what_none_told_is_far_below<C: Congestion>()
     ensures by_counts { (w : ControlledWorld C) → Safe C.control w → (side : Side) (iss first count floor : ℕ) → iss < 2 ^ 48
         → 1 ≤ first → first ≤ count → count < floor → floor ≤ 2 ^ 47 + 1 → count + 2047 ≤ 2 ^ 47
@@ -135,9 +136,9 @@ pub fn what_none_told_is_far_below<C: Congestion>()
         → AreAmongFirst iss (count + 2047) (half_of w.world side).processed → ⊥ }
 {}
 
-/// What the numbers that are kept of a frame come to, wherever the facts of a world hold: each frame is a packet, whose
-/// sequence number and acknowledgement number they are, whole where it is long, and their low 24 bits where it is
-/// short.
+/// What the numbers that are kept of a frame mean, in each world whose facts hold: each frame is a packet with these as
+/// its sequence number and acknowledgement number, in full if it has long numbers, and their low 24 bits if it has
+/// short ones.
 pub fn frames_spell_their_numbers()
     ensures packet { (w : WorldState) → Facts w → (side : Side) (index : ℕ) (frame : SentFrame)
         → slice_get (half_of w side).frames index ≡ Some frame
@@ -150,10 +151,10 @@ pub fn frames_spell_their_numbers()
         → ack_of packet.header.kind ≡ ack_in_width (is_long packet.header.number) frame.ack }
 {}
 
-/// What *delivers* of a step comes to, and that data are delivered once. Data come of the delivery of a frame alone,
-/// which is a Data or a DataAck; they are all of its payload, up to its end; and the receiving side has processed its
-/// number by this, and no other (`frame`). Among the frames whose data a schedule delivers no later one is an earlier
-/// one (`once`; RFC 4340, section 8.5, step 16).
+/// What it means that a step *delivers*, and that data are delivered once. Data come only from the delivery of a frame,
+/// which is a Data or a DataAck. They are all of its payload, up to its end, and the receiving side has processed its
+/// number by this step, and no other (`frame`). No frame is twice among those whose data a schedule delivers (`once`;
+/// RFC 4340, section 8.5, step 16).
 pub fn delivered_data_are_those_of_their_frame<C: Congestion>()
     ensures frame { (old new : WorldState) (event : Event) (begins ends : ℕ)
         → DeliversItsData old event new (seen.Received (outcome.Took (Some (begins, ends))))
@@ -168,7 +169,7 @@ pub fn delivered_data_are_those_of_their_frame<C: Congestion>()
 {}
 
 /// After every list of events no further event is refused as `FarShort`, as long as each side has sent fewer than 2^23
-/// frames (own). An event sends one frame at most.
+/// frames (own). An event sends at most one frame.
 pub fn few_frames_are_never_far<C: Congestion>()
     ensures { (client server : Config) (for_client for_server : C) (events : List Event) (next : Event)
         → Fits client → Fits server → IsNeverFar C.control (plays_from_start C.control client server for_client for_server events) next }
@@ -176,8 +177,8 @@ pub fn few_frames_are_never_far<C: Congestion>()
     every_step_has_one_effect();
 }
 
-/// What *once* comes to. A number that a side processed early it does not process later. A number that the other side
-/// has sent in no packet but Resets, or not at all, it has not processed.
+/// What *once* means. A side does not process a number that it processed before. It has not processed a number that the
+/// other side has not sent, or has sent only in Resets.
 pub fn no_number_is_processed_again<C: Congestion>()
     ensures apart { (w : ControlledWorld C) → Safe C.control w → (side : Side) (early n : ℕ)
         → Contains (take early (half_of w.world side).processed) n
@@ -187,8 +188,8 @@ pub fn no_number_is_processed_again<C: Congestion>()
         → Contains (half_of w.world side).processed n → ⊥ }
 {}
 
-/// What *heard* comes to. A number that the flight list of a congestion control has as Reported was processed by the
-/// other side. So it is none that its own side has sent in no packet but Resets, or not at all.
+/// What *heard* means. A number that the flight list of a congestion control has as Reported was processed by the other
+/// side. So its own side has sent it, and not only in Resets.
 pub fn what_is_reported_arrived<C: Congestion>()
     ensures processed { (w : ControlledWorld C) → Safe C.control w → (side : Side) (n : ℕ)
         → Has (C.control.flight (congestion_of w side)) n standing.Reported → Contains (half_of w.world (other side)).processed n }
@@ -207,9 +208,9 @@ pub fn what_none_asked_for_stays<C: Congestion>()
     every_step_has_one_effect();
 }
 
-/// The last list that an end sent for a feature is the active one of its row, and where the row is STABLE nothing waits
-/// that was asked for later, after every list of events. So where a row is STABLE and its end has sent a list, that is
-/// what its owner last asked for and was not refused, or else what was configured.
+/// After every list of events, the last list that an end sent for a feature is the active one of its row, and if the
+/// row is STABLE, no later request waits. So if a row is STABLE and its end has sent a list, that list is what its
+/// owner last asked for and was not refused, or otherwise what was configured.
 pub fn last_lists_are_active<C: Congestion>()
     ensures { (client server : Config) (for_client for_server : C) (events : List Event) → client.role ≡ role.Client
         → server.role ≡ role.Server
@@ -218,10 +219,10 @@ pub fn last_lists_are_active<C: Congestion>()
     every_step_has_one_effect();
 }
 
-/// What an owner asked for last is what its end works for, after every list of events. The values of the last `prefer`
-/// of a side for a feature that was accepted are its row's active ones, or, in UNSTABLE, those that wait for the row's
-/// next Change. Where none was accepted they are those that the side was configured with. So where a row is STABLE, the
-/// last list that its end sent for it, if it sent one, has just these values ([`last_lists_are_active`]).
+/// What an owner asked for last is what its end negotiates for, after every list of events. The values of the last
+/// `prefer` of a side for a feature that was accepted are its row's active ones, or, in UNSTABLE, those that wait for
+/// the row's next Change. If none was accepted, they are those that the side was configured with. So if a row is
+/// STABLE, the last list that its end sent for it, if it sent one, has just these values ([`last_lists_are_active`]).
 pub fn what_was_asked_last_is_wanted<C: Congestion>()
     ensures asked { (start : ControlledWorld C) (events : List Event) → IsBeginning C.control start
         → (side : Side) (feature : Feature) (place : Place) (values : List ℕ)
@@ -234,9 +235,9 @@ pub fn what_was_asked_last_is_wanted<C: Congestion>()
     every_step_has_one_effect();
 }
 
-/// By what a value changes. In every step of every list of events, the value that an end holds of a feature negotiated
-/// by lists changes only to the first entry, in the server's order, that its active list shares with a list in a frame
-/// of the other side (RFC 4340, section 6.3.1). So where nothing is shared, the value is the one held before.
+/// How a value changes. In every step of every list of events, the value that an end holds of a feature negotiated by
+/// lists changes only to the first entry, in the server's order, that its active list shares with a list in a frame of
+/// the other side (RFC 4340, section 6.3.1). So if nothing is shared, the value is the one held before.
 pub fn values_change_by_shared_lists<C: Congestion>()
     ensures { (client server : Config) (for_client for_server : C) (events : List Event) (next : Event)
         → client.role ≡ role.Client

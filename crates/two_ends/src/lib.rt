@@ -1,12 +1,12 @@
 //! Two ends of one connection and all frames that they ever sent, as a world in which any frame may arrive at any time,
-//! repeatedly, in any order, or never (own; the ends are RFC 4340's).
+//! repeatedly, in any order, or never (own; the ends are those of RFC 4340).
 //!
 //! Both ends negotiate features, as configured and as their owners wish later, and send data as their congestion
-//! controls allow. For every schedule and every congestion control the world is safe: where both ends call a feature
-//! settled, they hold one value; each value was given to them; their Ack Vectors report what was processed; and what an
-//! end believes received, the other one processed. Nothing is said about progress or time, and no frame is altered on
-//! its way. The laws for this are in the modules `features` and `marks`, over a pair of sides; no code runs there. A
-//! world keeps every frame, so events take memory; if there is none, nothing changes.
+//! controls allow. For every schedule and every congestion control the world is safe. If both ends call a feature
+//! settled, they hold the same value, and each value was given to them. Their Ack Vectors report what was processed,
+//! and what an end believes received, the other one processed. Nothing is said about progress or time, and no frame is
+//! altered on its way. The laws for this are in the modules `features` and `marks`, over a pair of sides; no code runs
+//! there. A world keeps every frame, so events take memory; if there is none, nothing changes.
 #![tactic(auto)]
 
 mod facts;

@@ -1,4 +1,4 @@
-//! The two sides together, and exactly what an event makes of them.
+//! The two sides together, and exactly what an event does to them.
 ghost use Rattle.std.specs.Prelude.{◌≡◌, ◌≢◌, ◌↔◌, Ok, Err, Some, None, IfOk, IfSome, IsTrue, OnErr, true, false, is_some, slice_get};
 ghost use Rattle.dccp_endpoint.specs.Inputs.{Arrives};
 ghost use Rattle.two_ends.specs.Controlled.{controlled_half_steps, half_begins, said_by};
@@ -13,10 +13,10 @@ use seq_circle::NoMemory;
 use std::alloc::Global;
 use std::marker::Model;
 
-// A side's numbers keep their order for so many frames (RFC 4340, section 3.1).
+// The most frames of a side for which its numbers keep their order (RFC 4340, section 3.1).
 const MOST_FRAMES: usize = (1 << 47) - 1;
 
-// A side is large, so it has a block, and is not moved as the two are handed on.
+// A side is large, so it is in a block, and is not moved when the two are handed on.
 #[derive(Drop)]
 pub(crate) struct Sides<C> {
     client: Box<HalfWorld<C>>,

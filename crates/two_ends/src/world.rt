@@ -1,7 +1,7 @@
 //! The world: two ends and every frame that either ever sent, with what holds after every schedule.
 //!
 //! Both ends have one kind of congestion control, `C`. A kind that is a choice (`Kinds` of ccid_two) lets them differ
-//! while they run. That some schedule leads to the world is the invariant of its type, so that `safe` is proved in one
+//! while they run. The type's invariant is that some schedule leads to the world, so that `safe` is proved in only one
 //! place.
 ghost use Rattle.std.specs.Prelude.{◌≡◌, ◌<◌, ◌^◌, List};
 ghost use Rattle.dccp_endpoint.specs.Drafts.{Fits};
@@ -29,7 +29,7 @@ use std::marker::Model;
 /// settled, and each value was given to them; each number is processed once; each Ack Vector that was ever sent reports
 /// just what its sender had processed; a floor passes a number only if it was reported to the other side, or is more
 /// than 2,047 below one that was processed; and what an end believes received, by its congestion control, the other one
-/// processed. A frame with short numbers is refused if its receiver could not tell them apart.
+/// processed. A frame with short numbers is refused if these are ambiguous for its receiver.
 ///
 /// The facts: a side's frames, except for Resets without a connection, carry its first number, the next, and so on up to
 /// its greatest number sent, in this order (RFC 4340, section 7.1); there are fewer than 2^47. The bytes of each frame
@@ -67,11 +67,10 @@ impl<C: Congestion + Drop> World<C> {
     ghost use Rattle.two_ends.specs.Safe.{Safe};
     ghost use Rattle.two_ends.specs.Numbered.{Facts};
 
-    /// Two ends of these configurations, with what they wish and offer of features and with a congestion control for
-    /// the data of each, that have sent and received nothing. Both congestion controls are started with CCID 2, the
-    /// first value of the feature, which they have to know. The world is safe and its facts hold: no frame has a number
-    /// yet, nothing was heard, processed or recorded, every feature has its initial value, and a Reset would move
-    /// nothing.
+    /// Two ends of these configurations, with their wishes and offers and a congestion control for the data of each,
+    /// that have sent and received nothing. Both congestion controls are started with CCID 2, the first value of the
+    /// feature, which they have to know. The world is safe and its facts hold: no frame has a number yet, nothing was
+    /// heard, processed or recorded, every feature has its initial value, and a Reset would move nothing.
     pub fn new(
         alloc: Global,
         client: Config,
@@ -194,9 +193,9 @@ pub fn every_run_numbers_its_frames<C: Congestion>()
     every_step_has_one_effect();
 }
 
-/// No frame's data are delivered twice, whatever arrives how often: after every list of events, with any congestion
-/// control, from any two configurations whose fields fit their widths, the frames whose data were delivered are all
-/// different ones (RFC 4340, section 8.5, step 16).
+/// No frame's data are delivered twice, however often each frame arrives: after every list of events, with any
+/// congestion control, from any two configurations whose fields fit their widths, the frames whose data were delivered
+/// are all different ones (RFC 4340, section 8.5, step 16).
 pub fn data_are_delivered_once<C: Congestion>()
     ensures { (client server : Config) (for_client for_server : C) (events : List Event) → Fits client → Fits server
         → IsDeliveredOnce C.control (begins_with C.control client server for_client for_server) events }

@@ -46,7 +46,7 @@ pub one_pair : (feature : Feature) (at : Place)
 one_pair feature place.Here = refl
 one_pair feature place.There = refl
 
--- what a step leaves of a row tells its pair
+-- what a step leaves of a row decides its pair
 pub same_pair : (old new : Row) → IsSameRow old new → row_pair new ≡ row_pair old
 same_pair old new same = rw (same.role, same.feature, same.place)
 

@@ -27,7 +27,7 @@ use Rattle.two_ends.proofs.OfWorlds.Logged.{Logged, IsLogged, IsUnlogged, AreLog
 use Rattle.two_ends.proofs.OfWorlds.ReadBack.{logged-options, unlogged-options}
 use Rattle.two_ends.proofs.OfFeatures.Viewing.{said_by}
 
--- what an option says, as a reader of frames tells it
+-- what an option says, as a reader of frames finds it
 abbrev pub saying_of : List RowEvent → PairStatement
 saying_of [] = Nothing
 saying_of (row.Change body mandatory ∷ rest) = Change body

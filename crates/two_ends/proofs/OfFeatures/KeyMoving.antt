@@ -99,7 +99,7 @@ module _ (s : KnownStep) where
   number-is : (k : Key) → next_number e ≡ number_of iss (length (frames k) + 1)
   number-is k = omega (arith, s.own.greatest, length-map act.side.log (carried_of peer_iss k))
 
-  -- nothing comes to the log
+  -- nothing is added to the log
   no-frame : (k : Key) → map (carried_of peer_iss k) (act.side.log ++ []) ≡ frames k
   no-frame k = ap (map (carried_of peer_iss k)) (append-nil act.side.log)
 

@@ -134,7 +134,7 @@ does-busy row _ _ number (PrefersNow wish wished stable) is =
     sends-busy next next.stand number next.opened refl (preference-busy row row.stand wish)
 does-busy row _ _ number (PrefersLater wish busy) is = cc is
 
--- A row that is busy has a wish of its own.
+-- A row that is busy has its own wish.
 pub record HasWish (feature : Feature) (place : Place) (row : Row) : Type 0 where
   pub wish : Wanted
   pub is_active : row.active ≡ Some wish

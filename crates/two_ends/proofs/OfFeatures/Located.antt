@@ -97,7 +97,7 @@ client_located initial _ _ (Client_moves server client after reached move) =
     location_moves own_value server client after move (client_kept initial server client reached)
     (client_located initial server client reached)
 
--- what the rule says of a single value, whatever the other wish
+-- what the rule says of a single value, with any other wish
 pub single_value : (wish other : List ℕ) (value : ℕ) → one_value wish ≡ true → unwrap_or (own_value wish other) value ≡ value
     → wish ≡ value ∷ []
 single_value [] other value single is = grind arith

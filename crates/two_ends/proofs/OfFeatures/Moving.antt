@@ -21,7 +21,7 @@ use Rattle.feature_machine.specs.Turns.{row_turned, reply_due}
 use Rattle.feature_machine.specs.declared.row.Row.{Row}
 use Rattle.feature_machine.specs.declared.stands.Stand.TheVariants.{Stable}
 
--- A row and its end's frames come to others, and the greatest count taken to another.
+-- A row and its end's frames become others, and the greatest count taken becomes another.
 pub record Moved (iss : ℕ) (there : List FeatureNews) (row : Row) (greatest : ℕ) (frames : List FeatureNews) (after : Row) (later : ℕ)
     (more : List FeatureNews) : Type 0 where
   pub moves : RowMoves row there (side_of iss row greatest frames) (side_of iss after later more)

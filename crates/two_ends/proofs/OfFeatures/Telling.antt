@@ -49,7 +49,7 @@ wish-told iss k (_ ∷ (second ∷ rest)) priority well = absurd well
 same-width : (a b : ℕ) → (a == b) ≡ true → b ≡ a
 same-width a b same = grind arith
 
--- Of any other a valid Change has the one value, in just its bytes, and a Confirm tells none.
+-- Of any other a valid Change has the one value, in just its bytes, and a Confirm has none.
 proposed-value : (b : Bool) (feature : Feature) (place : Place) (body : List ℕ) → b ≡ false → is_valid_by b feature place body ≡ true
     → change_of (Carries (proposed_by b (described feature).width body)) ≡ Some (only (big_number (length body) body))
 proposed-value true feature place body is valid = cc is

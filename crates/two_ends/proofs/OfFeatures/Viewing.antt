@@ -1,4 +1,4 @@
--- What the log of a side tells of its rows, and a row as a side of its pair.
+-- What the log of a side shows of its rows, and a row as a side of its pair.
 use Rattle.std.proofs.Common.{ℕ, List, [], ◌∷◌, Some, None, Ok, map, true}
 use Rattle.std.specs.Prelude.{IsTrue}
 use Rattle.dccp_options.specs.Written.{entries_at}

@@ -45,7 +45,7 @@ IsCalm (Prefers wish) = ⊥
 IsCalm (Offers confirmed) = Unit {0}
 IsCalm (Sends number) = Unit {0}
 
--- A Change, a Confirm and an offer leave both wishes, whatever the stand.
+-- A Change, a Confirm and an offer leave both wishes, in any stand.
 abbrev IsStill : TableEvent → Type 0
 IsStill (Proposed proposal mandatory) = Unit {0}
 IsStill (Confirmed confirmation) = Unit {0}

@@ -17,7 +17,7 @@ use Rattle.two_ends.proofs.OfWorlds.Numbering.{IsOrdered}
 use Rattle.two_ends.proofs.OfMarks.Shown.{IsPacketOf, IsShown, moves-keep}
 use Rattle.two_ends.proofs.OfMarks.Vectors.{NoneSent}
 
--- What a side and its peer mark and tell: a view of each, and the facts that moves of either keep.
+-- What a side and its peer mark and report: a view of each, and the facts that moves of either keep.
 pub record IsMarking (x y : Party) : Type 0 where
   pub view : MarkSide
   pub peer : MarkSide

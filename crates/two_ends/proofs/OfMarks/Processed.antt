@@ -1,4 +1,4 @@
--- What a side processed is what its view tells: the numbers, and the vectors of its frames.
+-- What a side processed is what its view has: the numbers, and the vectors of its frames.
 use Rattle.std.proofs.Common.{◌≡◌, refl, ap, sym, ◌∙◌, subst, ℕ, zero, suc, ◌+◌, ◌^◌, ◌<◌, ◌≤◌, ◌==◌, ◌||◌, nat_le, Bool, true, false, List, [], ◌∷◌, length, min, arith}
 use Rattle.std.proofs.lemmas.List.{get_or-map, get_or-take, length-map, length-take}
 use Rattle.std.proofs.lemmas.List.Folds.{list_any_at}
@@ -49,7 +49,7 @@ early-contains early ns n is =
     let below : at.0 < length ns = omega (arith, at.1, size) in
     (at.0, below, or-any ns at.0 n 0 below ∙ sym (get_or-take early ns at.0 0 (omega (arith, at.1, size))) ∙ at.2)
 
--- below its floor a vector tells nothing
+-- below its floor a vector reports nothing
 states-none : (one other : ℕ → ℕ) (floor ack : ℕ) → is_from floor ack ≡ false → states_between one floor ack ≡ states_between other floor ack
 states-none one other floor ack below = rw below refl
 
@@ -108,7 +108,7 @@ module _ (x y : Party) (others : IsOrdered y) (m : IsMarking x y) where
   count-of-index : (i : ℕ) → i < length x.half.processed → IsCount (count-at i)
   count-of-index i below = its-count (count-at i) (omega (arith, its-place i below))
 
-  -- numbers tell places
+  -- numbers decide places
   pub index-is : (i count : ℕ) → i < length x.half.processed → 1 ≤ count → count ≤ 2 ^ 47 → slice_index_or x.half.processed i 0 ≡ number_of iss count
       → view.place count ≡ suc i
   index-is i count below some early is =

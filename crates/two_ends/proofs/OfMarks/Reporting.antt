@@ -1,4 +1,4 @@
--- Each number is processed once, every Ack Vector tells what was processed, and what none tells any more was told or is far back.
+-- Each number is processed once, every Ack Vector reports what was processed, and what none reports any more was reported or is far back.
 use Rattle.std.proofs.Common.{◌≡◌, refl, ap, sym, ◌∙◌, subst, ℕ, zero, suc, ◌+◌, ◌^◌, ◌<◌, ◌≤◌, Bool, true, false, List, [], ◌∷◌, Option, Some, None, slice_get, length, arith, inl, inr}
 use Rattle.std.proofs.lemmas.List.Elements.{All-get_or}
 use Rattle.std.proofs.lemmas.Option.{same_Some}
@@ -200,7 +200,7 @@ module _ (w : WorldState) (logs : Side → List Logged) (side : Side) (own : IsO
       let some = carries.carries in
       cc (none, some)
 
-  -- What a vector tells received was processed.
+  -- What a vector reports as received was processed.
   pub received-processed : (index : ℕ) (frame : SentFrame) (ack : ℕ) (bytes : List ℕ) (n : ℕ) → slice_get (half_of w side).frames index ≡ Some frame
       → CarriesVector frame ack bytes → n < 2 ^ 48 → is_received (state_at ack bytes n) ≡ true → Contains (half_of w side).processed n
   received-processed index frame ack bytes n there carries small received =

@@ -1,4 +1,4 @@
--- A side of the world as a side by what it marks and tells, by counts of packets.
+-- A side of the world as a side by what it marks and reports, by counts of packets.
 use Rattle.std.proofs.Common.{◌≡◌, ◌≢◌, refl, ap, sym, ◌∙◌, ℕ, zero, suc, ◌+◌, ◌^◌, ◌<◌, ◌≤◌, ◌==◌, ◌||◌, max, Bool, true, false, List, [], ◌∷◌, Some, slice_get, length, map, arith}
 use Rattle.std.proofs.lemmas.Map.Keys.{IsDistinct-from_apart}
 use Rattle.std.proofs.lemmas.Map.Steps.{length-le_from_distinct_below}
@@ -31,7 +31,7 @@ pub record IsPacketOf (iss : ℕ) (log : List Logged) (number : ℕ) : Type 0 wh
   pub is_numbered : number ≡ residue (iss + place)
   pub is_no_reset : packet_type logged.draft.kind ≢ types.Reset
 
--- The view shows what x has of its peer's packets and what its own packets tell.
+-- The view shows what x has of its peer's packets and what its own packets report.
 pub record IsShown (x y : Party) (view : MarkSide) : Type 0 where
   pub heard : IsHeardTo (config_of y).iss (length y.log) view.greatest (end_of x)
   pub first : 1 ≤ view.first → (end_of x).marks.isr ≡ number_of (config_of y).iss view.first
@@ -49,7 +49,7 @@ pub moves-keep : (peer : MarkSide) {side after : MarkSide} → MarkMoves peer.fr
 moves-keep peer (Done _) kept = kept
 moves-keep peer (Next before middle after move moves) kept = moves-keep peer moves (move_keeps before peer middle move kept)
 
--- numbers tell counts
+-- numbers decide counts
 pub same-counts : (iss one other : ℕ) → iss < 2 ^ 48 → 1 ≤ one → one ≤ 2 ^ 47 → 1 ≤ other → other ≤ 2 ^ 47 → number_of iss one ≡ number_of iss other
     → one ≡ other
 same-counts iss one other fits some early others_some others_early same = omega (arith, same)

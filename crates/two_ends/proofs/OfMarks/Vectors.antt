@@ -1,4 +1,4 @@
--- The Ack Vector of a packet that was logged, and the frame of its sender's view that tells the same.
+-- The Ack Vector of a packet that was logged, and the frame of its sender's view that reports the same.
 use Rattle.std.proofs.Common.{◌≡◌, refl, ap, sym, ◌∙◌, subst, ℕ, zero, suc, ◌+◌, ◌^◌, ◌<◌, ◌≤◌, Bool, true, false, if◌then◌else◌, List, [], ◌∷◌, ◌++◌, Some, Ok, slice_get, length, map, arith}
 use Rattle.std.proofs.lemmas.List.Elements.{All-head, All-tail}
 use Rattle.std.proofs.lemmas.Option.{same_Some}
@@ -55,8 +55,8 @@ vectors-written has_vector setting set ack rest all =
     ap (λ (front : List Item). ack_vectors (map Ok (entries_at 0 (front ++ rest)))) (parts-are has_vector setting set ack)
     ∙ parts-written (vector_parts has_vector setting set ack) 0 rest all
 
--- A frame of the view tells what the logged packet does; the peer's packets are numbered from here, and this is how many
--- options the sender's vectors have.
+-- A frame of the view reports what the logged packet does; the peer's packets are numbered from here, and this is how many options the sender's
+-- vectors have.
 pub record IsFrame (iss : ℕ) (setting : Vectors) (l : Logged) (frame : MarkFrame) : Type 0 where
   pub long : has_forms true l.draft.kind ≡ true
   pub acks : frame.is_ack ≡ is_acking (packet_type l.draft.kind)
@@ -65,7 +65,7 @@ pub record IsFrame (iss : ℕ) (setting : Vectors) (l : Logged) (frame : MarkFra
   pub early : frame.is_ack ≡ true → frame.acknowledged < 2 ^ 47
   pub vector_acks : frame.has_vector ≡ true → frame.is_ack ≡ true
   pub processed : frame.processed ≡ l.processed
-  -- the set that the vector tells of, as it is at the step's end
+  -- the set that the vector reports, as it is at the step's end
   pub set : MarkedSet
   pub vectors : vectors_of l ≡ vector_parts frame.has_vector setting set (number_of iss frame.acknowledged)
   pub floor : frame.has_vector ≡ true → set.floor ≡ l.floor

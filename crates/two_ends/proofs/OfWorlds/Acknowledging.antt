@@ -1,4 +1,4 @@
--- Once a side has numbered a frame, GAR is the number of one of its own.
+-- Once a side has numbered a frame, GAR is the number of one of these.
 use Rattle.std.proofs.Common.{◌≡◌, ◌≢◌, inl, inr, refl, ap, sym, ◌∙◌, subst, ℕ, ◌+◌, ◌-◌, ◌^◌, ◌<◌, ◌≤◌, Option, Some, true, false, Bool, ◌&&◌, if◌then◌else◌, length, length-append, arith}
 use Rattle.std.proofs.lemmas.Bool.Decides.{nat_tests}
 use Rattle.seq_circle.specs.Circle.{IsWithin, residue, distance, is_within}

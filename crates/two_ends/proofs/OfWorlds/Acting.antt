@@ -33,7 +33,7 @@ end_of x = x.half.end
 abbrev pub config_of : Party → Config
 config_of x = x.half.end.config
 
--- what comes to the log
+-- what is added to the log
 abbrev pub logged_by : ℕ → ℕ → Transmission → List Logged
 logged_by processed floor Silent = []
 logged_by processed floor (Next draft) = record { draft = draft; processed = processed; floor = floor } ∷ []
@@ -146,7 +146,7 @@ frame-given w Client index frame there near =
 frame-given w Server index frame there near =
     record { index = index; frame = frame; is_there = there; same = refl; numbered = refl; not_far = near }
 
--- What an event comes to: nothing, or a step of the side that acts, at which nothing arrives but a frame of the other side.
+-- The result of an event: nothing, or a step of the side that acts, at which only a frame of the other side can arrive.
 pub data Takes (w : WorldState) (side : Side) : Result WorldStep WorldFault → Type 0 where
   Refused : (why : WorldFault) → Takes w side (Err why)
   Steps : (arrived : Option ℕ) (given : Input) → is_full (half_of w side) ≡ false
@@ -183,7 +183,7 @@ acting-actor : (e : Event) (said : Said) → acting_side (happening_of e said) �
 acting-actor (event.Deliver from index) said = refl
 acting-actor _ said = refl
 
--- an event comes to what was made of the side that acts
+-- the result of an event is what was made of the side that acts
 pub event-taken : (w : WorldState) (e : Event) (said : Said) → Takes w (actor e) (happens w e said)
 event-taken w e said =
     subst (λ (side : Side). Takes w side (happens w e said)) (acting-actor e said) (taken w (happening_of e said) (is-call e said))

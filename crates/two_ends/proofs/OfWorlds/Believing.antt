@@ -46,7 +46,7 @@ use Rattle.two_ends.proofs.OfWorlds.ReadBack.{IsFromPeer, IsSentFrame}
 none-listed : (n : ℕ) (standing : Standing) → Has [] n standing → ⊥
 none-listed n standing has_it = omega (arith, has_it.1)
 
--- What a packet that arrives tells received, the side had processed that sent it.
+-- What an arriving packet reports as received, its sender had processed.
 arrived-processed : (w : WorldState) (h : IsHeld SideInvariant w) (side : Side) (arrived : Option ℕ) (given : Input) (f : Effect) (n : ℕ)
     → IsFromPeer (half_of w side).end (half_of w (other side)).frames arrived given → IsHeardOf (half_of w side).end given f.hearing f.sending n → n < 2 ^ 48
     → Contains (half_of w (other side)).processed n

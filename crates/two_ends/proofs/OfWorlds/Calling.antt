@@ -1,4 +1,4 @@
--- What the calls that are due to a congestion control tell and send.
+-- What the calls that are due to a congestion control report and send.
 use Rattle.std.proofs.Common.{◌≡◌, refl, ap, sym, ◌∙◌, ℕ, ◌^◌, ◌<◌, ◌==◌, ◌||◌, Bool, true, false, cond, if◌then◌else◌, List, [], ◌∷◌, ◌++◌, Option, Some, None, Result, arith}
 use Rattle.std.proofs.lemmas.Option.{same_Some}
 use Rattle.std.specs.List.{concat, filter, list_any}
@@ -40,7 +40,7 @@ any-left p left (call ∷ calls) is = by (left call) (any-left p left calls) is 
   by true before kept = or-later (p call) (list_any p (filter left calls)) (list_any p calls) before kept
   by false before gone = or-second (p call) (list_any p calls) (before gone)
 
--- A start tells and sends nothing.
+-- A start reports and sends nothing.
 starts-tell : (n old new : ℕ) → list_any (tells n) (start_calls old new) ≡ false
 starts-tell n old new = by (old == new) where
   by : (same : Bool) → list_any (tells n) (if same then [] else Starts new ∷ []) ≡ false
@@ -53,7 +53,7 @@ starts-send n old new = by (old == new) where
   by true = refl
   by false = refl
 
--- A report tells of a number, by the Ack Vectors after this acknowledgement number.
+-- A report speaks of a number, by the Ack Vectors after this acknowledgement number.
 pub record IsToldBy (ack : Option ℕ) (options : List (Result Entry OptFault)) (n : ℕ) : Type 0 where
   pub number : ℕ
   pub bytes : List ℕ

@@ -318,7 +318,7 @@ past-after w side r takes named p =
       is_processed = processed-after w side r takes (other named.0) p.frame.number p.is_processed;
     }
 
--- a number that is processed again stands twice
+-- a number that is processed again is there twice
 twice : (ns : List ℕ) (n : ℕ) → Contains ns n
     → ((i j : ℕ) → i < length (ns ++ n ∷ []) → j < length (ns ++ n ∷ []) → slice_index (ns ++ n ∷ []) i ≡ slice_index (ns ++ n ∷ []) j → i ≡ j)
     → ⊥
@@ -347,7 +347,7 @@ module _ (w new : WorldState) (from : Side) (index : ℕ) (place : ℕ × ℕ) (
             (Contains-push (half_of w (other from)).processed d.frame.number);
       }
 
--- where a member of two lists in a row stands
+-- the place of a member of two lists in a row
 data StandsAt {A : Type 0} (xs ys : List A) (i : ℕ) (x : A) : Type 0 where
   InFront : slice_get xs i ≡ Some x → StandsAt xs ys i x
   Following : (j : ℕ) → i ≡ length xs + j → slice_get ys j ≡ Some x → StandsAt xs ys i x

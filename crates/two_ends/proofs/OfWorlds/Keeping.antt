@@ -192,7 +192,7 @@ module _ (w : WorldState) (h : IsHeld SideInvariant w) where
       told-by-sender (half_of w side).end given a came (half_of w (other side)).end.config (holds side).ordered.numbers (half_of w (other side)).frames
       (h.logs (other side)) arrived sent (ordered-there side).logged
 
-  -- What a side's Ack Vector tells received, it had processed.
+  -- What a side's Ack Vector reports as received, it had processed.
   pub kept-received : (side : Side) (index : ℕ) (frame : SentFrame) (ack : ℕ) (bytes : List ℕ) (n : ℕ) → slice_get (half_of w side).frames index ≡ Some frame
       → CarriesVector frame ack bytes → n < 2 ^ 48 → is_received (state_at ack bytes n) ≡ true → Contains (half_of w side).processed n
   kept-received side = received-processed w h.logs side (holds side).ordered (ordered-there side) (marks-of side)

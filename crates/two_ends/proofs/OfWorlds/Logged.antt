@@ -14,7 +14,7 @@ use Rattle.dccp_endpoint.specs.Drafts.{Draft, IsSendable, alone, frame_of}
 use Rattle.dccp_endpoint.specs.declared.config.Config.{Config}
 use Rattle.two_ends.specs.declared.frames.SentFrame.{SentFrame}
 
--- a packet under a number of its sender's own, with what its frame tells besides
+-- a packet under its sender's own number, with what its frame says besides
 pub record Logged : Type 0 where
   pub draft : Draft
   pub processed : ℕ
@@ -53,7 +53,7 @@ pub data AreLogged (config : Config) : ℕ → List SentFrame → List Logged �
   Unnumbered : {first : ℕ} {frame : SentFrame} {frames : List SentFrame} {log : List Logged} → IsUnlogged config frame
       → AreLogged config first frames log → AreLogged config first (frame ∷ frames) log
 
--- More frames come to the end, from the next number on.
+-- More frames are added at the end, from the next number on.
 pub logged-append : (config : Config) {first : ℕ} {frames : List SentFrame} {log : List Logged} (next : ℕ) (more : List SentFrame) (own : List Logged)
     → next ≡ first + length log → AreLogged config first frames log → AreLogged config next more own → AreLogged config first (frames ++ more) (log ++ own)
 logged-append config {first} next more own is NoFrames later =
@@ -69,7 +69,7 @@ logged-few config NoFrames = omega arith
 logged-few config (Numbered number same here rest) = omega (arith, logged-few config rest)
 logged-few config (Unnumbered here rest) = omega (arith, logged-few config rest)
 
--- where a frame that was sent stands
+-- the place of a frame that was sent
 pub data Found (config : Config) (first : ℕ) (log : List Logged) (frame : SentFrame) : Type 0 where
   AtPlace : (place number : ℕ) (l : Logged) → slice_get log place ≡ Some l → number ≡ residue (first + place) → IsLogged config number frame l
       → Found config first log frame

@@ -1,4 +1,4 @@
--- Why a delivery is refused: from what the code tells of a frame and of the side at which it arrives to what `happens_to` says.
+-- Why a delivery is refused: from what the code finds of a frame and of the side at which it arrives to what `happens_to` says.
 use Rattle.std.proofs.Common.{◌≡◌, ◌↔◌, refl, ap, sym, ◌∙◌, subst, ℕ, ◌-◌, ◌^◌, ◌<◌, ◌≤◌, Bool, true, false, if◌then◌else◌, List, Option, Some, None, Result, Err, slice_get, length, arith, ◌⊎◌, inl, inr, IfOk, IfSome}
 use Rattle.std.specs.Prelude.{get_or, is_some}
 use Rattle.std.proofs.lemmas.Bool.{le-leb, leb-true}
@@ -89,7 +89,7 @@ module _ {C : Type 0} (control : Control C) (w : ControlledWorld C) (from : Side
     λ is. far-by frame (is_full to) (is_far_frame to.end frame) is,
   )
 
-  -- what `step` tells of a delivery that is refused
+  -- what `step` returns of a delivery that is refused
   pub record IsTold (index : ℕ) (result : Result Seen WorldFault) : Type 0 where
     pub no_such_frame : (result ≡ Err fault.NoSuchFrame) ↔ (happens_to control w (event.Deliver from index) ≡ Err fault.NoSuchFrame)
     pub full : (result ≡ Err fault.Full) ↔ (happens_to control w (event.Deliver from index) ≡ Err fault.Full)
@@ -137,7 +137,7 @@ module _ {C : Type 0} (control : Control C) (w : ControlledWorld C) (from : Side
             );
           }
 
--- What the code tells of a frame that it looked up by its index, from what it tells of one that is there.
+-- What the code finds of a frame that it looked up by its index, from what it finds of one that is there.
 module _ {C : Type 0} (control : Control C) (old : ControlledHalf C) where
   abbrev Handed : ControlledHalf C → SentFrame → Seen → Type 0
   Handed new frame seen =

@@ -13,8 +13,8 @@ ghost use Rattle.two_ends.specs.FeatureRows.{RowMoves, pair_of, row_pair, locati
 ghost use Rattle.feature_machine.specs.Negotiating.{opposite};
 ghost use Rattle.two_ends.specs.EachFeature.{AgreesOn, IsGivenFor};
 
-/// The two ends agree on each feature that is located at either: where both rows are STABLE they hold one value, the
-/// reconciliation of the last lists sent where these share one (RFC 4340, section 6.3.1), or what the location sent
+/// The two ends agree on each feature that is located at either. If both rows are STABLE, they hold the same value: the
+/// reconciliation of the last lists sent, if these share an entry (RFC 4340, section 6.3.1), or what the location sent
 /// last (section 6.3.2). Each value was given to its row.
 pub fn every_feature_agrees()
     ensures agree { (feature : Feature) (location : Role2) (server client : FeatureSide)
@@ -23,8 +23,8 @@ pub fn every_feature_agrees()
         → IsReachable (pair_of feature location) server client → ∥ IsGivenFor feature location server client ∥₁ }
 {}
 
-/// What the moves of a row lead to is reachable, at the server and at the client. A row's role, feature and place alone
-/// tell its pair, and the two ends' rows of a feature are of one.
+/// What the moves of a row lead to is reachable, at the server and at the client. A row's pair depends only on its
+/// role, feature and place, and the two ends' rows of a feature are of the same pair.
 pub fn row_steps_stay_reachable()
     ensures server_step { (row : Row) (server client after : FeatureSide) → row.role ≡ Server
         → RowMoves row client.frames server after
@@ -39,8 +39,8 @@ pub fn row_steps_stay_reachable()
         → pair_of feature (location_of Server place) ≡ pair_of feature (location_of Client (opposite place)) }
 {}
 
-/// The same for a reader who keeps the moves that lead to two sides, and not just that there are some: then the origin
-/// of each value comes out itself, with the frames that it has.
+/// The same for a proof that keeps the moves that lead to two sides, and not just the fact that there are some: it then
+/// gets the origin of each value, with its frames.
 pub fn values_were_given()
     ensures agree { (feature : Feature) (location : Role2) (server client : FeatureSide)
         → HaveReached (pair_of feature location) server client → AgreesOn feature location server client }
@@ -48,8 +48,8 @@ pub fn values_were_given()
         → HaveReached (pair_of feature location) server client → IsGivenFor feature location server client }
 {}
 
-/// The moves of a row lead on from what was reached, at the server and at the client, and any two configurations are
-/// reached.
+/// The moves of a row lead from sides that were reached to sides that are reached, at the server and at the client. Any
+/// two configurations are reached.
 pub fn row_steps_reach()
     ensures start { (feature : Feature) (location : Role2) (servers clients : List ℕ)
         → HaveReached (pair_of feature location) (new_side (initial_of feature) servers) (new_side (initial_of feature) clients) }

@@ -1,8 +1,8 @@
 //! The laws on a feature's two sides.
 //!
-//! That sides were reached is said twice. Truncated (`IsReachable`), as a type's ghost field may hold it, agreement
-//! comes out whole, and the origins of values truncated. With the moves themselves (`Reached`), the origins come out
-//! with their frames.
+//! There are two ways to say that sides were reached. `IsReachable` is truncated, as a ghost field of a type has to be:
+//! from it follows agreement in full, but only that origins of values exist. `Reached` has the moves themselves: from
+//! it follow the origins with their frames.
 ghost use Rattle.std.specs.Prelude.{◌≡◌, ℕ, ◌<◌, Bool, List, Some, None, IsTrue};
 ghost use Rattle.two_ends.specs.FeatureView.{FeatureNews, FeatureSide, carried_at, wish_carried};
 ghost use Rattle.two_ends.specs.FeatureMoves.{Rule, Pair, Move, Moves, swapped, new_side, IsReachable, at_server, at_client};
@@ -25,8 +25,8 @@ pub fn negotiating_stays_reachable()
         → IsReachable pair server client → IsReachable pair server after }
 {}
 
-/// Two sides that moves can reach agree, for each rule that both apply to the server's wish and the client's (RFC 4340,
-/// section 6.3.1, has one). Whatever their stands, each value was given to its row.
+/// Two sides that moves can reach agree, for any rule that both apply to the server's wish and the client's (RFC 4340,
+/// section 6.3.1, has one such rule). Whatever their stands, each value was given to its row.
 pub fn reachable_sides_agree()
     ensures agree { (pair : Pair) (server client : FeatureSide)
         → IsReachable pair server client → SidesAgree pair.rule server client }
@@ -34,8 +34,8 @@ pub fn reachable_sides_agree()
         → IsReachable pair server client → ∥ SidesAreGiven pair.initial pair.rule server client ∥₁ }
 {}
 
-/// Where nothing is shared the value is the one held before (own): if the rule gives no value for a side's active wish
-/// and any wish of the peer's that it has not yet taken, no move changes the side's value.
+/// If nothing is shared, the value is the one held before (own): if the rule gives no value for a side's active wish
+/// together with any wish of the peer that the side has not taken yet, no move changes the side's value.
 pub fn where_nothing_is_shared_the_value_stays()
     ensures { (rule : Rule) (opens : List ℕ → Bool) (there : List FeatureNews) (side after : FeatureSide)
         → Move rule opens there side after
@@ -65,8 +65,7 @@ pub fn location_decides()
         → IsReachable (at_client initial) server client → ∥ GivenByLocation initial client server ∥₁ }
 {}
 
-/// And why: what the remote row confirms is what the location told, and its present value once it answers the last
-/// opening.
+/// And why: the remote row confirms what the location sent, and its present value once it answers the last opening.
 pub fn remote_rows_confirm_what_was_told()
     ensures at_server { (initial : ℕ) (server client : FeatureSide) → IsReachable (at_server initial) server client
         → IsConfirmed server client }
@@ -75,8 +74,7 @@ pub fn remote_rows_confirm_what_was_told()
 {}
 
 /// Rows do settle: by a Change and its Confirm, and by two Changes that cross, each confirmed. Both rows then are
-/// STABLE, at the value that the rule gives, whatever the two wishes are. This shows that the laws above speak of
-/// something.
+/// STABLE, at the value that the rule gives, whatever the two wishes are. This shows that the laws above are not empty.
 pub fn exchanges_settle()
     ensures asked { (pair : Pair) (servers clients : List ℕ) → IsTrue (pair.client_opens clients)
         → IsReachable pair (server_asked pair servers clients) (client_asking pair servers clients) }

@@ -1,4 +1,4 @@
-//! That each line of the negotiation table is one of the moves, over feature_machine's own definition of it.
+//! Each line of the negotiation table, as feature_machine defines it, is one of the moves.
 ghost use Rattle.std.specs.Prelude.{◌≡◌, ◌≢◌, ◌↔◌, ℕ, ◌^◌, ◌<◌, ◌≤◌, Bool, IsTrue, Option, None, Some, List, [], length};
 ghost use Rattle.feature_lists.specs.Features.{described, initial_of};
 ghost use Rattle.feature_lists.specs.Wishes.{is_wish};
@@ -18,8 +18,8 @@ ghost use Rattle.seq_circle.specs.Counts.{count_of, IsNumber};
 ghost use Rattle.two_ends.specs.FeatureRows.{RowMoves, IsBegun, row_pair, entries_of, side_of, change_in, confirm_in, is_whole_confirm, is_valid_change, after_change, after_confirm, after_sending, sending_row, change_data};
 ghost use Rattle.feature_machine.specs.Negotiating.{opposite};
 
-/// A Change of the feature is taken from a newest packet: a valid one is one move, whatever the row answers, and so is
-/// a frame of which nothing of the feature is taken.
+/// A newest packet with a Change of the feature is taken: a valid Change is one move, whatever the row answers, and so
+/// is a frame of which nothing for the feature is taken.
 pub fn taking_a_change_is_a_move()
     ensures change { (iss greatest count : ℕ) (row : Row) (there frames : List FeatureNews) (body : List ℕ) (mandatory : Bool)
         → greatest < count → IsSoundRow row → carried_at there count ≡ change_in row.feature body → proposal row body ≢ Invalid
@@ -29,8 +29,8 @@ pub fn taking_a_change_is_a_move()
         → RowMoves row there (side_of iss row greatest frames) (side_of iss row count frames) }
 {}
 
-/// A whole Confirm of the feature is taken from a newest packet, which acknowledges one of this end's frames: one move,
-/// whatever the row makes of it.
+/// A newest packet with a whole Confirm of the feature, which acknowledges one of this end's frames, is taken: one
+/// move, whatever the row does with it.
 pub fn taking_a_confirm_is_a_move()
     ensures { (iss last count : ℕ) (row : Row) (there frames : List FeatureNews) (body : List ℕ) (ack : ℕ)
         → last < count → IsSoundRow row → IsBegun iss row → IsNumber iss ack
@@ -38,7 +38,7 @@ pub fn taking_a_confirm_is_a_move()
         → RowMoves row there (side_of iss row last frames) (after_confirm iss row count frames body ack) }
 {}
 
-/// What the end prefers is one move: in STABLE together with the frame that opens the row, else alone.
+/// A preference of the end is one move: in STABLE together with the frame that opens the row, otherwise alone.
 pub fn preferring_is_a_move()
     ensures opens { (iss greatest : ℕ) (row : Row) (there frames : List FeatureNews) (wish : Wanted)
         → iss < 2 ^ 48 → length frames < 2 ^ 47 → IsTrue (is_wish row.feature row.place wish) → row.stand ≡ Stable
@@ -59,7 +59,8 @@ pub fn offering_is_a_move()
         → side_of iss (row_step row (Offers confirmed)).row greatest frames ≡ side_of iss row greatest frames }
 {}
 
-/// A frame with the row's Change, while the row is due, is one move; so is a frame that carries nothing of the feature.
+/// A frame with the row's Change, while the row is due, is one move; so is a frame that carries nothing for the
+/// feature.
 pub fn sending_is_a_move()
     ensures due { (iss greatest : ℕ) (row : Row) (there frames : List FeatureNews)
         → iss < 2 ^ 48 → length frames < 2 ^ 47 → IsSoundRow row → IsBegun iss row → row.stand ≢ Stable
@@ -91,8 +92,8 @@ pub fn rows_stay_begun()
         → (row : Row) → IsBegun iss row → IsBegun iss (sending_row iss row frames) }
 {}
 
-/// What our ends say of a feature is understood by the other: a Change's data carry the wish that they were made of and
-/// are valid for the peer's row, and the Confirm of a valid Change is whole.
+/// An end understands what the other end says about a feature: a Change's data carry the wish that they were made from
+/// and are valid for the peer's row, and the Confirm of a valid Change is whole.
 pub fn what_rows_say_is_whole()
     ensures carried { (feature : Feature) (place : Place) (wish : Wanted) → IsTrue (is_wish feature place wish)
         → change_in feature (change_data feature wish) ≡ Change (entries_of (Some wish)) }
@@ -102,8 +103,8 @@ pub fn what_rows_say_is_whole()
         → (row_step row (machine.Change body mandatory)).answer ≡ Confirms reply → IsTrue (is_whole_confirm row.feature reply) }
 {}
 
-/// Whether a Change is valid is told by its data, by the feature and by where its sender sees it: the data made of a
-/// wish are, and for the row of the peer they are exactly where the table takes them so.
+/// Whether a Change is valid depends on its data, the feature, and where its sender sees it. The data made from a wish
+/// are valid, and data are valid for the row of the peer exactly if the table takes them as valid.
 pub fn valid_changes_are_understood()
     ensures sent { (feature : Feature) (place : Place) (wish : Wanted) → IsTrue (is_wish feature place wish)
         → IsTrue (is_valid_change feature place (change_data feature wish)) }
@@ -111,8 +112,8 @@ pub fn valid_changes_are_understood()
         → IsTrue (is_valid_change row.feature (opposite row.place) body) ↔ (proposal row body ≢ Invalid) }
 {}
 
-/// Where every Confirm among frames has a list, the last wish sent is the list in the last frame with a Change, or with
-/// a Confirm that has a list. A whole Confirm of a server-priority feature has one.
+/// If every Confirm among frames has a list, the last wish sent is the list in the last frame with a Change, or with a
+/// Confirm that has a list. A whole Confirm of a server-priority feature has one.
 pub fn whole_confirms_have_lists()
     ensures last { (frames : List FeatureNews) → IsTrue (are_listed frames) → last_list frames ≡ last_wish frames }
     ensures more { (frames : List FeatureNews) (frame : FeatureNews)

@@ -17,8 +17,8 @@ pub fn marking_stays_reachable()
         → MarkMoves server.frames client after → AreReachable server client → AreReachable server after }
 {}
 
-/// Each side processes a frame once, and only where the other sent it. A frame's place is the one that it has among
-/// those that the side processed.
+/// Each side processes a frame once, and only if the other sent it. A frame's place is its position among those that
+/// the side processed.
 pub fn each_frame_is_processed_once()
     ensures servers { (server client : MarkSide) → AreReachable server client → ProcessesOnce server client.frames }
     ensures clients { (server client : MarkSide) → AreReachable server client → ProcessesOnce client server.frames }
@@ -32,9 +32,9 @@ pub fn vectors_are_truthful()
     ensures clients { (server client : MarkSide) → AreReachable server client → IsTruthful client }
 {}
 
-/// What falls below a side's floor lies more than 2,047 below a frame that it processed, or the peer was told of it by
-/// a whole vector (own; RFC 4340, section 11.4.2, lets a receiver forget what was acknowledged). Of a side that sent no
-/// vector it is the first (`servers_alone`, `clients_alone`).
+/// What falls below a side's floor lies more than 2,047 below a frame that it processed, or a whole vector reported it
+/// to the peer (own; RFC 4340, section 11.4.2, lets a receiver forget what was acknowledged). For a side that sent no
+/// vector, only the first is possible (`servers_alone`, `clients_alone`).
 pub fn what_falls_below_the_floor_is_settled()
     ensures servers { (server client : MarkSide) → AreReachable server client → IsTold server client }
     ensures clients { (server client : MarkSide) → AreReachable server client → IsTold client server }
@@ -62,9 +62,9 @@ pub fn acknowledged_frames_were_taken()
     ensures clients { (server client : MarkSide) → AreReachable server client → IsHeeded client server.frames }
 {}
 
-/// Floors do rise by vectors: a whole vector is heard, its frame is acknowledged, and the server's floor passes the two
-/// frames that it told of. The client has learned that its Ack was received. This shows that the laws above speak of
-/// something.
+/// Vectors do raise floors: a whole vector is heard, its frame is acknowledged, and the server's floor passes the two
+/// frames that it reported. The client has learned that its Ack was received. This shows that the laws above are not
+/// empty.
 pub fn exchanges_tell()
     ensures reached { AreReachable server_exchanged client_exchanged }
     ensures first { server_exchanged.first ≡ 1 }

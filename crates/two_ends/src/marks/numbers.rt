@@ -8,8 +8,7 @@ ghost use Rattle.two_ends.specs.MarkMoves.{begun_shut, with_first_frame, with_fl
 ghost use Rattle.two_ends.specs.MarkSets.{IsMarked};
 
 /// Among a peer's first 2^47 packets, whose numbers go up from its ISS, a set of numbers follows the moves of a side: a
-/// mark is new just where a frame may join, and what a mark and a raise make of the set is what the moves make of the
-/// marks.
+/// mark is new exactly if a frame may join, and a mark and a raise change the set as the moves change the marks.
 pub fn sets_follow_moves()
     ensures new { (iss n : ℕ) (set : MarkedSet) (side : MarkSide) → IsMarked iss set side → 1 ≤ n → n ≤ 2 ^ 47
         → (answer_to set (number_of iss n) ≡ New) ↔ ((side.floor ≤ n) × (side.marked n ≡ false)) }

@@ -1,4 +1,4 @@
--- What the code tells of a delivery that is refused.
+-- What the code returns of a delivery that is refused.
 use Rattle.two_ends.proofs.OfWorlds.Refusing.{told-so}
 use Rattle.two_ends.proofs.sides.Sides.step.Goals as goal
 
