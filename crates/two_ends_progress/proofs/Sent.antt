@@ -47,7 +47,7 @@ alike-so w one ServerFirst settled =
     ∙ settled-value (is_stable (held_of w.server.end ShortSeqnos Here).stand) (held_of w.server.end ShortSeqnos Here).value settled
 
 module _ {C : Type 0} (control : Control C) (effects : EveryStepHasOneEffect) where
-  -- so many events add so many frames at most
+  -- this many events add this many frames at most
   pub few-plays : (more : ℕ) (w : ControlledWorld C) (events : List Event) → AreFew (more + length events) w.world → AreFew more (plays control w events).world
   few-plays more w [] few = λ side. omega (arith, few side)
   few-plays more w (event ∷ events) few =

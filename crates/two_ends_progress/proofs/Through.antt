@@ -98,7 +98,7 @@ room-left : (pipe window : ℕ) → nat_lt 0 pipe ≡ false → 1 ≤ window →
 room-left pipe window none wide = grind (arith, none, wide)
 
 module _ {C : Type 0} (control : Control C) (effects : EveryStepHasOneEffect) where
-  -- Where nothing is in flight, and where all of it is taken for lost, a packet may be sent.
+  -- Where nothing is in flight, and where all of it is counted as lost, a packet may be sent.
   may-by : ((c : C) → may_send control (control.timed_out c) ≡ true) → (c : C) → 1 ≤ control.window c → (flies : Bool) → has_in_flight control c ≡ flies
       → may_send control (after_calls control c (cond flies (TimesOut ∷ []) [])) ≡ true
   may-by frees c wide true flies = frees c

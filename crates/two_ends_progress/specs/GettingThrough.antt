@@ -11,8 +11,7 @@ use Rattle.dccp_states.specs.declared.seen.Seen.TheVariants as seen
 use Rattle.world_events.specs.declared.event.Side.{Side}
 use Rattle.two_ends_progress.specs.Settled.{HaveAgreed}
 
--- Each side has sent so few frames that, with so many more, their short numbers are unambiguous (RFC 4340, section
--- 7.6).
+-- Each side has sent so few frames that even after this many more its short numbers are unambiguous (RFC 4340, section 7.6).
 abbrev pub AreFew : ℕ → WorldState → Type 0
 AreFew more w = (side : Side) → length (half_of w side).frames + more < 2 ^ 23
 

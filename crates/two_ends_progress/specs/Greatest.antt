@@ -44,6 +44,6 @@ abbrev pub IsGreatestMet : Half → (ℕ → Type 0) → Type 0
 IsGreatestMet half refused =
     half.end.phase ≢ phases.Closed → HasHeardFirst half → Contains half.processed half.end.marks.gsr ⊎ refused half.end.marks.gsr
 
--- So it is of a side after the events.
+-- The same for a side after the events.
 abbrev pub GreatestIsMet : {C : Type 0} → Control C → ControlledWorld C → List Event → Side → Type 0
 GreatestIsMet control start events side = IsGreatestMet (half_of (plays control start events).world side) (WasRefused control start events side)

@@ -19,12 +19,12 @@ IsPassive (event.Timer side timer) = Unit {0}
 IsPassive (event.Close side) = ⊥
 IsPassive (event.Abort side) = ⊥
 
--- all of them are
+-- all of these events are
 abbrev pub ArePassive : List Event → Type 0
 ArePassive [] = Unit {0}
 ArePassive (now ∷ later) = IsPassive now × ArePassive later
 
--- Some list of timers and deliveries, at most so many, leads from the world to the goal.
+-- Some list of at most this many timers and deliveries leads from the world to the goal.
 pub record HasWay {C : Type 0} (control : Control C) (most : ℕ) (w : ControlledWorld C) (goal : ControlledWorld C → Type 0) : Type 0 where
   pub events : List Event
   pub are_passive : ArePassive events
@@ -39,10 +39,10 @@ AreOpen w = (side : Side) → (half_of w side).end.phase ≡ phases.Open
 abbrev pub IsOver : WorldState → Side → Type 0
 IsOver w side = ((half_of w side).end.phase ≡ phases.Closed) ⊎ ((half_of w side).end.phase ≡ phases.TimeWait)
 
--- so are both
+-- both are
 abbrev pub AreOver : WorldState → Type 0
 AreOver w = (side : Side) → IsOver w side
 
--- Each side may send so many frames more before it is full. A side that is full takes no event at all.
+-- Each side may send this many more frames before it is full. A side that is full takes no event at all.
 abbrev pub HaveRoomFor : ℕ → WorldState → Type 0
 HaveRoomFor more w = (side : Side) → length (half_of w side).frames + more < 2 ^ 47 - 1

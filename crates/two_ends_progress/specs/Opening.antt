@@ -18,7 +18,7 @@ pub data IsInHandshake (w : WorldState) : Type 0 where
       → by_window w.server.end.marks (next_number w.client.end) None ≡ verdicts.Valid → IsInHandshake w
   IsAnswered : w.client.end.phase ≡ phases.PartOpen → w.server.end.phase ≡ phases.Respond → IsInHandshake w
 
--- the handshake has got through to both ends: each is in PARTOPEN or OPEN
+-- each end has done its part of the handshake: it is in PARTOPEN or OPEN
 abbrev pub AreConnected : WorldState → Type 0
 AreConnected w = (side : Side) → is_connected (half_of w side).end.phase ≡ true
 

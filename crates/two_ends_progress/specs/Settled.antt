@@ -13,7 +13,7 @@ use Rattle.two_ends_progress.specs.Leading.{AreOpen}
 abbrev pub AreSettled : WorldState → Type 0
 AreSettled w = (side : Side) (feature : Feature) (place : Place) → (held_of (half_of w side).end feature place).stand ≡ Stable
 
--- What the client holds of its own feature the server holds of its peer's, and the other way round.
+-- The client holds for its own feature the value that the server holds for its peer's, and the other way round.
 abbrev pub HoldOneValue : WorldState → Type 0
 HoldOneValue w =
     (feature : Feature) (place : Place) → (held_of w.client.end feature place).value ≡ (held_of w.server.end feature (opposite place)).value

@@ -36,10 +36,10 @@ use congestion_trait::Congestion;
 use dccp_endpoint::every_step_has_one_effect;
 use two_ends::every_run_is_safe;
 
-/// A connection can be closed. Where both ends are OPEN, whatever led there, once either side is asked to close, at
-/// most seven timers and deliveries lead both to CLOSED or TIMEWAIT (RFC 4340, section 8.3). The configurations are each
-/// other's, as they are where a frame of the one passes the checksum and the ports of the other; and neither side is
-/// near the 2^47 - 1 frames after which it takes no event.
+/// A connection can be closed. If both ends are OPEN, whatever led there, and either side is asked to close, then at
+/// most seven timers and deliveries lead both to CLOSED or TIMEWAIT (RFC 4340, section 8.3). Premises: the
+/// configurations are for each other, as they are if frames of the one pass the checksum and the ports of the other;
+/// and neither side is near the 2^47 - 1 frames after which it takes no event.
 pub fn closing_ends_both<C: Congestion>()
     ensures { (client server : Config) (for_client for_server : C) (events : List Event) (side : Side) → client.role ≡ role.Client
         → server.role ≡ role.Server → Fits client → Fits server → AreForEachOther client server
@@ -63,11 +63,11 @@ pub fn closing_takes_seven_events<C: Congestion>()
         ⊎ ((half_of (plays C.control w way.events).world side).end.phase ≡ phases.TimeWait) }
 {}
 
-/// What an opening is that gets through, and what a way of it is, in plain words. The client asks and the server has
-/// heard nothing, or answered a Request and would take the next; or the client is in PARTOPEN and the server in RESPOND
-/// (`asking`, `again`, `answered`). The way is a list of at most four events (`few`), each of them a timer of a side or
-/// the delivery of a frame (`passive`), after which an end is in CLOSED or in TIMEWAIT, or each is in PARTOPEN or in
-/// OPEN (`through`).
+/// What an opening is that gets through, and what a way of it is, in plain words. In an opening the client asks, and
+/// the server has heard nothing, or has answered a Request and would take the next; or the client is in PARTOPEN and
+/// the server in RESPOND (`asking`, `again`, `answered`). The way is a list of at most four events (`few`), each of
+/// them a timer of a side or the delivery of a frame (`passive`), after which an end is in CLOSED or in TIMEWAIT, or
+/// each is in PARTOPEN or in OPEN (`through`).
 pub fn openings_take_four_events<C: Congestion>()
     ensures asking { (w : WorldState) → w.client.end.phase ≡ phases.Request → w.server.end.phase ≡ phases.Listen → IsInHandshake w }
     ensures again { (w : WorldState) → w.client.end.phase ≡ phases.Request → w.server.end.phase ≡ phases.Respond
@@ -84,11 +84,11 @@ pub fn openings_take_four_events<C: Congestion>()
         ⊎ ((half_of (plays C.control w way.events).world side).end.phase ≡ phases.Open)) }
 {}
 
-/// An opening gets through. Where the client is in REQUEST and the server in LISTEN, or in RESPOND with the client's
-/// next number in its window, or the client is in PARTOPEN and the server in RESPOND, at most four timers and
+/// An opening gets through. The client is in REQUEST and the server in LISTEN, or in RESPOND with the client's next
+/// number in its window; or the client is in PARTOPEN and the server in RESPOND. Then at most four timers and
 /// deliveries lead both to PARTOPEN or OPEN, or an end to CLOSED or TIMEWAIT (`asked`; RFC 4340, section 8.1). The
-/// world after `open` at the start is one of these (`started`). The configurations are each other's. The law excludes a
-/// server in RESPOND whose window the client's next number has left: it answers no further Request.
+/// world after `open` at the start is one of these (`started`). The configurations are for each other. The law does not
+/// cover a server in RESPOND whose window does not have the client's next number: it answers no further Request.
 pub fn openings_get_through<C: Congestion>()
     ensures asked { (client server : Config) (for_client for_server : C) (events : List Event) → client.role ≡ role.Client
         → server.role ≡ role.Server → Fits client → Fits server → AreForEachOther client server
@@ -102,9 +102,9 @@ pub fn openings_get_through<C: Congestion>()
     every_step_has_one_effect();
 }
 
-/// An opening ends in OPEN. From the same worlds, where each side has sent fewer than 2^23 - 13 frames, at most
-/// thirteen timers and deliveries lead both ends to OPEN, or an end to CLOSED or TIMEWAIT (RFC 4340, section 8.1). With
-/// so few frames the short numbers are unambiguous.
+/// An opening ends in OPEN. From the same worlds, if each side has sent fewer than 2^23 - 13 frames, at most thirteen
+/// timers and deliveries lead both ends to OPEN, or an end to CLOSED or TIMEWAIT (RFC 4340, section 8.1). With so few
+/// frames the short numbers are unambiguous.
 pub fn openings_end_in_open<C: Congestion>()
     ensures { (client server : Config) (for_client for_server : C) (events : List Event) → client.role ≡ role.Client
         → server.role ≡ role.Server → Fits client → Fits server → AreForEachOther client server
@@ -117,10 +117,10 @@ pub fn openings_end_in_open<C: Congestion>()
     every_run_is_safe::<C>();
 }
 
-/// Negotiations settle. Where both ends are OPEN, whatever led there, at most twenty-four timers and deliveries lead to a
-/// world in which an end is in CLOSED or in TIMEWAIT, or in which both are OPEN, all eighteen rows of both are STABLE, and
-/// each feature has one value (RFC 4340, section 6). The configurations are each other's; and neither side is near the
-/// 2^47 - 1 frames after which it takes no event.
+/// Negotiations settle. If both ends are OPEN, whatever led there, at most twenty-four timers and deliveries lead to a
+/// world in which an end is in CLOSED or in TIMEWAIT, or in which both are OPEN, all eighteen rows of both are STABLE,
+/// and each feature has one value (RFC 4340, section 6). The configurations are for each other, and neither side is
+/// near the 2^47 - 1 frames after which it takes no event.
 pub fn negotiations_settle<C: Congestion>()
     ensures { (client server : Config) (for_client for_server : C) (events : List Event) → client.role ≡ role.Client
         → server.role ≡ role.Server → Fits client → Fits server → AreForEachOther client server
@@ -133,10 +133,10 @@ pub fn negotiations_settle<C: Congestion>()
     every_run_is_safe::<C>();
 }
 
-/// What such a way of settling is, in plain words: a list of at most twenty-four events (`few`), each of them a timer of a
-/// side or the delivery of a frame (`passive`). After it an end is in CLOSED or in TIMEWAIT; or both are OPEN (`opened`),
-/// each row of each is STABLE (`settled`), and what an end holds of its own feature the other holds of its peer's
-/// (`clients`, `servers`).
+/// What such a way of settling is, in plain words: a list of at most twenty-four events (`few`), each of them a timer
+/// of a side or the delivery of a frame (`passive`). After it an end is in CLOSED or in TIMEWAIT; or both are OPEN
+/// (`opened`), each row of each is STABLE (`settled`), and for each feature both ends hold the same value (`clients`,
+/// `servers`).
 pub fn settling_takes_twenty_four_events<C: Congestion>()
     ensures few { (w : ControlledWorld C) (way : HasWay C.control 24 w (λ (v : ControlledWorld C). HasEnded v.world ⊎ HaveAgreed v.world)) → length way.events ≤ 24 }
     ensures passive { (w : ControlledWorld C) (way : HasWay C.control 24 w (λ (v : ControlledWorld C). HasEnded v.world ⊎ HaveAgreed v.world)) (place : ℕ) (e : Event)
@@ -160,11 +160,11 @@ pub fn settling_takes_twenty_four_events<C: Congestion>()
         ≡ (held_of (plays C.control w way.events).world.server.end feature place.Here).value }
 {}
 
-/// Data get through. Where both ends are OPEN and all rows of both are STABLE, whatever led there and whatever was
-/// lost, at most six timers and deliveries lead to a world in which `send` of a side takes up to 1,024 bytes, and in
-/// which the delivery of the frame that carries them hands over exactly these data (RFC 4340, sections 7 and 8.5). A
-/// sender whose CCID needs Ack Vectors has to get some, the configurations are each other's, and each side has sent
-/// fewer than 2^23 - 8 frames, so that short numbers are unambiguous.
+/// Data get through. If both ends are OPEN and all rows of both are STABLE, whatever led there and whatever was lost,
+/// at most six timers and deliveries lead to a world in which `send` of a side takes up to 1,024 bytes, and in which
+/// the delivery of the frame that carries them hands over exactly these data (RFC 4340, sections 7 and 8.5). Premises:
+/// a sender whose CCID needs Ack Vectors gets some; the configurations are for each other; and each side has sent fewer
+/// than 2^23 - 8 frames, so that short numbers are unambiguous.
 pub fn data_get_through<C: Congestion>()
     ensures { (client server : Config) (for_client for_server : C) (events : List Event) (side : Side) (payload : List ℕ)
         → client.role ≡ role.Client → server.role ≡ role.Server → Fits client → Fits server → AreForEachOther client server
@@ -196,7 +196,7 @@ pub fn senders_are_never_stuck<C: Congestion>()
 }
 
 /// What such a way of sending is, in plain words: a list of at most six events (`few`), each of them a timer of a side
-/// or the delivery of a frame (`passive`). After it `send` is taken (`taken`); and of the world that it leaves, the
+/// or the delivery of a frame (`passive`). After it `send` is accepted (`taken`). In the world that it leaves, the
 /// delivery of the frame that it added hands over the bytes from a place up to the frame's end, which are the data
 /// (`handed`). It is enough that each side has sent fewer than 2^23 - 8 frames (`counts`).
 pub fn sending_takes_six_events<C: Congestion>()
@@ -216,8 +216,8 @@ pub fn sending_takes_six_events<C: Congestion>()
     ensures counts { (w : WorldState) → length w.client.frames + 8 < 2 ^ 23 → length w.server.frames + 8 < 2 ^ 23 → AreFew 8 w }
 {}
 
-/// A sender that both have agreed to leave without reports, in plain words: both ends are OPEN (`opened`), all rows are
-/// STABLE (`settled`), its CCID is 2 (`ccid`), and its peer sends no Ack Vectors (`vectors`).
+/// A sender that gets no reports, since both ends agreed so, in plain words: both ends are OPEN (`opened`), all rows
+/// are STABLE (`settled`), its CCID is 2 (`ccid`), and its peer sends no Ack Vectors (`vectors`).
 pub fn a_sender_lacks_reports_by_agreement()
     ensures opened { (w : WorldState) (side each : Side) → LacksReports w side → (half_of w each).end.phase ≡ phases.Open }
     ensures settled { (w : WorldState) (side each : Side) (feature : Feature) (place : Place) → LacksReports w side

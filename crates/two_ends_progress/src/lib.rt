@@ -1,8 +1,8 @@
-//! What leads on from every world of two ends: no world is a dead end, as far as these laws go (own). One more law
-//! looks back: where an end's greatest number received came from.
+//! How every world of two ends can go on: as far as these laws go, no world is a dead end (own). One more law looks
+//! back, and says where an end's greatest number received came from.
 //!
 //! A law says that from a world, whatever led to it, a short list of timers and deliveries leads to a goal. It does not
-//! say that these events happen: its premise is that the frames of the list arrive, and that the timers fire.
+//! say that these events happen: it assumes that the frames of the list arrive, and that its timers fire.
 #![tactic(auto)]
 
 mod laws;
