@@ -45,7 +45,7 @@ fit_after n views id w each fits k u at = ⊎_elim
     (λ there. each k u there.1)
     (at_set views id k w u at)
 
--- a claim: the word and one view count one more, and the number that was passed is that view's, where there is one
+-- a claim: the word and one view count one more, and the number that was passed is that view's, if there is one
 claim_keeps : (n id : ℕ) (s : State ℕ View) (v w : View) → AreCounted n s → get_elem? s.views id ≡ some v → v.drawn < v.share
     → w.drawn ≡ v.drawn + 1 → w.share ≡ v.share → w.limit ≡ v.limit → length w.numbers ≤ v.drawn + 1
     → ((x : ℕ) → times x w.numbers + once_below x (min n (all_drawn s.views)) ≡ times x v.numbers + once_below x (min n (all_drawn s.views + 1)))

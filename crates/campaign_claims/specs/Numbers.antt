@@ -5,7 +5,7 @@ use Rattle.std.specs.Prelude.{◌≡◌, ℕ, zero, suc, ◌+◌, ◌==◌, List
 abbrev pub times : ℕ → List ℕ → ℕ
 times x xs = count_by (λ y. y == x) xs
 
--- once where x is below m, and else not at all
+-- once if x is below m, otherwise not at all
 abbrev pub once_below : ℕ → ℕ → ℕ
 once_below x m = if nat_lt x m then 1 else 0
 

@@ -17,8 +17,7 @@ pub record ViewFits (n : ℕ) (view : View) : Type 0 where
   pub few : length view.numbers ≤ view.drawn
   pub same : 0 < view.share → view.limit ≡ n
 
--- The word counts all claims, the shares are 2^62 together, and the numbers below n that were passed are in the
--- views, each once, and no others
+-- The word counts all claims, the shares are 2^62 together, and the numbers below n that were drawn are in the views, each once, and no others
 pub record AreCounted (n : ℕ) (s : State ℕ View) : Type 0 where
   pub word : s.words ≡ all_drawn s.views ∷ []
   pub shares : sum_by (λ view. view.share) s.views ≡ 2 ^ 62
@@ -29,8 +28,8 @@ pub record AreCounted (n : ℕ) (s : State ℕ View) : Type 0 where
 abbrev pub Draws : Me ℕ View → ℕ → Me ℕ View → Type 0
 Draws view found w = (w ≡ (claimed view.0 found, view.1)) × All (λ x. x < found) view.0.numbers
 
--- what a claim is to its caller: some word was read, all numbers of the claimer lie below it, and it is the answer just
--- where it is below the limit
+-- what a caller knows of a claim: some word was read, all numbers of the claimer lie below it, and it is the answer exactly if it is below the
+-- limit
 pub record IsClaim (view : View) (answer : Option ℕ) (w : View) : Type 0 where
   pub word : ℕ
   pub above : All (λ x. x < word) view.numbers

@@ -1,9 +1,9 @@
--- What a claimer knows, and what each step makes of it (own).
+-- What a claimer knows, and how each step changes it (own).
 use Rattle.std.specs.Prelude.{◌≡◌, ℕ, ◌+◌, ◌-◌, ◌/◌, ◌^◌, List, [], ◌∷◌, ◌++◌, nat_lt, if◌then◌else◌}
 use Rattle.atomic_table.specs.Seated.{TableId}
 use Rattle.campaign_claims.specs.declared.rule.View.{View}
 
--- a claimer: which claims it is of, and what it knows
+-- a claimer: to which claims it belongs, and what it knows
 pub record Claimant : Type 0 where
   pub claims : TableId
   pub view : View
@@ -21,7 +21,7 @@ pub record IsLastNumber (numbers : List ℕ) (index : ℕ) : Type 0 where
 abbrev pub knows : List ℕ → ℕ → ℕ → ℕ → View
 knows numbers drawn share limit = record { numbers = numbers; drawn = drawn; share = share; limit = limit }
 
--- the first claimer has every right to claim
+-- the first claimer has all shares
 abbrev pub first : ℕ → View
 first limit = knows [] 0 (2 ^ 62) limit
 
@@ -41,7 +41,7 @@ claimed view found = if nat_lt found view.limit then with_claimed view found els
 abbrev pub half_left : View → ℕ
 half_left view = (view.share - view.drawn) / 2
 
--- what is kept at a split, and what is given
+-- what a claimer keeps at a split
 abbrev pub kept : View → View
 kept view = knows view.numbers view.drawn (view.share - half_left view) view.limit
 
@@ -49,7 +49,7 @@ kept view = knows view.numbers view.drawn (view.share - half_left view) view.lim
 abbrev pub given : View → View
 given view = knows [] 0 (half_left view) view.limit
 
--- two views in one, and what is left of the second
+-- two views joined into one
 abbrev pub both : View → View → View
 both view w = knows (view.numbers ++ w.numbers) (view.drawn + w.drawn) (view.share + w.share) view.limit
 

@@ -1,4 +1,4 @@
-//! The claims, and those who draw from them.
+//! The claims, and the claimers that draw from them.
 ghost use Rattle.std.specs.Prelude.{◌≡◌, ℕ, ◌^◌, ◌<◌, ◌≤◌, min, All, IfOk, IfSome, IfNone, IsOk};
 ghost use Rattle.campaign_claims.specs.Numbers.{times, once_below, AreOnceBelow};
 ghost use Rattle.campaign_claims.specs.Rule.{HasTwoShares, IsClaim, IsBelowLimit};
@@ -28,7 +28,7 @@ impl Model for Claims {
     ghost invariant = { λ c. (c.table.shared.table_id.words ≡ 1) × (c.table.shared.table_id.slots ≡ 0) };
 }
 
-/// The right to a share of the claims, for one thread at a time (own). Contracts see which claims it is of, its
+/// The right to a share of the claims, for one thread at a time (own). Contracts see to which claims it belongs, its
 /// numbers, how many claims it made, its share and the limit.
 #[derive(Drop)]
 pub struct Claimer {
@@ -61,7 +61,7 @@ pub fn make_claims(alloc: Global, n: u64) -> Result<(Claims, Claimer), NoMemory>
 
 impl Claimer {
     /// Claims the next number: one atomic addition to the word. The number is greater than all that this claimer has,
-    /// and nobody else gets it. None where the word read was the limit or more.
+    /// and no other claimer gets it. None if the word that was read is the limit or more.
     pub fn claim(&mut self, claims: &Claims) -> Option<u64>
         requires same { self.old.claims ≡ claims.now }
         requires part { self.old.view.drawn < self.old.view.share }
@@ -110,7 +110,7 @@ impl Claimer {
         })
     }
 
-    /// Takes another claimer in: its numbers after those here, its claims and its share.
+    /// Adds another claimer to this one: its numbers, after those here, its claims and its share.
     pub fn join(&mut self, claims: &Claims, other: Claimer)
         requires same { (self.old.claims ≡ claims.now) × (other.claims ≡ claims.now) }
         ensures { self.new ≡ held self.old.claims (both self.old.view other.view) }
@@ -121,7 +121,7 @@ impl Claimer {
 }
 
 impl Claims {
-    /// Ends the claims and returns the word's last value: how many claims were made in all. The numbers of any claimer
+    /// Ends the claims, and returns the word's last value: how many claims were made in all. The numbers of any claimer
     /// lie below the lesser of the limit and the word, each at most once. A claimer that has joined all others, and so
     /// has all 2^62 shares, has made all claims and has all those numbers.
     pub fn close(self, last: Claimer) -> u64

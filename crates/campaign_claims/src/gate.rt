@@ -5,12 +5,12 @@ use crate::Claimer;
 
 /// It is called with each number that is begun (own). It may make its caller wait, and has no other effect on it.
 pub trait Gate {
-    /// This number is begun with: the last that its claimer drew.
+    /// A thread begins with this number, the last that its claimer drew.
     fn begin(&self, claimer: &Claimer, index: u64)
         requires { IsLastNumber claimer.now.view.numbers index };
 }
 
-/// The gate that lets everybody through.
+/// The gate that never makes a thread wait.
 #[derive(Clone, Copy, Debug, Drop)]
 pub struct OpenGate;
 

@@ -2,8 +2,8 @@
 ghost use Rattle.std.specs.Prelude.{◌≡◌, ℕ, ◌<◌, min, List, length, sum_by};
 ghost use Rattle.campaign_claims.specs.Numbers.{AreOnceBelow, sum_below};
 
-/// If numbers are those below m, each once, a sum over them is the sum over the numbers below m, whatever thread
-/// claimed them and in whatever order; and there are m of them (own).
+/// If numbers are those below m, each once, a sum over them is the sum over the numbers below m, whichever thread
+/// claimed them and in any order; and there are m of them (own).
 pub fn numbers_once_add_up()
     ensures sums { (f : ℕ → ℕ) (m : ℕ) (numbers : List ℕ) → AreOnceBelow m numbers → sum_by f numbers ≡ sum_below f m }
     ensures count { (m : ℕ) (numbers : List ℕ) → AreOnceBelow m numbers → length numbers ≡ m }

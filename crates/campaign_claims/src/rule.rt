@@ -1,12 +1,12 @@
-//! What a claimer knows, the rule over all of them, and the kinds of step that there are.
+//! What a claimer knows, the rule over all claimers, and the kinds of steps.
 //!
-//! The limit is in every view, and in the claimer as a number: what a step makes of a view may depend on that view and
-//! on the word alone, and a claim compares the two. A claimer's numbers are a list and not a set. So the work of two
-//! workers is joined by joining lists, and counts say how often a number is there.
+//! The limit is in every view, and in the claimer as a number: what a step does to a view may depend only on that view
+//! and on the word, and a claim compares the word with the limit. A claimer's numbers are a list and not a set. So the
+//! work of two workers is joined by joining lists, and counts say how often a number is there.
 use atomic_table::{Join, Play, Split, TableRule};
 use std::collections::LinkedList;
 
-/// What contracts see of a claimer (own). No value of it is made.
+/// What contracts see of a claimer (own). No value of this type is made.
 pub struct View {
     /// The numbers that it claimed, each claimer's in the order of its claims.
     pub numbers: LinkedList<u64>,
@@ -18,7 +18,7 @@ pub struct View {
     pub limit: u64,
 }
 
-// The rule: the word counts all claims, and each number below the limit that was passed is some claimer's, once.
+// The rule: the word counts all claims, and each number below the limit that was drawn belongs to some claimer, once.
 pub(crate) struct Counts;
 
 impl TableRule<u8, View, u64> for Counts {
