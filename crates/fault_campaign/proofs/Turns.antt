@@ -42,7 +42,7 @@ refuses words world after report event fault.FarShort some lacks full far same =
     ap (λ (w : ControlledWorld Both). made words w report) same ∙ sym (ap (after_event (made words world report)) (far refl))
 refuses words world after report event fault.NoMemory some lacks full far same = absurd (some refl)
 
--- after so many of all further events
+-- after this many of all further events
 pub record IsUnderWay (all done : ℕ) (first run : RunState) : Type 0 where
   pub rest : goes_on_for (all - done) run ≡ goes_on_for all first
   pub few : size run.report + 2 * (all - done) < 2 ^ 62

@@ -1,4 +1,4 @@
--- What two words of the generator make happen (own).
+-- The event that two words of the generator give (own).
 use Rattle.std.specs.Prelude.{ℕ, ◌+◌, ◌-◌, ◌*◌, ◌/◌, ◌%◌, ◌^◌, ◌==◌, min, nat_le, if◌then◌else◌, [], ◌∷◌}
 use Rattle.byteorder.specs.Endian.{big_bytes}
 use Rattle.rand_core.specs.Pcg32Seed.{pcg32_seed}
@@ -33,11 +33,11 @@ after_two g = after_one (after_one g)
 abbrev pub initial_number : Lcg → ℕ
 initial_number g = word g % 65536 * 2 ^ 32 + word (after_one g)
 
--- which of n frames is delivered: at times any, mostly one of the last eight
+-- which of n frames is delivered: sometimes any, mostly one of the last eight
 abbrev pub drawn_index : ℕ → ℕ → ℕ
 drawn_index b n = if b / 256 % 16 == 0 then b / 4096 % n else n - 1 - b % min n 8
 
--- a frame of this side arrives; where there is none, the client's timer runs out
+-- a frame of this side arrives; if there is none, the client's timer runs out
 abbrev pub drawn_delivery : Side → ℕ → ℕ → Event
 drawn_delivery from n b = if n == 0 then event.Timer Client timer.Request else event.Deliver from (drawn_index b n)
 
@@ -45,7 +45,7 @@ drawn_delivery from n b = if n == 0 then event.Timer Client timer.Request else e
 abbrev pub sending : Side → ℕ → Event
 sending side b = event.Send side (big_bytes 4 b)
 
--- a side prefers this, by a number below 8; numbers that are not negotiated are drawn by the rest of the word
+-- a preference of a side, by a number below 8; the value of a non-negotiable feature is drawn from the rest of the word
 abbrev pub preference : Side → ℕ → ℕ → Event
 preference side which rest =
     if which == 0 then event.Prefer side Ccid Here (2 ∷ 248 ∷ [])
@@ -57,7 +57,7 @@ preference side which rest =
     else if which == 6 then event.Prefer side SequenceWindow Here ((100 + rest % 1000) ∷ [])
     else event.Prefer side AckRatio Here ((1 + rest % 4) ∷ [])
 
--- by a number below 6
+-- a timer, by a number below 6
 abbrev pub drawn_timer : ℕ → Timer
 drawn_timer which =
     if which == 0 then timer.Request
@@ -67,7 +67,7 @@ drawn_timer which =
     else if which == 4 then timer.Close
     else timer.TimeWait
 
--- seldom an end of the connection, by a number below 512
+-- a rare event that ends the connection, or another, by a number below 512
 abbrev pub ending : ℕ → Event
 ending which =
     if which == 0 then event.Close Client
@@ -76,7 +76,7 @@ ending which =
     else if which == 3 then event.Abort Server
     else event.Timer Client timer.Negotiate
 
--- the event of a number below 32 and a word, where the client has sent so many frames, and the server so many
+-- the event of a number below 32 and a word, if the client and the server have sent these numbers of frames
 abbrev pub event_numbered : ℕ → ℕ → ℕ → ℕ → Event
 event_numbered kind b clients servers =
     if nat_le kind 11 then drawn_delivery Client clients b

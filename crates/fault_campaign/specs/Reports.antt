@@ -39,13 +39,13 @@ nothing = of_fields (λ field. 0)
 abbrev pub plus : Report → Report → Report
 plus r s = of_fields (λ field. field r + field s)
 
--- how much is counted in all
+-- the sum of all counts
 abbrev pub size : Report → ℕ
 size r =
     r.seeds + r.events + r.client_frames + r.server_frames + r.took + r.delivered + r.dropped + r.synced + r.was_reset + r.sent_reset
     + r.refused + r.settled
 
--- a packet that arrived counts by its outcome; one that was taken counts twice where its data were delivered
+-- a packet that arrived counts by its outcome; one that was taken counts twice if its data were delivered
 abbrev pub with_outcome : Report → Outcome → Report
 with_outcome r (Took None) = record r { took = r.took + 1 }
 with_outcome r (Took (Some place)) = record r { took = r.took + 1; delivered = r.delivered + 1 }
@@ -54,7 +54,7 @@ with_outcome r (Synced number) = record r { synced = r.synced + 1 }
 with_outcome r (WasReset code) = record r { was_reset = r.was_reset + 1 }
 with_outcome r (SentReset code detail) = record r { sent_reset = r.sent_reset + 1 }
 
--- a call counts where it was refused, a timer never
+-- a call counts if it was refused, a timer never
 abbrev pub with_seen : Report → Seen → Report
 with_seen r (Called (Ok _)) = r
 with_seen r (Called (Err refusal)) = record r { refused = r.refused + 1 }
@@ -65,7 +65,7 @@ with_seen r (Received outcome) = with_outcome r outcome
 abbrev pub is_settled : WorldState → FeatureAt → Bool
 is_settled w pair = is_stable (held_at w pair Client).stand && is_stable (held_at w pair Server).stand
 
--- a settled feature counts once, and another not at all
+-- a settled feature counts as 1, any other as 0
 abbrev pub one_if_settled : Bool → ℕ
 one_if_settled true = 1
 one_if_settled false = 0
@@ -74,7 +74,7 @@ one_if_settled false = 0
 abbrev pub settles : WorldState → Side → Feature → ℕ
 settles w side feature = one_if_settled (is_settled w (record { feature = feature; location = side }))
 
--- how many features of a side are settled, and of both
+-- how many features of a side are settled
 abbrev pub settled_at : WorldState → Side → ℕ
 settled_at w side =
     settles w side feature.Ccid + settles w side feature.ShortSeqnos + settles w side feature.SequenceWindow + settles w side feature.EcnIncapable

@@ -1,7 +1,6 @@
--- The run of a seed (own): two usual ends, initial numbers and events drawn from the seed, and what is counted of it.
--- An event is drawn by how many frames there are, so the events are defined together with their run. An event that
--- cannot happen is passed over, and none is drawn (`drawn_events_happen`): an index is below the number of frames, and
--- 4,096 events send so few frames that no side is full and no frame is far.
+-- The run of a seed (own): two usual ends, initial numbers and events drawn from the seed, and what is counted of it. A draw depends on how many
+-- frames there are, so the events are defined together with their run. An event that cannot happen is passed over, and none is drawn
+-- (`drawn_events_happen`): an index is below the number of frames, and 4,096 events send so few frames that no side is full and no frame is far.
 use Rattle.std.specs.Prelude.{ℕ, zero, suc, ◌-◌, List, [], ◌∷◌, length, Result, Ok, Err}
 use Rattle.rand_pcg.specs.Lcg.{Lcg}
 use Rattle.ccid_two.specs.Kinds.{Both, at_first, kinds_control}
@@ -43,7 +42,7 @@ begun_run g =
 abbrev pub frames_of : RunState → Side → ℕ
 frames_of run side = length (half_of run.world.world side).frames
 
--- an event and what is seen of it; one that cannot happen changes nothing
+-- a run after an event and its result; one that cannot happen changes nothing
 abbrev pub after_event : RunState → Result (ControlledStep Both) WorldFault → RunState
 after_event run (Ok step) = record run { world = step.after; report = with_seen run.report step.seen }
 after_event run (Err fault) = run
@@ -60,7 +59,7 @@ next_event run = drawn (word run.words) (word (after_one run.words)) (frames_of 
 abbrev pub goes_on : RunState → RunState
 goes_on run = played (record run { words = after_two run.words }) (next_event run)
 
--- a run after so many further events
+-- a run after this many further events
 abbrev pub goes_on_for : ℕ → RunState → RunState
 goes_on_for zero run = run
 goes_on_for (suc n) run = goes_on_for n (goes_on run)
@@ -69,16 +68,16 @@ goes_on_for (suc n) run = goes_on_for n (goes_on run)
 abbrev pub opened_run : ℕ → RunState
 opened_run seed = played (begun_run (generator seed)) Open
 
--- The run of a seed with so many events.
+-- The run of a seed with this many events.
 abbrev pub seeded : ℕ → ℕ → RunState
 seeded seed events = goes_on_for (events - 1) (opened_run seed)
 
--- its events, as a schedule
+-- this many further events of a run, as a schedule
 abbrev pub next_events : ℕ → RunState → List Event
 next_events zero run = []
 next_events (suc n) run = next_event run ∷ next_events n (goes_on run)
 
--- the events that the run of a seed has, the opening of the connection first
+-- the events of the run of a seed, of which the first opens the connection
 abbrev pub seeded_events : ℕ → ℕ → List Event
 seeded_events seed events = Open ∷ next_events (events - 1) (opened_run seed)
 
@@ -93,6 +92,6 @@ run_report run events =
       settled = settled_of run.world.world;
     }
 
--- the report of a single seed, whose run has so many events
+-- the report of a single seed, whose run has this many events
 unfoldable pub seeded_report : ℕ → ℕ → Report
 seeded_report seed events = run_report (seeded seed events) events

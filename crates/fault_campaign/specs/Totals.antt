@@ -22,7 +22,7 @@ totals first seeds events = of_fields (λ field. sum_below (field_at first event
 abbrev pub claimed_report : ℕ → ℕ → List ℕ → Report
 claimed_report first events numbers = of_fields (λ field. sum_by (field_at first events field) numbers)
 
--- the share that lets so many workers claim, each half of them with half of it
+-- the share that lets this many workers claim, each half of them with half of it
 abbrev pub room_for : ℕ → ℕ
 room_for workers =
     if nat_le workers 1 then 2 ^ 57
@@ -45,12 +45,12 @@ pub record CanWork (workers : ℕ) (job : Job) (view : View) : Type 0 where
 abbrev pub MayBegin : ℕ → Job → TableId → Claimant → Type 0
 MayBegin workers job claims now = (1 ≤ workers) × (workers ≤ 16) × (now.claims ≡ claims) × CanWork workers job now.view
 
--- What they end with: all seeds of their numbers were run, and a claim was in vain.
+-- What they end with: all seeds of their numbers were run, and a claim gave no number.
 pub record IsWholeReport (job : Job) (view : View) (report : Report) : Type 0 where
   pub sum : report ≡ claimed_report job.first job.events view.numbers
   pub in_vain : length view.numbers < view.drawn
 
--- so many workers are through: the claims are the same, and a report has all the numbers that were claimed
+-- this many workers have ended: the claims are the same, and the report covers all numbers that were claimed
 pub record HaveWorked (workers : ℕ) (job : Job) (claims : TableId) (view : View) (now : Claimant) (report : Result Report NoMemory) : Type 0 where
   pub same : now.claims ≡ claims
   pub share : now.view.share ≡ view.share

@@ -1,4 +1,4 @@
-//! What two words of the generator make happen.
+//! The event that two words of the generator give.
 ghost use Rattle.std.specs.Prelude.{◌≡◌, ◌<◌, ◌≤◌, length};
 ghost use Rattle.world_events.specs.declared.event.Event.{Event};
 ghost use Rattle.fault_campaign.specs.Draws.{after_two, after_one, drawn, drawn_delivery, drawn_index, drawn_timer, ending, generator, initial_number, preference, sending, word};
@@ -41,7 +41,7 @@ pub(crate) fn initial_number(words: &mut Pcg32) -> Seq48
     }
 }
 
-/// Which of so many frames arrives: at times any, mostly one of the last eight.
+/// Which of `frames` frames arrives: sometimes any, mostly one of the last eight.
 pub(crate) fn drawn_index(b: u64, frames: u64) -> u64
     requires { 0 < frames }
     ensures { result ≡ drawn_index b frames }
@@ -53,7 +53,7 @@ pub(crate) fn drawn_index(b: u64, frames: u64) -> u64
     }
 }
 
-// A frame of this side arrives; where there is none, the client's timer runs out.
+// A frame of this side arrives; if there is none, the client's timer runs out.
 fn delivery(from: Side, frames: u64, b: u32) -> Event
     ensures { result ≡ drawn_delivery from frames b }
 {
@@ -69,7 +69,7 @@ fn delivery(from: Side, frames: u64, b: u32) -> Event
     }
 }
 
-/// Makes it the sending of the bytes of a word by a side.
+/// Turns the event into the sending of the bytes of a word by a side.
 pub(crate) fn become_sending(event: &mut Event, side: Side, b: u32)
     ensures { event.new ≡ sending side b }
 {
@@ -84,8 +84,8 @@ fn sending(side: Side, b: u32) -> Event
     event
 }
 
-/// Makes it what a side prefers, by a number below 8; numbers that are not negotiated are drawn by the rest of the
-/// word.
+/// Turns the event into a preference of a side, by a number below 8. The value of a non-negotiable feature is drawn
+/// from the rest of the word.
 pub(crate) fn become_preference(event: &mut Event, side: Side, which: u32, rest: u32)
     ensures { event.new ≡ preference side which rest }
 {
@@ -140,7 +140,7 @@ pub(crate) fn drawn_timer(which: u32) -> Timer
     }
 }
 
-/// Seldom an end of the connection, by a number below 512.
+/// A rare event that ends the connection, or another, by a number below 512.
 pub(crate) fn ending(which: u32) -> Event
     ensures { result ≡ ending which }
 {
@@ -156,8 +156,8 @@ pub(crate) fn ending(which: u32) -> Event
     }
 }
 
-/// The event of two words, where the client has sent so many frames, and the server so many. `OngoingRun::play_drawn` goes by
-/// the same definition and not by this, since an event would move there with its room for data.
+/// The event of two words, if the client and the server have sent these numbers of frames. `OngoingRun::play_drawn`
+/// follows the same definition, and does not call this, since an event would move there with its room for data.
 #[tactic(auto, unfolding(crate::specs::Draws::drawn))]
 pub(crate) fn drawn(a: u32, b: u32, clients: u64, servers: u64) -> Event
     ensures { result ≡ drawn a b clients servers }

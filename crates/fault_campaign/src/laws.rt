@@ -18,15 +18,15 @@ ghost use Rattle.fault_campaign.specs.Totals.{totals};
 use ccid_two::Kinds;
 use two_ends::{WorldFault, data_are_delivered_once, every_run_is_safe, few_frames_are_never_far};
 
-/// A run counts no more than five for an event, and nineteen more: the seed, and the features that are settled (own).
-/// So the reports of a campaign can be added.
+/// A run counts at most five for each event, and nineteen more: the seed, and the features that are settled (own). So
+/// the reports of a campaign can be added.
 pub fn reports_count_little()
     ensures { (seed events : ℕ) → 1 ≤ events → size (seeded_report seed events) ≤ 5 * events + 19 }
 {}
 
 /// Each event that a seed draws can happen (own): a frame that is delivered was sent, no side has sent all frames that
-/// it may, and as long as there were fewer than 2^23 events no frame is far where it arrives. So the run of a seed is
-/// refused nothing but memory.
+/// it may, and as long as there were fewer than 2^23 events, no frame is far where it arrives. So the run of a seed can
+/// fail only for lack of memory.
 pub fn drawn_events_happen()
     ensures first { (seed : ℕ) → IsOk (happens_to kinds_control (begun_run (generator seed)).world Open) }
     ensures next { (seed events : ℕ) → events < 2 ^ 23
@@ -38,8 +38,8 @@ pub fn drawn_events_happen()
     few_frames_are_never_far::<Kinds>();
 }
 
-/// The run of a seed is that of a schedule (own), of as many events as it was asked for; the two ends are safe after any
-/// number of them, and deliver no frame's data twice.
+/// The run of a seed is that of a schedule (own), with as many events as were asked for; the two ends are safe after
+/// any number of them, and deliver no frame's data twice.
 pub fn seeded_runs_are_safe()
     ensures schedule { (seed events : ℕ)
         → (seeded seed events).world ≡ plays kinds_control (begun_run (generator seed)).world (seeded_events seed events) }
@@ -58,11 +58,11 @@ pub fn parts_of_a_campaign_add_up()
         → plus (totals first some events) (totals (first + some) more events) ≡ totals first (some + more) events }
 {}
 
-/// The draws on which no count of a report depends (own), by values that were worked out apart. The first words of seed
-/// 1 are 33a70be6, 7dbcf3ee, cadf4751 and 11ac71c0. Of the first the last 16 bits come before the 32 of the second,
-/// and that is the initial number of the client; the third and the fourth give the server's. 0000ffff and ffffffff give
-/// the greatest number. Data are the four bytes of a word, the highest first, and lists of feature 8 are wished for in
-/// this order.
+/// The draws on which no count of a report depends (own), by values that were computed independently. The first words
+/// of seed 1 are 33a70be6, 7dbcf3ee, cadf4751 and 11ac71c0. The last 16 bits of the first, followed by the 32 of the
+/// second, are the initial number of the client; the third and the fourth give the server's. 0000ffff and ffffffff give
+/// the greatest number. Data are the four bytes of a word, the highest first, and the lists for feature 8 come in this
+/// order.
 #[tactic(auto, unfolding(crate::specs::Draws::drawn, crate::specs::Seeded::begun_run))]
 pub fn draws_that_no_count_shows()
     ensures client { (g : Lcg) → word g ≡ 866585574 → word (after_one g) ≡ 2109535214

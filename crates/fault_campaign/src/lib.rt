@@ -1,11 +1,11 @@
 //! Campaigns (own): runs of two ends whose events are drawn from a seed, by any number of threads, and what is counted
 //! of them.
 //!
-//! `run_seed` runs one seed: two usual ends whose initial sequence numbers and events are drawn from it, frames lost,
-//! repeated and reordered among them; `OngoingRun` does the same event by event. `campaign` runs as many seeds as it is asked
-//! to, each once, and adds their reports: the answer is the same for every number of workers and whatever they wait
-//! for. Nothing is said of which worker runs which seed, nor of how long it takes.
-//! A run takes memory as its world does.
+//! `run_seed` runs one seed: two usual ends whose initial sequence numbers and events are drawn from it, among them
+//! frames that are lost, repeated and reordered; `OngoingRun` does the same event by event. `campaign` runs the given
+//! number of seeds, each once, and adds their reports: the answer is the same for every number of workers and whatever
+//! they wait for. Nothing is said about which worker runs which seed, nor about how long it takes. A run takes memory
+//! as its world does.
 #![tactic(auto)]
 
 mod draws;

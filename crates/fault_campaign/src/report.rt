@@ -1,14 +1,14 @@
-//! What is counted of runs.
+//! The counts of runs.
 //!
-//! No sum of a campaign passes 2^62, since a run counts no more than five for an event and nineteen more
-//! (`reports_count_little`). So `+` needs no other answer.
+//! No sum of a campaign passes 2^62, since a run counts at most five for each event and nineteen more
+//! (`reports_count_little`). So no `+` overflows.
 ghost use Rattle.std.specs.Prelude.{◌≡◌, ◌+◌, ◌<◌, ◌^◌};
 ghost use Rattle.fault_campaign.specs.Reports.{nothing, plus, size, with_outcome, with_seen};
 
 use dccp_endpoint::Outcome;
 use two_ends::Seen;
 
-/// What is counted of one run or of many (own).
+/// The counts of one run or of many (own).
 #[derive(Clone, Copy, PartialEq, Eq)]
 pub struct Report {
     /// The seeds that were run.
@@ -79,7 +79,7 @@ impl Report {
         }
     }
 
-    /// Counts what was seen of an event.
+    /// Counts the result of an event.
     pub(crate) fn count(&mut self, seen: Seen)
         requires { size self.old < 2 ^ 62 }
         ensures { self.new ≡ with_seen self.old seen }

@@ -19,7 +19,7 @@ use std::alloc::Global;
 use std::marker::Model;
 use two_ends::{Event, Side, World, WorldFault};
 
-/// The run of a seed on its way, for those that tell its events one by one (own). `run_seed` runs one whole.
+/// The run of a seed in progress, for users of its single events (own). `run_seed` makes a whole run.
 #[derive(Drop)]
 pub struct OngoingRun {
     words: Pcg32,
@@ -54,7 +54,7 @@ impl OngoingRun {
     }
 
     /// The run of a seed before its first event, which opens the connection (own). It takes the memory of two ends;
-    /// NoMemory says that there was none.
+    /// NoMemory if there is none.
     pub fn of_seed(alloc: Global, seed: u64) -> Result<OngoingRun, NoMemory>
         ensures { IfOk result (λ run. run ≡ begun_run (generator seed)) }
     {
@@ -70,8 +70,8 @@ impl OngoingRun {
         drawn(a, b, self.frames(Side::Client), self.frames(Side::Server))
     }
 
-    /// Lets an event happen, and counts it (own); one that cannot happen changes nothing. NoMemory comes where there
-    /// was none for a frame, and then nothing is said of the run. The counts have room for 2^61 events.
+    /// Lets an event happen, and counts it (own); one that cannot happen changes nothing. NoMemory comes if there is
+    /// none for a frame, and then nothing is promised about the run. The counts have room for 2^61 events.
     #[tactic(auto, unfolding(crate::specs::Seeded::played))]
     pub fn play(&mut self, event: &Event) -> Result<(), NoMemory>
         requires { size self.old.report < 2 ^ 62 }
@@ -118,7 +118,7 @@ impl OngoingRun {
         Ok(())
     }
 
-    // So many further events.
+    // Plays `more` further events.
     fn go_on_for(&mut self, more: u32) -> Result<(), NoMemory>
         requires { size self.old.report + 2 * more < 2 ^ 62 }
         ensures { OnOk result (self.new ≡ goes_on_for more self.old) }
@@ -139,7 +139,7 @@ impl OngoingRun {
         self.play(&Event::Open)
     }
 
-    // Plays the event of two words. An event is changed where it is played, since it would move with its room for data.
+    // Plays the event of two words. The event is changed in place, since it would move with its room for data.
     #[tactic(auto, unfolding(crate::specs::Draws::drawn))]
     fn play_drawn(&mut self, again: &mut EventKit, a: u32, b: u32) -> Result<(), NoMemory>
         requires { size self.old.report < 2 ^ 62 }
@@ -159,7 +159,7 @@ impl OngoingRun {
         }
     }
 
-    // A frame of this side arrives; where there is none, the client's timer runs out.
+    // A frame of this side arrives; if there is none, the client's timer runs out.
     fn deliver(&mut self, again: &mut EventKit, from: Side, b: u32) -> Result<(), NoMemory>
         requires { size self.old.report < 2 ^ 62 }
         ensures { OnOk result (self.new ≡ played self.old (drawn_delivery from (frames_of self.old from) b)) }
@@ -203,7 +203,7 @@ impl OngoingRun {
         self.play(&again.timer)
     }
 
-    // An end of the connection is seldom, so its event is not kept.
+    // The connection ends seldom, so the event for that is not kept.
     fn end(&mut self, again: &mut EventKit, which: u32) -> Result<(), NoMemory>
         requires { size self.old.report < 2 ^ 62 }
         ensures { OnOk result (self.new ≡ played self.old (ending which)) }
@@ -240,8 +240,8 @@ impl OngoingRun {
     }
 }
 
-// An event of each kind, played again and again with other parts. An event is large, for it has room for data: making
-// one anew clears that room.
+// An event of each kind, which is played again and again with other parts. An event is large, since it has room for
+// data, and a new one would clear that room.
 #[derive(Drop)]
 struct EventKit {
     delivery: Event,
@@ -277,7 +277,7 @@ fn place_at(side: Side, location: Side) -> Place
     Place::There
 }
 
-// Both ends call the feature at this side settled.
+// Whether both ends call the feature at this side settled.
 fn is_settled(world: &World<Kinds>, location: Side, feature: Feature) -> bool
     ensures { result ≡ is_settled world.now.world (record { feature = feature; location = location }) }
 {
@@ -290,7 +290,7 @@ fn is_settled(world: &World<Kinds>, location: Side, feature: Feature) -> bool
     is_stable(clients.stand) && is_stable(servers.stand)
 }
 
-// 1 where it is so, else 0.
+// 1 if it is so, otherwise 0.
 fn settles(world: &World<Kinds>, location: Side, feature: Feature) -> u64
     ensures value { result ≡ settles world.now.world location feature }
     ensures few { result ≤ 1 }
@@ -317,10 +317,10 @@ fn settled_at(world: &World<Kinds>, location: Side) -> u64
         + settles(world, location, Feature::CheckDataChecksum)
 }
 
-/// Runs a seed (own), with so many events, and answers what was counted of it. The ends are the usual ones, with
-/// initial sequence numbers that are drawn; the first event opens the connection, and all others are drawn: most
-/// deliver one of the frames that were sent last, or at times an older one; others send data, prefer other values, let
-/// timers run out, or end the connection. The two ends take their memory once; each event takes that of a frame.
+/// Runs a seed (own), with this many events, and returns what was counted. The ends are the usual ones, with initial
+/// sequence numbers that are drawn; the first event opens the connection, and all others are drawn: most deliver one of
+/// the frames that were sent last, or sometimes an older one; others send data, prefer other values, let timers run
+/// out, or end the connection. The two ends take their memory once; each event takes that of a frame.
 pub fn run_seed(alloc: Global, seed: u64, events: u32) -> Result<Report, NoMemory>
     requires events { 1 ≤ events × events ≤ 4096 }
     ensures value { IfOk result (λ report. report ≡ seeded_report seed events) }

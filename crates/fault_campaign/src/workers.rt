@@ -1,7 +1,8 @@
-//! Workers, who claim seeds, run them and add what they count.
+//! Workers, which claim seeds, run them and add up their counts.
 //!
-//! A worker's loop ends because a claimer's numbers rise below a limit: no bound on the turns is written. What workers
-//! begin and end with is one record each (`CanWork`, `HaveWorked`), the only clauses of the closures that `join` takes.
+//! A worker's loop ends because a claimer's numbers rise and stay below a limit, so no bound on its turns is written.
+//! One record says what workers begin with, and one what they end with (`CanWork`, `HaveWorked`): these are the only
+//! clauses of the closures that `join` takes.
 ghost use Rattle.std.specs.Prelude.{◌≡◌, ◌+◌, ◌^◌, ◌<◌, ◌≤◌, IfOk};
 ghost use Rattle.std.specs.Thread.{IsSync};
 ghost use Rattle.fault_campaign.specs.Reports.{size};
@@ -15,14 +16,14 @@ use seq_circle::NoMemory;
 use std::alloc::Global;
 use std::thread::{Threads, join};
 
-// What all workers do: seeds from the first on, each with so many events.
+// What all workers do: seeds from the first on, each with this many events.
 #[derive(Clone, Copy)]
 struct Job {
     first: u64,
     events: u32,
 }
 
-// One worker: it runs the seeds that it claims until it claims in vain. Where it lacks memory it claims no more.
+// One worker: it runs the seeds that it claims until a claim gives none. If it lacks memory, it claims no more.
 fn work<G: Gate>(
     alloc: Global,
     gate: &G,
@@ -55,7 +56,7 @@ fn both(one: Result<Report, NoMemory>, other: Result<Report, NoMemory>) -> Resul
     Ok(one.plus(&other))
 }
 
-// So many workers, each half of them beside the other.
+// Runs this many workers, one half of them at the same time as the other.
 fn work_beside<R: Threads + Sync, G: Gate + Sync>(
     rt: &R,
     alloc: Global,
@@ -95,12 +96,12 @@ fn work_beside<R: Threads + Sync, G: Gate + Sync>(
     (mine, both(one, another))
 }
 
-/// Runs so many seeds from the first on (own), each once and with so many events, by so many workers at the same time,
-/// and adds their reports. The answer is the same for every number of workers and for every gate: the fields of all
-/// seeds' reports, added up.
+/// Runs `seeds` seeds from the first on (own), each once and with `events` events, by `workers` workers at the same
+/// time, and adds their reports. The answer is the same for every number of workers and for every gate: the fields of
+/// all seeds' reports, added up.
 ///
 /// A worker claims the next seed, calls the gate with the number that it claimed, runs the seed and adds its report,
-/// until it claims in vain. `NoMemory`, where one of them had none, is answered when all have ended.
+/// until a claim gives none. `NoMemory`, if one of them had none, is returned when all have ended.
 pub fn campaign<R: Threads + Sync, G: Gate + Sync>(
     rt: &R,
     alloc: Global,
