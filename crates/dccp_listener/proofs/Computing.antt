@@ -43,7 +43,7 @@ others-after peer other e flows false ordered there apart =
     lookup-set_value peers_alike (is_peer peer) (peers_alike.congr peer) other e flows there
     ∙ ap (λ (b : Bool). cond b (Some e) (end_of_peer flows other)) apart
 
--- an end that stands takes a step
+-- an end of a flow takes a step
 stands-step : (l : ListenerState) (peer : Peer) (deed : Deed) (e : FlowEnd) → end_of_peer l.flows peer ≡ Some e → AreInOrder l.flows
     → IsStep l (record l { flows = with_end l.flows peer (flow_step e deed).after }) peer deed (flow_step e deed).frame
     (Some (seen_of (flow_step e deed).answer))

@@ -1,4 +1,4 @@
--- The end of a peer stands: after each step of a chain, and so in each listener.
+-- The end of a peer is a flow's: after each step of a chain, and so in each listener.
 use Rattle.dccp_states.specs.Phases.{is_closed}
 use Rattle.std.proofs.Common.{◌≡◌, ◌⊎◌, inl, inr, refl, ap, sym, subst, ◌∙◌, ◌≤◌, ℕ, Bool, true, false, if◌then◌else◌, List, [], length, Option, Some, None, Result, Ok, Err, IfSome, zero-le}
 use Rattle.std.proofs.lemmas.Bool.{false≢true}
@@ -68,7 +68,7 @@ live-after e given server live proper over =
     (step.because.moves.waits (sym (ap is_waiting same) ∙ waits)))
     over
 
--- the end that a step of a proper end leaves stands where its phase is a flow's
+-- the end that a step of a proper end leaves is a flow's if its phase is
 stands-after : (config : ListenConfig) (peer : Peer) (iss : ℕ) (bytes : List ℕ) (e : EndState) (given : Input) (next : FlowEnd)
     → e.config ≡ config_for config peer iss bytes → IsProper e → next.state ≡ (end_stepped e given).after → stays_in next.state.phase ≡ true
     → IsFlowOf config peer next

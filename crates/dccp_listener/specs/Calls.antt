@@ -21,13 +21,13 @@ use Rattle.dccp_listener.specs.declared.calls.Heard.{Heard}
 use Rattle.dccp_listener.specs.declared.calls.Heard.TheVariants as heard
 use Rattle.dccp_listener.specs.declared.peer.Peer.{Peer}
 
--- A deed of a peer is a step of its own chain, and each other peer has what it had.
+-- A deed of a peer is a step of its chain, and each other peer has what it had.
 pub record IsStep (before after : ListenerState) (peer : Peer) (deed : Deed) (frame : Option Outgoing) (seen : Option Seen) : Type 0 where
   pub own : record { after = end_of_peer after.flows peer; frame = frame; seen = seen } ≡ chain_step before.config peer (end_of_peer before.flows peer) deed
   pub others : (other : Peer) → is_peer peer other ≡ false → end_of_peer after.flows other ≡ end_of_peer before.flows other
   pub same_config : after.config ≡ before.config
 
--- The listener has as many flows as it may, and the peer has none but would get one.
+-- The listener has as many flows as the limit allows, and the peer has none but would get one.
 pub record IsBusy (l : ListenerState) (peer : Peer) (deed : Deed) : Type 0 where
   pub has_none : end_of_peer l.flows peer ≡ None
   pub is_table_full : l.config.most ≤ length l.flows
@@ -62,7 +62,7 @@ Arrived before after peer iss bytes frame (Ok heard.Busy) =
     IsBusy before peer (Arrives iss bytes) × (after ≡ before) × (frame ≡ busy_frame (config_for before.config peer iss bytes) (decoded bytes))
 Arrived before after peer iss bytes frame (Err _) = OpensFlow before peer (Arrives iss bytes) × (after ≡ before) × (frame ≡ None)
 
--- what was seen of an act, which is nothing where the peer has no flow
+-- the answer to an act, which is none if the peer has no flow
 abbrev pub seen_if : Result Seen NoFlow → Option Seen
 seen_if (Ok it) = Some it
 seen_if (Err _) = None
@@ -76,7 +76,7 @@ pub record IsRequest (bytes : List ℕ) : Type 0 where
   pub asks : parts.header.kind ≡ kind.Request service
   pub is_long : parts.header.number ≡ Long number
 
--- Who finds the listener busy has sent a Request, and the Reset acknowledges it.
+-- A peer that finds the listener busy has sent a Request, and the Reset acknowledges it.
 abbrev pub BusyAnswersRequests : Type 0
 BusyAnswersRequests =
     (l : ListenerState) (peer : Peer) (iss : ℕ) (bytes : List ℕ) → IsBusy l peer (Arrives iss bytes)

@@ -1,5 +1,4 @@
--- What a server of its own would give one peer: the chain of that peer's calls (RFC 4340, section 8.1.2; the rest is
--- own).
+-- What a server for it alone would give one peer: the chain of that peer's calls (RFC 4340, section 8.1.2; the rest is own).
 use Rattle.dccp_states.specs.Phases.{is_closed}
 use Rattle.std.specs.Prelude.{◌==◌, ℕ, List, Option, Some, None, Result, Ok, Err, if◌then◌else◌, slice_get, unwrap_or}
 use Rattle.std.specs.List.{list_any}
@@ -86,12 +85,12 @@ abbrev pub requested : Kind → Option ℕ
 requested (kind.Request service) = Some service
 requested _ = None
 
--- the one that bytes ask for
+-- the Service Code that bytes ask for
 abbrev pub asked_service : Result Parts Malformed → Option ℕ
 asked_service (Ok parts) = requested parts.header.kind
 asked_service (Err _) = None
 
--- The service that a fresh end offers: the one that is asked for, where the listener has it, and else its first.
+-- The service that a fresh end offers: the one that is asked for, if the listener has it, and otherwise its first.
 abbrev pub service_for : List ℕ → Option ℕ → ℕ
 service_for services None = unwrap_or (slice_get services 0) 0
 service_for services (Some asked) = if list_any (λ one. one == asked) services then asked else unwrap_or (slice_get services 0) 0
@@ -102,7 +101,7 @@ config_asked config peer iss asked =
     record (configured Server (V4 config.own_address peer.address) (record { own = config.own_port; peer = peer.port })
     (service_for config.services.items asked) iss) { lists = config.lists }
 
--- by the bytes that it is made for
+-- the same by the bytes for which it is made
 abbrev pub config_for : ListenConfig → Peer → ℕ → List ℕ → Config
 config_for config peer iss bytes = config_asked config peer iss (asked_service (decoded bytes))
 
@@ -110,22 +109,21 @@ config_for config peer iss bytes = config_asked config peer iss (asked_service (
 abbrev pub fresh_end : ListenConfig → Peer → ℕ → List ℕ → FlowEnd
 fresh_end config peer iss bytes = begins kinds_control (config_for config peer iss bytes) at_first
 
--- a fresh end stays where it has left LISTEN and is not CLOSED
+-- a fresh end stays if it has left LISTEN and is not CLOSED
 abbrev pub kept_if_open : FlowEnd → Option FlowEnd
 kept_if_open e = if stays_in e.state.phase then Some e else None
 
--- an end that stands is given up where it is CLOSED
+-- an end is given up if it is CLOSED
 abbrev pub kept_until_over : FlowEnd → Option FlowEnd
 kept_until_over e = if is_closed e.state.phase then None else Some e
 
--- a step of the chain: the end that the peer has then, the frame that goes to it, and what was seen; nothing was where
--- there is no end to call
+-- a step of the chain: the end that the peer has then, the frame that goes to it, and the answer, which is none if there is no end to call
 pub record ChainStep : Type 0 where
   pub after : Option FlowEnd
   pub frame : Option Outgoing
   pub seen : Option Seen
 
--- the step of an end, of which this stays
+-- the step of an end as one of the chain, with what is kept of the end
 abbrev pub chained : (FlowEnd → Option FlowEnd) → EndStep Both EndAnswer → ChainStep
 chained stays step = record { after = stays step.after; frame = step.frame; seen = Some (seen_of step.answer) }
 

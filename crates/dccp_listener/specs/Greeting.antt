@@ -1,4 +1,4 @@
--- What a fresh end makes of a datagram (RFC 4340, section 8.5; that it goes is own).
+-- How a fresh end answers a datagram (RFC 4340, section 8.5; that it goes is own).
 use Rattle.std.specs.Prelude.{◌≡◌, ℕ, true, false, List, Some, None}
 use Rattle.ccid_two.specs.Kinds.{Both, kinds_control}
 use Rattle.dccp_endpoint.specs.Controlled.{EndStep}
@@ -19,8 +19,8 @@ greets_by config peer iss bytes = receiving kinds_control (fresh_end config peer
 abbrev pub greets : ListenerState → Peer → ℕ → List ℕ → EndStep Both Outcome
 greets l peer iss bytes = greets_by l.config peer iss bytes
 
--- What a fresh end is and sends that has heard a datagram and gone is what the peer's flow is and sends, once that
--- datagram opens one: where the peer has none, that end would stay and there is room.
+-- A fresh end that hears a datagram and goes is, and sends, what the peer's flow is and sends if that datagram opens one: if the peer has none,
+-- the end would stay, and there is room.
 abbrev pub GreetingsOpen : Type 0
 GreetingsOpen =
     (l : ListenerState) (peer : Peer) (iss : ℕ) (bytes : List ℕ) → end_of_peer l.flows peer ≡ None → is_table_full l ≡ false

@@ -1,4 +1,4 @@
--- What a call of a listener comes to, computed (own).
+-- The result of a call of a listener, computed (own).
 use Rattle.dccp_states.specs.Phases.{is_closed}
 use Rattle.std.specs.Prelude.{◌≡◌, nat_le, ℕ, Bool, true, false, List, [], ◌∷◌, length, Option, Some, None, if◌then◌else◌, slice_get}
 use Rattle.std.specs.BTreeMap.{insert_entry}
@@ -17,13 +17,13 @@ use Rattle.dccp_listener.specs.Peers.{FlowEnd, Flows, ListenerState, end_of_peer
 use Rattle.dccp_listener.specs.Runs.{IsRunOfTurns, Stepped, CallTold, CallTurn, WasBusy}
 use Rattle.dccp_listener.specs.declared.peer.Peer.{Peer}
 
--- the flows after a call, the frame that goes to the peer, and what was told
+-- the flows after a call, the frame that goes to the peer, and the answer
 pub record ListenerStep : Type 0 where
   pub flows : Flows
   pub frame : Option Outgoing
   pub told : CallTold
 
--- the flows once the peer's end is this one, which goes where it is CLOSED
+-- the flows once the peer's end is this one, which goes if it is CLOSED
 abbrev pub with_end : Flows → Peer → FlowEnd → Flows
 with_end flows peer e = if is_closed e.state.phase then remove_entry (is_peer peer) flows else set_value (is_peer peer) flows e
 
@@ -31,14 +31,14 @@ with_end flows peer e = if is_closed e.state.phase then remove_entry (is_peer pe
 abbrev pub flow_answered : Flows → EndStep Both EndAnswer → ListenerStep
 flow_answered flows step = record { flows = flows; frame = step.frame; told = Stepped (Some (seen_of step.answer)) }
 
--- A fresh end has met a datagram. Unless it stays nothing else changes; if it would, there has to be room.
+-- A fresh end has heard a datagram. If it does not stay, nothing else changes; if it would stay, there has to be room.
 abbrev pub fresh_met : ListenerState → Peer → ℕ → List ℕ → EndStep Both EndAnswer → (stays full : Bool) → ListenerStep
 fresh_met l peer iss bytes step false full = flow_answered l.flows step
 fresh_met l peer iss bytes step true true =
     record { flows = l.flows; frame = busy_frame (config_for l.config peer iss bytes) (decoded bytes); told = WasBusy }
 fresh_met l peer iss bytes step true false = flow_answered (insert_entry peer_cmp l.flows peer step.after) step
 
--- as many flows stand as may
+-- there are as many flows as the limit allows
 abbrev pub is_table_full : ListenerState → Bool
 is_table_full l = nat_le l.config.most (length l.flows)
 
@@ -50,7 +50,7 @@ listens_by l peer None (Arrives iss bytes) =
     (stays_in (flow_step (fresh_end l.config peer iss bytes) (Arrives iss bytes)).after.state.phase) (is_table_full l)
 listens_by l peer None (Calls call) = record { flows = l.flows; frame = None; told = Stepped None }
 
--- a deed of a peer, where memory is found
+-- a deed of a peer, if there is memory
 abbrev pub listens : ListenerState → Peer → Deed → ListenerStep
 listens l peer deed = listens_by l peer (end_of_peer l.flows peer) deed
 
@@ -67,7 +67,7 @@ abbrev pub listening_through : ListenerState → List (Peer × Deed) → Listene
 listening_through l [] = l
 listening_through l (now ∷ later) = listening_through (listening_after l now.0 now.1) later
 
--- what is computed of each of them, as turns
+-- what is computed for each of them, as turns
 abbrev pub turns_of : ListenerState → List (Peer × Deed) → List CallTurn
 turns_of l [] = []
 turns_of l (now ∷ later) = computed_turn l now.0 now.1 ∷ turns_of (listening_after l now.0 now.1) later
@@ -76,7 +76,7 @@ turns_of l (now ∷ later) = computed_turn l now.0 now.1 ∷ turns_of (listening
 abbrev pub AreInOrder : Flows → Type 0
 AreInOrder flows = IsStrictlySortedBy peer_cmp (keys_of flows)
 
--- What is computed of a list of deeds is a run of the listener, and leaves the peers in order.
+-- What is computed for a list of deeds is a run of the listener, and leaves the peers in order.
 abbrev pub WhatIsComputedIsARun : Type 0
 WhatIsComputedIsARun =
     (l : ListenerState) (deeds : List (Peer × Deed)) → AreInOrder l.flows

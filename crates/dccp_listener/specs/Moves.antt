@@ -1,5 +1,4 @@
--- What one deed makes of a peer's end where it is among the others, in two halves: it moves, and goes where it is
--- over (own).
+-- What one deed does to a peer's end in its place among the others, in two halves: the end moves, and goes if it is over (own).
 use Rattle.dccp_states.specs.Phases.{is_closed}
 use Rattle.std.specs.Prelude.{◌≡◌, ℕ, Bool, List, Option, Some, None}
 use Rattle.std.specs.BTreeMap.{insert_entry}
@@ -13,8 +12,7 @@ use Rattle.dccp_listener.specs.Listens.{with_end}
 use Rattle.dccp_listener.specs.Peers.{FlowEnd, Flows, end_of_peer, is_peer, peer_cmp}
 use Rattle.dccp_listener.specs.declared.peer.Peer.{Peer}
 
--- the peer's own end after the first half, all flows, the frame, and what is shown of the answer beside whether the end
--- is over
+-- the peer's own end after the first half, all flows, the frame, what is shown of the answer, and whether the end is over
 abbrev pub FlowMoves : {A B : Type 0} → (FlowEnd → EndStep Both A) → (A → B) → Option FlowEnd → (own : Option FlowEnd) (before after : Flows) → Peer
     → Option Outgoing → Option (B × Bool) → Type 0
 FlowMoves step show (Some e) own before after peer frame told =

@@ -14,7 +14,7 @@ use Rattle.dccp_listener.specs.declared.peer.Peer.{Peer}
 abbrev pub peer_cmp : Peer → Peer → Ordering
 peer_cmp a b = ordering_then (slice_cmp nat_cmp a.address b.address) (nat_cmp a.port b.port)
 
--- two peers are one where address and port are
+-- two peers are the same if address and port are
 abbrev pub is_peer : Peer → Peer → Bool
 is_peer a b = is_at (peer_cmp a) b
 

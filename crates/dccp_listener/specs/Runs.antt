@@ -1,4 +1,4 @@
--- Runs of a listener, and what they are for one peer (own).
+-- Runs of a listener, and what one peer sees of them (own).
 use Rattle.std.specs.Prelude.{◌≡◌, ℕ, Bool, true, false, List, [], ◌∷◌, Option, Some, Result, Ok, Err}
 use Rattle.seq_circle.specs.declared.memory.NoMemory.{NoMemory}
 use Rattle.dccp_states.specs.declared.seen.Seen.{Seen}
@@ -13,7 +13,7 @@ use Rattle.dccp_listener.specs.declared.calls.Heard.{Heard}
 use Rattle.dccp_listener.specs.declared.calls.Heard.TheVariants as heard
 use Rattle.dccp_listener.specs.declared.peer.Peer.{Peer}
 
--- what a call told: what the peer's end answered, or that nothing was done
+-- the result of a call: what the peer's end answered, or that nothing was done
 pub data CallTold : Type 0 where
   Stepped : (seen : Option Seen) → CallTold
   WasBusy HadNoMemory : CallTold
@@ -25,7 +25,7 @@ pub record CallTurn : Type 0 where
   pub frame : Option Outgoing
   pub told : CallTold
 
--- what `arrive` told
+-- the result of `arrive`
 abbrev pub told_of : Result Heard NoMemory → CallTold
 told_of (Ok (heard.Flow outcome)) = Stepped (Some (seen.Received outcome))
 told_of (Ok heard.Busy) = WasBusy
@@ -39,7 +39,7 @@ arrival peer iss bytes frame result = record { peer = peer; deed = Arrives iss b
 abbrev pub call_turn : Peer → FlowCall → Option Outgoing → Result Seen NoFlow → CallTurn
 call_turn peer call frame result = record { peer = peer; deed = Calls call; frame = frame; told = Stepped (seen_if result) }
 
--- by what was told, the turn is a step, or nothing changes
+-- by its result, the turn is a step, or nothing changes
 abbrev pub IsTurnSo : ListenerState → ListenerState → CallTurn → CallTold → Type 0
 IsTurnSo before after turn (Stepped it) = IsStep before after turn.peer turn.deed turn.frame it
 IsTurnSo before after turn WasBusy = after ≡ before
@@ -49,7 +49,7 @@ IsTurnSo before after turn HadNoMemory = after ≡ before
 abbrev pub IsTurn : ListenerState → ListenerState → CallTurn → Type 0
 IsTurn before after turn = IsTurnSo before after turn turn.told
 
--- all calls do, one after another
+-- all calls lead there, one after another
 abbrev pub IsRunOfTurns : ListenerState → ListenerState → List CallTurn → Type 0
 IsRunOfTurns before after [] = after ≡ before
 IsRunOfTurns before after (turn ∷ turns) = (between : ListenerState) × IsTurn before between turn × IsRunOfTurns between after turns
@@ -67,7 +67,7 @@ peer_turn_if true turn WasBusy later = later
 peer_turn_if true turn HadNoMemory later = later
 peer_turn_if false turn told later = later
 
--- Of all turns those of the peer, without those that were told busy or had no memory.
+-- Of all turns those of the peer, without those that were answered Busy or had no memory.
 abbrev pub peer_turns : Peer → List CallTurn → List PeerTurn
 peer_turns peer [] = []
 peer_turns peer (turn ∷ turns) = peer_turn_if (is_peer turn.peer peer) turn turn.told (peer_turns peer turns)
@@ -79,7 +79,7 @@ IsChain config peer before after (now ∷ later) =
     (now.frame ≡ (chain_step config peer before now.deed).frame) × (now.seen ≡ (chain_step config peer before now.deed).seen)
     × IsChain config peer (chain_step config peer before now.deed).after after later
 
--- Whatever the calls, each peer's answers and frames are the chain of that peer's calls alone.
+-- Whatever the calls, each peer's answers and frames are the chain of only that peer's calls.
 abbrev pub EachPeerHasItsChain : Type 0
 EachPeerHasItsChain =
     (before after : ListenerState) (turns : List CallTurn) → IsRunOfTurns before after turns

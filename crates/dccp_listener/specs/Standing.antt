@@ -9,7 +9,7 @@ use Rattle.dccp_listener.specs.Peers.{FlowEnd, Flows, end_of_peer}
 use Rattle.dccp_listener.specs.declared.config.ListenConfig.{ListenConfig}
 use Rattle.dccp_listener.specs.declared.peer.Peer.{Peer}
 
--- what a listener may be made from
+-- which configurations a listener may have
 pub record IsListening (config : ListenConfig) : Type 0 where
   pub some : 1 ≤ length config.services.items
   pub distinct : is_distinct config.services.items ≡ true
@@ -28,13 +28,13 @@ pub record IsFlowOf (config : ListenConfig) (peer : Peer) (e : FlowEnd) : Type 0
   pub proper : IsProper e.state
   pub phase_is : stays_in e.state.phase ≡ true
 
--- There are no more flows than may be, and the end of each peer stands.
+-- There are no more flows than the limit allows, and each is an end of its peer.
 pub record IsSoundListener (config : ListenConfig) (flows : Flows) : Type 0 where
   pub room : length flows ≤ config.most
   pub lists : IsLists config.lists
   pub stand : (peer : Peer) → IfSome (end_of_peer flows peer) (IsFlowOf config peer)
 
--- Every step of a chain leaves none, or an end that stands.
+-- Every step of a chain leaves no end, or one of its peer.
 abbrev pub ChainsStand : Type 0
 ChainsStand =
     (config : ListenConfig) (peer : Peer) (before : Option FlowEnd) (deed : Deed) → IsLists config.lists

@@ -1,4 +1,4 @@
-//! What one end answers, as a listener tells it.
+//! The answers of one end, as a listener passes them on.
 ghost use Rattle.std.specs.Prelude.{◌≡◌, ◌≤◌, None, Ok, length};
 ghost use Rattle.ccid_two.specs.Kinds.{kinds_control};
 ghost use Rattle.dccp_endpoint.specs.Feeding.{receiving};
@@ -43,7 +43,7 @@ pub(crate) fn receive(end: &mut Endpoint<Kinds>, bytes: &[u8], out: &mut Outbox)
     end.receive(bytes, out)
 }
 
-/// Nothing goes out where there was no memory.
+/// Nothing goes out if there was no memory.
 pub(crate) fn without_memory(out: &mut Outbox) -> NoMemory
     ensures { out.new ≡ None }
 {

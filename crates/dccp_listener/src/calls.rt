@@ -1,4 +1,4 @@
-//! What is asked of a listener, and what it answers.
+//! The calls of a listener, and its answers.
 use dccp_endpoint::{Outcome, Timer};
 
 /// A call of a peer's end (own; the calls are the end's, RFC 4340).
@@ -17,10 +17,10 @@ pub enum Act<'a> {
 /// What became of a datagram (own).
 #[derive(Clone, Copy, Debug, PartialEq, Eq)]
 pub enum Heard {
-    /// An end answered: the peer's own, or a fresh one, which stays where it has left LISTEN and is not CLOSED.
+    /// An end answered: the peer's own, or a fresh one, which stays if it has left LISTEN and is not CLOSED.
     Flow(Outcome),
-    /// The peer has no flow, the datagram would open one, and as many flows stand as may. A Reset with the code Too
-    /// Busy goes to the peer (RFC 4340, section 5.6).
+    /// The peer has no flow, the datagram would open one, and there are as many flows as the limit allows. A Reset with
+    /// the code Too Busy goes to the peer (RFC 4340, section 5.6).
     Busy,
 }
 

@@ -1,4 +1,4 @@
-//! What a listener is made from, and what a peer's end is made from then.
+//! The configuration of a listener, and that of a peer's end.
 ghost use Rattle.std.specs.Prelude.{◌≡◌, Ok, length};
 ghost use Rattle.dccp_endpoint.specs.Incoming.{parts_of_packet};
 ghost use Rattle.dccp_packets.specs.Grammar.{decoded};
@@ -9,7 +9,7 @@ use arrayvec::ArrayVec;
 use dccp_endpoint::{Config, Lists, Pseudo, Role, Seq48, Vectors};
 use dccp_packets::{Kind, Packet};
 
-/// What a listener is made from (own).
+/// The configuration of a listener (own).
 #[derive(Clone, Debug, Drop)]
 pub struct ListenConfig {
     /// The IPv4 address that datagrams are sent to.
@@ -18,9 +18,10 @@ pub struct ListenConfig {
     pub own_port: u16,
     /// The Service Codes that it serves (RFC 4340, section 8.1.2): 1 to 16, each once.
     pub services: ArrayVec<u32, 16>,
-    /// What each peer's end wishes for its features, and what it offers where offers are made (RFC 4340, section 6).
+    /// The wishes of each peer's end for its features, and its offers, if the listener makes offers (RFC 4340, section
+    /// 6).
     pub lists: Lists,
-    /// The most flows that are at a time: 1 to 1,024.
+    /// The most flows at one time: 1 to 1,024.
     pub most: u16,
 }
 
@@ -62,8 +63,8 @@ fn service_for(services: &[u32], asked: Option<u32>) -> u32
     }
 }
 
-/// What a fresh end for the peer is made from, where this packet is the first, which `decode` makes of the bytes (own).
-/// Its bytes are looked at by the clauses alone.
+/// The configuration of a fresh end for the peer whose first packet this is (own). `packet` is what `decode` makes of
+/// `bytes`; only the clauses look at the bytes.
 pub fn config_for(
     config: &ListenConfig,
     peer: Peer,
@@ -78,7 +79,7 @@ pub fn config_for(
     config_asked(config, peer, iss, requested(&packet.header.kind))
 }
 
-// The same, where a packet asks for this service, or for none.
+// The same, if the packet asks for this service, or for none.
 fn config_asked(config: &ListenConfig, peer: Peer, iss: Seq48, asked: Option<u32>) -> Config
     ensures { result ≡ config_asked config.now peer iss asked }
 {

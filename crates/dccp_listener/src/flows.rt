@@ -1,4 +1,4 @@
-//! The map from peers to their ends, and what one deed makes of it.
+//! The map from peers to their ends, and what one deed does to it.
 ghost use Rattle.std.specs.Prelude.{◌≡◌, ◌≤◌, ◌+◌, None, Some, Ok, Err, OnOk, OnErr, length, false, if◌then◌else◌};
 ghost use Rattle.std.specs.BTreeMap.{insert_entry};
 ghost use Rattle.std.specs.Map.{remove_entry};
@@ -18,7 +18,7 @@ use std::alloc::Global;
 use std::collections::BTreeMap;
 use std::marker::Model;
 
-// The end of a peer. It stands apart, so that it stays where it is as peers come and go.
+// The end of a peer. It is in a separate block, so that it stays where it is as peers come and go.
 #[derive(Drop)]
 pub(crate) struct BoxedEnd {
     end: Box<Endpoint<Kinds>>,
@@ -43,7 +43,7 @@ impl BoxedEnd {
     }
 }
 
-// The peer's end takes a call where it stands: what was seen, and whether the end is over.
+// The peer's end takes a call in place: its answer, and whether the end is over.
 fn call_flow(
     flows: &mut BTreeMap<Peer, BoxedEnd>,
     peer: Peer,
@@ -66,7 +66,7 @@ fn call_flow(
     }
 }
 
-// The peer's end hears a datagram where it stands: its answer, and whether the end is over.
+// The peer's end hears a datagram in place: its answer, and whether the end is over.
 fn receive_at(
     flows: &mut BTreeMap<Peer, BoxedEnd>,
     peer: Peer,
@@ -90,7 +90,7 @@ fn receive_at(
     }
 }
 
-// The peer's end goes where it is over.
+// The peer's end goes if it is over.
 fn settle(flows: &mut BTreeMap<Peer, BoxedEnd>, peer: Peer, over: bool)
     ensures own { end_of_peer flows.new.entries peer ≡ (if over then None else end_of_peer flows.old.entries peer) }
     ensures others { (other : Peer) → is_peer peer other ≡ false
@@ -103,7 +103,7 @@ fn settle(flows: &mut BTreeMap<Peer, BoxedEnd>, peer: Peer, over: bool)
     }
 }
 
-/// The peer's end takes a call, and goes where it is over. None where the peer has no end.
+/// The peer's end takes a call, and goes if it is over. None if the peer has no end.
 #[tactic(auto, using(crate::proofs::Removing::removed))]
 pub(crate) fn act_at(
     flows: &mut BTreeMap<Peer, BoxedEnd>,
@@ -124,7 +124,7 @@ pub(crate) fn act_at(
     Some(seen)
 }
 
-/// The peer's end hears a datagram, and goes where it is over. None where the peer has no end.
+/// The peer's end hears a datagram, and goes if it is over. None if the peer has no end.
 #[tactic(auto, using(crate::proofs::Removing::removed))]
 pub(crate) fn hear_at(
     flows: &mut BTreeMap<Peer, BoxedEnd>,
@@ -146,7 +146,7 @@ pub(crate) fn hear_at(
     Some(outcome)
 }
 
-/// The peer, which has none, gets this end. NoMemory where none is to be had for it, and then nothing changes.
+/// The peer, which has none, gets this end. NoMemory if there is none for it, and then nothing changes.
 pub(crate) fn put_flow(
     alloc: Global,
     flows: &mut BTreeMap<Peer, BoxedEnd>,

@@ -1,4 +1,4 @@
-//! What a peer without a flow meets.
+//! How a peer without a flow is answered.
 ghost use Rattle.std.specs.Prelude.{◌≡◌, ◌≤◌, IfOk, OnErr, None, Ok, length};
 ghost use Rattle.ccid_two.specs.Kinds.{at_first, kinds_control};
 ghost use Rattle.dccp_endpoint.specs.Controlled.{begins};
@@ -15,7 +15,7 @@ use dccp_endpoint::{
 use dccp_packets::{Number, Packet};
 use std::alloc::Global;
 
-/// A fresh end hears a datagram. NoMemory where none is to be had for it, and then nothing goes out.
+/// A fresh end hears a datagram. NoMemory if there is none for the end, and then nothing goes out.
 pub(crate) fn greet(
     alloc: Global,
     config: &Config,
@@ -35,8 +35,8 @@ pub(crate) fn greet(
     Ok((end, outcome))
 }
 
-/// Leaves the Reset in the Outbox that tells the sender of this Request that the listener is busy: under the number 0,
-/// without a connection. Its bytes are looked at by the clauses alone.
+/// Leaves the Reset in the Outbox that answers this Request with Too Busy: under the number 0, without a connection.
+/// Only the clauses look at its bytes.
 pub(crate) fn refuse(config: &Config, packet: &Packet<'_>, bytes: &[u8], out: &mut Outbox)
     requires empty { out.old ≡ None }
     requires read { decoded bytes.now ≡ Ok (parts_of_packet packet.now) }

@@ -1,9 +1,9 @@
-//! A server with many flows: one value that serves up to 1,024 peers at one address and port, by an end for each (own;
-//! the ends are RFC 4340's).
+//! A server with many flows: one value that serves up to 1,024 peers at one address and port, with an end for each
+//! (own; the ends are those of RFC 4340).
 //!
-//! A datagram is handed in with the peer that it came from. Each peer gets exactly what a server's end of its own would
-//! have given it, whatever the others do; what others may do is to fill the table. It has no socket and no clock, and
-//! takes memory only where a peer has no flow.
+//! A datagram is handed in with the peer that it came from. Each peer gets exactly what a server's end for it alone
+//! would have given it, whatever the others do, except that others may fill the table. It has no socket and no clock,
+//! and takes memory only if a peer has no flow.
 #![tactic(auto)]
 
 mod answers;

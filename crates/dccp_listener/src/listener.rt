@@ -10,27 +10,27 @@ use std::alloc::Global;
 use std::collections::BTreeMap;
 use std::marker::Model;
 
-/// A server that serves many peers at one address and port: each peer gets exactly what a server's end of its own would
-/// have given it, whatever the others do. It has no socket and no clock, as an end has none.
+/// A server that serves many peers at one address and port: each peer gets exactly what an end for it alone would have
+/// given it, whatever the others do. It has no socket and no clock, as an end has none.
 ///
 /// # The order of calls
 ///
-/// `new` makes it. From then on, in whatever order, `arrive` for each datagram, with the peer that it came from and an
-/// initial sequence number that nobody can guess (RFC 4340, section 7.2), which a fresh end would have; and `act` for
-/// each call of a peer's end and each of its timers that has run out. Each call that takes an Outbox empties it first
-/// and leaves at most one frame there, which goes to the peer of the call.
+/// `new` makes it. After that, in any order, call `arrive` for each datagram, with the peer that it came from and an
+/// initial sequence number that nobody can guess (RFC 4340, section 7.2), which a fresh end would have; and call `act`
+/// for each call of a peer's end and each of its timers that has run out. Each call that takes an Outbox empties it
+/// first and leaves at most one frame there, which goes to the peer of the call.
 ///
 /// # Flows
 ///
-/// A peer's flow begins where its datagram lets a fresh end leave LISTEN, and ends where its end is CLOSED. At most
-/// `most` are at a time. A datagram that would open one more is answered with a Reset that says so, and `Busy`.
+/// A peer's flow begins when its datagram takes a fresh end out of LISTEN, and ends when its end is CLOSED. There are
+/// at most `most` at a time. A datagram that would open one more is answered with a Reset that says so, and `Busy`.
 ///
 /// # Sizes
 ///
-/// A flow takes the blocks of its end and of its congestion control, about 87 KB, beside an entry of the map: 1,024
-/// take 89 MB. An end is made only where it stays: any other datagram of a peer that has no flow is answered without
-/// one, takes no memory, and costs a look into the map, whose steps grow with the logarithm of the flows whichever
-/// peers are chosen.
+/// A flow takes the blocks of its end and of its congestion control, about 87 KB, besides an entry of the map: 1,024
+/// take 89 MB. An end is made only if it stays: any other datagram of a peer that has no flow is answered without one,
+/// takes no memory, and costs a look into the map, whose steps grow with the logarithm of the number of flows, whatever
+/// peers an attacker chooses.
 #[derive(Drop)]
 pub struct Listener {
     alloc: Global,
@@ -60,7 +60,7 @@ impl Listener {
     ghost use Rattle.dccp_listener.specs.Runs.{IsTurn, Stepped, arrival, call_turn, told_of};
     ghost use Rattle.dccp_listener.specs.Standing.{IsListening, IsFlowOf, unoffering};
 
-    /// A listener without flows, whose ends make no offers, whatever the lists say. It takes no memory.
+    /// A listener without flows, whose ends make no offers, even if the lists have some. It takes no memory.
     pub fn new(alloc: Global, config: ListenConfig) -> Listener
         requires { IsListening config }
         ensures { result ≡ record { config = unoffering config; flows = [] } }
@@ -70,13 +70,13 @@ impl Listener {
         Listener::offering(alloc, config)
     }
 
-    /// A listener without flows, whose ends make the offers of the lists from their Response on, as an end of its own
-    /// would (own). It takes no memory.
+    /// A listener without flows, whose ends make the offers of the lists from their Response on, as a single end would
+    /// (own). It takes no memory.
     pub fn offering(alloc: Global, config: ListenConfig) -> Listener
         requires { IsListening config }
         ensures { result ≡ record { config = config; flows = [] } }
     {
-        // A look at a wish gives the prover that the lists are sound.
+        // Reading a wish gives the prover that the lists are sound.
         let _wish = config.lists.wish(Feature::Ccid, Place::Here);
         Listener {
             alloc,
@@ -88,9 +88,9 @@ impl Listener {
     /// A datagram of a peer has arrived, at most 2,044 bytes. `iss` is the first sequence number of an end that is made
     /// for it.
     ///
-    /// A peer's own end hears it, or else a fresh one. Busy comes exactly where the peer has no flow, `most` stand and
-    /// the fresh end would stay: nothing changes, and a Reset with the code Too Busy goes to the peer (RFC 4340,
-    /// section 5.6). NoMemory comes only where the datagram would open a flow and one more may stand, and then nothing
+    /// The peer's end hears it, or else a fresh one. Busy comes exactly if the peer has no flow, there are `most`
+    /// flows, and the fresh end would stay: nothing changes, and a Reset with the code Too Busy goes to the peer (RFC
+    /// 4340, section 5.6). NoMemory comes only if the datagram would open a flow and one more is allowed; then nothing
     /// changes and nothing goes out.
     pub fn arrive(
         &mut self,
@@ -115,7 +115,7 @@ impl Listener {
         )
     }
 
-    /// The owner calls a peer's end. NoFlow comes exactly where the peer has none, and then nothing changes and nothing
+    /// The owner calls a peer's end. NoFlow comes exactly if the peer has none, and then nothing changes and nothing
     /// goes out. It takes no memory.
     pub fn act(&mut self, peer: Peer, act: Act<'_>, out: &mut Outbox) -> Result<Seen, NoFlow>
         ensures step { IsStep self.old self.new peer (Calls (call_of act.entry)) out.new (seen_if result) }
@@ -132,7 +132,7 @@ impl Listener {
         }
     }
 
-    /// The owner calls a peer's end by any call that an end has, also `Endpoint::prefer` (own). NoFlow comes exactly where
+    /// The owner calls a peer's end by any call of an end, `Endpoint::prefer` included (own). NoFlow comes exactly if
     /// the peer has none, and then nothing changes and nothing goes out. It takes no memory.
     pub fn ask(&mut self, peer: Peer, call: UserCall<'_>, out: &mut Outbox) -> Result<Seen, NoFlow>
         ensures step { IsStep self.old self.new peer (Calls (asked call.entry)) out.new (seen_if result) }
@@ -144,8 +144,8 @@ impl Listener {
         perform(&self.config, &mut self.flows, peer, call, out)
     }
 
-    /// What a fresh end makes of a datagram of a peer, at most 2,044 bytes; it hears the datagram and goes, so that
-    /// nothing is kept, whether the peer has a flow or none (own). NoMemory where none is to be had for the end, and then
+    /// How a fresh end answers a datagram of a peer, at most 2,044 bytes. The end hears the datagram and goes, so
+    /// nothing is kept, whether the peer has a flow or not (own). NoMemory if there is none for the end, and then
     /// nothing goes out.
     pub fn greet(
         &self,
@@ -162,7 +162,7 @@ impl Listener {
         greet_alone(self.alloc, &self.config, peer, iss, bytes, out)
     }
 
-    /// A peer's end, or None exactly where it has none. It was made for this peer, and is neither CLOSED nor in LISTEN.
+    /// A peer's end, or None exactly if it has none. It was made for this peer, and is neither CLOSED nor in LISTEN.
     pub fn flow(&self, peer: Peer) -> Option<&Endpoint<Kinds>>
         ensures value { MatchOption result (end_of_peer self.now.flows peer ≡ None) (λ end. end_of_peer self.now.flows peer ≡ Some end.now) }
         ensures stands { IfSome result (λ end. IsFlowOf self.now.config peer end.now) }
@@ -173,14 +173,14 @@ impl Listener {
         }
     }
 
-    /// What it was made from; its ends make the offers of these lists.
+    /// Its configuration; its ends make the offers of these lists.
     pub fn config(&self) -> &ListenConfig
         ensures { result.now ≡ self.now.config }
     {
         &self.config
     }
 
-    /// How many flows stand, at most `most`.
+    /// How many flows there are, at most `most`.
     pub fn flows(&self) -> u16
         ensures value { result ≡ length self.now.flows }
         ensures fits { result ≤ self.now.config.most }
@@ -194,8 +194,8 @@ impl Listener {
         }
     }
 
-    /// The peer at this place, from 0, among those that have a flow, in their order; None exactly where the place is
-    /// not below `flows`.
+    /// The peer at this place, from 0, among those that have a flow, in their order; None exactly if the place is not
+    /// below `flows`.
     pub fn peer(&self, place: u16) -> Option<Peer>
         ensures value { result ≡ slice_get (keys_of self.now.flows) place }
         ensures none { IsNone result ↔ (length self.now.flows ≤ place) }

@@ -53,7 +53,7 @@ fn admit(
     }
 }
 
-// As many flows stand as may.
+// Whether there are as many flows as the limit allows.
 fn is_full(config: &ListenConfig, flows: &BTreeMap<Peer, BoxedEnd>) -> bool
     ensures { IsTrue result ↔ (config.now.most ≤ length flows.now.entries) }
 {
@@ -188,7 +188,7 @@ pub(crate) fn greet_alone(
     }
 }
 
-/// A call of a peer's end. The configuration is looked at by the clauses alone.
+/// A call of a peer's end. Only the clauses look at the configuration.
 pub(crate) fn perform(
     config: &ListenConfig,
     flows: &mut BTreeMap<Peer, BoxedEnd>,

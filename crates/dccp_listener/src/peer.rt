@@ -10,7 +10,7 @@ ghost use Rattle.dccp_listener.specs.Numbers.{AreDigits};
 
 use std::cmp::Ordering;
 
-/// Whom a datagram came from: an IPv4 address and a port. Peers are ordered by address, then by port.
+/// Where a datagram came from: an IPv4 address and a port. Peers are ordered by address, then by port.
 #[derive(Clone, Copy, Debug, PartialEq, Eq)]
 pub struct Peer {
     /// The address that the datagram came from.
