@@ -12,7 +12,7 @@ use Rattle.data_dropped.specs.Inbox.{InboxState, is_slow}
 use Rattle.data_dropped.specs.declared.drops.DropEntry.{DropEntry}
 use Rattle.data_dropped.proofs.Table.{table-none}
 
--- up to the last code where there is none
+-- up to the last code if there is none
 none-last : (count : ℕ) → up_to_last_code (replicate count None) ≡ []
 none-last zero = refl
 none-last (suc count) = ap (before_codes None) (none-last count)

@@ -1,5 +1,5 @@
--- An end with a bounded inbox: what it does with bytes that arrive, and what its calls do (own; the end's part is RFC
--- 4340's, section 8.5).
+-- An end with a bounded inbox: what it does with bytes that arrive, and what its calls do (own; the end's part is that of RFC 4340, section
+-- 8.5).
 use Rattle.std.specs.Prelude.{ℕ, ◌≤◌, Bool, true, false, List, length, Option, Some, None, slice_range}
 use Rattle.congestion_trait.specs.Control.{Control}
 use Rattle.dccp_endpoint.specs.Controlled.{End, EndStep, begins, with_control}
@@ -29,7 +29,7 @@ pub record Delivery : Type 0 where
   pub inbox : InboxState
   pub arrival : Option Arrival
 
--- data that were delivered under this number, by whether an item holds as many; longer ones are dropped
+-- data that were delivered under this number, by whether they fit an item; longer ones are dropped
 abbrev pub data_delivered : Bool → InboxState → ℕ → List ℕ → Delivery
 data_delivered true held n payload = record { inbox = after_arrival held n payload; arrival = Some (arrival_answer held) }
 data_delivered false held n payload = record { inbox = dropping held n; arrival = Some (arrival.Dropped (reason held)) }
@@ -97,7 +97,7 @@ pub record BufferedCall (C Answer : Type 0) : Type 0 where
   pub frame : Option Outgoing
   pub answer : Answer
 
--- A step of the end beside an inbox, which stays: the frame says what the inbox has to say.
+-- A step of the end that leaves its inbox unchanged: the frame says what the inbox has to say.
 abbrev pub beside : {C Answer : Type 0} → InboxState → EndStep C Answer → BufferedCall C Answer
 beside held step =
     record {

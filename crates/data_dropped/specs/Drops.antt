@@ -46,8 +46,8 @@ abbrev pub most_numbers : Option ℕ → ℕ
 most_numbers None = 128
 most_numbers (Some code) = 16
 
--- The byte of so many numbers: a Normal Block has their number less one in seven bits; a Drop Block has its upper bit
--- set, then the code in three bits and that number in four (RFC 4340, section 11.7).
+-- The byte of this many numbers: a Normal Block has their number less one in seven bits; a Drop Block has its upper bit set, then the code in
+-- three bits and that number in four (RFC 4340, section 11.7).
 abbrev pub drop_byte : Option ℕ → ℕ → ℕ
 drop_byte None count = count - 1
 drop_byte (Some code) count = 128 + 16 * (code % 8) + (count - 1)
@@ -65,7 +65,7 @@ abbrev pub drop_coding : Coding (Option ℕ)
 drop_coding =
     record { same = same_code; most = most_numbers; byte = drop_byte; state_of = code_in; run_length = numbers_in }
 
--- all bytes of a report, however many
+-- all bytes of a report, before any are cut off
 abbrev pub all_drop_bytes : List DropEntry → ℕ → List ℕ
 all_drop_bytes drops ack = coded_bytes drop_coding (codes_reported drops ack)
 
@@ -83,7 +83,7 @@ abbrev pub code_at_place : Option (Option ℕ) → Option ℕ
 code_at_place None = None
 code_at_place (Some code) = code
 
--- the code that the bytes of a report give a number, or none where it has no drop or they do not reach it
+-- the code that the bytes of a report give a number, or none if it has no drop or they do not reach it
 abbrev pub code_at : ℕ → List ℕ → ℕ → Option ℕ
 code_at ack bytes n = code_at_place (slice_get (states_of drop_coding bytes) (distance n ack))
 

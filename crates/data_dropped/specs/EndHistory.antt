@@ -15,7 +15,7 @@ use Rattle.data_dropped.specs.declared.answers.Arrival.{Arrival}
 use Rattle.data_dropped.specs.declared.answers.Arrival.TheVariants.{Kept}
 use Rattle.data_dropped.specs.declared.answers.Arrival.TheVariants as arrival
 
--- a call that changes an end with an inbox: the end alone, or both
+-- a call that changes an end with an inbox: only the end, or both
 pub data EndCall : Type 0 where
   EndCalls : (given : Input) → EndCall
   EndReceives : (bytes : List ℕ) → EndCall
@@ -58,7 +58,7 @@ abbrev pub past_step : {C : Type 0} → History → List ℕ → EndStep C Outco
 past_step past bytes step =
     record { end = step.after; past = history_after_all past (calls_by past.held (last_taken step.after.state) bytes step.answer) }
 
--- one call more: the end's step is that of any end
+-- after one more call: the end's step is that of any end
 abbrev pub past_after : {C : Type 0} → Control C → BufferedPast C → EndCall → BufferedPast C
 past_after control p (EndCalls given) = record p { end = (with_control control p.end.congestion (end_stepped p.end.state given)).after }
 past_after control p (EndReceives bytes) =
@@ -66,14 +66,14 @@ past_after control p (EndReceives bytes) =
 past_after control p EndTakes = record p { past = history_after p.past Takes }
 past_after control p EndStops = record p { past = history_after p.past Stops }
 
--- What is said of the data of a packet with this number is what became of them: the inbox kept them, it dropped them
--- for this reason, or nothing was done with it.
+-- What is said about the data of a packet with this number is what became of them: the inbox kept them, it dropped them for this reason, or
+-- nothing was done with it.
 abbrev pub IsToldSo : ℕ → Option Arrival → History → History → Type 0
 IsToldSo n None old new = new ≡ old
 IsToldSo n (Some Kept) old new = ((payload : List ℕ) × (new.kept ≡ old.kept ++ record { number = n; payload = payload } ∷ [])) × (new.dropped ≡ old.dropped)
 IsToldSo n (Some (arrival.Dropped code)) old new = (new.kept ≡ old.kept) × (new.dropped ≡ old.dropped ++ record { number = n; code = code } ∷ [])
 
--- these calls, in order
+-- after these calls, in order
 abbrev pub past_all : {C : Type 0} → Control C → BufferedPast C → List EndCall → BufferedPast C
 past_all control p [] = p
 past_all control p (call ∷ calls) = past_all control (past_after control p call) calls

@@ -30,8 +30,7 @@ said held ack = drops_said (drop_bytes held.drops ack) ++ slow_said (is_slow hel
 abbrev pub acknowledged_by : Option ℕ → Kind → Option ℕ
 acknowledged_by told kind = if is_acking (packet_type kind) then told else None
 
--- a frame that is this packet, by the number that it acknowledges: any other type than Ack and DataAck goes out as it
--- is
+-- a frame that is this packet, by the number that it acknowledges: types other than Ack and DataAck go out unchanged
 abbrev pub buffered_ack : Pseudo → InboxState → Parts → List ℕ → Option ℕ → List ℕ
 buffered_ack pseudo held p frame None = frame
 buffered_ack pseudo held p frame (Some ack) = lengthened_if (says_more p (said held ack)) pseudo p frame (said held ack)
@@ -45,7 +44,7 @@ buffered_packet pseudo told held frame (Err fault) = frame
 abbrev pub buffered : Pseudo → Option ℕ → InboxState → List ℕ → List ℕ
 buffered pseudo told held frame = buffered_packet pseudo told held frame (decoded frame)
 
--- the same with the numbers that are stated for it, which stay
+-- the same with the numbers that are stated for it, which are unchanged
 abbrev pub buffered_sent : Pseudo → InboxState → Outgoing → Outgoing
 buffered_sent pseudo held sent = record sent { bytes = buffered pseudo sent.ack held sent.bytes }
 

@@ -41,14 +41,14 @@ abbrev pub history_answered : History → Arrival → ℕ → List ℕ → Inbox
 history_answered h answer n payload held =
     record { held = held; kept = h.kept ++ kept_by answer n payload; taken = h.taken; dropped = h.dropped ++ dropped_by answer n }
 
--- one call more
+-- after one more call
 abbrev pub history_after : History → InboxCall → History
 history_after h (DataArrive n payload) = history_answered h (arrival_answer h.held) n payload (after_arrival h.held n payload)
 history_after h (LongDataArrive n) = history_answered h (Dropped (reason h.held)) n [] (dropping h.held n)
 history_after h Takes = record h { held = taking h.held; taken = h.taken ++ take 1 h.held.items }
 history_after h Stops = record h { held = stopping h.held }
 
--- these calls, in order
+-- after these calls, in order
 abbrev pub history_after_all : History → List InboxCall → History
 history_after_all h [] = h
 history_after_all h (call ∷ calls) = history_after_all (history_after h call) calls
@@ -60,9 +60,8 @@ is_stop (LongDataArrive n) = false
 is_stop Takes = false
 is_stop Stops = true
 
--- What holds after a list of calls: what was kept is what was taken, and then what is held, whole, once and in order;
--- no more is held than may be; whether it was stopped; and the drops that count are the last 2,048 of all, each with a
--- code of three bits.
+-- What holds after a list of calls: what was kept is what was taken, followed by what is held, whole, once and in order; no more is held than
+-- the capacity; whether it was stopped; and the drops that count are the last 2,048 of all, each with a code of three bits.
 pub record IsAccounted (capacity : ℕ) (stopped : Bool) (h : History) : Type 0 where
   pub whole : h.kept ≡ h.taken ++ h.held.items
   pub within : length h.held.items ≤ capacity

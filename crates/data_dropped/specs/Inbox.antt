@@ -21,7 +21,7 @@ pub record InboxState : Type 0 where
   pub capacity : ℕ
   pub most : ℕ
 
--- an inbox for so many items of up to so many bytes, before any call
+-- an inbox for this many items of up to this many bytes, before any call
 abbrev pub inbox_of : ℕ → ℕ → InboxState
 inbox_of most capacity = record { items = []; drops = []; stopped = false; capacity = capacity; most = most }
 
@@ -55,11 +55,11 @@ buffer_full = 2
 abbrev pub reason : InboxState → ℕ
 reason held = if held.stopped then not_listening else buffer_full
 
--- one item more, after the others
+-- the inbox with one more item, after the others
 abbrev pub keeping : InboxState → ℕ → List ℕ → InboxState
 keeping held n payload = record held { items = held.items ++ record { number = n; payload = payload } ∷ [] }
 
--- one drop more; of all the last 2,048 count (own)
+-- the inbox with one more drop; of all drops the last 2,048 count (own)
 abbrev pub dropping : InboxState → ℕ → InboxState
 dropping held n = record held { drops = keep_last 2048 (held.drops ++ record { number = n; code = reason held } ∷ []) }
 
@@ -81,7 +81,7 @@ after_arrival held n payload = held_if (takes_more held) held n payload
 abbrev pub arrival_answer : InboxState → Arrival
 arrival_answer held = answer_if (takes_more held) held
 
--- an item holds as much data
+-- the data fit an item
 abbrev pub fits_item : InboxState → List ℕ → Bool
 fits_item held payload = nat_le (length payload) held.most
 
@@ -95,7 +95,7 @@ abbrev pub first_over : List KeptData → List ℕ → List ℕ
 first_over [] old = old
 first_over (item ∷ items) old = item.payload ++ drop (length item.payload) old
 
--- without its first item
+-- the inbox without its first item
 abbrev pub taking : InboxState → InboxState
 taking held = record held { items = drop 1 held.items }
 

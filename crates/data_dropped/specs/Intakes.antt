@@ -1,4 +1,4 @@
--- Where the data go that an end delivers: to its owner at once, or into an inbox until they are read (own).
+-- Where the data that an end delivers go: to its owner at once, or into an inbox until they are read (own).
 use Rattle.std.specs.Prelude.{ℕ, zero, suc, List, length, Option, Some, None}
 use Rattle.dccp_packets.specs.Outgoing.{Outgoing}
 use Rattle.dccp_states.specs.declared.outcome.Outcome.{Outcome}
@@ -8,8 +8,7 @@ use Rattle.data_dropped.specs.Frames.{buffered_frame}
 use Rattle.data_dropped.specs.Inbox.{InboxState, first_over, first_taken, inbox_of, stopping, taking}
 use Rattle.data_dropped.specs.declared.answers.Arrival.{Arrival}
 
--- An inbox for so many packets, whose items have room for all data that a datagram of 2,044 bytes brings (own); none
--- where that is 0.
+-- An inbox for this many packets, whose items have room for all data that a datagram of 2,044 bytes brings (own); none if the number is 0.
 abbrev pub intake_of : ℕ → Option InboxState
 intake_of zero = None
 intake_of (suc n) = Some (inbox_of 2032 (suc n))
@@ -19,7 +18,7 @@ pub record IntakeDelivery : Type 0 where
   pub inbox : Option InboxState
   pub arrival : Option Arrival
 
--- by what an inbox makes of it
+-- by what an inbox does with the data
 abbrev pub settled_by : Delivery → IntakeDelivery
 settled_by delivery = record { inbox = Some delivery.inbox; arrival = delivery.arrival }
 
@@ -38,7 +37,7 @@ abbrev pub HasDataIfHeard : List ℕ → Option Outcome → Type 0
 HasDataIfHeard bytes None = Unit {0}
 HasDataIfHeard bytes (Some outcome) = HasDataWithin bytes outcome
 
--- a frame as it goes out: it says what the inbox has to say, where there is one
+-- a frame as it goes out: it says what the inbox has to say, if there is one
 abbrev pub spoken : Pseudo → Option InboxState → Option Outgoing → Option Outgoing
 spoken pseudo None frame = frame
 spoken pseudo (Some held) frame = buffered_frame pseudo held frame

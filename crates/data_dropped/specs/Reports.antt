@@ -20,6 +20,6 @@ drop_options (item ∷ rest) = dropped_in item ++ drop_options rest
 abbrev pub drop_data : List (Result Entry OptFault) → List ℕ
 drop_data items = concat (drop_options items)
 
--- what the options of a packet with this acknowledgement number report; none where no Data Dropped is there
+-- what the options of a packet with this acknowledgement number report; none if there is no Data Dropped
 abbrev pub drop_report : ℕ → List (Result Entry OptFault) → Option VectorReport
 drop_report ack items = joined_report ack (drop_options items)

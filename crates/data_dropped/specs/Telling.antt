@@ -45,9 +45,9 @@ abbrev pub IsPassedOver : Result Entry OptFault → Type 0
 IsPassedOver (Ok entry) = (entry.kind ≡ data_dropped) ⊎ ((entry.kind ≡ slow_receiver) × (entry.body ≡ []))
 IsPassedOver (Err fault) = ⊥
 
--- A frame of the end went out as this one. The same numbers are stated for it; it is a packet with the same number,
--- ports, type, fields and data; and the checksums fit. Its Data Dropped options are what is to be reported, and after
--- the options that it had are only those that say nothing to an end.
+-- A frame of the end went out as this one. The same numbers are stated for it; it is a packet with the same number, ports, type, fields and
+-- data; and the checksums are right. Its Data Dropped options are what is to be reported, and the options after those that it had say nothing to
+-- an end.
 pub record TellsItsDrops (pseudo : Pseudo) (held : InboxState) (own frame : Outgoing) : Type 0 where
   pub before : Parts
   pub packet : Parts

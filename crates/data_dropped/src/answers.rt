@@ -16,6 +16,6 @@ pub enum Arrival {
 pub struct Got {
     /// What the end answers.
     pub outcome: Outcome,
-    /// What became of the data that it delivered, or None where it delivered none.
+    /// What became of the data that it delivered, or None if it delivered none.
     pub arrival: Option<Arrival>,
 }

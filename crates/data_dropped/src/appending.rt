@@ -85,7 +85,7 @@ fn write_buffered<const MOST: usize>(
     lengthen(&packet, more.as_slice(), pseudo, longer)
 }
 
-// The same for the frame in the Outbox, which the longer one replaces. It is a function by itself because it takes room
+// The same for the frame in the Outbox, which the longer one replaces. It is a separate function, since it takes room
 // for a second frame, which is large, and there is mostly nothing to say.
 #[inline(never)]
 fn lengthen_sent<const MOST: usize>(out: &mut Outbox, inbox: &BoundedInbox<MOST>, pseudo: &Pseudo)

@@ -39,7 +39,7 @@ pub(crate) fn most_numbers(code: Option<u8>) -> usize
     }
 }
 
-/// The byte of so many numbers whose data were dropped for this reason, or were not dropped.
+/// The byte of `count` numbers whose data were dropped for this reason, or were not dropped.
 pub(crate) fn drop_byte(code: Option<u8>, count: usize) -> u8
     requires some { 1 ≤ count }
     requires few { count ≤ most_numbers code }

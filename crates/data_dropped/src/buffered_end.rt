@@ -13,11 +13,12 @@ use std::marker::Model;
 
 /// An end whose application reads when it likes: data that the end delivers are held in an [`Inbox`], up to a number of
 /// packets, until they are taken. Data are dropped for lack of room, or after `stop`. The end's acknowledgements report
-/// these drops by Data Dropped, and by Slow Receiver that three quarters of the room are taken, after their own options
-/// and as far as they have room (RFC 4340, sections 11.6 and 11.7; that, and when, is own). Nothing else of the end is
-/// different, and each packet is acknowledged whether its data were kept or dropped.
+/// these drops by Data Dropped. They report by Slow Receiver that three quarters of the room are taken. Both come after
+/// the end's own options, as far as the packet has room (RFC 4340, sections 11.6 and 11.7; that they are sent, and
+/// when, is own). Otherwise the end is like any other, and each packet is acknowledged whether its data were kept or
+/// dropped.
 ///
-/// It has every call of an end, and `end` shows what an end shows. Only `new` takes memory. The `Outbox` is the end's.
+/// It has every call of an end, and `end` gives the end for its readers. Only `new` takes memory.
 #[derive(Drop)]
 pub struct BufferedEnd<C> {
     end: Endpoint<C>,
@@ -71,7 +72,8 @@ impl<C: Congestion> BufferedEnd<C> {
     ghost use Rattle.data_dropped.specs.Frames.{buffered_frame};
     ghost use Rattle.data_dropped.specs.Inbox.{first_over, first_taken, stopping, taking};
 
-    /// The client sends its Request, as by `Endpoint::open`; the inbox stays, as by each call of the end but `receive`.
+    /// The client sends its Request, as by `Endpoint::open`. The inbox is unchanged, as by each call of the end except
+    /// `receive`.
     pub fn open(&mut self, out: &mut Outbox) -> Result<(), OpenFault>
         ensures step { record { after = self.new; frame = out.new; answer = result } ≡ beside self.old.inbox (with_control C.control self.old.end.congestion (opens self.old.end.state)) }
         ensures not_fresh { (result ≡ Err OpenFault.NotFresh) ↔ ((self.old.end.state.config.role ≡ Role.Server) ⊎ (self.old.end.state.opened ≡ true)) }
@@ -187,7 +189,7 @@ impl<C: Congestion> BufferedEnd<C> {
         answer
     }
 
-    // The frame in the Outbox says what the inbox has to say.
+    // Adds to the frame in the Outbox what the inbox has to say.
     fn speak(&self, out: &mut Outbox)
         ensures codes { HaveCodes self.now.inbox.drops }
         ensures says { out.new ≡ buffered_frame self.now.end.state.config.pseudo_out self.now.inbox out.old }

@@ -1,4 +1,4 @@
-//! What the data that an end delivers do to an inbox.
+//! What becomes of an inbox by the data that its end delivers.
 ghost use Rattle.std.specs.Prelude.{◌≡◌, Some};
 ghost use Rattle.data_dropped.specs.Buffering.{HasDataWithin, delivery_by, delivered_data};
 

@@ -23,7 +23,7 @@ pub struct DropEntry {
     pub code: u8,
 }
 
-// One drop more: the code of its number is now this one, if the number is among those of the table.
+// Notes one more drop: its number has this code from now on, if the number is in the table.
 fn note(table: &mut [Option<u8>; SPAN], entry: &DropEntry, ack: Seq48)
     ensures noted { table.new ≡ slice_set table.old (distance entry.now.number ack) (Some entry.now.code) }
     ensures number_fits { entry.now.number < 2 ^ 48 }
@@ -40,7 +40,7 @@ fn note(table: &mut [Option<u8>; SPAN], entry: &DropEntry, ack: Seq48)
 }
 
 /// The codes of the numbers from this one downwards. The oldest drop is noted first, so that the latest of a number
-/// counts. It looks at each drop and each number once.
+/// counts. Each drop and each number is looked at once.
 pub(crate) fn fill(drops: &HeapCircularBuffer<DropEntry>, ack: Seq48) -> [Option<u8>; SPAN]
     ensures { result ≡ code_table drops.now.items ack }
 {

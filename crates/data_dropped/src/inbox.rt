@@ -17,7 +17,7 @@ const BUFFER_FULL: u8 = 2;
 /// and the last 2,048 drops. It drops what arrives while it is full or after `stop`, and never what it holds. Contracts
 /// see the items and the drops from the oldest on, whether it was stopped, its capacity, and `MOST`.
 ///
-/// Both rings are taken in `new`: an item has 16 bytes and `MOST`, a drop 16. No call after it takes memory.
+/// `new` takes the memory of both rings: an item has 16 bytes and `MOST`, a drop 16. No later call takes memory.
 #[derive(Drop)]
 pub struct BoundedInbox<const MOST: usize> {
     items: HeapCircularBuffer<Item<MOST>>,
@@ -67,7 +67,7 @@ impl<const MOST: usize> BoundedInbox<MOST> {
         })
     }
 
-    // The application listens, and there is room for one item more.
+    // Whether the application listens, and there is room for one more item.
     fn takes_more(&self) -> bool
         ensures value { result ≡ takes_more self.now }
         ensures within { length self.now.items ≤ self.now.capacity }
@@ -86,7 +86,7 @@ impl<const MOST: usize> BoundedInbox<MOST> {
         }
     }
 
-    // One item more.
+    // Adds one more item.
     fn keep(&mut self, number: Seq48, payload: &[u8])
         requires room { takes_more self.old ≡ true }
         requires short { length payload.now ≤ MOST }
@@ -95,7 +95,7 @@ impl<const MOST: usize> BoundedInbox<MOST> {
         self.items.push_back(Item::of(number, payload));
     }
 
-    // One drop more, which may replace the oldest.
+    // Adds one more drop, which may replace the oldest.
     fn note_drop(&mut self, number: Seq48) -> Arrival
         ensures dropped { self.new ≡ dropping self.old number }
         ensures answer { result ≡ Dropped (reason self.old) }
@@ -132,7 +132,7 @@ impl<const MOST: usize> BoundedInbox<MOST> {
     }
 
     /// Data of at most `MOST` bytes have arrived under this packet's number. `Dropped(1)` exactly after `stop`; then
-    /// `Dropped(2)` exactly where `capacity` items are held; otherwise they are kept, after the others.
+    /// `Dropped(2)` exactly if `capacity` items are held. Otherwise they are kept, after the others.
     pub fn arrived(&mut self, number: Seq48, payload: &[u8]) -> Arrival
         requires { length payload.now ≤ MOST }
         ensures after { self.new ≡ after_arrival self.old number payload.now }
@@ -157,8 +157,8 @@ impl<const MOST: usize> BoundedInbox<MOST> {
         self.note_drop(number)
     }
 
-    /// Takes the first item: its data are written over the front of `into`, and its number and length are answered. The
-    /// rest of `into` stays. None exactly where no item is held; then nothing changes.
+    /// Takes the first item: writes its data over the front of `into`, and returns its number and its length. The rest
+    /// of `into` stays. None exactly if no item is held; then nothing changes.
     pub fn take(&mut self, into: &mut [u8; MOST]) -> Option<(Seq48, usize)>
         ensures rest { self.new ≡ taking self.old }
         ensures answer { result ≡ first_taken self.old.items }
@@ -184,10 +184,10 @@ impl<const MOST: usize> BoundedInbox<MOST> {
         3 * self.items.capacity() <= 4 * self.items.len()
     }
 
-    /// Writes the Data Dropped bytes of the numbers from `ack` downwards, in place of what was there: of the 2,048
-    /// numbers down to the lowest that has a code, each with the code of its latest drop among the last 2,048 (RFC
-    /// 4340, section 11.7; the bounds are own). They are the first 253 bytes of these, and none where no number has a
-    /// code. True exactly where nothing was cut off.
+    /// Writes the Data Dropped bytes of the numbers from `ack` downwards, in place of what was there. They cover, of
+    /// the 2,048 numbers, those down to the lowest that has a code, each with the code of its latest drop among the
+    /// last 2,048 (RFC 4340, section 11.7; the bounds are own). Only the first 253 bytes are written, and none if no
+    /// number has a code. True exactly if nothing was cut off.
     pub fn write(&self, out: &mut DropBytes, ack: Seq48) -> bool
         ensures bytes { out.new.items ≡ drop_bytes self.now.drops ack }
         ensures whole { result ≡ tells_all self.now.drops ack }

@@ -1,4 +1,4 @@
-//! Where the data go that an end delivers.
+//! Where the data that an end delivers go.
 use crate::answers::Arrival;
 use crate::appending::buffer;
 use crate::delivery::settle;
@@ -35,7 +35,7 @@ impl Intake {
         Intake { inbox: None }
     }
 
-    /// Data wait in an inbox for so many packets, at most 1,024; where that is 0, they go to the owner at once.
+    /// Data wait in an inbox for `capacity` packets, at most 1,024; if that is 0, they go to the owner at once.
     /// NoMemory if there is none for the inbox, which takes 2,048 bytes a packet and 32 KB. No other call takes any.
     pub fn new(alloc: Global, capacity: u16) -> Result<Intake, NoMemory>
         requires { capacity ≤ 1024 }
@@ -115,7 +115,7 @@ impl Intake {
         }
     }
 
-    /// How many bytes it adds to an acknowledgement, at most.
+    /// The most bytes that it adds to an acknowledgement.
     pub fn most_said(&self) -> usize
         ensures { result ≡ most_said self.now }
     {

@@ -43,9 +43,9 @@ pub fn a_report_of_drops_reads_back()
     ensures fits { (drops : List DropEntry) (ack : ℕ) → length (drop_bytes drops ack) ≤ 253 }
 {}
 
-/// Over every list of calls of an inbox, what was taken and then what is held is what was kept, whole, once and in
-/// order; no more is held than may be; it was stopped if a call stopped it; and the drops that count are the last 2,048
-/// of all, each with a Drop Code of three bits (own).
+/// Over every list of calls of an inbox, what was taken, followed by what is held, is what was kept: whole, once and in
+/// order. No more is held than the capacity. The inbox is stopped exactly if a call stopped it. The drops that count
+/// are the last 2,048 of all, each with a Drop Code of three bits (own).
 pub fn what_is_kept_is_taken()
     ensures accounted { (capacity : ℕ) (calls : List InboxCall)
         → IsAccounted capacity (list_any is_stop calls) (history_after_all (no_history capacity) calls) }
@@ -54,7 +54,7 @@ pub fn what_is_kept_is_taken()
 {}
 
 /// The same over every list of calls of an end with an inbox, whose packets are calls of its inbox if they deliver data
-/// (`received`); and what the end says of these data is what became of them (`told`).
+/// (`received`). What the end says about these data is what became of them (`told`).
 pub fn what_an_end_keeps_is_taken<C: Congestion>()
     ensures received { (p : BufferedPast C) (bytes : List ℕ)
         → (buffers C.control (buffered_now p) bytes).after ≡ buffered_now (past_after C.control p (EndReceives bytes)) }
@@ -66,10 +66,10 @@ pub fn what_an_end_keeps_is_taken<C: Congestion>()
         → HaveCodes (past_all C.control (no_past C.control config congestion capacity) calls).past.held.drops }
 {}
 
-/// Each frame of an end with an inbox reports its drops. It is a packet, its checksum fits, and its numbers are the
+/// Each frame of an end with an inbox reports its drops. It is a packet, its checksum is right, and its numbers are the
 /// end's. Besides the end's own options, its Data Dropped options are just the report of the inbox after the step, at
 /// the number that it acknowledges, if that report has a byte and the packet has room for it; no other frame has one
-/// (own; RFC 4340, section 11.7). That holds for every input of the end beside any inbox (`calls`), and for bytes that
+/// (own; RFC 4340, section 11.7). This holds for every input of an end with any inbox (`calls`), and for bytes that
 /// arrive, whose data go into the inbox (`tells`). If the end sends nothing, nothing goes out.
 pub fn every_frame_tells_its_drops<C: Congestion>()
     ensures calls { (b : BufferedState C) (given : Input) (own : Outgoing) → IsProper b.end.state

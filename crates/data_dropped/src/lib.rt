@@ -3,8 +3,8 @@
 //!
 //! An [`Inbox`] holds the data that an application has not read yet, and knows what it dropped. A [`BufferedEnd`] is an
 //! end with an inbox: data that it delivers go there, and its acknowledgements report the drops. An [`Intake`] is an
-//! inbox beside any end, or none. A [`DropReport`] reads what a packet reports. Nothing here resends anything or slows
-//! a sender down, and no memory is taken once an inbox is made.
+//! inbox for any end, or none. A [`DropReport`] reads what a packet reports. Nothing here resends anything or slows a
+//! sender down, and no memory is taken once an inbox is made.
 #![tactic(auto)]
 
 mod answers;

@@ -42,8 +42,8 @@ fn next_drops<'a>(options: &mut OptList<'a>) -> Option<&'a [u8]>
     None
 }
 
-// The code of the number that is so far below the first that these bytes cover; or how far it is below the last that
-// they cover.
+// The code of the number that is `below` steps below the first that these bytes cover; or how far it is below the last
+// that they cover.
 fn code_below(bytes: &[u8], below: u64) -> Result<Option<u8>, u64>
     ensures { MatchResult result
         (λ code. slice_get (states_of drop_coding bytes.now) below ≡ Some code)
@@ -61,8 +61,8 @@ fn code_below(bytes: &[u8], below: u64) -> Result<Option<u8>, u64>
 }
 
 impl<'a> DropReport<'a> {
-    /// What the Data Dropped options among the options of a packet report, whose acknowledgement number this is. None
-    /// exactly where no Data Dropped option is there.
+    /// What the Data Dropped options among the options of a packet report, if `ack` is its acknowledgement number. None
+    /// exactly if there is no Data Dropped option.
     pub fn of(ack: Seq48, options: OptList<'a>) -> Option<DropReport<'a>>
         ensures none { IsNone result ↔ (drop_options options.entry ≡ []) }
         ensures value { result ≡ drop_report ack options.entry }
@@ -72,7 +72,7 @@ impl<'a> DropReport<'a> {
         Some(DropReport { ack, options })
     }
 
-    /// The Drop Code of the number, 0 to 7, or None where it was not dropped or the options do not reach it.
+    /// The Drop Code of the number, 0 to 7, or None if its data were not dropped or the options do not reach it.
     pub fn code(&self, n: Seq48) -> Option<u8>
         ensures { result ≡ code_at self.now.ack self.now.bytes n }
     {
