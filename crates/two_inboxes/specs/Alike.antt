@@ -9,7 +9,7 @@ use Rattle.dccp_packets.specs.Outgoing.{Outgoing}
 use Rattle.dccp_states.specs.declared.outcome.Outcome.{Outcome}
 use Rattle.dccp_states.specs.declared.outcome.Outcome.TheVariants.{Took, Dropped, Synced, WasReset, SentReset}
 
--- an outcome without the place where the data lie that it delivers
+-- an outcome without the place of the data that it delivers
 abbrev pub without_place : Outcome → Outcome
 without_place (Took None) = Took None
 without_place (Took (Some place)) = Took (Some (0, 0))

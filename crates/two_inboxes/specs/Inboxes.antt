@@ -32,7 +32,7 @@ pub record InboxPair (C : Type 0) : Type 0 where
   pub client : InboxSide
   pub server : InboxSide
 
--- that of a side
+-- the inbox of a side
 abbrev pub inbox_at : {C : Type 0} → InboxPair C → Side → InboxSide
 inbox_at w Client = w.client
 inbox_at w Server = w.server
@@ -52,7 +52,7 @@ as_it_went (Some frame) (Some bytes) = Some (record frame { bytes = bytes })
 abbrev pub went_out_at : {C : Type 0} → InboxPair C → Side → ℕ → Option SentFrame
 went_out_at w side index = as_it_went (slice_get (half_of w.ends.world side).frames index) (slice_get (inbox_at w side).said index)
 
--- An event is as of two ends, and a frame arrives with the bytes with which it went out.
+-- An event of two ends, in which a frame arrives with the bytes with which it went out.
 abbrev pub happens_with : {C : Type 0} → InboxPair C → Event → Said → Result WorldStep WorldFault
 happens_with w (event.Deliver from index) said = delivers_frame w.ends.world from (went_out_at w from index)
 happens_with w event.Open said = happens w.ends.world event.Open said
@@ -83,7 +83,7 @@ inbox_calls held n bytes (seen.Fired applies) = []
 abbrev pub said_frame : Pseudo → InboxState → SentFrame → List ℕ
 said_frame pseudo held frame = buffered pseudo frame.ack held frame.bytes
 
--- A side's inbox after these calls, where so many frames had been sent before: the new ones go out with what it then says.
+-- A side's inbox after these calls, if this many frames had been sent before: the new ones go out with what it then has to say.
 abbrev pub inbox_after : InboxSide → List InboxCall → ℕ → Half → InboxSide
 inbox_after x calls before half =
     record {
@@ -108,13 +108,13 @@ pub data InboxEvent : Type 0 where
   Happens : (event : Event) → InboxEvent
   Reads Ends : (side : Side) → InboxEvent
 
--- one of them
+-- the pair after one of them
 abbrev pub inbox_steps : {C : Type 0} → Control C → InboxPair C → InboxEvent → InboxPair C
 inbox_steps control w (Happens e) = inbox_goes_on control w e (happens_with w e (said_by control (congestion_of w.ends (actor e))))
 inbox_steps control w (Reads side) = with_inbox_at w side (record (inbox_at w side) { past = history_after (inbox_at w side).past Takes })
 inbox_steps control w (Ends side) = with_inbox_at w side (record (inbox_at w side) { past = history_after (inbox_at w side).past Stops })
 
--- a whole schedule
+-- the pair after a whole schedule
 abbrev pub inbox_plays : {C : Type 0} → Control C → InboxPair C → List InboxEvent → InboxPair C
 inbox_plays control w [] = w
 inbox_plays control w (e ∷ events) = inbox_plays control (inbox_steps control w e) events
@@ -130,7 +130,7 @@ of_ends (Ends side ∷ events) = of_ends events
 abbrev pub inbox_begins : ℕ → InboxSide
 inbox_begins capacity = record { past = no_history capacity; said = [] }
 
--- Two ends that have sent and received nothing, with inboxes for so many packets.
+-- Two ends that have sent and received nothing, with inboxes for this many packets.
 abbrev pub begins_with_inboxes : {C : Type 0} → Control C → Config → Config → C → C → ℕ → ℕ → InboxPair C
 begins_with_inboxes control client server for_client for_server client_most server_most =
     record {
@@ -139,12 +139,12 @@ begins_with_inboxes control client server for_client for_server client_most serv
       server = inbox_begins server_most;
     }
 
--- The packets of each have the addresses that the other takes for its connection's.
+-- The packets of each have the addresses that the other expects on its connection.
 abbrev pub AreAddressed : Config → Config → Type 0
 AreAddressed client server = (server.pseudo_in ≡ client.pseudo_out) × (client.pseudo_in ≡ server.pseudo_out)
 
--- Ends with inboxes do what ends alone do: whatever arrives, in whatever order, after each schedule they are as ends
--- alone are after the same events. So each law on schedules of two ends holds of them.
+-- Ends with inboxes do what ends without them do: whatever arrives, in any order, after each schedule they are as ends without inboxes are after
+-- the same events. So each law on schedules of two ends holds of them.
 abbrev pub RunAsAlone : {C : Type 0} → Control C → Type 0
 RunAsAlone {C} control =
     (client server : Config) (for_client for_server : C) (client_most server_most : ℕ) (events : List InboxEvent)
