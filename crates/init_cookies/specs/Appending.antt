@@ -6,7 +6,7 @@ use Rattle.dccp_packets.specs.declared.reading.Malformed.{Malformed}
 use Rattle.dccp_sum.specs.declared.pseudo_header.Pseudo.{Pseudo}
 use Rattle.dccp_endpoint.specs.Lengthening.{lengthened_if, says_more}
 
--- a frame that is this packet, with these options after its own, or as it is where it has no room for them
+-- a frame that is this packet, with these options after its own, or unchanged if it has no room for them
 abbrev pub appended_packet : Pseudo → List ℕ → List ℕ → Result Parts Malformed → List ℕ
 appended_packet pseudo more frame (Ok p) = lengthened_if (says_more p more) pseudo p frame more
 appended_packet pseudo more frame (Err fault) = frame

@@ -17,7 +17,7 @@ pub record OpeningState : Type 0 where
   pub service : ℕ
   pub options : List ℕ
 
--- it as bytes: 64 bits, twice 48, 32, and the options
+-- an opening as bytes: 64 bits, twice 48, 32, and the options
 abbrev pub opening_bytes : OpeningState → List ℕ
 opening_bytes o = big_bytes 8 o.time ++ (big_bytes 6 o.iss ++ (big_bytes 6 o.number ++ (big_bytes 4 o.service ++ o.options)))
 
@@ -40,7 +40,7 @@ pub record FitsCookie (o : OpeningState) : Type 0 where
   pub service : o.service < 2 ^ 32
   pub options : length o.options ≤ 220
 
--- the header of the Request, its checksum left at zero
+-- the header of the Request, with a checksum of zero
 abbrev pub request_header : Route → OpeningState → Header
 request_header r o =
     record { from = r.from; to = r.to; ccval = 0; cscov = 0; checksum = 0; number = Long o.number; kind = kind.Request o.service }

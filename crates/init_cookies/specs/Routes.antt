@@ -1,4 +1,4 @@
--- Between whom a Request travels (RFC 4340, sections 5.1 and 9.1).
+-- The addresses and ports of a Request (RFC 4340, sections 5.1 and 9.1).
 use Rattle.std.specs.Prelude.{ℕ, List, ◌∷◌, ◌++◌}
 use Rattle.byteorder.specs.Endian.{big_bytes}
 use Rattle.dccp_sum.specs.declared.pseudo_header.Pseudo.{Pseudo}

@@ -19,16 +19,16 @@ pub type CookieBytes = ArrayVec<u8, MOST_OPTION_BYTES>;
 // The bytes of a tag.
 const TAG: usize = 8;
 
-// Of a tag and an opening without options.
+// The bytes of a tag and an opening without options.
 const LEAST_COOKIE: usize = 32;
 
-// Of one with the longest options.
+// The bytes of a tag and an opening with the longest options.
 const MOST_COOKIE: usize = 252;
 
 // How long a cookie is good for, in milliseconds (own).
 const LIFETIME: u64 = 120_000;
 
-/// The keys of a server's cookies: the one by which it writes them, since when, and the one before it.
+/// The keys of a server's cookies: the one with which it writes them, since when it does, and the one before.
 #[derive(Clone, Copy)]
 pub struct CookieKeys {
     key: [u8; 32],
@@ -111,8 +111,8 @@ impl CookieKeys {
     ghost use Rattle.std.specs.Prelude.{◌≡◌, ◌≤◌, [], length};
     ghost use Rattle.init_cookies.specs.Cookies.{cookie_bytes, cookie_opening, key_at, opening_if};
 
-    /// Keys with one key so far, drawn at random: 32 bytes that nobody else knows. The time is in milliseconds since
-    /// any moment, as in each call.
+    /// Keys with only one key so far. Draw it at random: 32 bytes that nobody else knows. The time is in milliseconds
+    /// since any moment, as in each call.
     pub fn new(key: [u8; 32], now: u64) -> CookieKeys
         ensures { result ≡ record { key = key; before = key; since = now } }
     {
@@ -130,7 +130,7 @@ impl CookieKeys {
         self.key
     }
 
-    /// Cookies are written with this key from now on. Those that were written with the key before it stay good for
+    /// Cookies are written with this key from now on. Those that were written with the key before it stay valid for
     /// their two minutes.
     pub fn change(&mut self, key: [u8; 32], now: u64)
         ensures { self.new ≡ record { key = key; before = self.old.key; since = now } }
@@ -183,8 +183,8 @@ impl CookieKeys {
         }
     }
 
-    /// The opening that a cookie holds that came by this route. None if it is older than two minutes or from the
-    /// future, or its tag is not the keyed hash of its content and the route.
+    /// The opening in a cookie that came by this route. None if it is older than two minutes or from the future, or its
+    /// tag is not the keyed hash of its content and the route.
     pub fn read(&self, route: &Route, bytes: &[u8], now: u64) -> Option<FirstRequest>
         ensures { result ≡ cookie_opening self.now now route.now bytes.now }
     {

@@ -7,7 +7,7 @@ use arrayvec::ArrayVec;
 use dccp_options::kinds::INIT_COOKIE;
 use dccp_options::{MOST_OPTION_BYTES, OptList};
 
-/// An Init Cookie as it is among options: its type, its length and its data.
+/// An Init Cookie as an option: its type, its length and its data.
 pub type CookieOption = ArrayVec<u8, 256>;
 
 // The data of the first Init Cookie among these; the options then go on after it.
@@ -45,8 +45,8 @@ pub fn init_cookie(body: &[u8], out: &mut CookieOption)
     let _ = out.try_extend_from_slice(body);
 }
 
-/// What a client returns of these options of a Response, in place of what was there: its Init Cookie if there is only
-/// one, else none (own).
+/// Writes what a client returns of the options of a Response, in place of what was there: its Init Cookie if there is
+/// only one, otherwise nothing (own).
 pub fn one_cookie(options: &OptList<'_>, out: &mut CookieOption)
     ensures value { out.new.items ≡ one_cookie (cookie_options options.now) }
     ensures short { length out.new.items ≤ 255 }

@@ -12,7 +12,7 @@ const INNER: u8 = 0x36;
 
 const OUTER: u8 = 0x5c;
 
-// The key, each of its bytes changed by this one.
+// The key, each of its bytes combined with this one by an exclusive or.
 fn masked_key(key: &[u8; 32], mask: u8) -> ArrayVec<u8, 32>
     ensures { result.items ≡ masked_key mask key.now }
 {

@@ -1,8 +1,8 @@
 //! Init Cookies: what a crowded server sends with a Response instead of keeping the connection, and what its client
 //! returns with its packets (RFC 4340, section 8.1.4; the format of a cookie is own).
 //!
-//! A [`Cookie`](CookieBytes) holds a [`FirstRequest`]: all of a Request that opens its connection later, and when and by
-//! which number it was answered. Its tag is a keyed hash over the opening and the [`Route`] between both ends;
+//! A [`Cookie`](CookieBytes) holds a [`FirstRequest`]: all of a Request that opens its connection later, and when and
+//! under which number it was answered. Its tag is a keyed hash over the opening and the [`Route`] between both ends;
 //! [`CookieKeys`] write and judge it. [`put_request`] writes the Request again. A client keeps the Init Cookie of a
 //! Response ([`one_cookie`]) and returns it ([`append_options`]). There is no clock here, and no memory is taken.
 #![tactic(auto)]

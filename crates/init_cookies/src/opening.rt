@@ -43,8 +43,8 @@ impl FirstRequest {
     ghost use Rattle.std.specs.Prelude.{◌≡◌, ◌≤◌, ◌↔◌, [], IsSome, IfSome, length};
     ghost use Rattle.init_cookies.specs.Openings.{opening_bytes};
 
-    /// A Request of this number, service and option area was answered at this time, in milliseconds, by a Response of this
-    /// number. None exactly where the area is longer than `MOST_REQUEST_OPTIONS`, 220 bytes.
+    /// A Request of this number, service and option area was answered at this time, in milliseconds, by a Response of
+    /// this number. None exactly if the area is longer than `MOST_REQUEST_OPTIONS`, 220 bytes.
     pub fn new(
         time: u64,
         iss: Seq48,
@@ -117,7 +117,7 @@ impl FirstRequest {
     }
 }
 
-// The header of the Request, its checksum left at zero.
+// The header of the Request, with a checksum of zero.
 fn request_header(route: &Route, opening: &FirstRequest) -> Header
     ensures { result ≡ request_header route.now opening.now }
 {

@@ -1,4 +1,4 @@
-//! Between whom a Request travels.
+//! The addresses and ports of a Request.
 ghost use Rattle.std.specs.Prelude.{◌≡◌, ◌+◌, ◌≤◌, [], ◌∷◌, ◌++◌, length};
 ghost use Rattle.byteorder.specs.Endian.{big_bytes};
 ghost use Rattle.init_cookies.specs.Routes.{address_bytes};
