@@ -92,7 +92,7 @@ an_allowance_falls :
     × ((allowed_after_timeout (record { most = 9; acked = 0 })).most ≡ 4) × ((allowed_after_timeout (record { most = 3; acked = 0 })).most ≡ 2)
 an_allowance_falls = (refl, refl, refl, refl, refl, refl, refl, refl, refl)
 
--- a packet more for each window of them, and none where the congestion control has no more
+-- a packet more for each window of them, and none if the congestion control has no more
 an_allowance_grows :
     (allowed_after_acks (record { most = 10; acked = 4 }) 20 5 ≡ record { most = 10; acked = 9 })
     × (allowed_after_acks (record { most = 10; acked = 4 }) 20 6 ≡ record { most = 11; acked = 0 })

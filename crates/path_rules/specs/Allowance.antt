@@ -9,20 +9,20 @@ abbrev pub window_within : Option Allowance → ℕ → ℕ
 window_within None window = window
 window_within (Some it) window = min it.most window
 
--- An allowance of so many packets, one at least, of which none was acknowledged yet.
+-- An allowance of this many packets, at least one, of which none was acknowledged yet.
 abbrev pub allowance_of : ℕ → Allowance
 allowance_of packets = record { most = max 1 packets; acked = 0 }
 
--- One packet less for each that the receive buffer dropped (RFC 4341, section 5.2). With no dropped packet it stays, as
--- it does for a slow receiver (RFC 4340, section 11.6). It ends slow start (RFC 4341, section 5.2).
+-- One packet less for each that the receive buffer dropped (RFC 4341, section 5.2). Without a dropped packet it stays at the window, as for a
+-- slow receiver (RFC 4340, section 11.6). It ends slow start (RFC 4341, section 5.2).
 abbrev pub allowed_after_drops : Option Allowance → ℕ → ℕ → Allowance
 allowed_after_drops it window drops = allowance_of (window_within it window - drops)
 
--- half of it for congestion, as of the window (RFC 4341, section 5)
+-- after congestion half of it, as with the window (RFC 4341, section 5)
 abbrev pub allowed_after_congestion : Option Allowance → ℕ → Allowance
 allowed_after_congestion it window = allowance_of (window_within it window / 2)
 
--- After a timeout slow start goes up to half of it, two packets at least, as up to the threshold (RFC 4341, section 5).
+-- After a timeout slow start goes up to half of it, as it does up to the threshold, but at least up to two packets (RFC 4341, section 5).
 abbrev pub allowed_after_timeout : Allowance → Allowance
 allowed_after_timeout it = allowance_of (max 2 (it.most / 2))
 
@@ -40,7 +40,7 @@ abbrev pub is_within_round_trip : Option RoundTrip → ℕ → Bool → Bool
 is_within_round_trip None elapsed acked = not acked
 is_within_round_trip (Some path) elapsed acked = nat_lt elapsed (max 1 (path.smoothed / 1000))
 
--- It never closes, no report raises it above the window that there was, and acknowledgements raise it by a packet at most.
+-- It never closes the window, no report raises it above the window before, and acknowledgements raise it by at most one packet.
 pub record AllowancesAreKept : Type 0 where
   pub some : (it : Option Allowance) (window drops : ℕ) → 1 ≤ (allowed_after_drops it window drops).most
   pub falls : (it : Option Allowance) (window drops : ℕ) → 1 ≤ window_within it window → (allowed_after_drops it window drops).most ≤ window_within it window

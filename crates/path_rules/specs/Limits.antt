@@ -5,15 +5,15 @@ use Rattle.path_rules.specs.declared.limits.Bucket.{Bucket}
 use Rattle.path_rules.specs.declared.limits.Limit.{Limit}
 use Rattle.path_rules.specs.declared.limits.TokenGrant.{TokenGrant}
 
--- 20 Syncs a second to numbers near the greatest received (own)
+-- 20 Syncs a second for numbers near the greatest received (own)
 abbrev pub near_syncs : Limit
 near_syncs = record { per_second = 20; burst = 20 }
 
--- one a second to all others (own)
+-- one a second for all others (own)
 abbrev pub far_syncs : Limit
 far_syncs = record { per_second = 1; burst = 1 }
 
--- eight Resets a second to those that have no connection (own)
+-- eight Resets a second to peers that have no connection (own)
 abbrev pub resets_to_strangers : Limit
 resets_to_strangers = record { per_second = 8; burst = 8 }
 
@@ -34,12 +34,12 @@ full limit now = record { thousandths = brim limit; since = now }
 abbrev pub refilled : Limit → Bucket → ℕ → ℕ
 refilled limit bucket now = min (bucket.thousandths + limit.per_second * min (now - bucket.since) (brim limit)) (brim limit)
 
--- one if so, else none
+-- one token if it was granted, otherwise none
 abbrev pub tokens_for : Bool → ℕ
 tokens_for true = 1
 tokens_for false = 0
 
--- A token is a thousand thousandths, and is granted if the bucket holds so many.
+-- A token is a thousand thousandths, and is granted if the bucket holds as many.
 abbrev pub token_taken_from : ℕ → ℕ → TokenGrant
 token_taken_from held since =
     record {
@@ -61,7 +61,7 @@ abbrev pub asked_last : ℕ → List ℕ → ℕ
 asked_last since [] = since
 asked_last since (now ∷ later) = asked_last (max since now) later
 
--- Whatever is asked, and however often, no more passes than the bucket held at first and what came in since.
+-- However often and whenever a token is asked for, no more pass than the bucket held at first, plus what came in since.
 abbrev pub LimitsHold : Type 0
 LimitsHold =
     (limit : Limit) (bucket : Bucket) (times : List ℕ)

@@ -1,4 +1,4 @@
--- How long a round trip takes, and how long a report is waited for (RFC 6298; RFC 4341, section 5).
+-- How long a round trip takes, and how long a sender waits for a report (RFC 6298; RFC 4341, section 5).
 use Rattle.std.specs.Prelude.{ℕ, ◌+◌, ◌-◌, ◌*◌, ◌/◌, ◌≤◌, max, min, Option, Some, None}
 use Rattle.path_rules.specs.declared.round_trip.RoundTrip.{RoundTrip}
 
@@ -6,7 +6,7 @@ use Rattle.path_rules.specs.declared.round_trip.RoundTrip.{RoundTrip}
 abbrev pub longest_timeout : ℕ
 longest_timeout = 64000
 
--- a sample of milliseconds in microseconds, of the longest timeout at most
+-- a sample of milliseconds in microseconds, at most the longest timeout
 abbrev pub cut : ℕ → ℕ
 cut sample = min sample longest_timeout * 1000
 
@@ -23,13 +23,13 @@ abbrev pub further_round_trip : RoundTrip → ℕ → RoundTrip
 further_round_trip old sample =
     record { smoothed = (7 * old.smoothed + sample) / 8; variance = (3 * old.variance + apart old.smoothed sample) / 4 }
 
--- the round trip after a sample of so many milliseconds
+-- the round trip after a sample of this many milliseconds
 abbrev pub with_sample : Option RoundTrip → ℕ → RoundTrip
 with_sample None sample = first_round_trip (cut sample)
 with_sample (Some old) sample = further_round_trip old (cut sample)
 
--- SRTT and four times RTTVAR (section 2.3), of which the latter counts for 250 milliseconds at least: the 200 for which
--- a peer may hold back an Ack, and 50 (own)
+-- SRTT and four times RTTVAR (section 2.3). The latter counts as at least 250 milliseconds: the 200 for which a peer may hold back an Ack, and
+-- 50 (own)
 abbrev pub single_timeout : RoundTrip → ℕ
 single_timeout path = (path.smoothed + max (4 * path.variance) 250000) / 1000
 

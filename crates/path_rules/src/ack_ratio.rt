@@ -1,4 +1,4 @@
-//! How many data packets the peer of a sender may take for one Ack.
+//! The Ack Ratio: for how many data packets the peer of a sender sends one Ack.
 ghost use Rattle.std.specs.Prelude.{◌≡◌, ◌<◌, ◌^◌};
 ghost use Rattle.path_rules.specs.AckRatio.{ack_ratio_aim, half, lowers_ratio, period, raises_ratio, shares, wants_ack_ratio};
 
@@ -13,7 +13,7 @@ pub struct AckRatio {
     pub asked: Option<u64>,
 }
 
-/// How long what was in flight is remembered: a round trip, of 200 milliseconds at least (own).
+/// For how long a sender remembers what was in flight: a round trip, at least 200 milliseconds (own).
 pub fn period(path: Option<RoundTrip>) -> u64
     ensures { result ≡ period path }
 {
@@ -23,7 +23,7 @@ pub fn period(path: Option<RoundTrip>) -> u64
     }
 }
 
-// A part of so many packets, rounded up.
+// How many parts of this size there are in that many packets, rounded up.
 fn shares(packets: u64, part: u64) -> u64
     requires packets { packets < 2 ^ 40 }
     requires part { part < 2 ^ 48 }
@@ -39,9 +39,9 @@ fn half(window: u32) -> u64
     (u64::from(window) + 1) / 2
 }
 
-/// The Ack Ratio that a sender wants (RFC 4341, section 6.1.2; own): 1 with a window below 4. Else 32 Acks for the
-/// packets that it uses of its window, or as few as a quarter of its peer's Sequence Window allows; 2 at least, and at
-/// most half the window, rounded up.
+/// The Ack Ratio that a sender wants (RFC 4341, section 6.1.2; own). With a window below 4 it is 1. Otherwise it gives
+/// 32 Acks for the packets that the sender uses of its window, or fewer if a quarter of its peer's Sequence Window
+/// allows no more. It is at least 2, and at most half the window, rounded up.
 ///
 /// `used` is what the sender uses of its window, `width` the peer's Sequence Window, below 2^48.
 pub fn ack_ratio_aim(window: u32, used: u32, width: u64) -> u64
@@ -62,7 +62,7 @@ fn lowers(held: u64, aim: u64, window: u32) -> bool
     aim < held && (aim == 1 || half(window) < held || aim <= held / 2)
 }
 
-// Whether it is raised, if it was asked for so long ago.
+// Whether the ratio is raised, if it was last asked for this long ago.
 fn raises(held: u64, aim: u64, waited: Option<u64>, period: u64) -> bool
     ensures { result ≡ raises_ratio held aim waited period }
 {
@@ -72,7 +72,7 @@ fn raises(held: u64, aim: u64, waited: Option<u64>, period: u64) -> bool
     held <= aim / 2 && waited.is_none_or(|waited| period <= waited)
 }
 
-/// Whether a sender asks for the Ack Ratio that it wants (own; RFC 4341, section 6.1.2, would have it doubled where
+/// Whether a sender asks for the Ack Ratio that it wants (own; RFC 4341, section 6.1.2, says that it is doubled when
 /// Acks are lost). It lowers the ratio at once if 1 is wanted, or if the present ratio is above half the window or at
 /// least twice what is wanted. It raises the ratio from 1 five seconds after it last asked; otherwise it raises it at
 /// least to twice its value, once a period.

@@ -8,7 +8,7 @@ use crate::round_trip::RoundTrip;
 /// and 11.7; own).
 #[derive(Clone, Copy, Debug, PartialEq, Eq)]
 pub struct Allowance {
-    /// How many may be, one at least.
+    /// How many may be in flight, at least one.
     pub most: u32,
     /// How many were acknowledged since that number last changed.
     pub acked: u32,
@@ -33,29 +33,29 @@ fn allowance_of(packets: u32) -> Allowance
     }
 }
 
-/// The allowance once so many packets were reported that the receive buffer dropped, or none by a slow receiver: that
-/// many less than the window, and one at least (RFC 4341, section 5.2; RFC 4340, section 11.6).
+/// The allowance after a report that the receive buffer dropped `drops` packets, or of a slow receiver that dropped
+/// none: that many less than the window, and at least one (RFC 4341, section 5.2; RFC 4340, section 11.6).
 pub fn allowed_after_drops(allowance: Option<Allowance>, window: u32, drops: u32) -> Allowance
     ensures { result ≡ allowed_after_drops allowance window drops }
 {
     allowance_of(window_within(allowance, window).saturating_sub(drops))
 }
 
-/// The allowance once congestion was seen: half the window (RFC 4341, section 5).
+/// The allowance after congestion: half the window (RFC 4341, section 5).
 pub fn allowed_after_congestion(allowance: Option<Allowance>, window: u32) -> Allowance
     ensures { result ≡ allowed_after_congestion allowance window }
 {
     allowance_of(window_within(allowance, window) / 2)
 }
 
-/// The allowance after a timeout: slow start goes up to half of it, two at least (RFC 4341, section 5).
+/// The allowance after a timeout: slow start goes up to half of it, but at least up to two (RFC 4341, section 5).
 pub fn allowed_after_timeout(allowance: &Allowance) -> Allowance
     ensures { result ≡ allowed_after_timeout allowance.now }
 {
     allowance_of((allowance.most / 2).max(2))
 }
 
-/// The allowance once so many further packets were acknowledged: one packet more for each window of them, as long as
+/// The allowance once `acked` further packets were acknowledged: one packet more for each window of them, as long as
 /// `window`, that of the congestion control, is above it (RFC 4341, section 5).
 pub fn allowed_after_acks(allowance: &Allowance, window: u32, acked: u32) -> Allowance
     ensures { result ≡ allowed_after_acks allowance.now window acked }

@@ -3,7 +3,8 @@
 //! RFC 6298; where these leave it open, own).
 //!
 //! All are functions of plain numbers, which take no memory and know no clock. Times are in milliseconds since any
-//! moment; a time before an earlier one counts as that one. The owner of an end calls them (dccp_uses).
+//! moment. A time that lies before an earlier one counts as the earlier one. The owner of an end calls them
+//! (dccp_uses).
 #![tactic(auto)]
 
 mod ack_ratio;

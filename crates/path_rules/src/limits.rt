@@ -4,7 +4,7 @@ ghost use Rattle.path_rules.specs.Limits.{tokens_for, far_syncs, full, is_near_g
 
 use seq_circle::Seq48;
 
-/// How many may pass (own): so many a second, and so many at one time after a rest.
+/// How many answers may pass (own): in a second, and at once after a pause.
 #[derive(Clone, Copy, Debug, PartialEq, Eq)]
 pub struct Limit {
     /// How many tokens come in a second.
@@ -31,7 +31,7 @@ pub struct TokenGrant {
     pub bucket: Bucket,
 }
 
-/// Syncs to numbers near the greatest that was received: 20 a second (own; RFC 4340, section 7.5.4, has eight a second
+/// Syncs for numbers near the greatest that was received: 20 a second (own; RFC 4340, section 7.5.4, has eight a second
 /// for its first limit, and leaves the numbers to the implementation).
 pub fn near_syncs() -> Limit
     ensures { result ≡ near_syncs }
@@ -42,8 +42,8 @@ pub fn near_syncs() -> Limit
     }
 }
 
-/// Syncs to numbers far from it, as a sender would guess that knows none of them: one a second (own; RFC 4340, section
-/// 7.5.4).
+/// Syncs for numbers far from it, such as a sender would guess that knows none of them: one a second (own; RFC 4340,
+/// section 7.5.4).
 pub fn far_syncs() -> Limit
     ensures { result ≡ far_syncs }
 {
@@ -53,7 +53,7 @@ pub fn far_syncs() -> Limit
     }
 }
 
-/// Resets to those that have no connection: eight a second (own; RFC 4340, section 8.1.3, wants them to be limited).
+/// Resets to peers that have no connection: eight a second (own; RFC 4340, section 8.1.3, wants them to be limited).
 pub fn resets_to_strangers() -> Limit
     ensures { result ≡ resets_to_strangers }
 {
@@ -99,7 +99,7 @@ impl Bucket {
         held.min(most) as u32
     }
 
-    /// Takes a token at `now`, if there is one. If there is none, the bucket goes on filling.
+    /// Takes a token at `now`, if there is one. If there is none, the bucket continues to fill.
     pub fn take(&self, limit: &Limit, now: u64) -> TokenGrant
         ensures { result ≡ token_taken limit.now self.now now }
     {

@@ -1,4 +1,4 @@
-//! How long a round trip takes, and how long a report is waited for.
+//! How long a round trip takes, and how long a sender waits for a report.
 ghost use Rattle.std.specs.Prelude.{◌≡◌};
 ghost use Rattle.path_rules.specs.RoundTrip.{cut, first_round_trip, further_round_trip, longest_timeout, single_timeout, timeout, with_sample};
 
@@ -11,8 +11,7 @@ pub struct RoundTrip {
     pub variance: u32,
 }
 
-/// The longest that a timeout is waited for: 64 seconds (RFC 6298, section 2.5; RFC 4340, section 8.1.1, has it for
-/// Requests).
+/// The longest timeout: 64 seconds (RFC 6298, section 2.5; RFC 4340, section 8.1.1, has it for Requests).
 pub fn longest_timeout() -> u64
     ensures { result ≡ longest_timeout }
 {
@@ -55,7 +54,7 @@ pub fn with_sample(old: Option<RoundTrip>, sample: u64) -> RoundTrip
     }
 }
 
-// How long a report is waited for before anything was lost.
+// How long a sender waits for a report before any timeout.
 fn single_timeout(path: &RoundTrip) -> u64
     ensures { result ≡ single_timeout path.now }
 {
@@ -63,9 +62,9 @@ fn single_timeout(path: &RoundTrip) -> u64
     (u64::from(path.smoothed) + variance) / 1_000
 }
 
-/// RTO, in milliseconds: how long a report is waited for before any timeout (RFC 6298, section 2). A second if there
-/// was no sample. 250 milliseconds are the minimum of the variance's part, and not of the whole, since the peer may
-/// hold back an Ack for up to 200 (own). Each timeout doubles it, as `Wait::after` of `rto_wait` says.
+/// RTO, in milliseconds: how long a sender waits for a report before any timeout (RFC 6298, section 2). A second if
+/// there was no sample. The minimum of 250 milliseconds is that of the variance's part, and not of the whole, since the
+/// peer may hold back an Ack for up to 200 (own). Each timeout doubles it, as `Wait::after` of `rto_wait` says.
 pub fn timeout(path: Option<RoundTrip>) -> u64
     ensures { result ≡ timeout path }
 {

@@ -9,7 +9,7 @@ use crate::round_trip::{RoundTrip, timeout};
 pub struct Wait {
     /// The first wait, in milliseconds.
     pub first: u64,
-    /// The longest wait. Where the first is longer, it is that.
+    /// The longest wait, or the first if that is longer.
     pub most: u64,
 }
 
@@ -33,7 +33,8 @@ pub fn request_wait() -> Wait
 }
 
 /// An Ack of an end that has nothing else to say: after 50 milliseconds, up to 20 seconds, so that routers between the
-/// ends keep the connection in their tables (own; RFC 4340, section 8.1.5, has 200 for the client in PARTOPEN).
+/// ends keep the connection in their tables (own; RFC 4340, section 8.1.5, has 200 milliseconds for the client in
+/// PARTOPEN).
 pub fn ack_wait() -> Wait
     ensures { result ≡ ack_wait }
 {
@@ -43,7 +44,7 @@ pub fn ack_wait() -> Wait
     }
 }
 
-/// Changes that no Confirm has answered: after a timeout, of 200 milliseconds at least, up to 64 seconds (own; RFC 4340,
+/// Changes that no Confirm has answered: after a timeout, at least 200 milliseconds, up to 64 seconds (own; RFC 4340,
 /// section 6.6.3, leaves it open).
 pub fn negotiate_wait(path: Option<RoundTrip>) -> Wait
     ensures { result ≡ negotiate_wait path }
@@ -65,7 +66,7 @@ pub fn rto_wait(path: Option<RoundTrip>) -> Wait
     }
 }
 
-/// Changes that no Confirm has answered while a probe is out: two seconds at most (own).
+/// Changes that no Confirm has answered while a probe is out: at most two seconds (own).
 pub fn probing_wait(path: Option<RoundTrip>) -> Wait
     ensures { result ≡ probing_wait path }
 {
@@ -90,7 +91,7 @@ pub fn close_wait(path: Option<RoundTrip>) -> Wait
     }
 }
 
-/// Whether a sender with this window asks its peer for a sign of life before it takes what is in flight for lost: at 16
+/// Whether a sender with this window asks its peer for a sign of life before it counts what is in flight as lost: at 16
 /// packets or more (own). A second timeout in a row would make the slow start end at a window of 2.
 pub fn probes_first(window: u32) -> bool
     ensures { result ≡ probes_first window }
