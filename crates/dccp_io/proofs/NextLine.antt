@@ -194,7 +194,7 @@ scanned before got pending seen is past joined =
       subst (λ (n : ℕ). text_length (before ++ got) ≡ n + text_length (drop n (before ++ got))) same (scan-on before got none),
     )
 
--- so many bytes of the first line are pending that it is too long or too much
+-- this many bytes of the first line are pending that it is too long or too much
 settled-front : (given asked : ℕ) (pending more : List ℕ) (tight : Bool) → nat_lt most_input_bytes (given + one_too_many) ≡ tight → given ≤ most_input_bytes
     → asked ≡ min one_too_many (most_input_bytes - given + 1) → asked ≤ text_length pending → text_length pending ≡ length pending
     → next_in_bytes given (pending ++ more) ≡ next_in_bytes given pending

@@ -37,8 +37,8 @@ first_line bytes = take (suc (text_length bytes)) bytes
 abbrev pub text_of : List ℕ → List ℕ
 text_of line = take (text_length line) line
 
--- After so many bytes, the bytes of a line up to its newline, to the end of the input, or to the byte at which it is
--- too long are within those that an input may have.
+-- If a line comes after this many bytes, its bytes up to its newline, to the end of the input, or to the byte at which it is too long are within
+-- the bytes that an input may have.
 abbrev pub ends_within : ℕ → List ℕ → Bool
 ends_within given line = nat_le (given + min (length line) one_too_many) most_input_bytes
 
@@ -50,12 +50,12 @@ pub data Next : Type 0 where
   Long : (front : List ℕ) → Next
   Much : Next
 
--- A first line whose text has so many bytes: it comes next, or its front if it is too long.
+-- A first line whose text has this many bytes: it comes next, or its front if it is too long.
 abbrev pub by_length : List ℕ → ℕ → Next
 by_length bytes n = if nat_le one_too_many n then Long (take one_too_many bytes) else Line (first_line bytes)
 
--- What comes next among the bytes that are left of an input, after so many that were given: a line is judged for too
--- much input before its length.
+-- What comes next among the bytes that are left of an input, after this many that were given: a line is judged for too much input before its
+-- length.
 abbrev pub next_in_bytes : ℕ → List ℕ → Next
 next_in_bytes given [] = End
 next_in_bytes given (byte ∷ bytes) =
@@ -71,39 +71,38 @@ abbrev pub lines_of : List ℕ → List (List ℕ)
 lines_of [] = []
 lines_of (byte ∷ rest) = if byte == newline then (newline ∷ []) ∷ lines_of rest else before_line byte (lines_of rest)
 
--- The same of the lines that are left: the end, or the first of them.
+-- The same for the lines that are left: the end, or the first of them.
 abbrev pub next_in_lines : ℕ → List (List ℕ) → Next
 next_in_lines given [] = End
 next_in_lines given (line ∷ lines) = if ends_within given line then by_length line (text_length line) else Much
 
--- What was made out from the bytes that are pending.
+-- What was found in the bytes that are pending.
 abbrev pub made_out : List ℕ → NextItem → Next
 made_out bytes next_item.End = End
 made_out bytes (next_item.Line count) = Line (take count bytes)
 made_out bytes next_item.TooLong = Long (take one_too_many bytes)
 made_out bytes next_item.TooMuch = Much
 
--- A line that was made out has some of the pending bytes, is not too long, lies within the bytes that an input may
--- have, and has no newline but at its end.
+-- A line that was found has some of the pending bytes, is not too long, lies within the bytes that an input may have, and has no newline except
+-- at its end.
 abbrev pub IsLineOf : ℕ → List ℕ → NextItem → Type 0
 IsLineOf given bytes (next_item.Line count) =
     (0 < count) × (count ≤ length bytes) × (count ≤ one_too_many) × (given + count ≤ most_input_bytes) × (count ≤ suc (text_length bytes))
 IsLineOf given bytes _ = ⊤
 
--- The first line is pending to its newline, or so many bytes are, or all that is left.
+-- The first line is pending up to its newline, or this many bytes of it are, or all that is left.
 abbrev pub IsSought : ℕ → List ℕ → Option (List ℕ) → Type 0
 IsSought asked pending left = (asked ≤ text_length pending) ⊎ ((text_length pending < length pending) ⊎ IfSome left (λ more. more ≡ []))
 
--- How many bytes of a line settle what comes next, after so many that were given: as many as make it too long, or too
--- much.
+-- How many bytes of a line settle what comes next, after this many that were given: as many as make it too long, or too much.
 abbrev pub enough : ℕ → ℕ
 enough given = min one_too_many (most_input_bytes - given + 1)
 
--- The bytes that are pending settle what comes next: so many of the first line's are there, or its newline is.
+-- The pending bytes settle what comes next: this many of the first line's bytes are there, or its newline is.
 abbrev pub is_line_settled : ℕ → List ℕ → Bool
 is_line_settled asked pending = nat_le asked (text_length pending) || nat_lt (text_length pending) (length pending)
 
--- What seeking keeps: what is still to come, the block, and whose source it is.
+-- What a search does not change: what is still to come, the block, and to whom the source belongs.
 pub record Seeks {S : Type 0} (left : S → Option (List ℕ)) (faults lender : S → ℕ) (old new : BytesAhead) (before after : S) : Type 0 where
   pub same_ahead : ahead_of new (left after) ≡ ahead_of old (left before)
   pub same_size : new.size ≡ old.size
@@ -171,7 +170,7 @@ pub record Finds {S : Type 0} (left : S → Option (List ℕ)) (faults lender : 
   pub past : GivesAtMost 8192 (rest_of_input left new) (left new.source)
   pub answer : AnswersNextLine left faults old new found
 
--- what was answered, apart from where a line's bytes lie
+-- the answer, without the place of a line's bytes
 abbrev pub found_of : Result (Option LineRead) LinesFault → Result Bool Stop
 found_of (Ok (Some (read.Whole text))) = Ok true
 found_of (Ok (Some (read.TooLong front))) = Err stop.TooLong

@@ -32,7 +32,7 @@ pub record MemoryBytes : Type 0 where
   pub most : ℕ
   pub calls : Calls
 
--- how many bytes a call gives that does not fail
+-- how many bytes a call gives if it does not fail
 abbrev pub given_count : MemoryBytes → ℕ → ℕ
 given_count source room = min source.most (min room (length source.left))
 
@@ -57,7 +57,7 @@ pub record MemoryTaken : Type 0 where
   pub calls : Calls
   pub empty_takes : ℕ
 
--- how many bytes a call takes that does not fail
+-- how many bytes a call takes if it does not fail
 abbrev pub accepted : MemoryTaken → List ℕ → ℕ
 accepted sink piece = min sink.most (min (length piece) sink.room)
 
@@ -65,7 +65,7 @@ accepted sink piece = min sink.most (min (length piece) sink.room)
 abbrev pub write_answer : MemoryTaken → List ℕ → Result ℕ Failed
 write_answer sink piece = if next_fails sink.calls then Err (record {}) else Ok (accepted sink piece)
 
--- a call that does not fail
+-- the sink after a call that does not fail
 abbrev pub after_taking : MemoryTaken → List ℕ → MemoryTaken
 after_taking sink piece = record {
   taken = sink.taken ++ take (accepted sink piece) piece;

@@ -1,4 +1,4 @@
-//! Calls of which chosen ones fail.
+//! Calls, of which chosen ones fail.
 ghost use Rattle.std.specs.Prelude.{◌≡◌, IsTrue};
 ghost use Rattle.dccp_io.specs.Counts.{Rose};
 ghost use Rattle.dccp_io.specs.Memory.{is_failing_call, next_fails, counted_call};
@@ -21,7 +21,7 @@ impl Model for CallCount {
     ghost view = { λ c. record { failing = c.failing.items; made = c.made; faults = c.faults } };
 }
 
-// Tells whether the call with this number fails.
+// Whether the call with this number fails.
 fn is_failing_call(failing: &[u64], number: u64) -> bool
     ensures { result ≡ is_failing_call failing.now number }
 {
@@ -29,7 +29,7 @@ fn is_failing_call(failing: &[u64], number: u64) -> bool
 }
 
 impl CallCount {
-    // No call yet.
+    // A count before any call.
     pub(crate) fn new(failing: Vec<u64>) -> CallCount
         ensures { result ≡ record { failing = failing.items; made = 0; faults = 0 } }
     {

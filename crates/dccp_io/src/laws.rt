@@ -1,4 +1,4 @@
-//! What the definition of lines says of whole inputs.
+//! What the definition of lines says about whole inputs.
 ghost use Rattle.std.specs.Prelude.{◌≡◌, ℕ, ◌<◌, List, ◌∷◌, length, drop};
 ghost use Rattle.dccp_io.specs.Lines.{lines_of, first_line, next_in_bytes, next_in_lines};
 

@@ -1,10 +1,10 @@
-//! Where bytes come from and where they go: sources and sinks that may fail, and count how often they did, in counts
+//! Where bytes come from and where they go: sources and sinks, which may fail, and which count their failures in counts
 //! that never fall (own).
 //!
-//! Nothing here knows packets, or what a line says. Contracts above are about a source whose bytes are known, and a
-//! sink that shows what it took. Of the adapters over standard input and output only their counts are known. Lines,
-//! blocks that are read ahead and a sink in memory take what they need when they are made; a text that is read whole
-//! takes memory on the way.
+//! Nothing here knows packets, or what a line says. Contracts of crates above are about a source whose bytes are known,
+//! and a sink that shows what it took. Of the adapters over standard input and output, only their counts are known.
+//! Lines, blocks that are read ahead and a sink in memory take all memory when they are made; a text that is read whole
+//! takes memory as it grows.
 #![tactic(auto)]
 
 mod calls;

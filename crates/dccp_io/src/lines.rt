@@ -1,8 +1,7 @@
 //! The lines of an input, one by one.
 //!
-//! A line that was given is dropped at the next call and not before, so lending needs no second block. A line that is
-//! too long or too much is never dropped. The reader also keeps why no further line comes, so that each further call
-//! reads nothing.
+//! A line that was given is dropped only at the next call, so lending needs no second block. A line that is too long or
+//! too much is never dropped. The reader also keeps why no further line comes, so that each further call reads nothing.
 ghost use Rattle.std.specs.Prelude.{◌≡◌, ◌+◌, ◌≤◌, ◌<◌, ◌==◌, [], length, take, drop, not, true, None, IfOk, OnErr, IfSome};
 ghost use Rattle.std.specs.List.{list_all};
 ghost use Rattle.dccp_io.specs.Counts.{Rose};
@@ -30,8 +29,8 @@ pub enum LineRead<'a> {
     Whole(&'a [u8]),
     /// A line has more than 4,096 bytes: its first 4,097.
     TooLong(&'a [u8]),
-    /// A line's newline or 4,097th byte, or the end of the input after it, does not lie within the first 16,777,216
-    /// bytes.
+    /// Neither the line's newline, nor its 4,097th byte, nor the end of the input after it lies within the first
+    /// 16,777,216 bytes.
     TooMuch,
 }
 
@@ -47,7 +46,7 @@ pub enum LinesFault {
 pub enum Stop {
     /// The next line has more than 4,096 bytes.
     TooLong,
-    /// The next line's newline or 4,097th byte, or the end of the input after it, does not lie within the first
+    /// Neither the next line's newline, nor its 4,097th byte, nor the end of the input after it lies within the first
     /// 16,777,216 bytes.
     TooMuch,
     /// The source failed.
@@ -57,13 +56,13 @@ pub enum Stop {
 // What comes first in the bytes that are pending.
 enum NextItem {
     End,
-    // A line that has so many bytes with its newline.
+    // A line that has this many bytes with its newline.
     Line(usize),
     TooLong,
     TooMuch,
 }
 
-// Whether a block has no newline; none of its bytes ends the search, so that they can be judged side by side.
+// Whether a block has no newline. The search always goes to the block's end, so that bytes can be tested side by side.
 fn lacks_newline(block: &[u8]) -> bool
     ensures { result ≡ list_all (λ byte. not (byte == newline)) block.now }
 {
@@ -74,7 +73,8 @@ fn lacks_newline(block: &[u8]) -> bool
     lacks
 }
 
-// How many bytes come before the first newline at least: the first `seen`, and those of whole blocks after them.
+// A lower bound on how many bytes come before the first newline: the first `seen`, and those of whole blocks after
+// them.
 #[tactic(auto, using(crate::proofs::NextLine::block_seen))]
 fn blocks_seen<const BLOCK: usize>(bytes: &[u8], seen: usize) -> usize
     requires some { 0 < BLOCK }
@@ -90,7 +90,7 @@ fn blocks_seen<const BLOCK: usize>(bytes: &[u8], seen: usize) -> usize
     done
 }
 
-// How many bytes come before the first newline, where none of these is among the first `seen`.
+// How many bytes come before the first newline, if there is none among the first `seen`.
 fn text_length(bytes: &[u8], seen: usize) -> usize
     requires inside { seen ≤ length bytes.now }
     requires before { text_length bytes.now ≡ seen + text_length (drop seen bytes.now) }
@@ -111,7 +111,7 @@ fn text_length(bytes: &[u8], seen: usize) -> usize
     bytes.len()
 }
 
-// The same, where at least so many come before it.
+// The same, if at least this many come before it.
 #[tactic(auto, using(crate::proofs::NextLine::clear_front, crate::proofs::NextLine::text_length_fits))]
 fn text_length_from(bytes: &[u8], clear: usize) -> usize
     requires { clear ≤ text_length bytes.now }
@@ -121,8 +121,7 @@ fn text_length_from(bytes: &[u8], clear: usize) -> usize
     text_length(bytes, clear)
 }
 
-// How many bytes a line has without its newline, which is at most its last byte: the line that so many pending bytes
-// are.
+// How many bytes the line in this many pending bytes has without its newline, which can only be its last byte.
 #[tactic(auto, using(crate::proofs::NextLine::all_but_one_clear))]
 fn text_of_line(pending: &[u8], count: usize) -> usize
     requires some { 0 < count }
@@ -133,7 +132,7 @@ fn text_of_line(pending: &[u8], count: usize) -> usize
     text_length_from(&pending[..count], count - 1)
 }
 
-// How many bytes come before the first newline after so many.
+// How many bytes come before the first newline after the first `count`.
 fn text_length_after(pending: &[u8], count: usize) -> usize
     requires { count ≤ length pending.now }
     ensures { result ≡ text_length (drop count pending.now) }
@@ -142,8 +141,8 @@ fn text_length_after(pending: &[u8], count: usize) -> usize
     text_length(rest, 0)
 }
 
-// Reads on until the first line's newline is pending, or so many bytes of it are, or the input ends; answers how many
-// bytes come before the newline, of which `clear` are known.
+// Reads on until the first line's newline is pending, or enough bytes of it are, or the input ends. Returns how many
+// bytes come before the newline; `clear` of them are known before.
 fn seek<S: Source>(
     source: &mut S,
     ahead: &mut ReadAhead,
@@ -215,8 +214,8 @@ fn enough(given: u64) -> usize
     (ONE_TOO_MANY as u64).min(room + 1) as usize
 }
 
-// The bytes that are pending settle what comes next: the first line's newline is among them, or so many bytes of it
-// are. At least `clear` of them come before a newline.
+// Whether the pending bytes settle what comes next: the first line's newline is among them, or enough bytes of it are.
+// At least `clear` of them come before a newline.
 fn is_line_settled(asked: usize, pending: &[u8], clear: usize) -> bool
     requires { clear ≤ text_length pending.now }
     ensures { result ≡ is_line_settled asked pending.now }
@@ -225,7 +224,7 @@ fn is_line_settled(asked: usize, pending: &[u8], clear: usize) -> bool
     asked <= seen || seen < pending.len()
 }
 
-// Reads on until it is known what comes next, where at least `clear` pending bytes come before a newline.
+// Reads on until it is known what comes next, if at least `clear` pending bytes come before a newline.
 fn stands_next<S: Source>(
     source: &mut S,
     ahead: &mut ReadAhead,
@@ -256,7 +255,7 @@ pub struct Lines<S: Drop> {
     used: usize,
     // How many bytes that line has without its newline.
     text: usize,
-    // So many bytes after that line, or more, come before a newline.
+    // At least this many bytes after that line come before a newline.
     clear: usize,
     given: u64,
     stop: Option<Stop>,
@@ -304,10 +303,10 @@ impl<S: Source + Drop> Lines<S> {
         })
     }
 
-    /// Finds the next line, whole however the reads were cut, which is then `line`; false is the end of the input. It
-    /// takes no memory. At most 8,192 bytes are read past the lines that were given. TooLong and TooMuch come exactly
-    /// where the next line is so, too much before too long, and Failed only where the source failed. After one of these
-    /// each further call answers the same, and does nothing. Where `holds_next` is true the source is not read.
+    /// Finds the next line, whole in whatever pieces the source gave it. It is then `line`; false means the end of the
+    /// input. It takes no memory. At most 8,192 bytes are read past the lines that were given. TooMuch and TooLong come
+    /// exactly if the next line is so, in this order, and Failed comes only if the source failed. After one of these
+    /// each further call answers the same, and does nothing. If `holds_next` is true, the source is not read.
     pub fn find(&mut self) -> Result<bool, Stop>
         ensures finds { Finds S.left S.faults S.lender self.old self.new result }
         ensures unread { holds_next self.old ≡ true → self.new.source ≡ self.old.source }
@@ -344,8 +343,8 @@ impl<S: Source + Drop> Lines<S> {
         }
     }
 
-    /// Whether the next call of `find` certainly reads nothing: what was read already settles its answer, or no further
-    /// line comes.
+    /// Whether the next call of `find` certainly reads nothing, since what was read settles its answer, or since no
+    /// further line comes.
     pub fn holds_next(&self) -> bool
         ensures { result ≡ holds_next self.now }
     {

@@ -29,8 +29,8 @@ impl Model for ReadAhead {
     ghost invariant = { λ a. (a.from ≤ a.to) × (a.to ≤ vec_len a.block) };
 }
 
-// Moves the pending bytes to the block's front if they end at its end, and returns their place then. That happens at
-// most once for each block that was filled.
+// If the pending bytes end at the block's end, moves them to its front. Returns their place. A move happens at most
+// once for each block that was filled.
 fn make_room(block: &mut Vec<u8>, from: usize, to: usize) -> (usize, usize)
     requires order { from ≤ to }
     requires inside { to ≤ length block.old.items }
@@ -102,8 +102,8 @@ impl ReadAhead {
         self.from += count;
     }
 
-    /// Reads once from the source, after the bytes that are pending, and answers how many bytes came: 0 only at the
-    /// source's end. Failed comes only where the source failed, and then the same bytes are pending.
+    /// Reads once from the source, after the bytes that are pending, and returns how many bytes came: 0 only at the
+    /// source's end. Failed comes only if the source failed, and then the same bytes are pending.
     pub fn refill<S: Source>(&mut self, source: &mut S) -> Result<usize, Failed>
         requires { length self.old.pending < self.old.size }
         ensures { Refills S.left S.faults S.lender self.old self.new source.old source.new result }

@@ -1,6 +1,7 @@
 //! Where bytes come from and where they go, as contracts see it.
 //!
-//! A stream whose bytes are not known stays so: the clauses are equations between optional lists.
+//! If a stream's bytes are not known, they are not known after a call either: the clauses are equations between
+//! optional lists.
 ghost use Rattle.std.specs.Prelude.{◌≡◌, ℕ, ◌<◌, ◌≤◌, ◌↔◌, List, [], length, take, Option, IfOk, OnErr, IfSome};
 ghost use Rattle.std.specs.Io.KnownBytes.{prepend_known, append_known};
 ghost use Rattle.dccp_io.specs.Counts.{Rose};
@@ -16,7 +17,8 @@ pub trait Source {
     ghost left: { Self → Option (List ℕ) };
     // How often it has failed.
     ghost faults: { Self → ℕ };
-    // Which loan it reads through, if it is one, so that the owner who lent a source knows it again when it comes back.
+    // The loan through which it reads, if it is one, so that an owner who lent a source recognizes it when it comes
+    // back.
     ghost lender: { Self → ℕ } = { λ _. 0 };
 
     /// Reads the next bytes into the front of the slice and returns how many. Ok(0) is the end of the input; if the

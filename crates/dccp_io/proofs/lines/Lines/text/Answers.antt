@@ -1,4 +1,4 @@
--- The text is a front of the line.
+-- The text is a prefix of the line.
 use Rattle.std.proofs.Common.{arith, ◌≡◌, ◌≤◌, sym, ap, ◌∙◌, length, take}
 use Rattle.std.proofs.lemmas.List.{length-take-le}
 use Rattle.dccp_io.specs.Lines.{LinesState}
