@@ -15,8 +15,7 @@ use Rattle.tool_text.specs.declared.output.status.JobEnd.TheVariants as ended
 use Rattle.tool_text.proofs.Ending.{answers-early, append-none, append-twice, begun-after, begun-longer, none-left, not-both}
 use Rattle.tool_text.specs.declared.words.faults.LineFault.{LineFault}
 
--- Before a line of this number, after so many bytes that were given, where `left` is what is left of the input and `text` was not
--- written yet.
+-- Before a line of this number, after this many bytes that were given, where `left` is what is left of the input and `text` was not written yet.
 pub record Along {P V : Type 0} (job : Job P V) (first state : V) (number given : ℕ) (left : Option (List ℕ)) (front text : List ℕ)
     (before after : Option (List ℕ)) (input : List ℕ) : Type 0 where
   pub written : List ℕ
@@ -40,7 +39,7 @@ module _ {P V : Type 0} (job : Job P V) (first : V) where
     told = sym (append-nil front);
   }
 
-  -- a front of the text was written
+  -- a prefix of the text was written
   pub along-moved : (state : V) (number given : ℕ) (left : Option (List ℕ)) (front text kept : List ℕ) (before after later : Option (List ℕ)) (input : List ℕ)
       → Along job first state number given left front text before after input → IsMovedOut after later text kept
       → Along job first state number given left front kept before later input

@@ -71,7 +71,7 @@ pub word-some : (word : List ℕ) → is_whole_word word ≡ true → (length wo
 word-some [] is = cc is
 word-some (byte ∷ bytes) is = grind (arith, nat_tests)
 
--- bytes of words are a word, where there is one
+-- bytes of words are a word, if there is one
 pub bytes-word : (bytes : List ℕ) → 0 < length bytes → list_all is_word_byte bytes ≡ true → is_whole_word bytes ≡ true
 bytes-word [] some all = absurd (omega arith)
 bytes-word (byte ∷ bytes) some all = all
@@ -112,7 +112,7 @@ joined-parts mark w (next ∷ ws) all =
 word-lacks : (word : List ℕ) → is_whole_word word ≡ true → list_all (lacks 32) word ≡ true
 word-lacks word is = all-weaker is_word_byte (lacks 32) word-byte-lacks word (word-bytes word is)
 
--- words, parted by one space, are parted again
+-- words, separated by one space, are parted again
 pub words-parted : (w : List ℕ) (ws : List (List ℕ)) → list_all is_whole_word (w ∷ ws) ≡ true → slice_split (λ byte. byte == 32) (joined (w ∷ ws)) ≡ w ∷ ws
 words-parted w ws all = joined-parts 32 w ws (all-weaker is_whole_word (list_all (lacks 32)) word-lacks (w ∷ ws) all)
 

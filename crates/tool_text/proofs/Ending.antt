@@ -10,7 +10,7 @@ use Rattle.tool_text.specs.declared.output.status.JobEnd.{JobEnd}
 use Rattle.tool_text.specs.declared.output.status.JobEnd.TheVariants as ended
 use Rattle.tool_text.specs.declared.output.status.Status.{Status}
 
--- a text was written whole, or a front of it
+-- a text was written whole, or a prefix of it
 pub begun-by : {A E : Type 0} (result : Result A E) (before after : Option (List ℕ)) (text : List ℕ) → OnOk result (HasTaken before after text)
     → OnErr result (TakesFront before after text) → HasBegun before after text
 begun-by (Ok _) before after text whole front =
@@ -40,7 +40,7 @@ pub append-twice : (known : Option (List ℕ)) (first more : List ℕ) → appen
 append-twice None first more = refl
 append-twice (Some bytes) first more = ap Some (append_assoc bytes first more)
 
--- a front of a front
+-- a prefix of a front
 pub begun-longer : (after later : Option (List ℕ)) (text more : List ℕ) → HasBegun after later text → HasBegun after later (text ++ more)
 begun-longer after later text more (n, taken) =
     let front = take n text in

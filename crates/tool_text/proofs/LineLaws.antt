@@ -1,4 +1,4 @@
--- A line is refused exactly for its first fault, and accepted exactly where its words spell what it says.
+-- A line is refused exactly for its first fault, and accepted exactly if its words spell what it says.
 use Rattle.std.proofs.Common.{◌≡◌, refl, sym, ap, ◌∙◌, subst, ℕ, ◌+◌, ◌≤◌, List, [], ◌∷◌, length, Bool, true, false, ◌&&◌, not, cond, if◌then◌else◌, nat_lt, Option, Some, None, Result, Ok, Err, arith}
 use Rattle.std.specs.Prelude.{◌↔◌}
 use Rattle.std.specs.List.{list_all, position_from}
@@ -127,7 +127,7 @@ idle-by {A = A} said line false is =
     let found = bind-ok {B = Option A} (said (words_of line)) (λ y. Ok (Some y)) None is in
     cc found.2
 
--- a line says nothing exactly where it is empty or a comment, and clean
+-- a line says nothing exactly if it is empty or a comment, and clean
 pub line-idle : {A : Type 0} (said : WordsLeft → Result A LineFault) (line : List ℕ) → (line_read said line ≡ Ok None) ↔ IsIdle line
 line-idle {A = A} said line = (
   λ is. let found = then-ok (clean line) (text_read said line) None is in
@@ -174,6 +174,6 @@ module _ {A : Type 0} (row : WordRow A) (is_row : IsExactRow row) where
       let words = joined-says row line x is.words is.parted is.says in
       words-back line x words.0 words.1 (is.parted ∙ ap joined words.2) (subst (λ (ws : List (List ℕ)). row.Spells x ws) words.2 is.spells) is.says is.short
 
-  -- a line is accepted exactly where it is words, parted by one space, that spell what it says
+  -- a line is accepted exactly if it is words, separated by one space, that spell what it says
   pub line-accepted : (line : List ℕ) (x : A) → (line_read row.said line ≡ Ok (Some x)) ↔ IsSpokenLine row line x
   line-accepted line x = (line-spelled line x, line-back line x)

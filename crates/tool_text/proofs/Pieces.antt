@@ -4,7 +4,7 @@ use Rattle.std.proofs.Common.{◌≡◌, refl, ap, ◌∙◌, ℕ, zero, suc, �
 use Rattle.std.specs.List.{slice_split, onto_first, position_from}
 use Rattle.tool_text.specs.Words.{WordsLeft, parted_by, placed, later, word_at, is_over}
 
--- an element parts a list: so many come before it, and these pieces follow it
+-- an element parts a list: this many come before it, and these pieces follow it
 record IsCut {X : Type 0} (p : X → Bool) (from : ℕ) (xs : List X) (place : ℕ) : Type 0 where
   pub count : ℕ
   pub at : place ≡ from + count

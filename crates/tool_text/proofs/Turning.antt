@@ -53,7 +53,7 @@ module _ {S K P V : Type 0} (left : S → Option (List ℕ)) (faults lender : S 
 
   module _ (state : V) (old : LinesState S) (output : K) (text : List ℕ) (number : ℕ)
       (before : InLoop left faults lender taken failed empty job Keeps start state first old opened output front text number) where
-    -- a front of the text was written
+    -- a prefix of the text was written
     pub moved-on : {A E : Type 0} (later : K) (kept : List ℕ) (flushed : Result A E) → OnOk flushed (IsMovedOut (taken output) (taken later) text kept)
         → is_err flushed ≡ false
         → failed output ≤ failed later → empty output ≤ empty later

@@ -10,8 +10,8 @@ pub record StandsIn (line : List ℕ) (word : WordAt) : Type 0 where
   pub text : take (length word.text) (drop (word.column - 1) line) ≡ word.text
   pub whole : list_all (λ byte. not (byte == 32)) word.text ≡ true
 
--- the words of a line: parted by one space they are the line, each is at its column, and a word that is absent
--- would follow the line and a space
+-- the words of a line: separated by one space they are the line, each is at its column, and a word that is absent would follow the line and a
+-- space
 pub record AreWordsOf (line : List ℕ) (left : WordsLeft) : Type 0 where
   pub parted : joined (map (λ word. word.text) left.words) ≡ line
   pub columns : All (StandsIn line) left.words

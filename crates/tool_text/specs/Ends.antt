@@ -1,4 +1,4 @@
--- What the tool's one call may have written, and why it ends (own).
+-- What one call of the tool may have written, and why it ends (own).
 use Rattle.std.specs.Prelude.{◌≡◌, ◌⊎◌, ℕ, Bool, true, false, List, [], ◌++◌, take, drop, Option, Some}
 use Rattle.std.specs.Io.KnownBytes.{append_known}
 use Rattle.dccp_io.specs.Counts.{Rose}
@@ -20,7 +20,7 @@ HasBegun before after text = (n : ℕ) × (after ≡ append_known before (take n
 abbrev pub IsMovedOut : Option (List ℕ) → Option (List ℕ) → List ℕ → List ℕ → Type 0
 IsMovedOut before after text kept = (moved : List ℕ) × (after ≡ append_known before moved) × (text ≡ moved ++ kept)
 
--- A text is written once it has so many bytes.
+-- A text is written once it has this many bytes.
 abbrev pub block_length : ℕ
 block_length = 65536
 
@@ -45,7 +45,7 @@ status_of ended.Read = status.Read
 status_of ended.Write = status.Write
 status_of ended.Memory = status.Memory
 
--- A program ended as a job with this property does. No job ends with Words.
+-- A program ended as a job does that has this property. No job ends with Words.
 abbrev pub OnJobEnd : Status → (JobEnd → Type 0) → Type 0
 OnJobEnd status.Done Holds = Holds ended.Done
 OnJobEnd status.Input Holds = Holds ended.Input
@@ -54,7 +54,7 @@ OnJobEnd status.Read Holds = Holds ended.Read
 OnJobEnd status.Write Holds = Holds ended.Write
 OnJobEnd status.Memory Holds = Holds ended.Memory
 
--- The whole job was done, or the input was refused: in both cases all is written that there is to write.
+-- The whole job was done, or the input was refused: in both cases all that there is to write was written.
 abbrev pub IsAnswered : JobEnd → Type 0
 IsAnswered result = (result ≡ ended.Done) ⊎ (result ≡ ended.Input)
 
@@ -62,7 +62,7 @@ IsAnswered result = (result ≡ ended.Done) ⊎ (result ≡ ended.Input)
 abbrev pub IsCutOff : JobEnd → Type 0
 IsCutOff result = (result ≡ ended.Read) ⊎ ((result ≡ ended.Write) ⊎ (result ≡ ended.Memory))
 
--- If an input is refused, at most so many bytes were read after those that were accepted.
+-- If an input is refused, at most this many bytes were read after those that were accepted.
 abbrev pub StopsWithin : ℕ → ℕ → List ℕ → JobEnd → Option (List ℕ) → Type 0
 StopsWithin most accepted bytes result left = result ≡ ended.Input → GivesAtMost most (Some (drop accepted bytes)) left
 

@@ -29,8 +29,8 @@ abbrev pub line_text : {P V : Type 0} → Job P V → Option P → List ℕ
 line_text job None = []
 line_text job (Some deed) = job.told deed
 
--- A line was judged with this result: an accepted one adds its text at the text's end and leads on, a refused one
--- leaves the text as it was. If memory ran out, nothing is known of the line.
+-- A line was judged with this result: an accepted one adds its text at the text's end and leads to the next state, and a refused one leaves the
+-- text as it was. If memory ran out, nothing is known about the line.
 abbrev pub Judges : {P V : Type 0} → Job P V → LineVerdict P V → List ℕ → List ℕ → V → Result (Unit {0}) LineError → Type 0
 Judges job verdict old new after (Err line_error.NoMemory) = Unit {0}
 Judges job (Accepted deed next) old new after answer = (new ≡ old ++ line_text job deed) × (after ≡ next) × (answer ≡ Ok tt)
@@ -79,7 +79,7 @@ abbrev pub gone_by : {P V : Type 0} → V → ℕ → ℕ → LineVerdict P V �
 gone_by state number given (Accepted deed next) rest = onto (deeds_of deed) (rest next)
 gone_by state number given (Refused fault) rest = gone_so_far state number given (Some fault)
 
--- The result of these lines, after so many bytes that were given; the first has this number.
+-- The result of these lines, after this many bytes that were given; the first has this number.
 abbrev pub gone_from : {P V : Type 0} → Job P V → V → ℕ → ℕ → List (List ℕ) → LinesResult P V
 gone_from job state number given [] = gone_so_far state number given None
 gone_from job state number given (line ∷ lines) =
@@ -103,17 +103,15 @@ last_in apart job last number (Some fault) = refusal_in apart number fault
 abbrev pub last_lines : {P V : Type 0} → Job P V → V → ℕ → Option LineFault → List ℕ
 last_lines job last number refusal = last_in false job last number refusal
 
--- What is written of an input, if refusals are written to the output or not: the text of each deed, and what comes
--- last.
+-- What is written for an input, by whether refusals are written to the output: the text of each deed, and what comes last.
 abbrev pub text_in : {P V : Type 0} → Bool → Job P V → LinesResult P V → List ℕ
 text_in apart job gone = flat_map job.told gone.deeds ++ last_in apart job gone.last gone.number gone.refusal
 
--- What is written of an input: the text of each deed, and the last lines.
+-- What is written for an input: the text of each deed, and the last lines.
 abbrev pub text_of_job : {P V : Type 0} → Job P V → LinesResult P V → List ℕ
 text_of_job job gone = text_in false job gone
 
--- What is written of an input if refusals are not written to the output: the text of each deed, and the text at the
--- input's end.
+-- What is written for an input if refusals are not written to the output: the text of each deed, and the text at the input's end.
 abbrev pub text_apart : {P V : Type 0} → Job P V → LinesResult P V → List ℕ
 text_apart job gone = text_in true job gone
 
@@ -126,15 +124,15 @@ refusal_at number (Some fault) = Some (record { number = number; fault = fault }
 abbrev pub refusal_told : {P V : Type 0} → LinesResult P V → Option LineRefusal
 refusal_told gone = refusal_at gone.number gone.refusal
 
--- The lines of an input were gone through, after a text that comes first: what was written and how the job ended, how
--- far the input was read past the last accepted line if one was refused, and what holds of the last state.
+-- The job went through the lines of an input, after a text that comes first: what was written and how the job ended, how far the input was read
+-- past the last accepted line if one was refused, and what is true of the last state.
 pub record GoesThrough {P V : Type 0} (job : Job P V) (Keeps : V → ℕ → Type 0) (first : V) (front input : List ℕ) (result : JobEnd)
     (left before after : Option (List ℕ)) : Type 0 where
   pub answers : Answers (front ++ text_of_job job (gone_through job first input)) (is_some (gone_through job first input).refusal) result left before after
   pub past : StopsWithin 16384 (gone_through job first input).accepted input result left
   pub kept : IsAnswered result → (number : ℕ) × Keeps (gone_through job first input).last number
 
--- The same if refusals are written to the output or not, with the refusal of the input.
+-- The same by whether refusals are written to the output, with the refusal of the input.
 pub record GoesIn {P V : Type 0} (apart : Bool) (job : Job P V) (Keeps : V → ℕ → Type 0) (first : V) (front input : List ℕ) (ended : LinesEnd)
     (left before after : Option (List ℕ)) : Type 0 where
   pub answers : Answers (front ++ text_in apart job (gone_through job first input)) (is_some (gone_through job first input).refusal) ended.end left before after

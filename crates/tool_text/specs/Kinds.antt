@@ -20,7 +20,7 @@ pub record KindOfWords (A : Type 0) : Type 1 where
 
 -- Faults of words
 
--- a flaw of this cause, after so many bytes
+-- a flaw of this cause, after this many bytes
 abbrev pub flaw_after : ℕ → LineWhy → Flaw
 flaw_after place cause = record { place = place; why = cause }
 
@@ -48,7 +48,7 @@ abbrev pub judged_word : (List ℕ → Option Flaw) → WordAt → Option LineFa
 judged_word flaw word =
     if length word.text == 0 then Some (fault_at word.column why.Missing) else flaw_fault word.column (flaw word.text)
 
--- What a kind keeps
+-- What holds of a kind
 
 -- a byte of a word
 abbrev pub is_word_byte : ℕ → Bool
@@ -59,13 +59,12 @@ abbrev pub is_whole_word : List ℕ → Bool
 is_whole_word [] = false
 is_whole_word (byte ∷ bytes) = list_all is_word_byte (byte ∷ bytes)
 
--- the flaw, where it is one
+-- the flaw, if it is one
 abbrev pub flaw_in : {A : Type 0} → Result A Flaw → Option Flaw
 flaw_in (Ok x) = None
 flaw_in (Err flaw) = Some flaw
 
--- the three parts of a kind say one thing: a word that is there is read exactly where it has no flaw, and as the value
--- that it spells
+-- the three parts of a kind agree: a word that is there is read exactly if it has no flaw, and as the value that it spells
 pub record IsExactKind {A : Type 0} (kind : KindOfWords A) : Type 0 where
   pub flaws : (text : List ℕ) → flaw_in (kind.reads text) ≡ kind.flaw text
   pub spelled : (text : List ℕ) (x : A) → (length text == 0) ≡ false → kind.reads text ≡ Ok x → kind.Spells x text
@@ -79,7 +78,7 @@ abbrev pub found_or : {A : Type 0} → LineWhy → Option A → Result A Flaw
 found_or cause None = Err (flaw_after 0 cause)
 found_or cause (Some x) = Ok x
 
--- no flaw where that is so
+-- no flaw if that is so
 abbrev pub flaw_unless : Bool → Flaw → Option Flaw
 flaw_unless fits flaw = if fits then None else Some flaw
 

@@ -58,7 +58,7 @@ pub record IsIdle (line : List ℕ) : Type 0 where
   pub short : length line ≤ 4096
   pub text : list_all is_text line ≡ true
 
--- a line is words, parted by one space, that spell this value
+-- a line is words, separated by one space, that spell this value
 pub record IsSpokenLine {A : Type 0} (row : WordRow A) (line : List ℕ) (x : A) : Type 0 where
   pub words : List (List ℕ)
   pub spells : row.Spells x words

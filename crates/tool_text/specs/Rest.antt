@@ -3,7 +3,7 @@ use Rattle.std.specs.Prelude.{ℕ, ◌+◌, List, [], length, Option, Some, None
 use Rattle.std.specs.Borrow.{Bor}
 use Rattle.tool_text.specs.Words.{parted_by}
 
--- the pieces of what follows, parted by this byte; none where nothing follows
+-- the pieces of what follows, separated by this byte; none if nothing follows
 abbrev pub pieces_left : ℕ → Option (Bor (List ℕ)) → List (List ℕ)
 pieces_left mark None = []
 pieces_left mark (Some rest) = parted_by mark rest.now

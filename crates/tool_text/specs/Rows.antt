@@ -17,7 +17,7 @@ abbrev pub ◌>>=◌ : {A B : Type 0} → Result A LineFault → (A → Result B
 Ok x >>= f = f x
 Err fault >>= f = Err fault
 
--- a check's fault, or what follows the check where it held
+-- a check's fault, or what follows if the check held
 infixl 10 ◌>>◌
 abbrev pub ◌>>◌ : {B : Type 0} → Result (Unit {0}) LineFault → Result B LineFault → Result B LineFault
 Ok _ >> next = next
@@ -34,15 +34,14 @@ abbrev pub first_or : Option LineFault → Option LineFault → Option LineFault
 first_or None next = next
 first_or (Some fault) next = Some fault
 
--- What a row keeps
+-- What holds of a row
 
 -- the fault of a result, if it is one
 abbrev pub fault_in : {A : Type 0} → Result A LineFault → Option LineFault
 fault_in (Ok x) = None
 fault_in (Err fault) = Some fault
 
--- the three parts of a row say one thing: words are refused for its fault, and otherwise they spell what it says of
--- them
+-- the three parts of a row agree: words are refused for its fault, and otherwise they spell the value that it reads
 pub record IsExactRow {A : Type 0} (row : WordRow A) : Type 0 where
   pub first : (left : WordsLeft) → fault_in (row.said left) ≡ row.fault left
   pub spelled : (left : WordsLeft) (x : A) → row.said left ≡ Ok x → row.Spells x (texts_of left.words)
@@ -95,12 +94,12 @@ kind ▷ row = record {
 
 -- Rows made of rows
 
--- what is made of what was said
+-- what is made from what was said
 abbrev pub made : {A B : Type 0} → (A → B) → Result A LineFault → Result B LineFault
 made make (Ok x) = Ok (make x)
 made make (Err fault) = Err fault
 
--- a row, with what is made of what it says
+-- a row, with what is made from what it says
 abbrev pub row_as : {A B : Type 0} → (A → B) → WordRow A → WordRow B
 row_as {A = A} make row = record {
   said = λ left. made make (row.said left);
@@ -127,17 +126,17 @@ choice kind rows = record {
   Spells = AreChosen kind rows;
 }
 
--- the one where the test holds, and the other where it does not
+-- the one if the test holds, and the other if it does not
 abbrev pub ByTest : Bool → Type 0 → Type 0 → Type 0
 ByTest true Holds Fails = Holds
 ByTest false Holds Fails = Fails
 
--- the words after this one, where it is the first, and otherwise all of them
+-- the words after this one if it is the first, and otherwise all of them
 abbrev pub AreAfter : {A : Type 0} → List ℕ → (A → List (List ℕ) → Type 0) → (A → List (List ℕ) → Type 0) → A → List (List ℕ) → Type 0
 AreAfter name Following Other x [] = Other x []
 AreAfter name Following Other x (word ∷ words) = ByTest (bytes_eq word name) (Following x words) (Other x (word ∷ words))
 
--- a row after this word, or another row where the first word is not this one
+-- a row after this word, or another row if the first word is not this one
 abbrev pub after_word : {A : Type 0} → List ℕ → WordRow A → WordRow A → WordRow A
 after_word name row other = record {
   said = λ left. if bytes_eq (first_word left).text name then row.said (later left) else other.said left;
@@ -155,7 +154,7 @@ abbrev pub cause_at : ℕ → Option LineWhy → Option LineFault
 cause_at column None = None
 cause_at column (Some cause) = Some (fault_at column cause)
 
--- the fault of what was said, if it may not be
+-- the fault of what was said, if it is not allowed
 abbrev pub refused_at : {A : Type 0} → ℕ → (A → Option LineWhy) → Result A LineFault → Option LineFault
 refused_at column judge (Ok x) = cause_at column (judge x)
 refused_at column judge (Err fault) = None
@@ -176,12 +175,12 @@ flag_read name word = if bytes_eq word name then Ok tt else Err (flaw_after 0 wh
 abbrev pub flag_flaw : List ℕ → List ℕ → Option Flaw
 flag_flaw name word = if bytes_eq word name then None else Some (flaw_after 0 why.UnknownWord)
 
--- whether this word is left; no other may be, nor one after it
+-- whether this word is left; no other word may be left, nor one after it
 abbrev pub flag_said : List ℕ → List WordAt → Result Bool LineFault
 flag_said name [] = Ok false
 flag_said name (word ∷ words) = word_read (flag_read name) word >>= (λ is. none_left words >>= (λ over. Ok true))
 
--- the fault of what is left, where it is neither nothing nor this word
+-- the fault of what is left, if that is neither nothing nor this word
 abbrev pub flag_fault : List ℕ → List WordAt → Option LineFault
 flag_fault name [] = None
 flag_fault name (word ∷ words) = first_or (judged_word (flag_flaw name) word) (nothing_more words)

@@ -15,7 +15,7 @@ abbrev pub hex_or_dash : List ℕ → List ℕ
 hex_or_dash [] = codes "-"
 hex_or_dash (byte ∷ bytes) = encode_lower (byte ∷ bytes)
 
--- four numbers, parted by dots
+-- four numbers, separated by dots
 abbrev pub v4_text : List ℕ → List ℕ
 v4_text a =
     decimal (slice_index a 0) ++ codes "." ++ decimal (slice_index a 1) ++ codes "."

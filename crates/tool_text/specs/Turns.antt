@@ -22,13 +22,13 @@ stopped_turn stop.TooLong = turn.Refused too_long
 stopped_turn stop.TooMuch = turn.Refused (whole_line why.TooMuchInput)
 stopped_turn stop.Failed = turn.Failed
 
--- The turn in which a line was judged: it is accepted, or refused with its fault, or memory was not found.
+-- The turn in which a line was judged: it is accepted, or refused with its fault, or there was no memory.
 abbrev pub judged_turn : Result (Unit {0}) LineError → Turn
 judged_turn (Ok _) = turn.Accepted
 judged_turn (Err (line_error.Refused fault)) = turn.Refused fault
 judged_turn (Err line_error.NoMemory) = turn.NoMemory
 
--- What comes next is refused. At most 8,192 bytes were read after it, and of a line 4,097 at most.
+-- What comes next is refused. At most 8,192 bytes were read after it, and at most 4,097 of a line.
 pub record RefusesNext {S : Type 0} (left : S → Option (List ℕ)) (faults lender : S → ℕ) (old new : LinesState S) (IsRefused : List ℕ → Type 0) : Type 0 where
   pub never_falls : faults old.source ≤ faults new.source
   pub same_lender : lender new.source ≡ lender old.source
@@ -53,7 +53,7 @@ TakesTurn left faults lender job Keeps number old new state next text written tu
 abbrev pub unrefused : JobEnd → LinesEnd
 unrefused end = record { end = end; refusal = None }
 
--- What was left of a text was written: whole with an answer, and otherwise a front of it.
+-- What was left of a text was written: all of it with an answer, and otherwise a prefix of it.
 pub record Leaves (text : List ℕ) (refused : Bool) (result : JobEnd) (before after : Option (List ℕ)) : Type 0 where
   pub whole : IsAnswered result → HasTaken before after text
   pub front : IsCutOff result → HasBegun before after text

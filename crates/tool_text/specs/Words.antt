@@ -1,8 +1,8 @@
--- The words of a line, parted by one space (own).
+-- The words of a line, separated by one space (own).
 use Rattle.std.specs.Prelude.{ℕ, zero, suc, ◌+◌, Bool, true, false, ◌==◌, List, [], ◌∷◌, length, ◌<◌}
 use Rattle.std.specs.List.{join_with_byte, slice_split}
 
--- a text's pieces, parted by this byte
+-- a text's pieces, separated by this byte
 abbrev pub parted_by : ℕ → List ℕ → List (List ℕ)
 parted_by mark text = slice_split (λ byte. byte == mark) text
 
@@ -37,16 +37,16 @@ words_left words absent = record { words = words; absent = absent }
 abbrev pub words_of : List ℕ → WordsLeft
 words_of line = words_left (placed 1 (parted_by 32 line)) (length line + 2)
 
--- the first of the words, which has no text where it is absent
+-- the first of the words, which has no text if it is absent
 abbrev pub first_of : ℕ → List WordAt → WordAt
 first_of absent [] = word_at_column absent []
 first_of absent (word ∷ words) = word
 
--- the next word to be read, without text where the line is over
+-- the next word to be read, without text if the line is over
 abbrev pub first_word : WordsLeft → WordAt
 first_word left = first_of left.absent left.words
 
--- no word is there any more
+-- no word is left
 abbrev pub is_over : List WordAt → Bool
 is_over [] = true
 is_over (word ∷ words) = false
@@ -60,12 +60,12 @@ words_after (word ∷ words) = words
 abbrev pub later : WordsLeft → WordsLeft
 later left = words_left (words_after left.words) left.absent
 
--- the words after the first so many
+-- the words after the first ones, this many
 abbrev pub later_by : ℕ → WordsLeft → WordsLeft
 later_by zero left = left
 later_by (suc n) left = later_by n (later left)
 
--- words, parted by one space
+-- words, separated by one space
 abbrev pub joined : List (List ℕ) → List ℕ
 joined words = join_with_byte 32 words
 

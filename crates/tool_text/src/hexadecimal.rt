@@ -10,7 +10,7 @@ use std::simd::prelude::*;
 // How many bytes are between the digits 0 to 9 and the letters.
 const GAP: u8 = b'a' - b'9' - 1;
 
-// How far a value's digit is after that of 0.
+// How far a value's digit comes after that of 0.
 fn gap(value: u8) -> u8
     ensures { result ≡ (if nat_lt value 10 then 0 else 39) }
 {
@@ -62,7 +62,7 @@ fn halves_of(bytes: u8x16) -> (u8x16, u8x16)
     highs.interleave(lows)
 }
 
-// Writes the digits of the block that is at a place, where those of all bytes before it are written.
+// Writes the digits of the block at a place, if those of all bytes before it are written.
 fn encode_block(bytes: &[u8], room: &mut [u8], place: usize)
     requires fits { place + 16 ≤ length bytes.now }
     requires sized { length room.old ≡ 2 * length bytes.now }

@@ -2,7 +2,7 @@
 //! jobs over lines.
 //!
 //! Each function that puts a piece appends it to a text. After NoMemory the text still begins with all that it had
-//! before, so that the writer of a whole line cuts it back to that.
+//! before, so that the writer of a whole line can cut it back to that.
 #![tactic(auto)]
 
 mod hexadecimal;

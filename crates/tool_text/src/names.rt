@@ -1,4 +1,4 @@
-//! Names that more than one of the tool's texts has.
+//! Names that occur in more than one of the tool's texts.
 ghost use Rattle.std.specs.Prelude.{◌≡◌};
 ghost use Rattle.tool_text.specs.Names.{malformed_name};
 

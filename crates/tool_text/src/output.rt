@@ -1,5 +1,5 @@
-//! How the tool's jobs end, and their texts, which go out in blocks (own). Of its source and its sink a job knows only
-//! their counts.
+//! How the tool's jobs end, and their texts, which go out in blocks (own). A job knows only the counts of its source
+//! and its sink.
 
 mod blocks;
 mod status;

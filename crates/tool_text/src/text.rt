@@ -13,7 +13,7 @@ use seq_circle::NoMemory;
 // How many bytes are put as digits at a time.
 const BLOCK: usize = 128;
 
-// No more bytes than these have a small room for their digits, since a room is cleared before it is used.
+// Up to this many bytes get a small room for their digits, since a room is cleared before it is used.
 const FEW: usize = 32;
 
 /// Whether bytes are just this text (own).
@@ -58,9 +58,9 @@ pub fn put_number(text: &mut Vec<u8>, number: u64) -> Result<(), NoMemory>
     put(text, buffer.format(number).as_bytes())
 }
 
-/// Puts a name after what is said of it, such as `refused ` (own). NoMemory means that the text could not grow; then
-/// what is said may be there alone.
-// What is said is mostly a literal of the caller: inlined, it is put as a known number of bytes.
+/// Puts a name after a word such as `refused ` (own). NoMemory means that the text could not grow; then only the word
+/// may be there.
+// The word is mostly a literal of the caller: inlined, it is put as a known number of bytes.
 #[inline(always)]
 pub fn put_named(text: &mut Vec<u8>, what: &[u8], name: &[u8]) -> Result<(), NoMemory>
     ensures ok { OnOk result (text.new.items ≡ text.old.items ++ (what.now ++ name.now)) }
@@ -70,8 +70,8 @@ pub fn put_named(text: &mut Vec<u8>, what: &[u8], name: &[u8]) -> Result<(), NoM
     put(text, name)
 }
 
-/// Puts a number in decimal after its word (own). NoMemory means that the text could not grow; then the word may be
-/// there alone.
+/// Puts a number in decimal after its word (own). NoMemory means that the text could not grow; then only the word may
+/// be there.
 // Inlined as `put_named` is.
 #[inline(always)]
 pub fn put_counted(text: &mut Vec<u8>, word: &[u8], number: u64) -> Result<(), NoMemory>
@@ -139,7 +139,7 @@ fn put_pair(text: &mut Vec<u8>, number: u8) -> Result<(), NoMemory>
     Ok(())
 }
 
-// Puts a byte's number. It has at most three digits, which are faster one by one than through a buffer.
+// Puts a byte's number. It has at most three digits, which is faster one by one than through a buffer.
 #[tactic(auto, using(crate::proofs::Keeping::keeps_itself, crate::proofs::Keeping::keeps_more, crate::proofs::Keeping::keeps_through))]
 fn put_byte(text: &mut Vec<u8>, number: u8) -> Result<(), NoMemory>
     ensures ok { OnOk result (text.new.items ≡ text.old.items ++ decimal number) }
@@ -162,8 +162,8 @@ fn put_dotted(text: &mut Vec<u8>, number: u8) -> Result<(), NoMemory>
     put_byte(text, number)
 }
 
-/// Puts an address of IPv4: four numbers, parted by dots (own). NoMemory means that the text could not grow; then the
-/// first numbers may be there.
+/// Puts an address of IPv4: four numbers, separated by dots (own). NoMemory means that the text could not grow; then
+/// the first numbers may be there.
 pub fn put_v4(text: &mut Vec<u8>, address: [u8; 4]) -> Result<(), NoMemory>
     ensures ok { OnOk result (text.new.items ≡ text.old.items ++ v4_text address) }
     ensures front { Keeps text.old.items text.new.items }

@@ -1,4 +1,4 @@
-//! What a job does with lines.
+//! Jobs over lines.
 ghost use Rattle.std.specs.Prelude.{◌≡◌, ℕ, ◌+◌, ◌≤◌, ◌++◌, OnOk};
 ghost use Rattle.tool_text.specs.Jobs.{Job, Judges};
 
@@ -14,14 +14,14 @@ pub const MOST_EVENTS: u32 = 16_384;
 pub trait LineJob {
     // What a line does.
     ghost Deed: { Type 0 };
-    // What the job makes of lines.
+    // The job as a definition: the result of each line, and the texts.
     ghost job: { Job Deed Self };
-    // What holds of its state before the line of this number.
+    // What is true of its state before the line with this number.
     ghost keeps: { Self → ℕ → Type 0 };
 
     /// Judges the line of this number, counted from 1, without its newline: at most 4,096 bytes. An accepted line
     /// leaves the text of what it does at the text's end; a refused one leaves the text as it was. NoMemory means that
-    /// no memory was left; then nothing is known of state and text.
+    /// no memory was left; then nothing is known about the state and the text.
     fn judge(
         &mut self,
         alloc: Global,

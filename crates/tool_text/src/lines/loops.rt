@@ -26,8 +26,8 @@ fn leave<K: Sink>(output: &mut K, text: &[u8], refused: bool) -> JobEnd
     }
 }
 
-// Writes the rest of the text, and then the line of a refusal, under the number of the refused line, if refusals are
-// written to the output.
+// Writes the rest of the text. If refusals are written to the output, then writes the line of the refusal, with the
+// number of the refused line.
 fn refuse<K: Sink>(
     output: &mut K,
     text: &mut Vec<u8>,
@@ -68,7 +68,7 @@ pub struct LinesEnd {
     pub refusal: Option<LineRefusal>,
 }
 
-// The loop, which writes a refusal to the output or not. What it works on is lent, so that none of its exits has
+// The loop, which writes a refusal to the output or not. It borrows what it works on, so that none of its exits has
 // anything to drop.
 fn go_through<J: LineJob, S: Source + Drop, K: Sink>(
     alloc: Global,
@@ -144,12 +144,12 @@ fn go_over<J: LineJob, S: Source, K: Sink>(
 }
 
 /// Does a job over the lines of an input, one by one as they are read (own). It writes the text that it is given, then
-/// that of what each line does, and at last the text at the input's end or the line of the first refusal, under the
-/// number of the line. Text goes out in blocks of 65,536 bytes, and before the source is asked for more. A line of more
-/// than 4,096 bytes is refused at its 4,097th, as LineTooLong. A line is refused as TooMuchInput if its newline, or
-/// that byte, is not within the input's first 16,777,216 bytes. With status 0 or 1 the output is that of the whole
-/// input; with another status it is a prefix of that. Read means that the source failed, Write that the sink did, and
-/// Memory that no memory was left.
+/// that of what each line does, and last the text at the input's end, or the line of the first refusal, with the number
+/// of the refused line. Text goes out in blocks of 65,536 bytes, and before the source is asked for more. A line of
+/// more than 4,096 bytes is refused at its 4,097th, as LineTooLong. A line is refused as TooMuchInput if neither its
+/// newline, nor that byte, nor the input's end is within the input's first 16,777,216 bytes. With status 0 or 1 the
+/// output is that of the whole input; with another status it is a prefix of that. Read means that the source failed,
+/// Write that the sink did, and Memory that no memory was left.
 pub fn run_lines<J: LineJob, S: Source, K: Sink>(
     alloc: Global,
     job: &mut J,

@@ -50,7 +50,7 @@ fn judged_turn(answer: Result<(), LineError>) -> Turn
 }
 
 /// Writes the text before the reader asks its source for more, and when it has a block's length. So the sender of the
-/// lines has the answers to all that were read before it has to send more.
+/// lines gets the answers to all lines that were read before it has to send more.
 pub(crate) fn flush_if_due<S: Source + Drop, K: Sink>(
     lines: &Lines<S>,
     output: &mut K,
@@ -70,7 +70,7 @@ pub(crate) fn flush_if_due<S: Source + Drop, K: Sink>(
     }
 }
 
-/// Reads the next line and has it judged, under its number. Before that asks the source for more, all text is written.
+/// Reads the next line and judges it, under its number. All text is written before the source is asked for more.
 pub(crate) fn judge_next<J: LineJob, S: Source + Drop>(
     alloc: Global,
     job: &mut J,

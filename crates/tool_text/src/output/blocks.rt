@@ -8,7 +8,7 @@ ghost use Rattle.tool_text.specs.Text.{SameText};
 use crate::output::status::JobEnd;
 use dccp_io::{Failed, Sink, write_all};
 
-// A text of so many bytes is written.
+// A text is written once it has this many bytes.
 const BLOCK: usize = 65_536;
 
 /// Writes the text and empties it (own). Failed comes only if the sink failed, or took no byte of a piece that was not
@@ -44,8 +44,8 @@ pub fn flush_if_full<K: Sink>(output: &mut K, text: &mut Vec<u8>) -> Result<(), 
     flush(output, text)
 }
 
-/// Writes the lines that are whole, so that none is lost if the job ends early, and returns why it does (own). All are
-/// written unless the sink failed.
+/// Writes the lines that are complete, so that none is lost if the job ends early, and returns why it does (own). All
+/// are written unless the sink failed.
 pub fn cut_off<K: Sink>(output: &mut K, text: &[u8], why: JobEnd) -> JobEnd
     ensures same { result ≡ why }
     ensures front { HasBegun (K.taken output.old) (K.taken output.new) text.now }

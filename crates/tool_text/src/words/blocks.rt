@@ -15,7 +15,7 @@ pub(crate) trait ByteSearch {
 // Most words are shorter.
 const NEAR: usize = 10;
 
-// Whether a block has no such byte. Its bytes do not end the search one by one.
+// Whether a block has no such byte. The search always goes to the block's end.
 fn lacks<S: ByteSearch>(what: &S, block: &[u8]) -> bool
     ensures { result ≡ list_all (λ byte. not (S.sought what.now byte)) block.now }
 {
@@ -26,8 +26,8 @@ fn lacks<S: ByteSearch>(what: &S, block: &[u8]) -> bool
     lacks
 }
 
-// How many bytes before the first such byte a text begins with, counted on from so many by whole blocks. The bytes of a
-// block are judged side by side.
+// A lower bound on how many bytes of a text come before the first such byte, counted on from `front` by whole blocks.
+// The bytes of a block are tested side by side.
 #[tactic(auto, using(crate::proofs::BlockLaws::block_further))]
 fn blocks_from<const BLOCK: usize, S: ByteSearch>(what: &S, text: &[u8], front: usize) -> usize
     requires some { 0 < BLOCK }
@@ -50,7 +50,7 @@ fn first_in<S: ByteSearch>(what: &S, text: &[u8]) -> Option<usize>
     text.iter().position(|byte| what.is_sought(*byte))
 }
 
-// The first one after so many bytes that are none.
+// The place of the first one after `front` bytes that are none.
 #[tactic(auto, using(crate::proofs::BlockLaws::none_after, crate::proofs::BlockLaws::some_after))]
 fn first_after<S: ByteSearch>(what: &S, text: &[u8], front: usize) -> Option<usize>
     requires without { list_all (λ byte. not (S.sought what.now byte)) (take front text.now) ≡ true }
@@ -75,7 +75,7 @@ fn far_from<S: ByteSearch>(what: &S, text: &[u8], front: usize) -> usize
     blocks_from::<16, S>(what, text, large)
 }
 
-/// The place of the first byte that is looked for, if there is mostly none.
+/// The place of the first byte that is looked for, for a text that mostly has none.
 pub(crate) fn first_far<S: ByteSearch>(what: &S, text: &[u8]) -> Option<usize>
     ensures first { result ≡ position_from (S.sought what.now) 0 text.now }
     ensures within { IfSome result (IsPlaceOf text.now) }
@@ -85,7 +85,7 @@ pub(crate) fn first_far<S: ByteSearch>(what: &S, text: &[u8]) -> Option<usize>
     first_after(what, text, front)
 }
 
-/// The same, if it is mostly near.
+/// The same for a text in which it is mostly near.
 #[tactic(auto, using(crate::proofs::BlockLaws::none_there, crate::proofs::BlockLaws::none_at_all, crate::proofs::BlockLaws::some_near))]
 pub(crate) fn first_near<S: ByteSearch>(what: &S, text: &[u8]) -> Option<usize>
     ensures first { result ≡ position_from (S.sought what.now) 0 text.now }

@@ -7,8 +7,7 @@ use crate::words::blocks::{ByteSearch, first_far};
 use dccp_packets::{Frame, MOST_FRAME_BYTES};
 use std::marker::Model;
 
-// A digit is one of 0 to 9, or of a to f in either case. This form judges many bytes side by side in the fewest
-// operations.
+// A digit is one of 0 to 9, or of a to f in either case. This form tests many bytes side by side with few operations.
 fn is_hex_digit(byte: u8) -> bool
     ensures { result ≡ is_hex_digit byte }
 {
@@ -29,7 +28,7 @@ impl ByteSearch for NoDigit {
     }
 }
 
-/// The place of the first byte that is no digit, or that after an odd number of digits (own).
+/// The place of the first byte that is no digit, or the place after an odd number of digits (own).
 pub(crate) fn flaw_in_digits(word: &[u8]) -> Option<usize>
     ensures value { result ≡ digits_flaw word.now }
     ensures within { IfSome result (λ place. place ≤ length word.now) }
@@ -110,7 +109,7 @@ impl<'a> Digits<'a> {
         self.text.len() / 2
     }
 
-    /// Tells whether there are no bytes (own).
+    /// Whether there are no bytes (own).
     #[tactic(auto, using(crate::proofs::Decoding::bytes_length))]
     pub fn is_empty(&self) -> bool
         ensures { result ≡ (length self.now == 0) }

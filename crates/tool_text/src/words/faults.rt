@@ -11,7 +11,7 @@ pub struct LineFault {
 }
 
 /// What may be wrong with a line, in the order in which it is judged (own). Missing, UnknownWord, BadPeer, BadNumber
-/// and BadHex are judged together, word by word from the left. Each grammar of lines says which of these it answers.
+/// and BadHex are judged together, word by word from the left. Each grammar of lines says which of these it can answer.
 #[derive(Clone, Copy, PartialEq, Eq)]
 pub enum LineWhy {
     /// It ends past the input's limit. The program judges this.
@@ -20,9 +20,9 @@ pub enum LineWhy {
     LineTooLong,
     /// A byte is none of 32 to 126: at the first such byte.
     NotText,
-    /// A word is empty or absent: at its column, which for an absent one is the line's length plus 2.
+    /// A word is empty or absent: at its column, which is the line's length plus 2 if it is absent.
     Missing,
-    /// A word is none of those that may be there: at that word.
+    /// A word is none of those allowed in its place: at that word.
     UnknownWord,
     /// A word should be a peer, an IPv4 address and a port, and is not: at that word.
     BadPeer,
@@ -49,7 +49,7 @@ pub enum LineWhy {
     NoSuchFrame,
 }
 
-/// The word for a cause, as the line of a refusal has it (own).
+/// The word for a cause in the line of a refusal (own).
 pub fn line_why_name(why: LineWhy) -> &'static [u8]
     ensures { result.now ≡ line_why_name why }
 {

@@ -52,7 +52,7 @@ pub fn read_word<'a, K: WordKind<'a>>(word: Word<'a>) -> Result<K::Read, LineFau
     })
 }
 
-/// What was found in a word, or a flaw of this cause at its first byte (own).
+/// The value that was found in a word, or a flaw of this cause at its first byte (own).
 pub fn found_or<T: Drop>(why: LineWhy, found: Option<T>) -> Result<T, Flaw>
     ensures value { result ≡ spec.found_or why found }
     ensures within { IfErr result (λ flaw. flaw.place ≡ 0) }

@@ -48,7 +48,7 @@ pub fn clean(line: &[u8]) -> Result<(), LineFault>
     }
 }
 
-/// Tells whether a line is empty or a comment (own).
+/// Whether a line is empty or a comment (own).
 pub fn says_nothing(line: &[u8]) -> bool
     ensures { result ≡ spec.says_nothing line.now }
 {

@@ -10,8 +10,8 @@ use crate::words::faults::{LineFault, LineWhy};
 use crate::words::kinds::{Flaw, WordKind, read_word};
 use crate::words::split::Words;
 
-/// A row of words, read from the left (own): a tuple of kinds that ends in `()`, as `(SideWord, (NumberWord, ()))`, or
-/// a type that a grammar makes of such rows.
+/// A row of words, read from the left (own): a tuple of kinds that ends in `()`, such as
+/// `(SideWord, (NumberWord, ()))`, or a type that a grammar makes from such rows.
 pub trait WordRow<'a> {
     /// What the words say.
     type Said: Drop;
@@ -53,16 +53,16 @@ impl<'a, K: WordKind<'a>, R: WordRow<'a>> WordRow<'a> for (K, R) {
     }
 }
 
-/// A word that the last place of a row may have (own).
+/// A word that may be in the last place of a row (own).
 pub trait Flag {
     ghost name: { List ℕ };
 
-    /// Tells whether a word is this one.
+    /// Whether a word is this one.
     fn is_name(word: &[u8]) -> bool
         ensures { result ≡ bytes_eq word.now name };
 }
 
-/// The end of a row that may have this word (own): UnknownWord if it has another, and Trailing if a word follows it.
+/// The end of a row, in which this word may be (own): UnknownWord for another word, and Trailing if a word follows it.
 pub struct MaybeFlag<F>(F);
 
 // The word for a flag, as a kind of words.

@@ -41,7 +41,7 @@ pub fn first_piece(mark: u8, text: &[u8]) -> (&[u8], Option<&[u8]>)
 /// The words of a line that are still to be read (own).
 #[derive(Clone, Copy)]
 pub struct Words<'a> {
-    // What follows, and None after the last word.
+    // What follows, or None after the last word.
     rest: Option<&'a [u8]>,
     // The column of the next word.
     column: u32,
@@ -64,7 +64,7 @@ impl<'a> Words<'a> {
         }
     }
 
-    /// Tells whether no word is left (own).
+    /// Whether no word is left (own).
     #[tactic(auto, using(crate::proofs::Pieces::some_left))]
     pub fn is_over(&self) -> bool
         ensures { result ≡ is_over (left_of self.now).words }
