@@ -162,7 +162,7 @@ no-more (Some fault) = refl
 plain-same : (a b : Option LineFault) → a ≡ b → a ≡ first_or b None
 plain-same a b is = is ∙ sym (no-more b)
 
--- what comes second is asked only where nothing came first
+-- what comes second is asked only if nothing came first
 pub first-when : (a b c : Option LineFault) → (a ≡ None → b ≡ c) → first_or a b ≡ first_or a c
 first-when None b c is = is refl
 first-when (Some fault) b c is = refl

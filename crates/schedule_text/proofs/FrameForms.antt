@@ -1,4 +1,4 @@
--- A replay's line is accepted exactly where it is the words of its frame, and refused exactly for its first fault.
+-- A replay's line is accepted exactly if it is the words of its frame, and refused exactly for its first fault.
 use Rattle.std.proofs.Common.{◌≡◌, refl, sym, ap, ◌∙◌, subst, ℕ, ◌/◌, ◌≤◌, List, [], ◌∷◌, length, Bool, true, false, ◌&&◌, ◌==◌, if◌then◌else◌, nat_lt, Option, Some, None, Result, Ok, Err, arith}
 use Rattle.std.specs.Prelude.{codes, ◌↔◌}
 use Rattle.std.specs.Str.{bytes_eq}

@@ -1,4 +1,4 @@
--- A line is accepted exactly where it is the words of what it says.
+-- A line is accepted exactly if it is the words of what it says.
 use Rattle.std.proofs.Common.{◌≡◌, refl, sym, ap, ◌∙◌, subst, ℕ, suc, ◌+◌, ◌*◌, ◌^◌, ◌/◌, ◌%◌, ◌≤◌, ◌<◌, List, [], ◌∷◌, length, Bool, true, false, if◌then◌else◌, Some, None, Result, Ok, Err, arith}
 use Rattle.std.specs.Prelude.{codes, decimal, IsOk}
 use Rattle.std.specs.List.{list_all}

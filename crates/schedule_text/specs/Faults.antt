@@ -1,5 +1,4 @@
--- The first fault of a line, as a table: what the words of each form are judged for, in the order in which they are
--- (own).
+-- The first fault of a line, as a table: what each word of a form is judged for, in the order of the words (own).
 use Rattle.std.specs.Prelude.{ℕ, ◌+◌, ◌^◌, Bool, false, ◌&&◌, ◌==◌, ◌||◌, nat_lt, if◌then◌else◌, List, [], ◌∷◌, length, codes, Option, Some, None, is_some, Result, Ok, Err}
 use Rattle.std.specs.Str.{bytes_eq}
 use Rattle.feature_lists.specs.Wishes.{is_ours, wish_of}
@@ -22,11 +21,11 @@ use Rattle.tool_text.specs.Lines.{first_other, says_nothing, no_text}
 use Rattle.schedule_text.specs.Reading.{wish_fault}
 use Rattle.tool_text.specs.Refusals.{fault_at}
 
--- no fault where that fits, and this one where it does not
+-- no fault if that fits, and this one if it does not
 abbrev pub unless : Bool → LineFault → Option LineFault
 unless fits fault = if fits then None else Some fault
 
--- a word is there, or else Missing, and it fits, or else this cause, both at its column
+-- Missing if the word is not there, and this cause if it does not fit, both at its column
 abbrev pub word_fault : LineWhy → Bool → WordAt → Option LineFault
 word_fault cause fits word =
     if length word.text == 0 then Some (fault_at word.column why.Missing) else unless fits (fault_at word.column cause)
@@ -61,11 +60,11 @@ a_feature left = word_fault why.BadNumber (is_some (feature_of (first_word left)
 abbrev pub a_version : Judge
 a_version left = word_fault why.BadNumber (is_some (schedule_version (first_word left).text)) (first_word left)
 
--- one to nine values below 2^48, parted by commas
+-- one to nine values below 2^48, separated by commas
 abbrev pub some_values : Judge
 some_values left = word_fault why.BadNumber (is_some (values_of (first_word left).text)) (first_word left)
 
--- a name that begins with neither letter is no word that may be there; otherwise its rest should be an index
+-- a name that begins with neither letter is an unknown word; otherwise its rest should be an index
 abbrev pub name_cause : List ℕ → LineWhy
 name_cause [] = why.UnknownWord
 name_cause (letter ∷ index) = if letter == 99 || letter == 115 then why.BadNumber else why.UnknownWord
@@ -93,7 +92,7 @@ digits_fault word =
 abbrev pub some_bytes : Judge
 some_bytes left = if bytes_eq (first_word left).text (codes "-") then None else digits_fault (first_word left)
 
--- the fault of a next word other than `mandatory`, where there is a next word
+-- the fault of a next word other than `mandatory`, if there is a next word
 abbrev pub maybe_first : List WordAt → Option LineFault
 maybe_first [] = None
 maybe_first (word ∷ words) = word_fault why.UnknownWord (bytes_eq word.text (codes "mandatory")) word
@@ -122,19 +121,19 @@ abbrev pub words_fault : List Judge → WordsLeft → Option LineFault
 words_fault [] left = nothing_more left.words
 words_fault (judge ∷ judges) left = first_or (judge left) (words_fault judges (later left))
 
--- what an end may not have, at the values, and for an offer at the feature
+-- values that an end may not have are refused at the values, and for an offer at the feature
 abbrev pub refused_wish : ℕ → Result Wanted PreferFault → Option LineFault
 refused_wish column (Ok wanted) = None
 refused_wish column (Err fault) = Some (fault_at column (wish_fault fault))
 
--- a configured list that the end may not have; words that could not be read are judged elsewhere
+-- a configured list that the end may not have is refused; words that could not be read are judged elsewhere
 abbrev pub refused_set : ℕ → Option Place → Option Feature → Option (List ℕ) → Option LineFault
 refused_set column (Some place) (Some feature) (Some values) = refused_wish column (wish_of feature place values)
 refused_set column (Some place) (Some feature) None = None
 refused_set column (Some place) None values = None
 refused_set column None feature values = None
 
--- an offer that the end may not make; words that could not be read are judged elsewhere
+-- an offer that the end may not make is refused; words that could not be read are judged elsewhere
 abbrev pub refused_offer : ℕ → Option Place → Option Feature → Option LineFault
 refused_offer column (Some place) (Some feature) = unless (is_ours feature place) (fault_at column why.NotOurs)
 refused_offer column (Some place) None = None

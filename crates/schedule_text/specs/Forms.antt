@@ -20,7 +20,7 @@ pub record IsSendLine (text : List ℕ) (side : List ℕ) (payload : List ℕ) :
   pub words : text ≡ joined (form_name form.Send ∷ (side ∷ (digits ∷ [])))
   pub few : length payload ≤ 2042
 
--- a text is a line that says this: its own words, parted by one space, of which digits may be of either case
+-- a text is a line that says this: the words for it, separated by one space, with digits of either case
 abbrev pub IsLine : List ℕ → Line → Type 0
 IsLine text line.Nothing = (says_nothing text ≡ true) × (length text ≤ 4096) × (list_all is_text text ≡ true)
 IsLine text (line.Version number) = (text ≡ joined (line_words (line.Version number))) × IsSayable (line.Version number)
@@ -42,11 +42,11 @@ IsLine text (line.Event (event.Timer side timer)) = text ≡ joined (line_words 
 IsLine text (line.Event (event.Close side)) = text ≡ joined (line_words (line.Event (event.Close side)))
 IsLine text (line.Event (event.Abort side)) = text ≡ joined (line_words (line.Event (event.Abort side)))
 
--- The words of a line with a frame: `seal` where its checksum is to be set, then its digits.
+-- The words of a line with a frame: `seal` if its checksum is to be set, then its digits.
 abbrev pub frame_words : Bool → List ℕ → List (List ℕ)
 frame_words seal digits = if seal then codes "seal" ∷ (digits ∷ []) else digits ∷ []
 
--- a text is a frame's words: digits of 1 to 2,044 bytes, of 8 at least where the checksum is to be set
+-- a text is a frame's words: digits of 1 to 2,044 bytes, and of at least 8 if the checksum is to be set
 pub record IsFrameOf (text : List ℕ) (frame : FrameLine) : Type 0 where
   pub digits : List ℕ
   pub spells : AreDigitsOf digits frame.bytes
@@ -55,7 +55,7 @@ pub record IsFrameOf (text : List ℕ) (frame : FrameLine) : Type 0 where
   pub few : length frame.bytes ≤ 2044
   pub covered : frame.seal ≡ true → 8 ≤ length frame.bytes
 
--- a text is a replay's line that has this frame, or it has none: it is an empty line or a comment
+-- a text is a replay's line that has this frame, or one without a frame: an empty line or a comment
 abbrev pub IsFrameLine : List ℕ → Option FrameLine → Type 0
 IsFrameLine text None = (says_nothing text ≡ true) × (length text ≤ 4096) × (list_all is_text text ≡ true)
 IsFrameLine text (Some frame) = IsFrameOf text frame

@@ -36,7 +36,7 @@ size_judged seal s = size_cause seal (length s.0)
 abbrev pub frame_row : Bool → WordRow FrameLine
 frame_row seal = row_as (digits_frame seal) (judged_row 0 (size_judged seal) (hex_kind ▷ end_row))
 
--- the words of a line with a frame: `seal` where the checksum is to be set, then the digits
+-- the words of a line with a frame: `seal` if the checksum is to be set, then the digits
 abbrev pub replay_row : WordRow FrameLine
 replay_row = after_word (codes "seal") (frame_row true) (frame_row false)
 
@@ -56,7 +56,7 @@ read_frame text = do
 abbrev pub seals : WordsLeft → Bool
 seals left = bytes_eq (first_word left).text (codes "seal")
 
--- more than 2,044 bytes, or fewer than 8 where the checksum is to be set
+-- more than 2,044 bytes, or fewer than 8 if the checksum is to be set
 abbrev pub size_fault : Bool → ℕ → List ℕ → Option LineFault
 size_fault seal column bytes =
     if nat_lt 2044 (length bytes) then Some (fault_at column why.FrameTooLong)
@@ -69,7 +69,7 @@ digits_line_fault seal left =
     first_or (digits_fault (first_word left))
     (first_or (nothing_more (later left).words) (size_fault seal (first_word left).column (bytes_of_digits (first_word left).text)))
 
--- the digits are the second word where `seal` is the first
+-- the digits are the second word if `seal` is the first
 abbrev pub replayed_fault : WordsLeft → Option LineFault
 replayed_fault left = if seals left then digits_line_fault true (later left) else digits_line_fault false left
 

@@ -49,7 +49,7 @@ timer_kind = name_kind timer_name all_timers
 abbrev pub sequence_kind : KindOfWords ℕ
 sequence_kind = number_kind sequence_numbers
 
--- a feature by its number, for names are not taken
+-- a feature by its number, since names are not accepted
 abbrev pub feature_kind : KindOfWords Feature
 feature_kind = found_kind why.BadNumber feature_of (λ feature text. text ≡ decimal (feature_number feature))
 
@@ -61,7 +61,7 @@ version_kind = found_kind why.BadNumber schedule_version (λ number text. (text 
 abbrev pub values_kind : KindOfWords (List ℕ)
 values_kind = found_kind why.BadNumber values_of (λ values text. (text ≡ values_text values) × AreValues values)
 
--- a sender and an index, where one was found
+-- a sender and an index, if one was found
 abbrev pub from_sender : Side → Result ℕ Flaw → Result (Side × ℕ) Flaw
 from_sender from (Ok index) = Ok (from, index)
 from_sender from (Err flaw) = Err flaw

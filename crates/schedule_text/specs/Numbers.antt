@@ -5,7 +5,7 @@ use Rattle.feature_lists.specs.declared.features.Feature.{Feature}
 use Rattle.tool_text.specs.Numbers.{number_below}
 use Rattle.tool_text.specs.Words.{parted_by}
 
--- the numbers of sequence numbers and of values, and those of frames
+-- sequence numbers and values stay below this limit
 abbrev pub sequence_numbers : ℕ
 sequence_numbers = 2 ^ 48
 
@@ -13,7 +13,7 @@ sequence_numbers = 2 ^ 48
 abbrev pub indices : ℕ
 indices = 2 ^ 47
 
--- numbers in front of others
+-- a number before others
 abbrev pub number_and_rest : ℕ → Option (List ℕ) → Option (List ℕ)
 number_and_rest number None = None
 number_and_rest number (Some numbers) = Some (number ∷ numbers)
@@ -23,15 +23,15 @@ abbrev pub numbers_read : List (List ℕ) → Option (List ℕ)
 numbers_read [] = Some []
 numbers_read (text ∷ texts) = option_and_then (λ number. number_and_rest number (numbers_read texts)) (number_below sequence_numbers text)
 
--- numbers that the room for values holds, which is for nine
+-- numbers for which there is room: at most nine
 abbrev pub at_most_nine : List ℕ → Option (List ℕ)
 at_most_nine numbers = if nat_le (length numbers) 9 then Some numbers else None
 
--- one to nine numbers below 2^48, parted by commas
+-- one to nine numbers below 2^48, separated by commas
 abbrev pub values_of : List ℕ → Option (List ℕ)
 values_of word = option_and_then at_most_nine (numbers_read (parted_by 44 word))
 
--- the numbers of versions, which begin with 1
+-- the version with this number, counted from 1
 abbrev pub version_numbered : ℕ → Option ℕ
 version_numbered number = if number == 0 then None else Some number
 

@@ -13,21 +13,21 @@ use Rattle.schedule_text.specs.declared.line.Line.TheVariants as line
 use Rattle.schedule_text.specs.declared.names.Form.TheVariants as form
 use Rattle.schedule_text.specs.Names.{form_name, side_name, place_name, timer_name}
 
--- numbers, parted by commas
+-- numbers, separated by commas
 abbrev pub values_text : List ℕ → List ℕ
 values_text values = join_with_byte 44 (map decimal values)
 
--- a frame's name: the letter of its sender and its index
+-- the letter of a sender, with which a frame's name begins
 abbrev pub side_letter : Side → List ℕ
 side_letter Client = codes "c"
 side_letter Server = codes "s"
 
--- the name by which a line speaks of a frame, as `c12` is that of the client's frame with index 12
+-- the name of a frame in a line, such as `c12` for the client's frame with index 12
 abbrev pub frame_name : Side → ℕ → List ℕ
 frame_name from index = side_letter from ++ decimal index
 
--- The words that a schedule has for an event, its form first. It has none for early data; these are for people, and
--- read by nobody.
+-- The words that a schedule has for an event, its form first. It has none for early data: the words for these are for people, and no program
+-- reads them.
 abbrev pub event_words : Event → List (List ℕ)
 event_words event.Open = form_name form.Open ∷ []
 event_words (event.Deliver from index) = form_name form.Deliver ∷ frame_name from index ∷ []
@@ -39,11 +39,11 @@ event_words (event.Timer side timer) = form_name form.Timer ∷ side_name side �
 event_words (event.Close side) = form_name form.Close ∷ side_name side ∷ []
 event_words (event.Abort side) = form_name form.Abort ∷ side_name side ∷ []
 
--- the words of an offer that is marked with Mandatory have one more
+-- the further word of an offer that is marked with Mandatory
 abbrev pub mandatory_words : Bool → List (List ℕ)
 mandatory_words mandatory = if mandatory then codes "mandatory" ∷ [] else []
 
--- what a line that says this has for its words; one that says nothing has none
+-- the words of a line that says this; one that says nothing has none
 abbrev pub line_words : Line → List (List ℕ)
 line_words line.Nothing = []
 line_words (line.Version number) = form_name form.Version ∷ decimal number ∷ []

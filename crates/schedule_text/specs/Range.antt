@@ -22,7 +22,7 @@ pub record FitsOneLine (payload : List ℕ) : Type 0 where
 abbrev pub IsVersion : ℕ → Type 0
 IsVersion number = (1 ≤ number) × (number ≤ 2)
 
--- an event whose index, data or values are such as a line can say
+-- an event whose index, data or values a line can have
 abbrev pub IsPrintable : Event → Type 0
 IsPrintable event.Open = Unit {0}
 IsPrintable (event.Deliver from index) = index < 2 ^ 47

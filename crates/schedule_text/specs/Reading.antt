@@ -21,7 +21,7 @@ use Rattle.schedule_text.specs.declared.names.Form.{Form}
 use Rattle.schedule_text.specs.declared.names.Form.TheVariants as form
 use Rattle.schedule_text.specs.Kinds.{form_kind, side_kind, place_kind, timer_kind, sequence_kind, feature_kind, version_kind, values_kind, frame_kind}
 
--- what a wish that is refused makes of its line; `wish` refuses for no other cause
+-- the fault of a line whose wish is refused; `wish` refuses for no other cause
 abbrev pub wish_fault : PreferFault → LineWhy
 wish_fault wish.BadList = why.BadList
 wish_fault wish.NotOurs = why.NotOurs

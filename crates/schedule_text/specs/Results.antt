@@ -1,4 +1,4 @@
--- What was seen of an event, as it is printed (own).
+-- The result of an event, as it is printed (own).
 use Rattle.std.specs.Prelude.{ℕ, ◌≤◌, ◌++◌, Bool, true, false, List, length, slice_range, flat_map, codes, decimal, Option, Some, None, Ok, Err}
 use Rattle.dccp_sum.specs.declared.packet_sum.SumFault.{SumFault}
 use Rattle.dccp_sum.specs.declared.packet_sum.SumFault.TheVariants as sum
@@ -33,7 +33,7 @@ abbrev pub sum_word : SumFault → List ℕ
 sum_word sum.CoverageTooLarge = codes "CoverageTooLarge"
 sum_word sum.Wrong = codes "Wrong"
 
--- the word for why a packet was dropped; where its bytes or its checksum are at fault, that of the fault
+-- the word for why a packet was dropped; if its bytes or its checksum are wrong, the word for their fault
 abbrev pub why_name : Why → List ℕ
 why_name (why.Malformed fault) = malformed_name fault
 why_name (why.Sum fault) = sum_word fault
@@ -85,15 +85,15 @@ seen_text bytes (Received outcome) = outcome_text bytes outcome
 abbrev pub told_text : ℕ → Event → List ℕ
 told_text number event = decimal number ++ codes " " ++ event_text event
 
--- what was seen, after its event
+-- the result, after its event
 abbrev pub result_text : List ℕ → Seen → List ℕ
 result_text bytes seen = codes ": " ++ seen_text bytes seen ++ codes "\n"
 
--- its line, with what was seen of it
+-- the line of an event with its result
 abbrev pub seen_line : ℕ → Event → Seen → List ℕ → List ℕ
 seen_line number event seen bytes = told_text number event ++ result_text bytes seen
 
--- what was seen of a replay's frame, under the number of its line
+-- the result of a replay's frame, under the number of its line
 abbrev pub result_line : ℕ → Seen → List ℕ → List ℕ
 result_line number seen bytes = decimal number ++ result_text bytes seen
 
@@ -112,7 +112,7 @@ HasItsData bytes (Synced number) = Unit {0}
 HasItsData bytes (WasReset code) = Unit {0}
 HasItsData bytes (SentReset code detail) = Unit {0}
 
--- what was seen can be told of a frame with these bytes; calls and timers have no data
+-- the result is possible for a frame with these bytes; calls and timers have no data
 abbrev pub IsSeenOf : List ℕ → Seen → Type 0
 IsSeenOf bytes (Called result) = Unit {0}
 IsSeenOf bytes (Fired fired) = Unit {0}

@@ -41,8 +41,8 @@ fn frame<'a>(seal: bool, words: &mut Words<'a>) -> Result<FrameLine<'a>, LineFau
     })
 }
 
-/// The words of a frame (own): `seal` where the checksum is to be set, then the digits of its bytes, one to 2,044 of
-/// them; after `seal` at least eight.
+/// The words of a frame (own): `seal` if the checksum is to be set, then the digits of its bytes, one to 2,044 of them,
+/// or at least eight after `seal`.
 pub struct FrameWords;
 
 impl<'a> WordRow<'a> for FrameWords {
@@ -61,10 +61,10 @@ impl<'a> WordRow<'a> for FrameWords {
     }
 }
 
-/// The frame that a line of a replay says, or None exactly where the line is empty or a comment; or the first of the
+/// The frame that a line of a replay says, or None exactly if the line is empty or a comment; or the first of the
 /// line's faults in the order of `LineWhy`, with its column (own). The line comes without its newline.
 ///
-/// A frame is written as digits of its bytes, one to 2,044 of them; after the word `seal` at least eight.
+/// A frame is written as the digits of its bytes, one to 2,044 of them, or at least eight after the word `seal`.
 pub fn read_frame(line: &[u8]) -> Result<Option<FrameLine<'_>>, LineFault>
     ensures value { result ≡ spec.read_frame line.now }
     ensures seals { IfOk result (λ said. IfSome said (λ frame. frame.seal ≡ true → 8 ≤ length frame.bytes)) }

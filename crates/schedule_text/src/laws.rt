@@ -12,14 +12,14 @@ ghost use Rattle.schedule_text.specs.Printing.{event_text};
 ghost use Rattle.schedule_text.specs.Range.{IsPrintable};
 ghost use Rattle.schedule_text.specs.Reading.{read_line};
 
-/// What is printed of an event is read as that event, as long as one line has room for it: an index below 2^47, one to
-/// nine values below 2^48, at most 2,042 bytes of data; and except for early data, of which no line speaks (own).
+/// What is printed for an event is read as that event, as long as one line has room for it: an index below 2^47, one to
+/// nine values below 2^48, at most 2,042 bytes of data. Early data are excluded, since no line has them (own).
 pub fn printed_events_are_read()
     ensures { (event : Event) → IsPrintable event → read_line (event_text event) ≡ Ok (line.Event event) }
 {}
 
 /// A line is accepted exactly if it is the words of what it says: an empty line or a comment of text that is not too
-/// long; or a form's words, parted by one space, with numbers in decimal in their ranges, a list or an offer that an
+/// long; or a form's words, separated by one space, with numbers in decimal in their ranges, a list or an offer that an
 /// end may have, and the digits of data in either case (own).
 pub fn lines_are_their_forms()
     ensures { (text : List ℕ) (said : Line) → (read_line text ≡ Ok said) ↔ IsLine text said }
@@ -32,8 +32,8 @@ pub fn the_first_fault_is_answered()
 {}
 
 /// A line of a replay is accepted exactly if it is the words of its frame: the digits of 1 to 2,044 bytes in either
-/// case, and `seal` in front of them where the checksum is to be set, then of 8 bytes at least; and it has no frame
-/// exactly where it is an empty line or a comment of text that is not too long (own).
+/// case, and `seal` before them if the checksum is to be set, and then of at least 8 bytes. It has no frame exactly if
+/// it is an empty line or a comment of text that is not too long (own).
 pub fn frames_are_their_forms()
     ensures { (text : List ℕ) (said : Option FrameLine) → (read_frame text ≡ Ok said) ↔ IsFrameLine text said }
 {}

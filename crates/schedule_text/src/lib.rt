@@ -1,5 +1,5 @@
-//! The lines of schedules and replays as text: what each says, where it is wrong, and how an event and what was seen of
-//! it are printed (own).
+//! The lines of schedules and replays as text: what each says, where it is wrong, and how an event and its result are
+//! printed (own).
 //!
 //! Each line is read by itself: nothing here knows the lines before it, the limits of a whole input, or what the ends
 //! do. Reading takes no memory.

@@ -14,7 +14,7 @@ use world_events::Side;
 pub enum Line {
     /// Nothing: it is empty or a comment.
     Nothing,
-    /// Which version the schedule is of: 1 or 2.
+    /// The version of the schedule: 1 or 2.
     Version {
         number: u8,
     },
@@ -39,11 +39,11 @@ pub enum Line {
         feature: Feature,
         mandatory: bool,
     },
-    /// This happens.
+    /// An event that happens.
     Event(Event),
 }
 
-/// The bytes of a frame, at most 2,044 of them, as the digits of a line (own): they are decoded where they are wanted,
+/// The bytes of a frame, at most 2,044 of them, as the digits of a line (own). They are decoded into their final place,
 /// so that no frame is moved. Contracts see the list of bytes.
 #[derive(Drop)]
 pub struct FrameDigits<'a> {

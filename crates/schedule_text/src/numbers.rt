@@ -63,7 +63,7 @@ pub(crate) fn schedule_version(word: &[u8]) -> Option<u8>
     Some(number as u8)
 }
 
-/// One to nine numbers, parted by commas.
+/// One to nine numbers, separated by commas.
 pub(crate) fn values_of(word: &[u8]) -> Option<Values>
     ensures { result ≡ values_of word.now }
 {

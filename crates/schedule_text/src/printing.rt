@@ -1,4 +1,4 @@
-//! Events and what was seen of them, printed.
+//! Events and their results, printed.
 #![tactic(auto, using(tool_text::proofs::Keeping::keeps_itself, tool_text::proofs::Keeping::keeps_on))]
 
 ghost use Rattle.std.specs.Prelude.{◌≡◌, ◌++◌, ◌∷◌, decimal, flat_map, OnOk, OnErr};
@@ -112,7 +112,7 @@ fn put_send(text: &mut Vec<u8>, side: Side, payload: &[u8]) -> Result<(), NoMemo
     put_hex_or_dash(text, payload)
 }
 
-// Early data have no line: this is for people to read.
+// Early data have no line in a schedule: this is for people to read.
 fn put_send_early(text: &mut Vec<u8>, side: Side, payload: &[u8]) -> Result<(), NoMemory>
     ensures ok { OnOk result (text.new.items ≡ text.old.items ++ event_text (Event.SendEarly side payload.now)) }
     ensures front { Keeps text.old.items text.new.items }
@@ -287,7 +287,7 @@ fn put_told(text: &mut Vec<u8>, line: u64, event: &Event) -> Result<(), NoMemory
 }
 
 /// Puts `: RESULT`, what was seen, and the line's end (own). `input` is the bytes of the frame that arrived, and is
-/// empty where none did. NoMemory comes where the text could not grow; then a front of it may be there.
+/// empty if none did. NoMemory comes if the text could not grow; then a prefix of it may be there.
 pub fn put_result(text: &mut Vec<u8>, input: &[u8], seen: &Seen) -> Result<(), NoMemory>
     requires { spec.IsSeenOf input.now seen.now }
     ensures ok { OnOk result (text.new.items ≡ text.old.items ++ spec.result_text input.now seen.now) }
@@ -315,7 +315,7 @@ fn put_line(
     Ok(())
 }
 
-/// Appends an event as its line has it, without a newline (own); early data, which have no line, with the word
+/// Appends an event as it is in its line, without a newline (own). Early data, which have no line, get the word
 /// `early`. After NoMemory the text is as before.
 pub fn print_event(event: &Event, to: &mut Vec<u8>) -> Result<(), NoMemory>
     ensures ok { OnOk result (to.new.items ≡ to.old.items ++ event_text event.now) }

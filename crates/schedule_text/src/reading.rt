@@ -221,7 +221,7 @@ fn send(words: &mut Words<'_>, said: &mut Line) -> Result<(), LineFault>
     Ok(())
 }
 
-// Makes a line that says no event a wish. It clears the event's room, so it is not part of `say_wish`.
+// Turns a line that says no event into a wish. It clears the event's room, so it is not part of `say_wish`.
 fn begin_with_wish(said: &mut Line, side: Side, feature: Feature, place: Place, values: Values)
     ensures { said.new ≡ Line.Event (Event.Prefer side feature place values) }
 {
@@ -300,8 +300,8 @@ fn abort(words: &mut Words<'_>, said: &mut Line) -> Result<(), LineFault>
 /// What a line of a schedule says, or the first of its faults in the order of `LineWhy`, with its column (own). The
 /// line comes without its newline.
 ///
-/// It answers none of TooMuchInput, HeaderLate, TooManyEvents and NoSuchFrame, which need more than the line,
-/// nor FrameTooLong and SealShort, which are faults of frames.
+/// It never answers TooMuchInput, HeaderLate, TooManyEvents or NoSuchFrame, which depend on more than the line, nor
+/// FrameTooLong or SealShort, which are faults of frames.
 pub fn read_line(line: &[u8]) -> Result<Line, LineFault>
     ensures { result ≡ spec.read_line line.now }
 {
@@ -310,8 +310,8 @@ pub fn read_line(line: &[u8]) -> Result<Line, LineFault>
     Ok(said)
 }
 
-/// The same as [`read_line`], but what the line says is left in `said`, which a fault leaves as it is (own). A line has
-/// room for data, and is not moved so.
+/// The same as [`read_line`], but what the line says is left in `said`, which a fault leaves as it is (own). So a line,
+/// which has room for data, is not moved.
 pub fn read_line_into(line: &[u8], said: &mut Line) -> Result<(), LineFault>
     ensures value { MatchResult result
         (λ done. spec.read_line line.now ≡ Ok said.new)
