@@ -30,11 +30,11 @@ pub record IsRecord (format : Format) (number given : ℕ) (entry : RecordParts)
   pub fits : length body ≤ most_captured
   pub counts : given + (16 + length body) ≤ most_bytes
 
--- the input does not have all those of `needed` bytes from here on that count
+-- of the `needed` bytes from here on, the input lacks some that are within the limit
 abbrev pub IsShortOf : ℕ → ℕ → List ℕ → Type 0
 IsShortOf needed given bytes = (length bytes < needed) × (given + length bytes < most_bytes)
 
--- all of them that count are there, and more are needed
+-- all of them that are within the limit are there, and more are needed
 abbrev pub IsLarge : ℕ → ℕ → List ℕ → Type 0
 IsLarge needed given bytes = (most_bytes < given + needed) × (most_bytes ≤ given + length bytes)
 

@@ -15,7 +15,7 @@ abbrev pub ordered_number_at : Order → ℕ → ℕ → List ℕ → ℕ
 ordered_number_at Big place count bytes = big_number count (drop place bytes)
 ordered_number_at Little place count bytes = little_number count (drop place bytes)
 
--- the magic numbers a1b2c3d4, with microseconds, and a1b23c4d, with nanoseconds
+-- the magic number a1b2c3d4: fractions are microseconds
 abbrev pub microseconds : ℕ
 microseconds = 2712847316
 
@@ -39,7 +39,7 @@ shown_links = 1 ∷ 101 ∷ []
 abbrev pub is_link : List ℕ → ℕ → Bool
 is_link links link = list_any (λ known. known == link) links
 
--- a header in this byte order, by its version and its link type, of which some are known
+-- a header in this byte order, by its version and its link type, which has to be one of these
 abbrev pub format_in : List ℕ → Order → Bool → List ℕ → Result Format FormatFault
 format_in links order nanos bytes =
     if not (is_version order bytes) then Err fault.BadVersion
@@ -61,11 +61,11 @@ abbrev pub format_by : List ℕ → Option (Order × Bool) → List ℕ → Resu
 format_by links None bytes = Err fault.BadMagic
 format_by links (Some magic) bytes = format_in links magic.0 magic.1 bytes
 
--- a whole header, where these link types are known
+-- a whole header, if these link types are known
 abbrev pub format_of : List ℕ → List ℕ → Result Format FormatFault
 format_of links bytes = format_by links (magic_of bytes) bytes
 
--- the fault of a capture whose file header has this one
+-- the fault of a capture whose file header has this fault
 abbrev pub header_fault : FormatFault → CaptureFault
 header_fault fault.BadMagic = BadMagic
 header_fault fault.BadVersion = BadVersion

@@ -8,7 +8,7 @@ use Rattle.capture_reader.specs.declared.record.Record.{Record}
 use Rattle.capture_reader.specs.declared.record.RecordHeader.{RecordHeader}
 use Rattle.capture_reader.specs.Format.{opened, ordered_number_at}
 
--- a record, apart from where its bytes lie
+-- a record, without the place of its bytes
 pub record RecordParts : Type 0 where
   pub number : ℕ
   pub seconds : ℕ
@@ -58,7 +58,7 @@ abbrev pub unless_faulty : {A : Type 0} → Option CaptureFault → A → Result
 unless_faulty None there = Ok there
 unless_faulty (Some why) there = Err why
 
--- the header of the record that begins here, where `room` bytes count; none at the input's end
+-- the header of the record that begins here, if `room` bytes count; none at the input's end
 abbrev pub header_in : Order → ℕ → List ℕ → Result (Option RecordHeader) CaptureFault
 header_in order room bytes =
     if length bytes == 0 then Ok None else unless_faulty (missing 16 room (length bytes)) (Some (record_header order bytes))
@@ -73,16 +73,16 @@ found_by room (Err why) bytes = Err why
 found_by room (Ok None) bytes = Ok None
 found_by room (Ok (Some header)) bytes = unless_faulty (body_fault header.captured (room - 16) (length bytes - 16)) (Some header)
 
--- The header of the whole record that begins here, where `room` bytes count; none at the input's end; or what is wrong.
--- First the header's bytes are needed, then its captured length is judged, then the captured bytes are needed.
+-- The header of the whole record that begins here, if `room` bytes count; none at the input's end; or what is wrong. First the header's bytes
+-- are needed, then its captured length is judged, then the captured bytes are needed.
 abbrev pub found_in : Order → ℕ → List ℕ → Result (Option RecordHeader) CaptureFault
 found_in order room bytes = found_by room (header_in order room bytes) bytes
 
--- So many captured bytes are among those that are pending, or are more than a record may have.
+-- This many captured bytes are pending, or they are more than a record may have.
 abbrev pub holds_body : ℕ → ℕ → Bool
 holds_body captured size = nat_lt most_captured captured || nat_le captured size
 
--- the same by a record's header, after which `size` bytes are pending; what is wrong with it needs no further byte
+-- the same by a record's header, after which `size` bytes are pending; a fault of the header needs no further byte
 abbrev pub holds_after : ℕ → Result (Option RecordHeader) CaptureFault → Bool
 holds_after size (Ok (Some header)) = holds_body header.captured size
 holds_after size (Ok None) = true
@@ -128,7 +128,7 @@ pub record CaptureContents : Type 0 where
 abbrev pub before : RecordParts → CaptureContents → CaptureContents
 before entry others = record { records = entry ∷ others.records; end = others.end }
 
--- what comes next, and what is after it, which is asked for by the number of bytes that the record takes
+-- what comes next, and then what follows, by the number of bytes that the record takes
 abbrev pub onward : Result (Option RecordParts) CaptureFault → (ℕ → CaptureContents) → CaptureContents
 onward (Ok None) following = record { records = []; end = None }
 onward (Err why) following = record { records = []; end = Some why }

@@ -81,8 +81,8 @@ Reads left faults old new (Ok (Some entry)) = Gives left old new entry
 Reads left faults old new (Ok None) = Ends left old new
 Reads left faults old new (Err why) = Refuses left faults old new why
 
--- A call of `next`. At most 262,160 bytes were read of what was left, the last header of 16 and a block, and none where
--- what was pending settled the answer.
+-- A call of `next`. At most 262,160 bytes were read of what was left, which are a header of 16 and a block, and none if what was pending settled
+-- the answer.
 pub record Advances {S : Type 0} (left : S → Option (List ℕ)) (faults lender : S → ℕ) (old new : CapturesState S)
     (read : Result (Option RecordParts) CaptureFault) : Type 0 where
   pub never_falls : faults old.source ≤ faults new.source
@@ -100,7 +100,7 @@ found new (Ok (Some header)) = Ok (Some (entry_with new.format new.number header
 found new (Ok None) = Ok None
 found new (Err why) = Err why
 
--- what was answered, apart from where a record's bytes lie
+-- the answer, without the place of a record's bytes
 abbrev pub read_of : Result (Option Record) CaptureFault → Result (Option RecordParts) CaptureFault
 read_of (Ok (Some r)) = Ok (Some (entry_of r))
 read_of (Ok None) = Ok None

@@ -11,7 +11,7 @@ use Rattle.capture_reader.specs.Format.{opened}
 use Rattle.capture_reader.specs.Records.{header_in, body_fault, found_in}
 use Rattle.capture_reader.specs.State.{IsOfRecords, RefusesHeader}
 
--- what every step keeps
+-- what no step changes
 pub record KeepsTheSource {S : Type 0} (faults lender : S → ℕ) (old new : BytesAhead) (before after : S) : Type 0 where
   pub same_size : new.size ≡ old.size
   pub fits : length new.pending ≤ new.size

@@ -18,7 +18,7 @@ use dccp_io::{ReadAhead, Source};
 use std::alloc::Global;
 use std::marker::Model;
 
-// The bytes of the block: a record's bytes fit it, since its header is dropped first.
+// The bytes of the block. A record's bytes fit into it, since its header is dropped first.
 const BLOCK: usize = 262_144;
 
 /// A reader of a capture's records over a source (own). Contracts see the source, what was read of it and not given
@@ -117,7 +117,7 @@ fn read_body<S: Source>(
     ensures read { BodyRead S.left S.faults captured room ahead.old ahead.new source.old source.new result }
     ensures unread { holds_body captured (length ahead.old.pending) ≡ true → source.new ≡ source.old }
 {
-    // Reading their number gives the prover that the bytes fit the block.
+    // Reading their number gives the prover that the bytes fit into the block.
     let _held = ahead.len();
     let count = captured as usize;
     if MOST_CAPTURED < count {
@@ -236,11 +236,11 @@ impl<S: Source + Drop> Captures<S> {
         &self.ahead.pending()[..self.lent]
     }
 
-    /// The next record, whole however the reads were cut, or None exactly at the end of the input between two records.
-    /// It takes no memory. The faults: ReadFault, only if the source failed; and if it did not, exactly the first that
-    /// the bytes have: CutShort and TooLarge in the record's header, RecordTooLong, and CutShort and TooLarge in its
-    /// bytes. After a fault each further call answers the same, and does nothing. Where `holds_next` is true the source
-    /// is not read.
+    /// The next record, whole in whatever pieces the source gave it, or None exactly at the end of the input between
+    /// two records. It takes no memory. ReadFault comes only if the source failed. If it did not, the fault is exactly
+    /// the first that the bytes have: CutShort or TooLarge in the record's header, RecordTooLong, and CutShort or
+    /// TooLarge in its bytes. After a fault each further call answers the same, and does nothing. If `holds_next` is
+    /// true, the source is not read.
     pub fn next(&mut self) -> Result<Option<Record<'_>>, CaptureFault>
         ensures* after { sem 𝓛 (Rests (the_row S.row) self.entry (λ captures. Advances S.left S.faults S.lender self.old captures (read_of result))) }
     {
@@ -264,8 +264,8 @@ impl<S: Source + Drop> Captures<S> {
         }
     }
 
-    /// Whether the next call of `next` certainly reads nothing: what was read already settles its answer, or a fault
-    /// ended the capture.
+    /// Whether the next call of `next` certainly reads nothing, since what was read settles its answer, or since a
+    /// fault ended the capture.
     pub fn holds_next(&self) -> bool
         ensures { result ≡ holds_record self.now }
     {

@@ -12,8 +12,8 @@ pub enum FormatFault {
     BadLink,
 }
 
-/// Why a capture ended early (own). Of a whole file header the first of BadMagic, BadVersion and BadLink that holds is
-/// answered.
+/// Why a capture ended early (own). For a whole file header the answer is the first of BadMagic, BadVersion and BadLink
+/// that holds.
 #[derive(Clone, Copy, Debug, PartialEq, Eq, Error)]
 pub enum CaptureFault {
     /// The first four bytes are no magic number of a classic capture, in either byte order.

@@ -5,7 +5,7 @@ ghost use Rattle.capture_reader.specs.Format.{ordered_number_at, format_in, form
 use crate::FormatFault;
 use byteorder::{BigEndian, ByteOrder, LittleEndian};
 
-/// The byte order of a capture's own numbers. The packets in it have theirs.
+/// The byte order of a capture's own numbers. The packets in it are in network order.
 #[derive(Clone, Copy)]
 pub enum Order {
     /// The most significant byte first.
@@ -42,7 +42,7 @@ const MINOR: usize = 6;
 
 const LINK: usize = 20;
 
-/// The link types of which `Captures` takes a capture: Ethernet and raw IP.
+/// The link types that `Captures` accepts: Ethernet and raw IP.
 pub(crate) const LINKS: [u32; 2] = [1, 101];
 
 impl Order {

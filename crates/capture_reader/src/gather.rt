@@ -5,7 +5,7 @@ ghost use Rattle.capture_reader.specs.Gathering.{Gathers, IsGathered};
 
 use dccp_io::{Failed, ReadAhead, Source};
 
-/// Reads on until so many bytes are pending, or the input ends.
+/// Reads on until this many bytes are pending, or the input ends.
 pub(crate) fn gather<S: Source>(
     source: &mut S,
     ahead: &mut ReadAhead,

@@ -53,7 +53,7 @@ impl RecordHeader {
     }
 }
 
-/// The bytes after so many (own).
+/// The bytes after the first `count` (own).
 pub fn rest_after(bytes: &[u8], count: usize) -> &[u8]
     requires { count ≤ length bytes.now }
     ensures { result.now ≡ drop count bytes.now }
@@ -78,7 +78,7 @@ const CAPTURED: usize = 8;
 
 const ORIGINAL: usize = 12;
 
-// What is wrong if so many bytes are needed, so many are there, and so many more count.
+// What is wrong if `count` bytes are needed, `size` are there, and only the next `room` are within the limit.
 pub(crate) fn missing(count: usize, room: u64, size: usize) -> Option<CaptureFault>
     requires { count ≤ 2 ^ 32 }
     ensures value { result ≡ missing count room size }
