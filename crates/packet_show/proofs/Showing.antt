@@ -82,7 +82,7 @@ along-turn format number given left next tally text before after whole input ent
       end_is = along.end_is ∙ ap (λ (c : CaptureContents). c.end) same;
     }
 
--- a front of the text was written
+-- a prefix of the text was written
 pub along-moved : (format : Format) (number given : ℕ) (left : Option (List ℕ)) (tally : Tally) (text kept : List ℕ) (before after later : Option (List ℕ))
     (whole : CaptureContents)
     (input : List ℕ) → Along format number given left tally text before after whole input → IsMovedOut after later text kept

@@ -1,5 +1,4 @@
--- What `show` writes of a capture: the lines of its records, and then how many there were or the fault that ended them
--- (own).
+-- What `show` writes for a capture: the lines of its records, and then how many there were, or the fault that ended them (own).
 use Rattle.std.specs.Prelude.{ℕ, ◌+◌, ◌<◌, ◌^◌, ◌++◌, Bool, is_some, List, [], ◌∷◌, length, codes, Option, Some, None}
 use Rattle.capture_reader.specs.declared.fault.CaptureFault.{CaptureFault}
 use Rattle.capture_reader.specs.declared.fault.CaptureFault.TheVariants as fault
@@ -22,7 +21,7 @@ fault_name fault.ReadFault = codes "ReadFault"
 fault_name fault.NoMemory = codes "NoMemory"
 fault_name fault.TooLarge = codes "TooLarge"
 
--- before the first record
+-- the tally before the first record
 abbrev pub first_tally : Tally
 first_tally = record { shown = 0; skipped = 0; flows = [] }
 
@@ -34,7 +33,7 @@ CountsFit tally = tally.shown + tally.skipped < 2 ^ 64
 abbrev pub CanCount : Tally → Type 0
 CanCount tally = tally.shown + tally.skipped + 1 < 2 ^ 64
 
--- one record more, with a line or skipped, and the flows that were seen then
+-- the tally with one more record, with a line or skipped, and the flows that were seen then
 abbrev pub counted_record : Tally → Shown → List Flow → Tally
 counted_record tally Line flows = record { shown = tally.shown + 1; skipped = tally.skipped; flows = flows }
 counted_record tally Skipped flows = record { shown = tally.shown; skipped = tally.skipped + 1; flows = flows }
@@ -43,7 +42,7 @@ counted_record tally Skipped flows = record { shown = tally.shown; skipped = tal
 abbrev pub tallied : Tally → RecordParts → Tally
 tallied tally entry = counted_record tally (shows tally.flows entry).shown (shows tally.flows entry).flows
 
--- a record's line; nothing where it is skipped
+-- a record's line, or nothing if it is skipped
 abbrev pub record_text : Tally → RecordParts → List ℕ
 record_text tally entry = (shows tally.flows entry).text
 
@@ -81,11 +80,11 @@ abbrev pub size_of : List RecordParts → ℕ
 size_of [] = 0
 size_of (entry ∷ entries) = (16 + length entry.bytes) + size_of entries
 
--- where the last of these records ends in an input, whose file header has 24 bytes; 0 where there is none
+-- where the last of these records ends in an input, whose file header has 24 bytes; 0 if there is none
 abbrev pub end_of_records : List RecordParts → ℕ
 end_of_records [] = 0
 end_of_records (entry ∷ entries) = 24 + size_of (entry ∷ entries)
 
--- where the last whole record of an input ends; 0 where it has none
+-- where the last whole record of an input ends; 0 if it has none
 abbrev pub records_end : List ℕ → ℕ
 records_end input = end_of_records (captured input).records

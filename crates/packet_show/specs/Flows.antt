@@ -22,12 +22,12 @@ abbrev pub version_of : Pseudo → ℕ
 version_of (V4 from to) = 4
 version_of (V6 from to) = 6
 
--- the ends that a packet goes from and to
+-- the end that sends a packet: its source address, and this port
 abbrev pub from_end : Pseudo → ℕ → AddressAndPort
 from_end (V4 from to) port = (big_number 4 from, port)
 from_end (V6 from to) port = (big_number 16 from, port)
 
--- the end that a packet goes to: its destination address, and this port
+-- the end that receives a packet: its destination address, and this port
 abbrev pub to_end : Pseudo → ℕ → AddressAndPort
 to_end (V4 from to) port = (big_number 4 to, port)
 to_end (V6 from to) port = (big_number 16 to, port)
@@ -44,11 +44,11 @@ flow_between version a b = if is_lesser_end b a then (version, b, a) else (versi
 abbrev pub flow_of : Pseudo → ℕ → ℕ → Flow
 flow_of pseudo from to = flow_between (version_of pseudo) (from_end pseudo from) (to_end pseudo to)
 
--- two ends are one if both the address and the port agree
+-- two ends are the same if address and port are
 abbrev pub same_end : AddressAndPort → AddressAndPort → Bool
 same_end a b = a.0 == b.0 && a.1 == b.1
 
--- two flows are one if the version of IP and both ends agree
+-- two flows are the same if the version of IP and both ends are
 abbrev pub same_flow : Flow → Flow → Bool
 same_flow a b = (a.0 == b.0 && same_end a.1 b.1) && same_end a.2 b.2
 
@@ -57,7 +57,7 @@ abbrev pub flow_number_at : Option ℕ → List Flow → ℕ
 flow_number_at (Some place) seen = place + 1
 flow_number_at None seen = length seen + 1
 
--- the flow's number, where these flows were seen
+-- the flow's number, if these flows were seen
 abbrev pub flow_number : Flow → List Flow → ℕ
 flow_number flow seen = flow_number_at (position (same_flow flow) seen) seen
 
@@ -65,7 +65,7 @@ flow_number flow seen = flow_number_at (position (same_flow flow) seen) seen
 abbrev pub with_flow : Flow → List Flow → List Flow
 with_flow flow seen = if list_any (same_flow flow) seen then seen else seen ++ flow ∷ []
 
--- a number times a factor, and one more, by 64 bits
+-- a number times a factor, plus another, in 64 bits
 abbrev pub blended : ℕ → ℕ → ℕ → ℕ
 blended number factor more = (number * factor % 2 ^ 64 + more) % 2 ^ 64
 
@@ -90,7 +90,7 @@ key_cmp a b =
     (ordering_then (nat_cmp a.0 b.0) (ordering_then (ordering_then (nat_cmp a.1.0 b.1.0) (nat_cmp a.1.1 b.1.1)) (nat_cmp a.1.2 b.1.2)))
     (ordering_then (nat_cmp a.2.0 b.2.0) (nat_cmp a.2.1 b.2.1))
 
--- the number of a flow that was seen, where the first of these has this one
+-- the number of a flow that was seen, if the first of these has this number
 abbrev pub flow_number_from : ℕ → Flow → List Flow → Option ℕ
 flow_number_from first flow seen = position_from (same_flow flow) first seen
 
@@ -98,7 +98,7 @@ flow_number_from first flow seen = position_from (same_flow flow) first seen
 abbrev pub number_if_seen : Flow → List Flow → Option ℕ
 number_if_seen flow seen = flow_number_from 1 flow seen
 
--- So many flows are in a set, and further ones in a map by an order (own).
+-- This many flows are in a set, and further ones in an ordered map (own).
 abbrev pub most_first : ℕ
 most_first = 4096
 
@@ -106,12 +106,11 @@ most_first = 4096
 abbrev pub first_further : ℕ
 first_further = 4097
 
--- Flows are in a set and after it, which begins where the set is full.
+-- Flows are in a set, and further ones after it once the set is full.
 pub record IsSplit (first further : List Flow) : Type 0 where
   pub few : length first ≤ most_first
   pub full : length first < most_first → further ≡ []
 
--- A map in the order of keys has under the key of each further flow that was seen its number, and nothing under that of
--- another flow.
+-- A map in the order of keys has, under the key of each further flow that was seen, its number, and nothing under the keys of other flows.
 abbrev pub HasNumbers : List (FlowKey × ℕ) → List Flow → Type 0
 HasNumbers numbers further = (flow : Flow) → lookup (is_at (key_cmp (key_of flow))) numbers ≡ flow_number_from first_further flow further

@@ -16,7 +16,7 @@ use Rattle.packet_show.specs.Flows.{Flow, flow_number, flow_of, with_flow}
 use Rattle.packet_show.specs.Names.{type_name, sum_name}
 use Rattle.packet_show.specs.Text.{fraction_text, from_text, to_text, number_text, kind_text, options_text}
 
--- a packet, apart from where its parts lie
+-- a packet, without the places of its parts
 abbrev pub parts_by : Packet → Parts
 parts_by p = record { header = p.header; options = p.options.now; payload = p.payload.now }
 
@@ -26,7 +26,7 @@ pub record ShowStep : Type 0 where
   pub shown : Shown
   pub flows : List Flow
 
--- the text was written after what stood there, the flows are those, and that was answered
+-- the text was added to what was there, and the flows and the answer are these
 pub record Shows (showing : ShowStep) (old new : List ℕ) (seen : List Flow) (answer : Shown) : Type 0 where
   pub written : new ≡ old ++ showing.text
   pub noted : seen ≡ showing.flows
@@ -37,24 +37,24 @@ abbrev pub stamp_text : RecordParts → List ℕ
 stamp_text entry =
     decimal entry.number ++ codes " " ++ decimal entry.seconds ++ codes "." ++ fraction_text entry.nanos entry.fraction
 
--- the flow's number, and the end that a packet goes from
+-- the flow's number, and the end that sends the packet
 abbrev pub sender_text : DatagramParts → ℕ → ℕ → List ℕ
 sender_text there port flow = codes " flow " ++ decimal flow ++ codes " " ++ from_text there.pseudo ++ codes " " ++ decimal port
 
--- the end that it goes to
+-- the end that receives it
 abbrev pub receiver_text : DatagramParts → ℕ → List ℕ
 receiver_text there port = codes " > " ++ to_text there.pseudo ++ codes " " ++ decimal port
 
--- the type, the sequence number, and what the type alone carries
+-- the type, the sequence number, and the fields that only this type carries
 abbrev pub header_text : Header → List ℕ
 header_text header =
     codes " " ++ type_name (packet_type header.kind) ++ codes " seq " ++ number_text header.number ++ kind_text header.kind
 
--- the verdict on the checksum; it is unknown where bytes are missing
+-- the verdict on the checksum; it is unknown if bytes are missing
 abbrev pub sum_text : DatagramParts → List ℕ
 sum_text there = codes " sum " ++ (if there.whole then sum_name (checked there.pseudo there.bytes) else codes "unknown")
 
--- the options, of which some are ignored on Data packets, how many bytes of data are there, and the checksum
+-- the options, without those that Data packets ignore, how many bytes of data are there, and the checksum
 abbrev pub rest_text : DatagramParts → Parts → List ℕ
 rest_text there packet =
     options_text (options_of packet.options (is_data (packet_type packet.header.kind))) ++ codes " data " ++ decimal (length packet.payload)
@@ -65,8 +65,7 @@ abbrev pub packet_line : RecordParts → DatagramParts → Parts → ℕ → Lis
 packet_line entry there packet flow =
     stamp_text entry ++ sender_text there packet.header.from flow ++ receiver_text there packet.header.to ++ header_text packet.header ++ rest_text there packet
 
--- what a packet says: its header, its options, of which some are ignored on Data packets, and how many bytes of data
--- are there
+-- what a packet says: its header, its options, without those that Data packets ignore, and how many bytes of data are there
 abbrev pub words_text : Parts → List ℕ
 words_text packet =
     header_text packet.header ++ options_text (options_of packet.options (is_data (packet_type packet.header.kind))) ++ codes " data "

@@ -1,4 +1,4 @@
--- Tables of names, a line a case (own, after RFC 4340).
+-- Tables of names, one line for each case (own, after RFC 4340).
 use Rattle.std.specs.Prelude.{ℕ, ◌&&◌, ◌==◌, nat_le, if◌then◌else◌, List, codes, Result, Ok, Err}
 use Rattle.dccp_options.specs.Kinds as kinds
 use Rattle.dccp_packets.specs.declared.header.PacketType.{PacketType}
@@ -47,8 +47,8 @@ option_name kind =
     else if kinds.is_ccid_specific kind then codes "ccid"
     else codes "option"
 
--- what follows the name: nothing for Slow Receiver, a feature's number for Change and Confirm, the type for
--- options that have no name of their own, and the data
+-- what follows the name: nothing for Slow Receiver, a feature's number for Change and Confirm, the type for options that have no name, and the
+-- data
 abbrev pub option_form : ℕ → OptionForm
 option_form kind =
     if kind == kinds.slow_receiver then forms.Bare

@@ -12,11 +12,11 @@ pub record DatagramParts : Type 0 where
   pub bytes : List ℕ
   pub whole : Bool
 
--- the same, apart from where the bytes lie
+-- the same, without the place of the bytes
 abbrev pub carried_by : Datagram → DatagramParts
 carried_by d = record { pseudo = d.pseudo; bytes = d.bytes.now; whole = d.whole }
 
--- the parts of a datagram, where there is one
+-- the parts of a datagram, if there is one
 abbrev pub parts_in : Option Datagram → Option DatagramParts
 parts_in = option_map carried_by
 
@@ -56,7 +56,7 @@ after_v4 bytes = record {
   whole = nat_le (v4_total bytes) (length bytes);
 }
 
--- the DCCP packet in these bytes, where they are IPv4 that carries one
+-- the DCCP packet in these bytes, if they are IPv4 that carries one
 abbrev pub in_v4 : List ℕ → Option DatagramParts
 in_v4 bytes = if is_v4 bytes then Some (after_v4 bytes) else None
 
@@ -76,11 +76,11 @@ after_v6 bytes = record {
   whole = nat_le (40 + v6_payload bytes) (length bytes);
 }
 
--- the DCCP packet in these bytes, where they are IPv6 that carries one
+-- the DCCP packet in these bytes, if they are IPv6 that carries one
 abbrev pub in_v6 : List ℕ → Option DatagramParts
 in_v6 bytes = if is_v6 bytes then Some (after_v6 bytes) else None
 
--- IP of the version that it says
+-- the DCCP packet in IP of the version that its first bits say
 abbrev pub in_ip : List ℕ → Option DatagramParts
 in_ip bytes = if is_v4 bytes then in_v4 bytes else in_v6 bytes
 

@@ -13,8 +13,8 @@ use Rattle.tool_text.specs.declared.output.status.JobEnd.TheVariants as ended
 use Rattle.packet_show.specs.CaptureText.{tallied, record_text, fault_line, first_tally, text_from, size_of}
 use Rattle.tool_text.specs.Ends.{IsAnswered, IsCutOff, HasTaken, HasBegun, Answers}
 
--- One turn: the record that comes next was read, tallied and put; or the records ended, and nothing else changed.
--- Where memory was not found, the text stays as it was.
+-- One turn: the record that comes next was read, tallied and put; or the records ended, and nothing else changed. If there was no memory, the
+-- text stays as it was.
 abbrev pub Turns : {S : Type 0} → (S → Option (List ℕ)) → (S → ℕ) → (S → ℕ) → CapturesState S → CapturesState S → Tally → Tally → List ℕ → List ℕ
     → Result Turn no_memory.NoMemory → Type 0
 Turns left faults lender old new tally after text written (Ok turn.Shown) =
@@ -27,27 +27,25 @@ Turns left faults lender old new tally after text written (Ok turn.Failed) =
     Advances left faults lender old new (Err ReadFault) × (written ≡ text)
 Turns left faults lender old new tally after text written (Err _) = (lender new.source ≡ lender old.source) × (written ≡ text)
 
--- After a capture's records: the text and the last line were written, whole with an answer and otherwise a front of
--- both.
+-- After a capture's records: the text and the last line were written, all of them with an answer, and otherwise a prefix of both.
 pub record Closes (text : List ℕ) (end : Option CaptureFault) (result : JobEnd) (before after : Option (List ℕ)) : Type 0 where
   pub whole : IsAnswered result → HasTaken before after text
   pub front : IsCutOff result → HasBegun before after text
   pub done : result ≡ ended.Done → is_some end ≡ false
   pub input : result ≡ ended.Input → is_some end ≡ true
 
--- A file header was refused: the line of its fault was written as the only one, or nothing where the source failed or
--- memory was not found.
+-- A file header was refused: the line of its fault was written as the only one, or nothing if the source failed or there was no memory.
 abbrev pub ShowsHeaderFault : CaptureFault → JobEnd → Option (List ℕ) → Option (List ℕ) → Type 0
 ShowsHeaderFault ReadFault result before after = (result ≡ ended.Read) × (after ≡ before)
 ShowsHeaderFault NoMemory result before after = (result ≡ ended.Memory) × (after ≡ before)
 ShowsHeaderFault why result before after = Closes (fault_line first_tally why) (Some why) result before after
 
--- all that `show` writes of a capture whose records are these
+-- all that `show` writes for a capture whose records are these
 abbrev pub shown_text : CaptureContents → List ℕ
 shown_text whole = text_from first_tally whole.records whole.end
 
--- The records of an input after its file header were shown: what was written, how it ended, and, where a fault ended
--- them, how far the input was read past the last whole record.
+-- The records of an input after its file header were shown: what was written, how it ended, and, if a fault ended them, how far the input was
+-- read past the last whole record.
 pub record ShowsRecords (whole : CaptureContents) (input : List ℕ) (result : JobEnd) (left before after : Option (List ℕ)) : Type 0 where
   pub answers : Answers (shown_text whole) (is_some whole.end) result left before after
   pub past : result ≡ ended.Input → Passed 262160 (Some (drop (size_of whole.records) input)) left

@@ -14,11 +14,11 @@ use Rattle.packet_show.specs.declared.names.OptionForm.{OptionForm}
 use Rattle.packet_show.specs.declared.names.OptionForm.TheVariants as forms
 use Rattle.packet_show.specs.Names.{option_name, option_form}
 
--- zeros in front of a number's digits up to that many digits, at most nine; longer numbers stay whole
+-- a number's digits, with leading zeros up to that many digits, at most nine; longer numbers stay whole
 abbrev pub zeros_before : ℕ → List ℕ → List ℕ
 zeros_before width digits = take (width - length digits) (codes "000000000")
 
--- a fraction of a second: six digits of microseconds, or nine of nanoseconds
+-- how many digits a fraction of a second has: six for microseconds, or nine for nanoseconds
 abbrev pub width_of : Bool → ℕ
 width_of nanos = if nanos then 9 else 6
 
@@ -26,7 +26,7 @@ width_of nanos = if nanos then 9 else 6
 abbrev pub fraction_text : Bool → ℕ → List ℕ
 fraction_text nanos fraction = zeros_before (width_of nanos) (decimal fraction) ++ decimal fraction
 
--- hexadecimal digits without the zeros in front, but never without a digit
+-- hexadecimal digits without leading zeros; at least one digit stays
 abbrev pub without_zeros : List ℕ → List ℕ
 without_zeros [] = []
 without_zeros (digit ∷ []) = digit ∷ []
@@ -42,11 +42,11 @@ groups_text (high ∷ low ∷ rest) = codes ":" ++ (group_text high low ++ group
 groups_text (_ ∷ []) = []
 groups_text [] = []
 
--- eight groups in lower-case hexadecimal, parted by colons and never shortened
+-- eight groups in lower-case hexadecimal, separated by colons and never shortened
 abbrev pub v6_text : List ℕ → List ℕ
 v6_text a = group_text (slice_index a 0) (slice_index a 1) ++ groups_text (drop 2 a)
 
--- the address that a packet goes from, and the one that it goes to
+-- the source address of a packet
 abbrev pub from_text : Pseudo → List ℕ
 from_text (V4 from to) = v4_text from
 from_text (V6 from to) = v6_text from
@@ -56,7 +56,7 @@ abbrev pub to_text : Pseudo → List ℕ
 to_text (V4 from to) = v4_text to
 to_text (V6 from to) = v6_text to
 
--- a sequence or acknowledgement number, as it is in its form
+-- a sequence or acknowledgement number, in the form that it has
 abbrev pub number_text : Number → List ℕ
 number_text (Long n) = decimal n
 number_text (Short n) = decimal n
@@ -75,7 +75,7 @@ code_text code detail =
     codes " code " ++ decimal code ++ codes " " ++ decimal (slice_index detail 0)
     ++ codes " " ++ decimal (slice_index detail 1) ++ codes " " ++ decimal (slice_index detail 2)
 
--- what a type alone carries
+-- the fields that only this type carries
 abbrev pub kind_text : Kind → List ℕ
 kind_text (Request service) = service_text service
 kind_text (Response ack service) = ack_text (Long ack) ++ service_text service
@@ -88,7 +88,7 @@ kind_text (Reset ack code detail) = ack_text (Long ack) ++ code_text code detail
 kind_text (Sync ack) = ack_text (Long ack)
 kind_text (SyncAck ack) = ack_text (Long ack)
 
--- an option without a name of its own
+-- an option whose type has no name
 abbrev pub numbered_text : List ℕ → ℕ → List ℕ → List ℕ
 numbered_text name kind body = name ++ codes " " ++ decimal kind ++ codes " " ++ hex_or_dash body
 
@@ -117,7 +117,7 @@ abbrev pub item_text : Result Entry OptFault → List ℕ
 item_text (Ok o) = codes " [" ++ (mark_text o.mandatory ++ option_text o.kind o.body) ++ codes "]"
 item_text (Err _) = codes " [mandatory fault]"
 
--- the options of a packet in the order in which they are there, each in brackets
+-- the options of a packet in their order, each in brackets
 abbrev pub options_text : List (Result Entry OptFault) → List ℕ
 options_text [] = []
 options_text (item ∷ items) = item_text item ++ options_text items

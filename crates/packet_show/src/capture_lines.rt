@@ -1,5 +1,5 @@
-//! The last line that `show` writes. It is written by itself, after all others, so that none of them is lost where
-//! memory for it runs out.
+//! The last line that `show` writes. It is written separately, after all others, so that none of them is lost if memory
+//! for it runs out.
 ghost use Rattle.std.specs.Prelude.{◌≡◌, ◌++◌, OnOk};
 ghost use Rattle.packet_show.specs.CaptureText.{CountsFit, fault_name, counts_line, fault_line, last_line};
 

@@ -34,14 +34,14 @@ pub type FlowEnd = (u128, u16);
 /// A flow: the version of IP, and both ends, the lesser first.
 pub(crate) type Flow = (u8, FlowEnd, FlowEnd);
 
-// How many flows are in the set of the first ones.
+// The most flows in the set of the first ones.
 const MOST_FIRST: usize = 4_096;
 
 /// The flows that were seen, in the order in which they were first seen (own). A flow is the pair of both ends, in
 /// either direction. Contracts see the list of flows.
 ///
-/// The first 4,096 are in a set that is hashed by a public rule. So an attacker who chooses the ends can make a look-up
-/// compare all of these, and no more. Further flows are in an ordered map.
+/// The first 4,096 are in a set with a public hash. So an attacker who chooses the ends can make a look-up compare all
+/// of these, but no more. Further flows are in an ordered map.
 #[derive(Drop)]
 pub struct Flows {
     first: IndexSet<Flow>,
@@ -80,7 +80,7 @@ fn version_of(pseudo: &Pseudo) -> u8
     }
 }
 
-/// The end that a packet with these addresses and this source port goes from (own).
+/// The end that sends a packet with these addresses and this source port (own).
 pub fn from_end(pseudo: &Pseudo, port: u16) -> FlowEnd
     ensures { result ≡ from_end pseudo.now port }
 {
@@ -256,9 +256,10 @@ impl Flows {
 
     /// Writes the line of a record at the text's end: of a DCCP packet over IPv4 or IPv6, or of bytes that are complete
     /// to the IP length but no packet. It is skipped, and nothing is written, exactly if there is no such packet: the
-    /// record is no IP, a fragment, of another protocol, has no whole IP header or one that contradicts itself, or
-    /// bytes are missing to the IP length and those that are there are no packet. A packet's line has the number of its
-    /// flow, which is the next one where the flow was not seen before. After NoMemory flows and text are as before.
+    /// record is no IP, is a fragment, is of another protocol, has no whole IP header, or has one that contradicts
+    /// itself; or bytes are missing to the IP length, and those that are there are no packet. A packet's line has the
+    /// number of its flow, which is the next one if the flow was not seen before. After NoMemory flows and text are as
+    /// before.
     pub fn show(&mut self, item: &Record<'_>, to: &mut Vec<u8>) -> Result<Shown, NoMemory>
         ensures ok { IfOk result (λ shown. Shows (shows self.old (entry_of item.now)) to.old.items to.new.items self.new shown) }
         ensures unchanged { OnErr result (self.new ≡ self.old) }

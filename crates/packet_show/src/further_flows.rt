@@ -1,4 +1,4 @@
-//! Flows past the first, and under which key each is found.
+//! Flows after the first 4,096, and the key under which each is found.
 ghost use Rattle.std.specs.Prelude.{◌≡◌, ◌%◌, ◌^◌, ◌<◌, ◌++◌, ◌∷◌, length, [], None, OnOk, OnErr};
 ghost use Rattle.packet_show.specs.Flows.{blended, first_further, key_of, mixed, flow_number_from};
 
@@ -23,9 +23,10 @@ const FIRST: u64 = 4_097;
 
 /// The flows past the first 4,096, in the order in which they were first seen (own). Contracts see the list of them.
 ///
-/// A flow is found by comparing with others, as many as the logarithm of how many there are. So an attacker who chooses
-/// the ends cannot make that slow, as in a table with a public hash. What is compared begins with a number that is
-/// mixed from both ends, which mostly decides at once; if ends were chosen so that it does not, the rest decides.
+/// A look-up compares a flow with a number of others that grows with the logarithm of how many there are. So an
+/// attacker who chooses the ends cannot make it slow, as in a table with a public hash. The key begins with a number
+/// that is mixed from both ends, which mostly decides at once. If ends were chosen so that it does not, the rest of the
+/// key decides.
 #[derive(Drop)]
 pub(crate) struct FurtherFlows {
     seen: Vec<Flow>,

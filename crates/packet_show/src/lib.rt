@@ -1,8 +1,8 @@
-//! The lines of a capture: for each record that carries a DCCP packet, what the packet says, and at last how many
-//! records there were or why they end early (RFC 4340; the lines are own).
+//! The lines of a capture: for each record that carries a DCCP packet, what the packet says; and last, how many records
+//! there were, or why they end early (RFC 4340; the lines are own).
 //!
-//! It finds DCCP in Ethernet, IPv4 and IPv6, and answers for no end. Memory is taken for flows that were not seen
-//! before, and for the text, which grows in place.
+//! It finds DCCP in Ethernet, IPv4 and IPv6, and plays no end. Memory is taken for flows that were not seen before, and
+//! for the text, which grows in place.
 #![tactic(auto)]
 
 mod capture_lines;

@@ -1,4 +1,4 @@
-//! Tables of names, a line a case.
+//! Tables of names, one line for each case.
 ghost use Rattle.std.specs.Prelude.{◌≡◌};
 ghost use Rattle.packet_show.specs.Names.{type_name, sum_name, option_name, option_form};
 
@@ -6,7 +6,7 @@ use dccp_options::kinds;
 use dccp_packets::PacketType;
 use dccp_sum::SumFault;
 
-// The first option type that is a CCID's own (RFC 4340, section 10.3).
+// The first option type that belongs to a CCID (RFC 4340, section 10.3).
 const FIRST_OF_CCIDS: u8 = 128;
 
 /// The name of a packet type (RFC 4340, section 5.1).
@@ -27,8 +27,8 @@ pub fn type_name(packet_type: PacketType) -> &'static [u8]
     }
 }
 
-/// The verdict on a checksum as a word (RFC 4340, section 9): `ok`, `wrong`, or `coverage` where CsCov passes the
-/// packet's end.
+/// The verdict on a checksum as a word (RFC 4340, section 9): `ok`, `wrong`, or `coverage` if CsCov passes the packet's
+/// end.
 pub fn sum_name(checked: Result<(), SumFault>) -> &'static [u8]
     ensures { result.now ≡ sum_name checked }
 {

@@ -13,7 +13,7 @@ use dccp_sum::Pseudo;
 pub struct Datagram<'a> {
     /// The addresses between which it travels.
     pub pseudo: Pseudo,
-    /// The bytes that were captured of it, at most 65,535.
+    /// Those of its bytes that were captured, at most 65,535.
     pub bytes: &'a [u8],
     /// Whether these are all that the IP length leaves.
     pub whole: bool,
@@ -35,7 +35,7 @@ const IPV4_SHORTEST: usize = 20;
 
 const IPV6_HEADER: usize = 40;
 
-// The low 14 bits of the fragment's field: More Fragments and the offset.
+// The low 14 bits of the field for fragments: More Fragments and the offset.
 const FRAGMENT: u16 = 1 << 14;
 
 const DCCP: u8 = 33;
@@ -70,7 +70,7 @@ fn v6_address(bytes: &[u8], place: usize) -> [u8; 16]
     address
 }
 
-// As many bytes as that, or all of fewer.
+// The first `count` bytes, or all if there are fewer.
 fn front(bytes: &[u8], count: usize) -> &[u8]
     ensures { result.now ≡ take count bytes.now }
 {
@@ -219,9 +219,9 @@ fn in_ethernet(bytes: &[u8]) -> Option<Datagram<'_>>
     )
 }
 
-/// The DCCP packet in a record of this link type, 1 (Ethernet) or 101 (raw IP), or None exactly where there is none: it
-/// is no IPv4 or IPv6 of protocol 33, a fragment, or an IP header that was not captured whole or contradicts itself
-/// (RFC 791, section 3.1; RFC 8200, section 3).
+/// The DCCP packet in a record of this link type, 1 (Ethernet) or 101 (raw IP), or None exactly if there is none: the
+/// record is not IPv4 or IPv6 of protocol 33, is a fragment, or has an IP header that was not captured whole or
+/// contradicts itself (RFC 791, section 3.1; RFC 8200, section 3).
 pub fn carried(link: u32, bytes: &[u8]) -> Option<Datagram<'_>>
     ensures value { parts_in result ≡ carried link bytes.now }
     ensures fits { IfSome result FitsIp }

@@ -17,7 +17,7 @@ const NANOSECOND_DIGITS: usize = 9;
 
 const ZEROS: &[u8] = b"000000000";
 
-// Puts a number in decimal with zeros in front, up to that many digits.
+// Puts a number in decimal, with leading zeros up to `width` digits.
 fn put_padded(text: &mut Vec<u8>, width: usize, number: u32) -> Result<(), NoMemory>
     requires { width ≤ 9 }
     ensures ok { OnOk result (text.new.items ≡ text.old.items ++ zeros_before width (decimal number) ++ decimal number) }
@@ -40,7 +40,7 @@ pub(crate) fn put_fraction(text: &mut Vec<u8>, nanos: bool, fraction: u32) -> Re
     put_padded(text, MICROSECOND_DIGITS, fraction)
 }
 
-// Hexadecimal digits without the zeros in front, but not without the last.
+// Hexadecimal digits without leading zeros; at least one digit stays.
 fn without_zeros(digits: &[u8]) -> &[u8]
     ensures { result.now ≡ without_zeros digits.now }
 {
@@ -80,7 +80,7 @@ fn put_groups(text: &mut Vec<u8>, bytes: &[u8]) -> Result<(), NoMemory>
     Ok(())
 }
 
-// Puts an address of IPv6: eight groups, parted by colons and never shortened.
+// Puts an address of IPv6: eight groups, separated by colons and never shortened.
 fn put_v6(text: &mut Vec<u8>, address: [u8; 16]) -> Result<(), NoMemory>
     ensures ok { OnOk result (text.new.items ≡ text.old.items ++ v6_text address) }
     ensures front { Keeps text.old.items text.new.items }
@@ -89,8 +89,8 @@ fn put_v6(text: &mut Vec<u8>, address: [u8; 16]) -> Result<(), NoMemory>
     put_groups(text, &address[2..])
 }
 
-/// Puts the address that a packet goes from (own): four decimal numbers parted by dots, or eight groups in lower-case
-/// hexadecimal parted by colons. NoMemory comes where the text could not grow; then a front of the address may stand
+/// Puts the source address of a packet (own): four decimal numbers separated by dots, or eight groups in lower-case
+/// hexadecimal separated by colons. NoMemory comes if the text could not grow; then a prefix of the address may be
 /// there.
 pub fn put_from(text: &mut Vec<u8>, pseudo: &Pseudo) -> Result<(), NoMemory>
     ensures ok { OnOk result (text.new.items ≡ text.old.items ++ from_text pseudo.now) }
@@ -102,7 +102,7 @@ pub fn put_from(text: &mut Vec<u8>, pseudo: &Pseudo) -> Result<(), NoMemory>
     }
 }
 
-/// Puts the address that a packet goes to (own), as `put_from` does. NoMemory comes as from there.
+/// Puts the destination address of a packet (own), as `put_from` does, NoMemory included.
 pub fn put_to(text: &mut Vec<u8>, pseudo: &Pseudo) -> Result<(), NoMemory>
     ensures ok { OnOk result (text.new.items ≡ text.old.items ++ to_text pseudo.now) }
     ensures front { Keeps text.old.items text.new.items }
@@ -113,7 +113,7 @@ pub fn put_to(text: &mut Vec<u8>, pseudo: &Pseudo) -> Result<(), NoMemory>
     }
 }
 
-/// Puts a sequence or acknowledgement number, as it is in its form.
+/// Puts a sequence or acknowledgement number, in the form that it has.
 pub(crate) fn put_sequence(text: &mut Vec<u8>, number: Number) -> Result<(), NoMemory>
     ensures ok { OnOk result (text.new.items ≡ text.old.items ++ number_text number) }
     ensures front { Keeps text.old.items text.new.items }

@@ -1,6 +1,6 @@
 //! Options as text (RFC 4340, section 5.8; the text is own).
 //!
-//! An option's text goes by its type alone, whatever its length, except for a Change or Confirm without a feature's
+//! An option's text depends only on its type, whatever its length, except for a Change or Confirm without a feature's
 //! number.
 #![tactic(auto, using(tool_text::proofs::Keeping::keeps_itself, tool_text::proofs::Keeping::keeps_on))]
 
@@ -38,7 +38,7 @@ fn put_feature(text: &mut Vec<u8>, kind: u8, body: &[u8]) -> Result<(), NoMemory
 }
 
 /// Puts an option (own): its name by its type (RFC 4340, section 5.8), and what it carries, bytes in hexadecimal.
-/// NoMemory comes where the text could not grow; then a front of the option may be there.
+/// NoMemory comes if the text could not grow; then a prefix of the option may be there.
 pub fn put_option(text: &mut Vec<u8>, kind: u8, body: &[u8]) -> Result<(), NoMemory>
     ensures ok { OnOk result (text.new.items ≡ text.old.items ++ option_text kind body.now) }
     ensures front { Keeps text.old.items text.new.items }
@@ -56,7 +56,7 @@ pub fn put_option(text: &mut Vec<u8>, kind: u8, body: &[u8]) -> Result<(), NoMem
 }
 
 /// Puts the word in front of an option that is marked with Mandatory (RFC 4340, section 5.8.2), and nothing for
-/// another. NoMemory comes where the text could not grow.
+/// another. NoMemory comes if the text could not grow.
 pub fn put_mark(text: &mut Vec<u8>, mandatory: bool) -> Result<(), NoMemory>
     ensures ok { OnOk result (text.new.items ≡ text.old.items ++ mark_text mandatory) }
     ensures front { Keeps text.old.items text.new.items }

@@ -29,7 +29,7 @@ fn put_stamp(text: &mut Vec<u8>, item: &Record<'_>) -> Result<(), NoMemory>
     put_fraction(text, item.nanos, item.fraction)
 }
 
-// Puts the flow's number, and the end that a packet goes from.
+// Puts the flow's number, and the end that sends the packet.
 fn put_sender(
     text: &mut Vec<u8>,
     there: &Datagram<'_>,
@@ -46,7 +46,7 @@ fn put_sender(
     Ok(())
 }
 
-// Puts the end that it goes to.
+// Puts the end that receives the packet.
 fn put_receiver(text: &mut Vec<u8>, there: &Datagram<'_>, port: u16) -> Result<(), NoMemory>
     ensures ok { OnOk result (text.new.items ≡ text.old.items ++ receiver_text (carried_by there.now) port) }
     ensures front { Keeps text.old.items text.new.items }
@@ -90,7 +90,7 @@ fn put_code(text: &mut Vec<u8>, code: u8, detail: [u8; 3]) -> Result<(), NoMemor
     put_counted(text, b" ", u64::from(detail[2]))
 }
 
-// Puts what the type alone carries.
+// Puts the fields that only this type carries.
 fn put_kind(text: &mut Vec<u8>, kind: &Kind) -> Result<(), NoMemory>
     ensures ok { OnOk result (text.new.items ≡ text.old.items ++ kind_text kind.now) }
     ensures front { Keeps text.old.items text.new.items }
@@ -156,8 +156,8 @@ fn put_rest(text: &mut Vec<u8>, there: &Datagram<'_>, packet: &Packet<'_>) -> Re
     put(text, b"\n")
 }
 
-/// Puts the line of a packet of the flow of this number, and a newline (own). NoMemory comes where the text could not
-/// grow; then a front of the line may be there.
+/// Puts the line of a packet of the flow of this number, and a newline (own). NoMemory comes if the text could not
+/// grow; then a prefix of the line may be there.
 pub fn put_packet(
     text: &mut Vec<u8>,
     item: &Record<'_>,
@@ -180,7 +180,7 @@ pub fn put_packet(
 }
 
 /// Puts what a packet says (own): its type and its numbers, what the type carries, its options, and how many bytes of
-/// data are there, each after a space. NoMemory comes where the text could not grow.
+/// data are there, each after a space. NoMemory comes if the text could not grow.
 pub fn put_words(text: &mut Vec<u8>, packet: &Packet<'_>) -> Result<(), NoMemory>
     requires options { length packet.now.options.now ≤ 1008 }
     ensures ok { OnOk result (text.new.items ≡ text.old.items ++ words_text (parts_by packet.now)) }

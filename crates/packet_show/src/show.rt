@@ -59,13 +59,13 @@ impl Tally {
 pub(crate) enum Turn {
     // A record was shown or skipped.
     Shown,
-    // The records ended, where the input ends or with a fault of the capture.
+    // The records ended, with the input or with a fault of the capture.
     Ended(Option<CaptureFault>),
     // The source failed.
     Failed,
 }
 
-// Writes the text before the reader asks its source for more, and where it has a block's length.
+// Writes the text before the reader asks its source for more, and when it has a block's length.
 fn flush_if_due<S: Source + Drop, K: Sink>(
     captures: &Captures<S>,
     output: &mut K,
@@ -85,7 +85,7 @@ fn flush_if_due<S: Source + Drop, K: Sink>(
     }
 }
 
-// Reads the next record and shows it. Before that asks the source for more, all text is written.
+// Reads the next record and shows it. All text is written before the source is asked for more.
 fn show_next<S: Source + Drop>(
     captures: &mut Captures<S>,
     tally: &mut Tally,
@@ -129,7 +129,7 @@ fn finish<K: Sink>(
     }
 }
 
-// The loop over the records. What it works on is lent, so that none of its exits has anything to drop.
+// The loop over the records. It borrows what it works on, so that none of its exits has anything to drop.
 fn show_all<S: Source + Drop, K: Sink>(
     captures: &mut Captures<S>,
     output: &mut K,
@@ -180,7 +180,7 @@ fn show_records<S: Source + Drop, K: Sink>(
     show_all(captures, output, &mut tally, &mut text)
 }
 
-// Ends where the file header was refused.
+// Ends, since the file header was refused.
 fn refuse_header<K: Sink>(alloc: Global, why: CaptureFault, output: &mut K) -> JobEnd
     ensures refuses { ShowsHeaderFault why result (K.taken output.old) (K.taken output.new) }
     ensures cause { EndsForCause result (why ≡ ReadFault) (SinkFails K.faults K.empty_takes output.old output.new) }

@@ -1,4 +1,4 @@
--- The last write failed: a front of the last line follows the text.
+-- The last write failed: a prefix of the last line follows the text.
 use Rattle.std.proofs.Common.{rules, ◌≡◌, ◌∙◌, ap, ◌++◌, [], List, ℕ, subst}
 use Rattle.std.specs.Io.KnownBytes.{append_known}
 use Rattle.packet_show.specs.CaptureText.{last_line}
