@@ -28,7 +28,7 @@ run_fault s w words =
     let end = (fold (walked s.rules []) w words).held in
     or_else (walk_fault s [] w words) (or_else (settle_fault s.rules s.args_override_self end) (closes s end))
 
--- what is found, where there is no fault
+-- what is found, if there is no fault
 abbrev pub passed : {X : Type 0} → Kinds → Option X → Option X
 passed [] found = found
 passed (k ∷ ks) found = None

@@ -10,7 +10,7 @@ use Rattle.tool_forms.specs.declared.settings.Setting.TheVariants.{First, Seeds,
 use Rattle.tool_forms.specs.Settings.{given_once, words_give}
 use Rattle.tool_forms.specs.Words.{side_given}
 
--- the run of a seed, where both its figures are there
+-- the run of a seed, if both its figures are there
 abbrev pub seed_run_from : Option ℕ → Option ℕ → Option SeedRun
 seed_run_from seed events = option_and_then (λ seed. option_and_then (λ events. Some (record { seed = seed; events = events })) events) seed
 
@@ -23,7 +23,7 @@ abbrev pub seed_range : ℕ → ℕ → ℕ → Option SeedRange
 seed_range first seeds events =
     if nat_le (first + seeds) (2 ^ 64) then Some (record { first = first; seeds = seeds; events = events }) else None
 
--- the same, where all three figures are there
+-- the same, if all three figures are there
 abbrev pub seed_range_from : Option ℕ → Option ℕ → Option ℕ → Option SeedRange
 seed_range_from first seeds events =
     option_and_then (λ first. option_and_then (λ seeds. option_and_then (λ events. seed_range first seeds events) events) seeds) first
@@ -33,7 +33,7 @@ abbrev pub seed_range_of : List (String Global) → Option SeedRange
 seed_range_of words =
     seed_range_from (given_once table.Seeds First words) (given_once table.Seeds Seeds words) (given_once table.Seeds Events words)
 
--- a side of a flow, where both are there
+-- a side of a flow, if both are there
 abbrev pub flow_side_from : Option ℕ → Option EndSide → Option FlowSide
 flow_side_from flow side = option_and_then (λ flow. option_and_then (λ side. Some (record { flow = flow; side = side })) side) flow
 

@@ -17,7 +17,7 @@ campaign_of words =
     option_and_then (λ first. option_and_then (λ seeds. option_and_then (λ events. option_and_then (λ workers. campaign_from first seeds events workers)
     (given_once table.Campaign Workers words)) (given_once table.Campaign Events words)) (given_once table.Campaign Seeds words)) (given_once table.Campaign First words)
 
--- what a campaign may be
+-- the bounds of a campaign
 pub record IsWithinBounds (campaign : Campaign) : Type 0 where
   pub some_seeds : 1 ≤ campaign.seeds
   pub most_seeds : campaign.seeds ≤ 100000

@@ -1,7 +1,7 @@
 -- The commands of `clap` that read the words of a form (own), and what their matches mean.
 --
--- The commands (`command_of`) are opened only where a proof says so. With all of them written out, a check of the code
--- did not end in minutes; now it takes less than two.
+-- The definition of the commands (`command_of`) is opened only if a proof says so. With all of them opened, a check of the code did not end in
+-- minutes; now it takes less than two.
 use Rattle.std.specs.Prelude.{◌≡◌, ◌≢◌, ℕ, Bool, true, false, List, [], ◌∷◌, map, codes, Option, Some, None, option_and_then, String, string_bytes}
 use Rattle.std.specs.Str.{bytes_eq}
 use Rattle.std.specs.List.{list_any}
@@ -27,7 +27,7 @@ use Rattle.tool_forms.specs.CampaignWords.{campaign_from}
 use Rattle.tool_forms.specs.BridgeWords.{flow_side_from, seed_range_from, seed_run_from}
 use Rattle.tool_forms.specs.Words.{listener_for, replay_with}
 
--- the argument of this name that is given so: with one value, which has to be given or may be left out, or as a flag
+-- the argument with this name, given in this way: with one value, which has to be given or may be left out, or as a flag
 abbrev pub rule_by : Way → Text → Rule
 rule_by way.Needed name = record (new_rule name) { long = Some name; action = Some action.Set; required = true }
 rule_by way.Chosen name = record (new_rule name) { long = Some name; action = Some action.Set }
@@ -41,7 +41,7 @@ rule_for setting = rule_by (way_of setting) (bare_name setting)
 abbrev pub bare_command : App
 bare_command = on_top (λ s. record s { no_binary_name = true; disable_help_flag = true }) (new_app (codes "dccp"))
 
--- a command with the arguments of these settings more
+-- a command with the arguments of these settings added
 abbrev pub with_settings : App → List Setting → App
 with_settings command [] = command
 with_settings command (setting ∷ settings) = with_settings (with_rule command (rule_for setting)) settings
@@ -58,8 +58,7 @@ is_dashes word = bytes_eq word (codes "--")
 abbrev pub has_dashes : List (String Global) → Bool
 has_dashes words = list_any is_dashes (map string_bytes words)
 
--- What a command reads of words: its matches, or nothing where it refuses them or one is `--`, which `clap` would take
--- as the last.
+-- What a command reads from words: its matches, or nothing if it refuses them or one is `--`, which `clap` would take as the last.
 abbrev pub IsReadBy : App → List (String Global) → Option ArgMatches → Type 0
 IsReadBy command words (Some matches) = (has_dashes words ≡ false) × (fault_of command (map string_bytes words) ≡ [])
     × (rows_of (found_of matches) ≡ matches_of command (map string_bytes words))
@@ -75,12 +74,12 @@ campaign_in rows =
     option_and_then (λ first. option_and_then (λ seeds. option_and_then (λ events. option_and_then (λ workers. campaign_from first seeds events workers)
     (figure_in Workers rows)) (figure_in Events rows)) (figure_in Seeds rows)) (figure_in First rows)
 
--- a flag's text
+-- the text of a flag that is given
 abbrev pub is_yes : Option Text → Bool
 is_yes None = false
 is_yes (Some text) = bytes_eq text (codes "true")
 
--- the number of a setting that may be left out, where its text is one
+-- the number of a setting that may be left out, if its text is one
 abbrev pub chosen : Setting → Option Text → Option (Option ℕ)
 chosen setting None = Some None
 chosen setting (Some text) = option_and_then (λ n. Some (Some n)) (number_for setting text)

@@ -59,7 +59,7 @@ least Most = 1
 least Flow = 1
 least _ = 0
 
--- the greatest that a number may be, itself allowed; 0 for a setting that is no number
+-- the greatest number that is allowed; 0 for a setting that is no number
 abbrev pub most : Setting → ℕ
 most First = 2 ^ 64 - 1
 most Seeds = 100000
@@ -75,7 +75,7 @@ most _ = 0
 abbrev pub dashed_name : Setting → List ℕ
 dashed_name setting = codes "--" ++ bare_name setting
 
--- the setting of these that has this name
+-- the setting with this name among these
 abbrev pub named_among : List Setting → List ℕ → Option Setting
 named_among [] name = None
 named_among (setting ∷ settings) name = if bytes_eq name (dashed_name setting) then Some setting else named_among settings name
@@ -84,7 +84,7 @@ named_among (setting ∷ settings) name = if bytes_eq name (dashed_name setting)
 abbrev pub setting_named : Table → List ℕ → Option Setting
 setting_named table name = named_among (settings_of table) name
 
--- given by its name alone
+-- it is given by only its name
 abbrev pub is_marking : Way → Bool
 is_marking way.Mark = true
 is_marking _ = false
@@ -98,7 +98,7 @@ abbrev pub number_from : ℕ → Option ℕ → Option ℕ
 number_from low None = None
 number_from low (Some n) = if nat_lt n low then None else Some n
 
--- the number that a text is for this setting: decimal, without sign or leading zero, within its bounds
+-- the number that a text gives to this setting: decimal, without sign or leading zero, within its bounds
 abbrev pub number_for : Setting → List ℕ → Option ℕ
 number_for setting text = number_from (least setting) (number_below (most setting + 1) text)
 
@@ -109,7 +109,7 @@ side_in text =
     else if bytes_eq text (codes "client") then Some Client
     else None
 
--- the value that a text is for this setting, if it is one that the setting may have
+-- the value that a text gives to this setting, if the setting may have it
 abbrev pub setting_value : Setting → List ℕ → Option Value
 setting_value Side text = option_and_then (λ side. Some (value.End side)) (side_in text)
 setting_value Plain text = None
@@ -132,7 +132,7 @@ mark_given table word = option_map (λ setting. record { setting = setting; valu
 abbrev pub is_equals : ℕ → Bool
 is_equals byte = byte == 61
 
--- A name and its value are one word where that has the byte `=`, the first of which parts them.
+-- A name and its value are one word if it has the byte `=`; the first one separates them.
 abbrev pub is_joined : List ℕ → Bool
 is_joined word = nat_lt (position_or_len is_equals word) (length word)
 
@@ -140,13 +140,13 @@ is_joined word = nat_lt (position_or_len is_equals word) (length word)
 abbrev pub joined_given : Table → List ℕ → Option Assignment
 joined_given table word = given_of table (before_first is_equals word) (after_first is_equals word)
 
--- what is given first, in front of what is given after it
+-- what is given first, before what is given after it
 abbrev pub preceded : Option Assignment → Option (List Assignment) → Option (List Assignment)
 preceded None all = None
 preceded (Some given) None = None
 preceded (Some given) (Some all) = Some (given ∷ all)
 
--- What words give, one setting after the other, where they are nothing else.
+-- What words give, one setting after the other, if they are nothing else.
 abbrev pub all_given : Table → List (List ℕ) → Option (List Assignment)
 all_given table [] = Some []
 all_given table (word ∷ []) =
@@ -162,7 +162,7 @@ all_given table (word ∷ (next ∷ words)) =
 abbrev pub is_same : Setting → Setting → Bool
 is_same one other = bytes_eq (bare_name one) (bare_name other)
 
--- the value, where the setting is not given once more
+-- the value, if the setting is not given once more
 abbrev pub unless_again : Setting → Value → List Assignment → Option (Option Value)
 unless_again setting it [] = Some (Some it)
 unless_again setting it (given ∷ all) = if is_same given.setting setting then None else unless_again setting it all
@@ -172,11 +172,11 @@ abbrev pub once : Setting → List Assignment → Option (Option Value)
 once setting [] = Some None
 once setting (given ∷ all) = if is_same given.setting setting then unless_again setting given.value all else once setting all
 
--- What the words give to a setting, where all of them are settings of the form.
+-- What the words give to a setting, if all of them are settings of the form.
 abbrev pub words_give : Table → Setting → List (String Global) → Option (Option Value)
 words_give table setting words = option_and_then (once setting) (all_given table (map string_bytes words))
 
--- the number that a setting is given, where it is given one
+-- the number that a setting is given, if it is given one
 abbrev pub number_among : Option (Option Value) → Option ℕ
 number_among (Some (Some (value.Number n))) = Some n
 number_among _ = None

@@ -30,12 +30,12 @@ abbrev pub number_given : Option Value → Option ℕ
 number_given (Some (value.Number n)) = Some n
 number_given _ = None
 
--- a replay without a receive buffer, or with one for so many packets
+-- a replay without a receive buffer, or with one for this many packets
 abbrev pub replay_with : Side → Bool → Option ℕ → Form
 replay_with side plain None = form.Replay side plain
 replay_with side plain (Some capacity) = form.Buffered side plain capacity
 
--- a replay of this side, without its offers where `--plain` is given, and with a receive buffer where `--buffer` is
+-- a replay of this side, without its offers if `--plain` is given, and with a receive buffer if `--buffer` is
 abbrev pub replays : Option (Option Value) → Option Side → Option (Option Value) → Option Form
 replays (Some plain) (Some side) (Some buffer) = Some (replay_with side (is_some plain) (number_given buffer))
 replays _ _ _ = None
@@ -49,11 +49,11 @@ replay_of words =
 abbrev pub campaigns : List (String Global) → Option Form
 campaigns words = option_and_then (λ campaign. Some (form.Campaign campaign)) (campaign_of words)
 
--- a listener of so many flows at most
+-- a listener of at most this many flows
 abbrev pub listener_for : Option ℕ → Option Form
 listener_for most = option_and_then (λ most. Some (form.Listen most)) most
 
--- The words after `listen`: how many flows there may be, once.
+-- The words after `listen`: the most flows, given once.
 abbrev pub listen_of : List (String Global) → Option Form
 listen_of words = listener_for (given_once table.Listen setting.Most words)
 

@@ -32,7 +32,7 @@ pub struct SeedRange {
     pub events: u32,
 }
 
-/// A side of a capture's flow (own): of its packets, those that go there.
+/// A side of a capture's flow (own): those of its packets that go to this side.
 #[derive(Clone, Copy)]
 pub struct FlowSide {
     /// The flow's number, from 1 in the order first seen.
@@ -54,8 +54,8 @@ fn seed_run_in(matches: &ArgMatches) -> Option<SeedRun>
     })
 }
 
-/// The run that the words after `seed` ask for, both settings once, or None where they ask for none (own). NoMemory
-/// says nothing of them.
+/// The run that the words after `seed` ask for, both settings once, or None if they ask for none (own). NoMemory says
+/// nothing about them.
 pub fn seed_run_of(alloc: Global, words: &[String]) -> Result<Option<SeedRun>, NoMemory>
     ensures value { WordsSay result (seed_run_of words.now) }
     ensures within { IfOk result (λ run. IfSome run IsRunWithinBounds) }
@@ -82,8 +82,8 @@ fn seed_range_in(matches: &ArgMatches) -> Option<SeedRange>
     })
 }
 
-/// The seeds that the words after `seeds` ask for, all three settings once, or None where they ask for none (own).
-/// NoMemory says nothing of them.
+/// The seeds that the words after `seeds` ask for, all three settings once, or None if they ask for none (own).
+/// NoMemory says nothing about them.
 pub fn seed_range_of(alloc: Global, words: &[String]) -> Result<Option<SeedRange>, NoMemory>
     ensures value { WordsSay result (seed_range_of words.now) }
     ensures within { IfOk result (λ range. IfSome range IsRangeWithinBounds) }
@@ -105,8 +105,8 @@ fn flow_side_in(matches: &ArgMatches) -> Option<FlowSide>
     Some(FlowSide { flow, side })
 }
 
-/// The side of a flow that the words after `frames` ask for, both settings once, or None where they ask for none
-/// (own). NoMemory says nothing of them.
+/// The side of a flow that the words after `frames` ask for, both settings once, or None if they ask for none (own).
+/// NoMemory says nothing about them.
 pub fn flow_side_of(alloc: Global, words: &[String]) -> Result<Option<FlowSide>, NoMemory>
     ensures value { WordsSay result (flow_side_of words.now) }
     ensures within { IfOk result (λ asked. IfSome asked IsFlowWithinBounds) }

@@ -42,7 +42,7 @@ fn campaign_in(matches: &ArgMatches) -> Option<Campaign>
     })
 }
 
-/// The campaign that the words after `campaign` ask for, or None where they ask for none.
+/// The campaign that the words after `campaign` ask for, or None if they ask for none.
 pub(crate) fn campaign_of(alloc: Global, words: &[String]) -> Result<Option<Campaign>, NoMemory>
     ensures value { WordsSay result (campaign_of words.now) }
     ensures within { IfOk result (λ campaign. IfSome campaign IsWithinBounds) }

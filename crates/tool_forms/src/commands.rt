@@ -37,7 +37,7 @@ fn flag<'a>(alloc: Global, name: &'a str) -> Arg<'a>
     Arg::new(alloc, name).long(name).action(ArgAction::SetTrue)
 }
 
-// The argument of this name that is given so.
+// The argument with this name, given in this way.
 fn argument<'a>(alloc: Global, way: Way, name: &'a str) -> Arg<'a>
     ensures rule { rule_of result ≡ rule_by way name.entry.now }
     ensures local { result.global ≡ false }
@@ -79,7 +79,7 @@ fn bare_command<'a>(alloc: Global) -> Command<'a>
         .disable_help_flag(true)
 }
 
-// The command with the arguments of these settings more.
+// The command with the arguments of these settings added.
 fn with_settings<'a>(
     alloc: Global,
     command: Command<'a>,
@@ -103,21 +103,21 @@ fn command_of<'a>(alloc: Global, table: Table) -> Result<Command<'a>, AllocError
     with_settings(alloc, bare_command(alloc), table.settings())
 }
 
-// One of the words is `--`, which `clap` would take as the last word.
+// Whether one of the words is `--`, which `clap` would take as the last word.
 fn has_dashes(words: &[String]) -> bool
     ensures { result ≡ has_dashes words.now }
 {
     words.iter().any(|word| is_text(word.as_bytes(), b"--"))
 }
 
-// The words may be fine, but no memory was left.
+// Whether no memory was left; the words may be right.
 fn is_for_memory(error: &Error) -> bool
     ensures { IsTrue result ↔ (kind_of error.now ≡ ErrorKind.OutOfMemory) }
 {
     matches!(error.kind(), ErrorKind::OutOfMemory)
 }
 
-// What a command reads of these words, or None if they are not its words.
+// The matches of a command for these words, or None if they are not its words.
 fn read_by<'a>(
     command: Command<'a>,
     words: &'a [String],
@@ -167,8 +167,8 @@ pub(crate) fn figure_in(matches: &ArgMatches, setting: Setting) -> Option<u64>
     setting.number(text.as_bytes())
 }
 
-/// The number that the matches have for this setting, which may be left out, and None where its text is no number
-/// within its bounds.
+/// The number that the matches have for this setting, which may be left out; None if its text is no number within its
+/// bounds.
 pub(crate) fn chosen_in(matches: &ArgMatches, setting: Setting) -> Option<Option<u64>>
     ensures value { result ≡ chosen_in setting (rows_of (found_of matches.now)) }
     ensures within { IfSome result (λ chosen. IfSome chosen (λ n. least setting ≤ n × n ≤ most setting)) }
@@ -180,7 +180,7 @@ pub(crate) fn chosen_in(matches: &ArgMatches, setting: Setting) -> Option<Option
     Some(Some(number))
 }
 
-/// A flag is given, which then has the text `true`.
+/// Whether a flag is given, which then has the text `true`.
 pub(crate) fn is_given(matches: &ArgMatches, flag: Setting) -> bool
     ensures { result ≡ is_yes (first_of (bare_name flag) (rows_of (found_of matches.now))) }
 {

@@ -22,7 +22,7 @@ pub(crate) fn side_in(text: &[u8]) -> Option<Side>
     None
 }
 
-/// The form whose settings words are.
+/// A form that has settings.
 #[derive(Clone, Copy)]
 pub(crate) enum Table {
     Replay,
@@ -33,7 +33,7 @@ pub(crate) enum Table {
     Frames,
 }
 
-/// What words may set.
+/// A setting that words can give.
 #[derive(Clone, Copy)]
 pub(crate) enum Setting {
     First,
@@ -55,7 +55,7 @@ pub(crate) enum Way {
     Needed,
     /// With a value, and it may be left out.
     Chosen,
-    /// By its name alone, and it may be left out.
+    /// By only its name, and it may be left out.
     Mark,
 }
 

@@ -38,7 +38,7 @@ pub enum Form {
     Campaign(Campaign),
     /// `show` prints the packets of a capture.
     Show,
-    /// `listen` hands what many peers send to one listener, of at most this many flows: 1 to 1,024.
+    /// `listen` hands what many peers send to one listener, which has at most this many flows: 1 to 1,024.
     Listen {
         /// The most flows.
         most: u16,
@@ -51,7 +51,7 @@ pub enum Form {
 pub const USAGE: &[u8] =
     b"usage: dccp run | replay --side server|client [--plain] [--buffer C] | campaign --first F --seeds N --events E --workers W | show | listen --most M | ecn\n";
 
-/// Tells whether a word is this text (own).
+/// Whether a word is this text (own).
 pub fn is_word(word: &String, text: &[u8]) -> bool
     ensures { result ≡ is_word word.now text.now }
 {
@@ -156,9 +156,9 @@ fn form_after(alloc: Global, first: &String, words: &[String]) -> Result<Option<
     Ok(None)
 }
 
-/// The job that these words ask for, those after the program's name, or None where they are none of the forms (own).
-/// NoMemory comes only for words after `replay`, `campaign` and `listen`, whose settings are read by a command of
-/// `clap`, and then says nothing of them.
+/// The job that the words after the program's name ask for, or None if they are none of the forms (own). NoMemory comes
+/// only for words after `replay`, `campaign` and `listen`, whose settings a command of `clap` reads, and says nothing
+/// about them.
 #[tactic(auto, unfolding(crate::specs::Words::form_of))]
 pub fn form_of(alloc: Global, words: &[String]) -> Result<Option<Form>, NoMemory>
     ensures value { WordsSay result (form_of words.now) }
