@@ -1,4 +1,4 @@
--- Data that are delivered are within the bytes that arrived, so the line of each event can tell them.
+-- Data that are delivered are within the bytes that arrived, so the line of each event can have them.
 use Rattle.std.proofs.Common.{◌≡◌, refl, sym, ap, ◌∙◌, subst, ℕ, List, Bool, true, false, if◌then◌else◌, Option, Some, None, Result, Ok, Err, slice_get}
 use Rattle.ccid_two.specs.Kinds.{Both, kinds_control}
 use Rattle.dccp_endpoint.specs.Calling.{aborts, closes, opens, prefers, sends_payload}
@@ -23,7 +23,7 @@ use Rattle.schedule_text.specs.Results.{IsSeenOf}
 use Rattle.tool_jobs.proofs.Telling.{data-in-frame}
 use Rattle.tool_jobs.specs.WorldLines.{arrived, sent_bytes}
 
--- a call tells no data, and a frame that arrived stands where it was sent.
+-- a call delivers no data, and a frame that arrived is where it was sent.
 
 call-told : {Fault : Type 0} (bytes : List ℕ) (named : Fault → Refusal) (result : Result (Unit {0}) Fault) → IsSeenOf bytes (seen_of_call named result)
 call-told bytes named (Ok _) = tt
@@ -61,7 +61,7 @@ frame-told w from index frame half false step found is told =
     ∙ ap (λ (x : WorldState). sent_bytes (slice_get (half_of x from).frames index)) (ap (world-or w) is) in
     subst (λ (bytes : List ℕ). IsSeenOf bytes step.seen) stands (subst (IsSeenOf frame.bytes) (ap (seen-or half.seen) is) told)
 
--- a frame that is refused tells nothing
+-- a frame that is refused delivers nothing
 arrival-told : (w : WorldState) (from : Side) (index : ℕ) (frame : SentFrame) (full far : Bool) (step : WorldStep)
     → slice_get (half_of w from).frames index ≡ Some frame
     → (if full then Err fault.Full else in_world w (other from) (unless_far (half_of w (other from)) frame far)) ≡ Ok step

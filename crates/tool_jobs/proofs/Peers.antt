@@ -136,7 +136,7 @@ iss-peers side iss play below peers =
     peers-with side (record (config_of play side) { iss = iss }) play peers
     (record { own_port = fits.own_port; peer_port = fits.peer_port; service = fits.service; iss = below; lists = fits.lists }) refl
 
--- what a line comes to
+-- the result of a line
 
 abbrev PeersAfter : LineVerdict Scene Play → Type 0
 PeersAfter (Accepted scene next) = HasPeers next
@@ -213,7 +213,7 @@ next-peers play number (Long front) peers = tt
 next-peers play number Much peers = tt
 next-peers play number End peers = peers
 
--- what the lines of an input come to
+-- the result of the lines of an input
 
 peers-by : (rest : Play → LinesResult Scene Play) (number given : ℕ) → ((next : Play) → HasPeers next → HasPeers (rest next).last) → (play : Play)
     → HasPeers play → (verdict : LineVerdict Scene Play) → PeersAfter verdict → HasPeers (gone_by play number given verdict rest).last

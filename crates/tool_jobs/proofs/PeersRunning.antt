@@ -1,4 +1,4 @@
--- What an input comes to is a run of the listener: what comes next leads it on by one turn, and the induction over all lines.
+-- The result of an input is a run of the listener: what comes next leads it on by one turn, and the induction over all lines.
 use Rattle.std.proofs.Common.{◌≡◌, refl, sym, subst, ℕ, ◌+◌, List, [], ◌∷◌, length, Bool, true, false, if◌then◌else◌, nat_lt, Option, Some, None, Result, Ok, Err}
 use Rattle.std.specs.Prelude.{map}
 use Rattle.std.specs.List.Sorted.{IsStrictlySortedBy}

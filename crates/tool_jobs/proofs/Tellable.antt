@@ -1,4 +1,4 @@
--- What a listener tells of a call: data that are delivered are in the bytes that arrived, and the listener is left as it is computed.
+-- What a listener returns of a call: data that are delivered are in the bytes that arrived, and the listener is left as it is computed.
 use Rattle.std.proofs.Common.{◌≡◌, sym, ap, ◌∙◌, subst, ℕ, List, [], Bool, true, false, Option, Some, None, Result, Ok, Err}
 use Rattle.std.specs.Prelude.{IfOk, OnOk}
 use Rattle.ccid_two.specs.Kinds.{Both, kinds_control}
@@ -25,7 +25,7 @@ use Rattle.dccp_states.specs.declared.seen.Refusal.TheVariants as refusal
 use Rattle.tool_jobs.proofs.Telling.{data-in-frame}
 use Rattle.tool_jobs.specs.Telling.{CanBeTold, arriving_bytes}
 
--- a call tells no data
+-- a call delivers no data
 call-told : {Fault : Type 0} (named : Fault → Refusal) (result : Result (Unit {0}) Fault) → IsSeenOf [] (seen_of_call named result)
 call-told named (Ok _) = tt
 call-told named (Err fault) = tt

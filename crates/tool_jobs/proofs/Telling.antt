@@ -1,4 +1,4 @@
--- Data that an end delivers are within the bytes that arrived, so that a line can tell them.
+-- Data that an end delivers are within the bytes that arrived, so that a line can have them.
 use Rattle.std.proofs.Common.{◌≡◌, sym, ap, subst, ℕ, List, Bool, true, false, if◌then◌else◌, Option, Some, Result, Ok, Err, IfOk, arith}
 use Rattle.ccid_two.specs.Kinds.{Both, kinds_control}
 use Rattle.dccp_packets.specs.Grammar.{Parts, decoded}

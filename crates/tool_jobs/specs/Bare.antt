@@ -1,4 +1,4 @@
--- What `replay` writes of an input where its end stands alone (own).
+-- What `replay` writes for an input if its end has no receive buffer (own).
 use Rattle.std.specs.Prelude.{ℕ, Bool, false, is_some, List, [], Result}
 use Rattle.ccid_two.specs.Kinds.{Both, at_first, kinds_control}
 use Rattle.dccp_endpoint.specs.Calling.{opens}
@@ -19,7 +19,7 @@ bare_opened step = record { text = opened_line step.answer; after = step.after; 
 abbrev pub bare_heard : ℕ → List ℕ → EndStep Both Outcome → ReplayStep (End Both)
 bare_heard number bytes step = record { text = result_line number (seen.Received step.answer) bytes; after = step.after; frame = step.frame }
 
--- An end alone has no lines besides frames.
+-- Such an end has no lines besides frames.
 abbrev pub bare_acts : Acts (End Both)
 bare_acts = record {
   opening = λ e. bare_opened (with_control kinds_control e.congestion (opens e.state));
@@ -33,7 +33,7 @@ bare_acts = record {
 abbrev pub bare_end : Side → Bool → End Both
 bare_end side plain = begins kinds_control (replay_config side plain) at_first
 
--- What `replay` writes of an input.
+-- What `replay` writes for an input.
 abbrev pub replay_text : Side → Bool → List ℕ → List ℕ
 replay_text side plain input = text_of_replay bare_acts side (bare_end side plain) input
 
@@ -41,6 +41,6 @@ replay_text side plain input = text_of_replay bare_acts side (bare_end side plai
 abbrev pub replay_refused : Side → Bool → List ℕ → Bool
 replay_refused side plain input = is_some (replay_of_input bare_acts side (bare_end side plain) input).refusal
 
--- How many bytes of an input its accepted lines have, those before the first that is refused.
+-- How many bytes the accepted lines of an input have: those before the first that is refused.
 abbrev pub replay_accepted : Side → Bool → List ℕ → ℕ
 replay_accepted side plain input = (replay_of_input bare_acts side (bare_end side plain) input).accepted

@@ -1,5 +1,4 @@
--- What `replay` writes of an input if its end has a receive buffer, which an application reads, and may stop reading
--- (own).
+-- What `replay` writes for an input if its end has a receive buffer, which an application reads, and may stop reading (own).
 use Rattle.std.specs.Prelude.{ℕ, ◌++◌, Bool, ◌||◌, if◌then◌else◌, is_some, List, [], ◌∷◌, codes, decimal, Option, Some, None, Result}
 use Rattle.std.specs.Str.{bytes_eq}
 use Rattle.ccid_two.specs.Kinds.{Both, at_first, kinds_control}
@@ -52,7 +51,7 @@ item_read b number = record { text = item_line number b.inbox.items; after = rec
 abbrev pub reading_stopped : BufferedState Both → ℕ → HeedStep (BufferedState Both)
 reading_stopped b number = record { text = decimal number ++ codes ": ok\n"; after = record { end = b.end; inbox = stopping b.inbox } }
 
--- Its own lines are `read` and `stop`, each as a line of that word alone.
+-- Its own lines are `read` and `stop`, each a line of only that word.
 abbrev pub buffered_acts : Acts (BufferedState Both)
 buffered_acts = record {
   opening = λ b. buffered_opened (beside b.inbox (with_control kinds_control b.end.congestion (opens b.end.state)));
@@ -62,11 +61,11 @@ buffered_acts = record {
   standing = λ b. b.end;
 }
 
--- a new end of a side, with its offers or without, and an empty inbox for so many packets
+-- a new end of a side, with its offers or without, and an empty inbox for this many packets
 abbrev pub buffered_end : Side → Bool → ℕ → BufferedState Both
 buffered_end side plain capacity = begins_buffered kinds_control (replay_config side plain) at_first capacity
 
--- What `replay` then writes of an input.
+-- What `replay` then writes for an input.
 abbrev pub buffered_text : Side → Bool → ℕ → List ℕ → List ℕ
 buffered_text side plain capacity input = text_of_replay buffered_acts side (buffered_end side plain capacity) input
 
@@ -74,6 +73,6 @@ buffered_text side plain capacity input = text_of_replay buffered_acts side (buf
 abbrev pub buffered_refused : Side → Bool → ℕ → List ℕ → Bool
 buffered_refused side plain capacity input = is_some (replay_of_input buffered_acts side (buffered_end side plain capacity) input).refusal
 
--- How many bytes of an input its accepted lines have, those before the first that is refused.
+-- How many bytes the accepted lines of an input have: those before the first that is refused.
 abbrev pub buffered_accepted : Side → Bool → ℕ → List ℕ → ℕ
 buffered_accepted side plain capacity input = (replay_of_input buffered_acts side (buffered_end side plain capacity) input).accepted

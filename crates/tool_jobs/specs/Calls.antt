@@ -23,7 +23,7 @@ timer_row = row_as (λ s. call.Timer s.0) (timer_kind ▷ end_row)
 abbrev pub close_row : WordRow PeerCall
 close_row = row_as (λ s. call.Close) end_row
 
--- nor `abort`, which ends it at once
+-- nothing follows `abort`, which ends the connection at once
 abbrev pub abort_row : WordRow PeerCall
 abort_row = row_as (λ s. call.Abort) end_row
 

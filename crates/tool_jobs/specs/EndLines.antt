@@ -18,7 +18,7 @@ use Rattle.tool_jobs.specs.Text.{phase_name, stand_mark}
 abbrev pub bytes_line : Side → ℕ → List ℕ → List ℕ
 bytes_line side index bytes = codes "sent " ++ frame_name side index ++ codes " " ++ encode_lower bytes ++ codes "\n"
 
--- the value that an end has for a feature, marked where it is not settled
+-- the value that an end has for a feature, marked if it is not settled
 abbrev pub held_text : Held → List ℕ
 held_text held = decimal held.value ++ stand_mark held.stand
 

@@ -18,7 +18,7 @@ ecn_form_name form.Report = codes "report"
 ecn_form_name form.Check = codes "check"
 ecn_form_name form.Forge = codes "forge"
 
--- all of them
+-- all first words of lines of `ecn`
 abbrev pub ecn_forms : List Form
 ecn_forms = form.Send ∷ form.Deliver ∷ form.Mark ∷ form.Report ∷ form.Check ∷ form.Forge ∷ []
 
@@ -47,6 +47,6 @@ ecn_rows form.Forge = row_as (λ s. event.Forge s.0) (index_kind ▷ end_row)
 abbrev pub ecn_row : WordRow EcnEvent
 ecn_row = choice ecn_form_kind ecn_rows
 
--- a line without its newline: its event, or none where it is empty or a comment; or the first of its faults
+-- a line without its newline: its event, or none if it is empty or a comment; or the first of its faults
 abbrev pub read_ecn_line : List ℕ → Result (Option EcnEvent) LineFault
 read_ecn_line line = line_read ecn_row.said line

@@ -1,4 +1,4 @@
--- What `listen` writes of an input: the answer to each line, then the flows or the line of the first refusal (own).
+-- What `listen` writes for an input: the answer to each line, then the flows or the line of the first refusal (own).
 use Rattle.std.specs.Prelude.{ℕ, ◌+◌, nat_lt, Bool, if◌then◌else◌, is_some, List, [], ◌∷◌, map, Option, Some, None, Result, Ok, Err}
 use Rattle.dccp_listener.specs.Chain.{Deed, Arrives, Calls, Sends, Fires, Closes, Aborts}
 use Rattle.dccp_listener.specs.Listens.{computed_turn, listening_after}
@@ -25,11 +25,11 @@ use Rattle.tool_jobs.specs.declared.listen.serving.ListenLines.{ListenLines}
 abbrev pub first_number : ℕ
 first_number = 2000
 
--- the address that all datagrams are sent to
+-- the destination address of all datagrams
 abbrev pub own_address : List ℕ
 own_address = 10 ∷ 0 ∷ 0 ∷ 2 ∷ []
 
--- a listener at port 5001 of it, for two services and at most so many flows, whose ends have the usual lists
+-- a listener at port 5001 of this address, for two services and at most this many flows, whose ends have the usual lists
 abbrev pub listen_config : ℕ → ListenConfig
 listen_config most =
     record { own_address = own_address; own_port = 5001; services = record { items = 42 ∷ 43 ∷ [] }; lists = usual_lists; most = most }
@@ -38,7 +38,7 @@ listen_config most =
 abbrev pub first_listening : ℕ → ListenerState
 first_listening most = record { config = unoffering (listen_config most); flows = [] }
 
--- and nothing has happened
+-- the state before the first line, in which nothing has happened
 abbrev pub first_serving : ℕ → ListenLines
 first_serving most = record { listener = first_listening most; events = 0 }
 
@@ -58,7 +58,7 @@ deed_of peer call.Abort = Calls Aborts
 abbrev pub exchange_at : ListenerState → ℕ → Peer → Deed → Exchange
 exchange_at l number peer deed = record { number = number; before = l; peer = peer; deed = deed }
 
--- it happens: one line more counts, and the listener is as it leaves it
+-- one more line counts, and the listener is as the exchange leaves it
 abbrev pub by_exchange : ListenLines → Exchange → LineVerdict Exchange ListenLines
 by_exchange s x = Accepted (Some x) (record { listener = listening_after x.before x.peer x.deed; events = s.events + 1 })
 
@@ -81,11 +81,11 @@ peer_line_judged s number line = by_peer_line s number (read_call line)
 abbrev pub listen_job : Job Exchange ListenLines
 listen_job = record { judged = peer_line_judged; told = exchange_text; ending = λ s. flow_lines s.listener.flows }
 
--- the result of an input, from a listener without flows that may have so many
+-- the result of an input, from a listener without flows that may have this many
 abbrev pub listened : ℕ → List ℕ → LinesResult Exchange ListenLines
 listened most input = gone_through listen_job (first_serving most) input
 
--- What `listen` writes of an input.
+-- What `listen` writes for an input.
 abbrev pub listen_text : ℕ → List ℕ → List ℕ
 listen_text most input = text_of_job listen_job (listened most input)
 
@@ -93,7 +93,7 @@ listen_text most input = text_of_job listen_job (listened most input)
 abbrev pub listen_refused : ℕ → List ℕ → Bool
 listen_refused most input = is_some (listened most input).refusal
 
--- How many bytes of an input its accepted lines have, those before the first that is refused.
+-- How many bytes the accepted lines of an input have: those before the first that is refused.
 abbrev pub listen_accepted : ℕ → List ℕ → ℕ
 listen_accepted most input = (listened most input).accepted
 
@@ -101,11 +101,11 @@ listen_accepted most input = (listened most input).accepted
 abbrev pub turns_of_input : ℕ → List ℕ → List CallTurn
 turns_of_input most input = map (λ x. computed_turn x.before x.peer x.deed) (listened most input).deeds
 
--- They are a run of a listener without flows, which leaves the flows that are written last.
+-- The turns of an input are a run of a listener without flows, which leaves the flows that are written last.
 abbrev pub EveryInputIsARun : Type 0
 EveryInputIsARun = (most : ℕ) (input : List ℕ) → IsRunOfTurns (first_listening most) (listened most input).last.listener (turns_of_input most input)
 
--- So the answers and frames of each peer are the chain of its lines, from no end to the end that it has at last.
+-- So the answers and frames of each peer are the chain of its lines, from no end to the end that it finally has.
 abbrev pub EachPeerOfAnInputHasItsChain : Type 0
 EachPeerOfAnInputHasItsChain =
     (most : ℕ) (input : List ℕ) (peer : Peer)

@@ -1,4 +1,4 @@
--- What the lines of an input say happens to peers, line by line, in the words of laws (own).
+-- What happens to peers by the lines of an input, line by line, as laws say it (own).
 use Rattle.std.specs.Prelude.{ℕ, ◌+◌, ◌++◌, List, [], ◌∷◌, length, Option, Some, None, Result, Ok, Err}
 use Rattle.dccp_io.specs.Lines.{Next, End, Line, Long, Much, lines_of, next_in_lines, text_of}
 use Rattle.dccp_listener.specs.Chain.{Deed}
@@ -9,7 +9,7 @@ use Rattle.tool_jobs.specs.Listen.{deed_of}
 use Rattle.tool_jobs.specs.Telling.{Exchange}
 use Rattle.tool_jobs.specs.declared.listen.calls.PeerCall.{PeerCall}
 
--- what the line of this number says happens to a peer, if it says anything
+-- what happens to a peer by the line with this number, if it says anything
 abbrev pub said_by_line : ℕ → Result (Option (Peer × PeerCall)) LineFault → List (ℕ × Peer × Deed)
 said_by_line number (Ok (Some said)) = (number, said.0, deed_of said.0 said.1) ∷ []
 said_by_line number (Ok None) = []
@@ -22,12 +22,12 @@ said_next number (Line line) = said_by_line number (read_call (text_of line))
 said_next number (Long front) = []
 said_next number Much = []
 
--- The same by lines, of which the first has this number, after so many bytes of their input.
+-- The same by lines, of which the first has this number, after this many bytes of their input.
 abbrev pub said_by_lines : ℕ → ℕ → List (List ℕ) → List (ℕ × Peer × Deed)
 said_by_lines number given [] = []
 said_by_lines number given (line ∷ lines) =
     said_next number (next_in_lines given (line ∷ lines)) ++ said_by_lines (number + 1) (given + length line) lines
 
--- what an exchange is of: the number of its line, the peer, and what happens
+-- the number of an exchange's line, its peer, and what happens
 abbrev pub exchange_said : Exchange → ℕ × Peer × Deed
 exchange_said x = (x.number, x.peer, x.deed)

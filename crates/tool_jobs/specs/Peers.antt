@@ -1,4 +1,4 @@
--- Peers as lines have them (own): an IPv4 address and a port in decimal, without leading zeros, as `10.0.0.1:40000`.
+-- Peers as lines have them (own): an IPv4 address and a port in decimal, without leading zeros, such as `10.0.0.1:40000`.
 use Rattle.std.specs.Prelude.{◌≡◌, ℕ, ◌<◌, ◌++◌, List, [], ◌∷◌, length, All, codes, decimal, Option, Some, None}
 use Rattle.dccp_listener.specs.declared.peer.Peer.{Peer}
 use Rattle.tool_text.specs.Numbers.{number_below}
@@ -26,12 +26,12 @@ abbrev pub peer_at : Option (List ℕ) → Option ℕ → Option Peer
 peer_at (Some address) (Some port) = Some (record { address = address; port = port })
 peer_at _ _ = None
 
--- an address, whose numbers are parted by dots, and a port below 65,536
+-- an address, whose numbers are separated by dots, and a port below 65,536
 abbrev pub peer_of_parts : List (List ℕ) → Option Peer
 peer_of_parts (address ∷ (port ∷ [])) = peer_at (address_of_parts (parted_by 46 address)) (number_below 65536 port)
 peer_of_parts _ = None
 
--- the peer that a word spells, if it spells one: a colon parts address and port
+-- the peer that a word spells, if it spells one: a colon separates address and port
 abbrev pub peer_of : List ℕ → Option Peer
 peer_of word = peer_of_parts (parted_by 58 word)
 

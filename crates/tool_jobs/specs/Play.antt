@@ -1,5 +1,4 @@
--- What `ecn` writes of an input: the line of each event that takes place, then the last line or the line of the first
--- refusal (own).
+-- What `ecn` writes for an input: the line of each event that takes place, then the last line or the line of the first refusal (own).
 use Rattle.std.specs.Prelude.{ℕ, ◌+◌, nat_lt, Bool, is_some, List, Option, Some, None, Result, Ok, Err, if◌then◌else◌}
 use Rattle.dccp_ecn.specs.declared.event.EcnEvent.{EcnEvent}
 use Rattle.dccp_ecn.specs.declared.event.EcnFault.{EcnFault}
@@ -14,7 +13,7 @@ use Rattle.tool_jobs.specs.declared.ecn.play.EcnPlay.{EcnPlay}
 use Rattle.tool_jobs.specs.Forms.{read_ecn_line}
 use Rattle.tool_jobs.specs.SeenText.{ecn_ending, ecn_event_line}
 
--- before all: nothing was sent, and no event took place
+-- the state before any line: nothing was sent, and no event took place
 abbrev pub first_ecn_play : EcnPlay
 first_ecn_play = record { events = 0; world = ecn_begins }
 
@@ -53,7 +52,7 @@ ecn_job = record { judged = ecn_judged; told = λ text. text; ending = λ play. 
 abbrev pub ecn_of_input : List ℕ → LinesResult (List ℕ) EcnPlay
 ecn_of_input input = gone_through ecn_job first_ecn_play input
 
--- What `ecn` writes of an input.
+-- What `ecn` writes for an input.
 abbrev pub ecn_text : List ℕ → List ℕ
 ecn_text input = text_of_job ecn_job (ecn_of_input input)
 
@@ -61,6 +60,6 @@ ecn_text input = text_of_job ecn_job (ecn_of_input input)
 abbrev pub ecn_refused : List ℕ → Bool
 ecn_refused input = is_some (ecn_of_input input).refusal
 
--- How many bytes of an input its accepted lines have, those before the first that is refused.
+-- How many bytes the accepted lines of an input have: those before the first that is refused.
 abbrev pub ecn_accepted : List ℕ → ℕ
 ecn_accepted input = (ecn_of_input input).accepted

@@ -1,5 +1,5 @@
--- What `replay` writes of an input: what an end does with its frames, line by line, then the end's line or the line of
--- the first refusal (own). An end alone and one with a receive buffer differ only in what they do.
+-- What `replay` writes for an input: what an end does with its frames, line by line, then the end's line or the line of the first refusal (own).
+-- An end with a receive buffer and one without differ only in what they do.
 use Rattle.std.specs.Prelude.{◌≡◌, ℕ, ◌+◌, ◌++◌, Bool, if◌then◌else◌, List, [], codes, Option, Some, None, Result, Ok, Err}
 use Rattle.ccid_two.specs.Kinds.{Both}
 use Rattle.dccp_packets.specs.Outgoing.{Outgoing}
@@ -22,19 +22,19 @@ pub record ReplayState (E : Type 0) : Type 0 where
   pub side : Side
   pub end : E
 
--- What an end does: the line that is written of it, the end after it, and the frame that it sends, if any.
+-- What an end does: the line that is written for it, the end after it, and the frame that it sends, if any.
 pub record ReplayStep (E : Type 0) : Type 0 where
   pub text : List ℕ
   pub after : E
   pub frame : Option Outgoing
 
--- the same of a line that makes it send nothing
+-- the same for a line that makes it send nothing
 pub record HeedStep (E : Type 0) : Type 0 where
   pub text : List ℕ
   pub after : E
 
--- An end of some kind, as a replay has it: what it does at the call `open`, and with bytes that arrive by the line of
--- this number; which lines say what it should do itself, and what it does then; and the end whose line comes last.
+-- An end of some kind, as a replay has it: what it does at the call `open`, and with bytes that arrive by the line of this number; which lines
+-- say what it should do, and what it does then; and the end whose line comes last.
 pub record Acts (E : Type 0) : Type 0 where
   pub opening : E → ReplayStep E
   pub hearing : E → ℕ → List ℕ → ReplayStep E
@@ -51,17 +51,17 @@ abbrev pub opened_line : Result (Unit {0}) OpenFault → List ℕ
 opened_line (Ok _) = codes "open: ok\n"
 opened_line (Err _) = codes "open: refused NotFresh\n"
 
--- how many frames a step sent, one at most
+-- how many frames a step sent: one or none
 abbrev pub count : Option Outgoing → ℕ
 count None = 0
 count (Some sent) = 1
 
--- The line of the frame that a step sent, under its name; nothing where it sent none.
+-- The line of the frame that a step sent, with the frame's name; nothing if it sent none.
 abbrev pub reply_line : Side → ℕ → Option Outgoing → List ℕ
 reply_line side index None = []
 reply_line side index (Some sent) = bytes_line side index sent.bytes
 
--- Before all: the end is new, and it has sent nothing.
+-- The state before anything happened: the end is new, and has sent nothing.
 abbrev pub first_replay : {E : Type 0} → Side → E → ReplayState E
 first_replay side end = record { sent = 0; side = side; end = end }
 
@@ -87,7 +87,7 @@ begun_from acts replay Server = record { text = []; replay = replay }
 abbrev pub begun_replay : {E : Type 0} → Acts E → Side → E → ReplayStart E
 begun_replay acts side end = begun_from acts (first_replay side end) side
 
--- a line whose frame arrived is accepted, whatever its end made of the frame
+-- a line whose frame arrived is accepted, whatever the end did with the frame
 abbrev pub by_act : {E : Type 0} → ReplayState E → ReplayStep E → LineVerdict (List ℕ) (ReplayState E)
 by_act replay act = Accepted (Some (act_lines replay act)) (after_act replay act)
 
@@ -115,14 +115,14 @@ replay_job acts = record { judged = replay_judged acts; told = λ text. text; en
 abbrev pub replay_of_input : {E : Type 0} → Acts E → Side → E → List ℕ → LinesResult (List ℕ) (ReplayState E)
 replay_of_input acts side end input = gone_through (replay_job acts) (begun_replay acts side end).replay input
 
--- What is written of an input: the text before the first line, and that of the lines.
+-- What is written for an input: the text before the first line, and that of the lines.
 abbrev pub text_of_replay : {E : Type 0} → Acts E → Side → E → List ℕ → List ℕ
 text_of_replay acts side end input = (begun_replay acts side end).text ++ text_of_job (replay_job acts) (replay_of_input acts side end input)
 
--- An act was done in this way: its line is at the text's end.
+-- An act took place in this way: its line is at the text's end.
 abbrev pub Performs : {E : Type 0} → ReplayStep E → E → Option Outgoing → List ℕ → List ℕ → Type 0
 Performs act after frame old new = (after ≡ act.after) × (frame ≡ act.frame) × (new ≡ old ++ act.text)
 
--- the same where nothing is sent
+-- the same if nothing is sent
 abbrev pub Heeds : {E : Type 0} → HeedStep E → E → List ℕ → List ℕ → Type 0
 Heeds heeded after old new = (after ≡ heeded.after) × (new ≡ old ++ heeded.text)

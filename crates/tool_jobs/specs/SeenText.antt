@@ -1,4 +1,4 @@
--- The texts of the result of an event, and of the two ends at last (own).
+-- The texts of the result of an event, and of the two ends at the end (own).
 use Rattle.std.specs.Prelude.{ℕ, ◌++◌, List, [], length, codes, decimal, slice_get, Option, Some, None}
 use Rattle.run_list.specs.declared.answers.Marked.{Marked}
 use Rattle.run_list.specs.declared.answers.Marked.TheVariants as answer

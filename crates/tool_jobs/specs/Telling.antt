@@ -1,4 +1,4 @@
--- What is written of what happens to a peer, and of the flows at the end (own).
+-- What is written about what happens to a peer, and about the flows at the end (own).
 use Rattle.std.specs.Prelude.{ℕ, ◌++◌, List, [], length, flat_map, codes, decimal, Option, Some, None}
 use Rattle.hex.specs.Hex.{encode_lower}
 use Rattle.dccp_packets.specs.Outgoing.{Outgoing}
@@ -13,7 +13,7 @@ use Rattle.tool_jobs.specs.Text.{phase_name}
 use Rattle.tool_text.specs.Text.{labelled_number}
 use Rattle.tool_jobs.specs.Peers.{peer_text}
 
--- The answer to a peer, and the line's end. (A lack of memory has no text, since it ends a run.)
+-- The answer to a peer, and the line's end. (Lack of memory has no text, since it ends a run.)
 abbrev pub answer_text : List ℕ → CallTold → List ℕ
 answer_text bytes (Stepped (Some seen)) = result_text bytes seen
 answer_text bytes (Stepped None) = codes ": refused NoFlow\n"

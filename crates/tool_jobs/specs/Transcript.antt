@@ -1,5 +1,4 @@
--- What `run` writes of an input: the lines of each event that takes place, then the two end lines or the line of the
--- first refusal (own).
+-- What `run` writes for an input: the lines of each event that takes place, then the two end lines or the line of the first refusal (own).
 use Rattle.std.specs.Prelude.{◌≡◌, ℕ, ◌+◌, ◌≤◌, ◌++◌, Bool, true, false, ◌&&◌, ◌==◌, nat_lt, if◌then◌else◌, List, length, All, Option, Some, None, is_some, IfSome, Result, Ok, Err}
 use Rattle.ack_vectors.specs.declared.room.Vectors.{Vectors}
 use Rattle.ack_vectors.specs.declared.room.Vectors.TheVariants.{One, Two}
@@ -58,11 +57,11 @@ world_of play = world_or_start play.client play.server play.world
 abbrev pub no_such_frame : LineFault
 no_such_frame = record { column = 9; why = why.NoSuchFrame }
 
--- a schedule with a line that comes before all events
+-- a schedule with a line that has to come before all events
 abbrev pub with_header : Play → Play
 with_header play = record play { is_configured = true }
 
--- A line that comes before all events changes the configurations.
+-- A line that has to come before all events changes the configurations.
 abbrev pub configures : Play → (Play → Play) → LineVerdict Scene Play
 configures play change = if is_some play.world then Refused (whole_line why.HeaderLate) else Accepted None (change (with_header play))
 
@@ -85,7 +84,7 @@ abbrev pub with_vectors : Vectors → Play → Play
 with_vectors vectors play =
     record play { client = record play.client { vectors = vectors }; server = record play.server { vectors = vectors } }
 
--- The version comes before every other line that says something, and therefore only once.
+-- The version has to come before every other line that says something, and so comes only once.
 abbrev pub says_version : Play → ℕ → LineVerdict Scene Play
 says_version play version =
     if play.is_configured then Refused (whole_line why.HeaderLate) else configures play (with_vectors (vectors_of version))
@@ -98,23 +97,22 @@ with_iss side number play = with_config side (record (config_of play side) { iss
 abbrev pub says_plain : Play → Play
 says_plain play = record play { client = config_without_offers play.client; server = config_without_offers play.server }
 
--- A wish or an offer that an end may not have changes nothing; its line was refused before. So the transcript needs no
--- premise for it.
+-- A wish or an offer that an end may not have changes nothing, since its line was refused before. So the transcript needs no premise for it.
 abbrev pub wishing : Config → Feature → Place → Result Wanted PreferFault → Config
 wishing config feature place (Ok wish) = record config { lists = with_wish config.lists feature place wish }
 wishing config feature place (Err fault) = config
 
--- a configuration with one offer more, where an end may make it
+-- a configuration with one more offer, if an end may make it
 abbrev pub offering : Config → Feature → Place → Bool → Config
 offering config feature place mandatory =
     if is_ours feature place then record config { lists = with_offer config.lists feature place mandatory } else config
 
--- a side that is configured with these values of a feature, where an end may have them
+-- a side that is configured with these values of a feature, if an end may have them
 unfoldable pub with_set : Side → Feature → Place → List ℕ → Play → Play
 with_set side feature place values play =
     with_config side (wishing (config_of play side) feature place (wish_of feature place values)) play
 
--- a side that is configured to offer a feature, where an end may do so
+-- a side that is configured to offer a feature, if an end may do so
 abbrev pub with_offered : Side → Feature → Place → Bool → Play → Play
 with_offered side feature place mandatory play = with_config side (offering (config_of play side) feature place mandatory) play
 
@@ -169,7 +167,7 @@ judged_line play number line = by_line play number (read_line line)
 abbrev pub run_job : Job Scene Play
 run_job = record { judged = judged_line; told = scene_text; ending = λ play. end_lines (world_of play) }
 
--- An event was shown so, unless memory was not found.
+-- An event was shown in this way, unless there was no memory.
 abbrev pub ShowsEvent : Result Scene LineFault → List ℕ → List ℕ → ControlledWorld Both → Result (Unit {0}) LineError → Type 0
 ShowsEvent shown old new after (Err line_error.NoMemory) = Unit {0}
 ShowsEvent (Ok scene) old new after answer = (new ≡ old ++ scene_text scene) × (after ≡ scene.step.after) × (answer ≡ Ok tt)
@@ -196,7 +194,7 @@ pub record IsPlayable (play : Play) : Type 0 where
 abbrev pub performed : List ℕ → LinesResult Scene Play
 performed input = gone_through run_job first_play input
 
--- What `run` writes of an input.
+-- What `run` writes for an input.
 abbrev pub transcript : List ℕ → List ℕ
 transcript input = text_of_job run_job (performed input)
 
@@ -204,7 +202,7 @@ transcript input = text_of_job run_job (performed input)
 abbrev pub is_refused : List ℕ → Bool
 is_refused input = is_some (performed input).refusal
 
--- How many bytes of an input its accepted lines have, those before the first that is refused.
+-- How many bytes the accepted lines of an input have: those before the first that is refused.
 abbrev pub accepted_bytes : List ℕ → ℕ
 accepted_bytes input = (performed input).accepted
 
@@ -214,10 +212,10 @@ abbrev pub IsSafeThroughout : LinesResult Scene Play → Type 0
 IsSafeThroughout whole =
     All (λ scene. Safe kinds_control scene.before × Safe kinds_control scene.step.after) whole.deeds × Safe kinds_control (world_of whole.last)
 
--- the same of the result of this input
+-- the same for the result of this input
 abbrev pub SafeThroughout : List ℕ → Type 0
 SafeThroughout input = IsSafeThroughout (performed input)
 
--- The two ends as they are configured at last, to which nothing has happened.
+-- The two ends as the last lines configured them, to which nothing has happened.
 abbrev pub world_at_first : LinesResult Scene Play → ControlledWorld Both
 world_at_first whole = starts whole.last.client whole.last.server

@@ -29,13 +29,12 @@ vectors_next (Line line) later = vectors_by (read_line (text_of line)) later
 vectors_next (Long front) later = One
 vectors_next Much later = One
 
--- The same by lines, after so many bytes of their input: two options exactly where the first line that says something
--- is `version 2`.
+-- The same by lines, after this many bytes of their input: two options exactly if the first line that says something is `version 2`.
 abbrev pub vectors_said : ℕ → List (List ℕ) → Vectors
 vectors_said given [] = One
 vectors_said given (line ∷ lines) = vectors_next (next_in_lines given (line ∷ lines)) (vectors_said (given + length line) lines)
 
--- Both ends have Ack Vectors of so many options.
+-- Both ends have Ack Vectors of this many options.
 pub record HaveVectors (vectors : Vectors) (play : Play) : Type 0 where
   pub client : play.client.vectors ≡ vectors
   pub server : play.server.vectors ≡ vectors

@@ -1,4 +1,4 @@
--- What `run` writes of an event and of its two ends (own).
+-- What `run` writes for an event and for its two ends (own).
 use Rattle.std.specs.Prelude.{ℕ, ◌++◌, List, [], slice_get, Option, Some, None}
 use Rattle.ccid_two.specs.Kinds.{Both}
 use Rattle.tool_jobs.specs.EndLines.{bytes_line, end_line}
@@ -10,7 +10,7 @@ use Rattle.world_events.specs.declared.event.Side.TheVariants.{Client, Server}
 use Rattle.world_events.specs.declared.event.Event.{Event}
 use Rattle.world_events.specs.declared.event.Event.TheVariants as event
 
--- the bytes of a frame that a side sent; none where there is no such frame
+-- the bytes of a frame that a side sent; none if there is no such frame
 abbrev pub sent_bytes : Option SentFrame → List ℕ
 sent_bytes None = []
 sent_bytes (Some frame) = frame.bytes
@@ -26,12 +26,12 @@ arrived w (event.Timer side timer) = []
 arrived w (event.Close side) = []
 arrived w (event.Abort side) = []
 
--- the line of a frame that a side sent, under its name; nothing where there is no such frame
+-- the line of a frame that a side sent, with the frame's name; nothing if there is no such frame
 abbrev pub sent_frame_line : Side → ℕ → Option SentFrame → List ℕ
 sent_frame_line side index None = []
 sent_frame_line side index (Some frame) = bytes_line side index frame.bytes
 
--- The line of the frame that a side sent in a step, where it had sent so many before; nothing where it sent none.
+-- The line of the frame that a side sent in a step before which it had sent this many; nothing if it sent none.
 abbrev pub sent_line : WorldState → Side → ℕ → List ℕ
 sent_line w side before = sent_frame_line side before (slice_get (half_of w side).frames before)
 

@@ -2,7 +2,7 @@
 //!
 //! `replay` hands frames to one end, `run` plays a schedule on the two ends of a world, `listen` hands what peers send
 //! to one listener, and `ecn` plays events between an ECN-capable sender and receiver. Each is a `LineJob` under the
-//! one loop of tool_text. They open no socket and no clock, and take memory for the ends and for the text.
+//! one loop of tool_text. They use no socket and no clock, and take memory for the ends and for the text.
 #![tactic(auto)]
 
 mod ecn;

@@ -2,7 +2,7 @@
 //! (own).
 //!
 //! A line names a peer and says what happens to it. The listener serves each peer by an end; nothing here acts in place
-//! of an end, and nothing opens a socket or a clock. It takes memory when a peer gets an end, and for the text.
+//! of an end, and nothing uses a socket or a clock. It takes memory when a peer gets an end, and for the text.
 
 mod calls;
 mod exchanges;

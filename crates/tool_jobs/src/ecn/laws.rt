@@ -1,11 +1,11 @@
-//! What lines say, whole.
+//! What whole lines say.
 ghost use Rattle.std.specs.Prelude.{◌≡◌, ◌↔◌, ℕ, List, Some, Ok, Err};
 ghost use Rattle.dccp_ecn.specs.declared.event.EcnEvent.{EcnEvent};
 ghost use Rattle.tool_text.specs.declared.words.faults.LineFault.{LineFault};
 ghost use Rattle.tool_text.specs.Lines.{IsSpokenLine, first_fault};
 ghost use Rattle.tool_jobs.specs.Forms.{ecn_row, read_ecn_line};
 
-/// A line is accepted as an event exactly where it is the form's words, parted by one space, with a nonce of 0 or 1, or
+/// A line is accepted as an event exactly if it is the form's words, separated by one space, with a nonce of 0 or 1, or
 /// with an index below 2^47 in decimal (own).
 pub fn ecn_lines_are_their_forms()
     ensures { (text : List ℕ) (event : EcnEvent)

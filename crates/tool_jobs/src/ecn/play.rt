@@ -31,7 +31,7 @@ fn lacking_index(line: &[u8]) -> LineFault
 }
 
 impl EcnPlay {
-    /// Before all: nothing was sent.
+    /// The state before any line: nothing was sent.
     pub(crate) fn new(alloc: Global) -> Result<EcnPlay, NoMemory>
         ensures { IfOk result (λ play. play ≡ first_ecn_play) }
     {

@@ -53,8 +53,8 @@ impl<'a> WordRow<'a> for EcnLine {
     }
 }
 
-/// The event that a line says, or None exactly where the line is empty or a comment; or the first of the line's faults
-/// in the order of `LineWhy`, with its column (own): LineTooLong, NotText, Missing, UnknownWord, BadNumber or Trailing.
+/// The event that a line says, or None exactly if the line is empty or a comment; or the first of the line's faults in
+/// the order of `LineWhy`, with its column (own): LineTooLong, NotText, Missing, UnknownWord, BadNumber or Trailing.
 /// The line comes without its newline.
 pub(crate) fn read_ecn_line(line: &[u8]) -> Result<Option<EcnEvent>, LineFault>
     ensures value { result ≡ spec.read_ecn_line line.now }

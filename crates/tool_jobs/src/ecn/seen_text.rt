@@ -1,4 +1,4 @@
-//! The texts of the result of an event, and of the two ends at last.
+//! The texts of the result of an event, and of the two ends at the end.
 ghost use Rattle.std.specs.Prelude.{◌≡◌, ◌++◌, OnOk, slice_get};
 ghost use Rattle.tool_jobs.specs.SeenText.{check_name, ecn_ending, ecn_event_line, ecn_seen_text, marked_name, vector_text};
 

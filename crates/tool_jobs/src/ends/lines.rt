@@ -49,7 +49,7 @@ fn stand_mark(stand: Stand) -> &'static [u8]
     }
 }
 
-/// Puts the line of a frame that was sent (own): whose it is, its index among those of its side, and its bytes.
+/// Puts the line of a frame that was sent (own): its side, its index among the frames of the side, and its bytes.
 /// NoMemory means that the text could not grow.
 pub(crate) fn put_frame_line(
     text: &mut Vec<u8>,

@@ -8,7 +8,7 @@ use dccp_listener::Peer;
 use schedule_text::{FrameLine, FrameWords, LineFault, Timer, TimerWord};
 use tool_text::{Digits, HexOrDash, WordRow, Words, read_line};
 
-/// What happens to a peer. The digits of frames and data are decoded when the bytes are wanted.
+/// What happens to a peer. The digits of frames and data are decoded only when the bytes are needed.
 #[derive(Drop)]
 pub(crate) enum PeerCall<'a> {
     /// A frame of the peer arrives.
@@ -83,7 +83,7 @@ impl<'a> WordRow<'a> for CallWords {
     }
 }
 
-/// The peer of a line and what happens to it, or None exactly where the line is empty or a comment; or the first of the
+/// The peer of a line and what happens to it, or None exactly if the line is empty or a comment; or the first of the
 /// line's faults, with its column. The line comes without its newline.
 pub(crate) fn read_call(line: &[u8]) -> Result<Option<(Peer, PeerCall<'_>)>, LineFault>
     ensures value { result ≡ spec.read_call line.now }

@@ -1,4 +1,4 @@
-//! What happens to a peer, and the lines of it.
+//! What happens to a peer, and the lines for it.
 ghost use Rattle.std.specs.Prelude.{◌≡◌, ◌≤◌, ◌++◌, [], Ok, IfOk, OnOk, length};
 ghost use Rattle.dccp_listener.specs.Calls.{seen_if};
 ghost use Rattle.dccp_listener.specs.Chain.{Arrives, Calls, call_of};
@@ -17,7 +17,7 @@ use dccp_sum::Pseudo;
 use schedule_text::payload_of;
 use seq_circle::{NoMemory, Seq48};
 
-/// The address that all datagrams are sent to.
+/// The destination address of all datagrams.
 pub(crate) const OWN_ADDRESS: [u8; 4] = [10, 0, 0, 2];
 
 // The initial sequence number of each end.
@@ -68,7 +68,7 @@ fn ask(listener: &mut Listener, peer: Peer, act: Act<'_>, out: &mut Outbox) -> R
     listener.act(peer, act, out)
 }
 
-// Lets a frame of the peer arrive, and puts the lines of that.
+// Lets a frame of the peer arrive, and puts the lines for that.
 fn arrive(
     listener: &mut Listener,
     number: u64,
@@ -89,7 +89,7 @@ fn arrive(
     put_frame(text, peer, &out)
 }
 
-// Calls the peer's end, and puts the lines of that.
+// Calls the peer's end, and puts the lines for that.
 fn call(
     listener: &mut Listener,
     number: u64,
@@ -107,7 +107,7 @@ fn call(
     put_frame(text, peer, &out)
 }
 
-/// Does to the peer what the line of this number says, and puts the lines of that. NoMemory means that no memory was
+/// Does to the peer what the line with this number says, and puts the lines for that. NoMemory means that no memory was
 /// left for an end of the peer or for the text.
 pub(crate) fn exchange(
     listener: &mut Listener,

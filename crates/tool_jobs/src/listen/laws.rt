@@ -15,9 +15,9 @@ ghost use Rattle.tool_jobs.specs.PeerLines.{exchange_said, said_by_lines};
 ghost use Rattle.tool_jobs.specs.Telling.{exchange_text, flow_lines};
 ghost use Rattle.tool_jobs.specs.declared.listen.calls.PeerCall.{PeerCall};
 
-/// Of every input, what is written is the run of a listener (`run`), so each peer gets the answers and frames that a
+/// For every input, what is written is the run of a listener (`run`). So each peer gets the answers and frames that a
 /// server for it alone would have given to its lines, without those that found the listener busy (`chains`). If no line
-/// is refused, the text is that of the exchanges, one after another, and of the flows at last (`text`), in the order of
+/// is refused, the text is that of the exchanges, one after another, and then of the flows (`text`), in the order of
 /// their peers (`ordered`). The exchanges are those of just the lines that say something, in their order: with the
 /// line's number, its peer and what it says (`lines`). The answer is Busy exactly if the peer has no flow and would get
 /// one, and there are as many as are allowed (`busy`; own).
@@ -32,8 +32,8 @@ pub fn each_peer_is_answered_by_its_chain()
     ensures busy { (l : ListenerState) (peer : Peer) (deed : Deed) → ((listens l peer deed).told ≡ WasBusy) ↔ IsBusy l peer deed }
 {}
 
-/// A line is accepted exactly if it is the words of what it says, parted by one space: a peer in its only spelling, and
-/// a call or a frame, whose digits may be of either case (`said`); or if it is empty or a comment (`idle`; own).
+/// A line is accepted exactly if it is the words of what it says, separated by one space: a peer in its only spelling,
+/// and a call or a frame, whose digits may be of either case (`said`); or if it is empty or a comment (`idle`; own).
 pub fn lines_of_peers_are_their_forms()
     ensures said { (text : List ℕ) (said : Peer × PeerCall)
         → (read_call text ≡ Ok (Some said)) ↔ IsSpokenLine peer_row text said }

@@ -11,9 +11,10 @@ use tool_text::{JobEnd, run_lines};
 
 /// Hands the frames of peers, and the calls of their ends, to one listener of at most `most` flows, 1 to 1,024 (own).
 /// It reads the lines of `input` one by one, and writes to `output` a line for each answer and for each frame that goes
-/// to a peer. At last it writes how many flows there are and the phase of each, or the line of the first refusal. With
-/// status 0 or 1 the output is the text of the whole input; with another status it is a prefix of that text. Read means
-/// that the source failed, Write that the sink did, and Memory that no memory was left, for an end or for the text.
+/// to a peer. At the end it writes how many flows there are and the phase of each, or the line of the first refusal.
+/// With status 0 or 1 the output is the text of the whole input; with another status it is a prefix of that text. Read
+/// means that the source failed, Write that the sink did, and Memory that no memory was left, for an end or for the
+/// text.
 pub fn listen_to_peers<S: Source, K: Sink>(
     alloc: Global,
     most: u16,

@@ -50,8 +50,8 @@ fn address_of(text: &[u8]) -> Option<[u8; 4]>
     }
 }
 
-/// The peer that a word spells, as `10.0.0.1:40000`, or None if it spells none (own): an address and a port in decimal,
-/// without leading zeros.
+/// The peer that a word such as `10.0.0.1:40000` spells, or None if it spells none (own): an address and a port in
+/// decimal, without leading zeros.
 #[tactic(auto, using(crate::proofs::Parts::three_parts))]
 pub fn peer_of(word: &[u8]) -> Option<Peer>
     ensures { result ≡ spec.peer_of word.now }
@@ -81,7 +81,7 @@ impl<'a> WordKind<'a> for PeerWord {
     }
 }
 
-/// Puts a peer as its line has it (own). NoMemory means that no memory was left.
+/// Puts a peer as it is in its line (own). NoMemory means that no memory was left.
 #[tactic(auto, unfolding(crate::specs::Peers::peer_text))]
 pub fn put_peer(text: &mut Vec<u8>, peer: Peer) -> Result<(), NoMemory>
     ensures { OnOk result (text.new.items ≡ text.old.items ++ spec.peer_text peer) }

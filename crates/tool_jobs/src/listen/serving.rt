@@ -43,12 +43,12 @@ fn listen_config(most: u16) -> ListenConfig
 pub(crate) struct ListenLines {
     /// The listener that serves the peers.
     pub(crate) listener: Listener,
-    /// By how many lines something happened.
+    /// How many lines so far made something happen.
     pub(crate) events: u32,
 }
 
 impl ListenLines {
-    /// Before the first line: there may be at most so many flows, and there are none.
+    /// The state before the first line: there may be at most `most` flows, and there are none.
     pub(crate) fn new(alloc: Global, most: u16) -> ListenLines
         requires least { 1 ≤ most }
         requires most { most ≤ 1024 }
@@ -60,7 +60,7 @@ impl ListenLines {
         }
     }
 
-    // Does to the peer what the line of this number says, unless it is one line too many.
+    // Does to the peer what the line with this number says, unless it is one line too many.
     fn say(
         &mut self,
         number: u64,

@@ -14,7 +14,7 @@ use schedule_text::put_result;
 use seq_circle::NoMemory;
 use tool_text::{put, put_hex, put_number};
 
-/// Puts the front of a line, up to the answer to the peer.
+/// Puts the beginning of a line, up to the answer to the peer.
 pub(crate) fn put_whom(text: &mut Vec<u8>, number: u64, peer: Peer) -> Result<(), NoMemory>
     ensures { OnOk result (text.new.items ≡ text.old.items ++ (decimal number ++ codes " " ++ peer_text peer)) }
 {

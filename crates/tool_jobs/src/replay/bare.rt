@@ -1,4 +1,4 @@
-//! An end of a replay that stands alone.
+//! An end of a replay without a receive buffer.
 ghost use Rattle.std.specs.Prelude.{◌≡◌, ◌≤◌, length, IfOk};
 ghost use Rattle.ccid_two.specs.Kinds.{kinds_control};
 ghost use Rattle.dccp_endpoint.specs.Controlled.{with_control};
@@ -57,7 +57,7 @@ impl ReplayEnd for Endpoint<Kinds> {
     }
 }
 
-// The step of the end alone. Data that it delivers are within the bytes.
+// Only the step of the end. Data that it delivers are within the bytes.
 fn arrive(end: &mut Endpoint<Kinds>, bytes: &[u8], out: &mut Outbox) -> Outcome
     requires { length bytes.now ≤ 2044 }
     ensures step { record { after = end.new; frame = out.new; answer = result } ≡ with_control kinds_control end.old.congestion (receives end.old.state bytes.now) }

@@ -17,7 +17,7 @@ use std::alloc::Global;
 use tool_text::{is_text, put, put_hex_or_dash, put_number};
 use world_events::{Seen, Side};
 
-/// A new end of a side, with its offers or without, and an empty inbox for so many packets.
+/// A new end of a side, with its offers or without, and an empty inbox for `capacity` packets.
 pub(crate) fn buffered_end(
     alloc: Global,
     side: Side,
@@ -70,7 +70,7 @@ impl ReplayEnd for BufferedEnd<Kinds> {
     }
 }
 
-// Lets the application take the first item, and puts the line of that.
+// Lets the application take the first item, and puts the line for that.
 fn read(end: &mut BufferedEnd<Kinds>, number: u64, text: &mut Vec<u8>) -> Result<(), NoMemory>
     ensures { OnOk result (Heeds (item_read end.old number) end.new text.old.items text.new.items) }
 {
@@ -81,7 +81,7 @@ fn read(end: &mut BufferedEnd<Kinds>, number: u64, text: &mut Vec<u8>) -> Result
     }
 }
 
-// Lets the application stop listening, and puts the line of that.
+// Lets the application stop listening, and puts the line for that.
 fn stop(end: &mut BufferedEnd<Kinds>, number: u64, text: &mut Vec<u8>) -> Result<(), NoMemory>
     ensures { OnOk result (Heeds (reading_stopped end.old number) end.new text.old.items text.new.items) }
 {
@@ -128,7 +128,7 @@ fn put_arrival(number: u64, got: &Got, bytes: &[u8], text: &mut Vec<u8>) -> Resu
     }
 }
 
-// The step of the end with its inbox alone. Data that it delivers are within the bytes.
+// Only the step of the end with its inbox. Data that it delivers are within the bytes.
 fn arrive(end: &mut BufferedEnd<Kinds>, bytes: &[u8], out: &mut Outbox) -> Got
     requires { length bytes.now ≤ 2044 }
     ensures step { record { after = end.new; frame = out.new; outcome = result.outcome; arrival = result.arrival } ≡ buffers kinds_control end.old bytes.now }

@@ -29,11 +29,11 @@ pub(crate) trait ReplayEnd {
     // What it does.
     ghost acts: { Acts Self };
 
-    /// Opens the connection, and puts the line of that.
+    /// Opens the connection, and puts the line for that.
     fn begin(&mut self, out: &mut Outbox, text: &mut Vec<u8>) -> Result<(), NoMemory>
         ensures { OnOk result (Performs (acts.opening self.old) self.new out.new text.old.items text.new.items) };
 
-    /// Receives bytes that arrive by the line of this number, and puts the line of that.
+    /// Receives bytes that arrive by the line with this number, and puts the line for that.
     fn hear(
         &mut self,
         number: u64,
@@ -44,11 +44,11 @@ pub(crate) trait ReplayEnd {
         requires { length bytes.now ≤ 2044 }
         ensures { OnOk result (Performs (acts.hearing self.old number bytes.now) self.new out.new text.old.items text.new.items) };
 
-    /// Whether the line says what the end should do itself: it has no frame.
+    /// Whether the line has no frame, but says what the end should do.
     fn is_own(line: &[u8]) -> bool
         ensures { result ≡ acts.is_own line.now };
 
-    /// Performs what such a line says, and puts the line of that.
+    /// Does what such a line says, and puts the line for that.
     fn heed(&mut self, number: u64, line: &[u8], text: &mut Vec<u8>) -> Result<(), NoMemory>
         ensures { OnOk result (Heeds (acts.heeding self.old number line.now) self.new text.old.items text.new.items) };
 
@@ -58,7 +58,7 @@ pub(crate) trait ReplayEnd {
 }
 
 /// The state of a replay, with room that is made once for all frames: for the one that arrives, and for the one that
-/// the end sends. Contracts see the state alone.
+/// the end sends. Contracts see only the state.
 #[derive(Drop)]
 pub(crate) struct Replay<E> {
     sent: u64,
@@ -77,7 +77,7 @@ impl<E> Model for Replay<E> {
 }
 
 impl<E: ReplayEnd> Replay<E> {
-    // Before all: the end has sent nothing.
+    // The state before anything happened: the end has sent nothing.
     fn new(side: Side, end: E) -> Replay<E>
         ensures { result ≡ first_replay side end }
     {
@@ -90,7 +90,7 @@ impl<E: ReplayEnd> Replay<E> {
         }
     }
 
-    // Opens the end, and puts the lines of that.
+    // Opens the end, and puts the lines for that.
     fn open(&mut self, text: &mut Vec<u8>) -> Result<(), NoMemory>
         requires { self.old.sent + 1 < 2 ^ 64 }
         ensures value { OnOk result (self.new ≡ (begun_from E.acts self.old Side.Client).replay) }
@@ -100,7 +100,7 @@ impl<E: ReplayEnd> Replay<E> {
         put_sent(text, self.side, &mut self.sent, &self.out)
     }
 
-    // Lets the frame arrive that the line of this number has, and puts the lines of that.
+    // Lets the frame in the line with this number arrive, and puts the lines for that.
     fn hear(
         &mut self,
         number: u64,
@@ -130,7 +130,7 @@ impl<E: ReplayEnd> Replay<E> {
 }
 
 impl<E: ReplayEnd + Drop> Replay<E> {
-    // The state of a replay before its first line: a client has opened, and the lines of that were put.
+    // The state of a replay before its first line: a client has opened, and the lines for that were put.
     fn begin(side: Side, end: E, text: &mut Vec<u8>) -> Result<Replay<E>, NoMemory>
         ensures value { IfOk result (λ replay. replay ≡ (begun_replay E.acts side end).replay) }
         ensures text { OnOk result (text.new.items ≡ text.old.items ++ (begun_replay E.acts side end).text) }
@@ -179,7 +179,7 @@ impl<E: ReplayEnd> LineJob for Replay<E> {
     }
 }
 
-// Lets the frame of a line arrive at an end, and puts the line of that.
+// Lets the frame of a line arrive at an end, and puts the line for that.
 fn hear_said<E: ReplayEnd>(
     end: &mut E,
     room: &mut [u8; MOST_FRAME_BYTES],
@@ -236,8 +236,8 @@ pub(crate) fn replay_config(side: Side, plain: bool) -> Config
     config
 }
 
-// The addresses of the frames that arrive at the end of a side: those of its usual end, which need no whole
-// configuration for each frame.
+// The addresses of the frames that arrive at the end of a side. They are those of its usual end, and are computed
+// without a whole configuration for each frame.
 fn addresses(side: Side) -> Pseudo
     ensures { result ≡ (usual (role_of side)).pseudo_in }
 {

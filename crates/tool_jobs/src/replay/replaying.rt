@@ -13,11 +13,11 @@ use std::alloc::Global;
 use tool_text::JobEnd;
 use world_events::Side;
 
-/// Hands the frames of an input to one end, new and of this side, with its offers or without (own): it reads the lines
-/// of `input` one by one, and writes to `output` a line for each answer of the end and for each frame that it sends,
-/// and at last its state or the line of the first refusal. With status 0 or 1 the output is the text of the whole
-/// input; with another status it is a prefix of that text. Read means that the source failed, Write that the sink did,
-/// and Memory that no memory was left.
+/// Hands the frames of an input to a new end of this side, with its offers or without (own). It reads the lines of
+/// `input` one by one. It writes to `output` a line for each answer of the end and for each frame that it sends, and
+/// last the end's state or the line of the first refusal. With status 0 or 1 the output is the text of the whole input;
+/// with another status it is a prefix of that text. Read means that the source failed, Write that the sink did, and
+/// Memory that no memory was left.
 pub fn replay_frames<S: Source, K: Sink>(
     alloc: Global,
     side: Side,
@@ -37,10 +37,10 @@ pub fn replay_frames<S: Source, K: Sink>(
     replay_at(alloc, side, end, input, output)
 }
 
-/// The same at an end with a receive buffer for so many packets, 1 to 1,024, which an application reads (own). A line
-/// `read` takes the oldest data that are held, and after a line `stop` further data are dropped. Each is such a line
-/// only if it is that word alone; every other line is one of `replay_frames`. Data that were dropped are shown by their
-/// Drop Code (RFC 4340, section 11.7).
+/// The same with an end that has a receive buffer for `capacity` packets, 1 to 1,024, which an application reads (own).
+/// A line `read` takes the oldest data that are held, and after a line `stop` further data are dropped. Such a line is
+/// only that word; every other line is one of `replay_frames`. Data that were dropped are shown by their Drop Code (RFC
+/// 4340, section 11.7).
 pub fn replay_at_buffer<S: Source, K: Sink>(
     alloc: Global,
     side: Side,

@@ -1,4 +1,4 @@
-//! What happens by a schedule's lines.
+//! What a schedule's lines make happen.
 ghost use Rattle.std.specs.Prelude.{◌≡◌, ◌≢◌, ◌++◌, ℕ, List, Some, Err, false, flat_map, slice_get, take};
 ghost use Rattle.ccid_two.specs.Kinds.{kinds_control};
 ghost use Rattle.dccp_io.specs.Lines.{lines_of};
@@ -12,10 +12,10 @@ ghost use Rattle.tool_jobs.specs.WorldLines.{end_lines};
 use ccid_two::Kinds;
 use two_ends::{Event, WorldFault, few_frames_are_never_far};
 
-/// The events of a schedule's text are one run (own). Each took place in the world that the one before it left, the
-/// first in the world of the two ends as configured last; and the end lines are those of the world that the last one
-/// left. So the world before the n-th event is the one to which the n events before it lead. If no line is refused, the
-/// text is that of these events, and then the end lines of the world to which they lead.
+/// The events of a schedule's text are one run (own). Each took place in the world that the one before it left, and the
+/// first in the world of the two ends as the last lines configured them. The end lines are those of the world that the
+/// last event left. So the world before the n-th event is the one to which the n events before it lead. If no line is
+/// refused, the text is that of these events, and then the end lines of the world to which they lead.
 pub fn every_schedule_is_a_run()
     ensures run { (input : List ℕ)
         → IsRun (world_at_first (performed input)) (performed input).deeds (world_of (performed input).last) }
@@ -35,8 +35,8 @@ pub fn the_first_events_lead_to_a_safe_world()
         → Safe kinds_control (plays kinds_control (world_at_first (performed input)) (take n (scene_events (performed input).deeds))) }
 {}
 
-/// A schedule's world has room for whatever event its next line makes (own): no side has sent more frames than there
-/// were events, 16,384 at most. The lines before a line are also an input, so this holds of every event that is judged.
+/// A schedule's world has room for any event of its next line (own): no side has sent more frames than there were
+/// events, at most 16,384. The lines before a line are also an input, so this holds of every event that is judged.
 pub fn no_schedule_fills_a_world()
     ensures { (input : List ℕ) (event : Event)
         → happens_to kinds_control (world_of (performed input).last) event ≢ Err WorldFault.Full }
@@ -52,7 +52,7 @@ pub fn no_schedule_meets_a_far_frame()
 }
 
 /// Both ends write Ack Vectors of up to two options exactly if the first line that says something is `version 2` (own).
-/// They are configured so at last, and so when the first event takes place.
+/// They are configured so after the last line, and so when the first event takes place.
 pub fn the_first_line_says_the_version()
     ensures { (input : List ℕ) → HaveVectors (vectors_said 0 (lines_of input)) (performed input).last }
 {}

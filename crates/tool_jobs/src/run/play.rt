@@ -26,7 +26,7 @@ use two_ends::{Event, Side, World, WorldFault};
 pub(crate) struct Play {
     /// How many events took place.
     pub(crate) events: u32,
-    /// A line that comes before all events was accepted.
+    /// Whether a line that has to come before all events was accepted.
     pub(crate) is_configured: bool,
     /// The configuration of the client.
     pub(crate) client: Config,
@@ -37,7 +37,7 @@ pub(crate) struct Play {
 }
 
 impl Play {
-    /// Before the first line: the two usual ends are configured, and no event took place.
+    /// The state before the first line: the two usual ends are configured, and no event took place.
     pub(crate) fn new() -> Play
         ensures { result ≡ first_play }
     {
@@ -50,9 +50,9 @@ impl Play {
         }
     }
 
-    /// Plays the line of this number, as it was read, or answers why it is refused. Faults that need more than the line
-    /// are judged here, each at its place among those of the line: whether it has to come before all events (judged
-    /// before the wish), the limit of events, and whether a frame was sent.
+    /// Plays the line with this number, as it was read, or answers why it is refused. Faults that depend on more than
+    /// the line are judged here, each at its place among those of the line: whether it has to come before all events
+    /// (judged before the wish), the limit of events, and whether a frame was sent.
     pub(crate) fn say(
         &mut self,
         alloc: Global,
@@ -97,7 +97,7 @@ impl Play {
         }
     }
 
-    // A line that comes before all events comes before the first.
+    // A line that has to come before all events is refused after the first.
     fn begin_header(&mut self) -> Result<(), LineFault>
         ensures answer { result ≡ (if is_some self.old.world then Err (whole_line LineWhy.HeaderLate) else Ok tt) }
         ensures accepted { OnOk result (self.new ≡ with_header self.old) }
@@ -110,7 +110,7 @@ impl Play {
         Ok(())
     }
 
-    // A version comes before every other line that says something.
+    // A version has to come before every other line that says something.
     fn check_first(&self) -> Result<(), LineFault>
         ensures { result ≡ (if self.now.is_configured then Err (whole_line LineWhy.HeaderLate) else Ok tt) }
     {
@@ -152,7 +152,7 @@ impl Play {
         ensures playable { IsPlayable self.new }
     {
         self.begin_header()?;
-        // Contracts know that a number fits only once it is read.
+        // Reading the number gives the prover that it fits.
         let _ = number.get();
         match side {
             Side::Client => self.client.iss = number,
@@ -225,7 +225,7 @@ impl Play {
         Ok(())
     }
 
-    // Makes the world of the two configurations, if none is made yet.
+    // Makes the world of the two configurations, if there is none yet.
     fn make_world(&mut self, alloc: Global) -> Result<(), NoMemory>
         requires { ArePeers self.old.client self.old.server }
         ensures { OnOk result (self.new ≡ record self.old { world = Some (world_of self.old) }) }
@@ -281,7 +281,7 @@ fn offer_nothing(config: &mut Config)
     lists_fit(config);
 }
 
-// Another wish. `read_line` refuses the lines of wishes that an end may not have.
+// Sets a wish. `read_line` refuses the lines of wishes that an end may not have.
 fn wish_for(config: &mut Config, feature: Feature, place: Place, values: &[u64])
     requires { Fits config.old }
     ensures wish { config.new ≡ wishing config.old feature place (wish_of feature place values.now) }
@@ -292,7 +292,7 @@ fn wish_for(config: &mut Config, feature: Feature, place: Place, values: &[u64])
     lists_fit(config);
 }
 
-// Another offer. `read_line` refuses the lines of offers that an end may not make.
+// Adds an offer. `read_line` refuses the lines of offers that an end may not make.
 fn offer(config: &mut Config, feature: Feature, place: Place, mandatory: bool)
     requires { Fits config.old }
     ensures offer { config.new ≡ offering config.old feature place mandatory }
@@ -303,7 +303,7 @@ fn offer(config: &mut Config, feature: Feature, place: Place, mandatory: bool)
     lists_fit(config);
 }
 
-// Contracts know that lists are in order only once they are read.
+// Reading the lists gives the prover that they are in order.
 fn lists_fit(config: &Config)
     ensures { IsLists config.now.lists }
 {
@@ -341,7 +341,7 @@ fn show_event(
             Ok(())
         }
         Err(WorldFault::NoSuchFrame) => Err(LineError::Refused(no_such_frame())),
-        // An event sends one frame at most, and the events are few.
+        // An event sends at most one frame, and there are few events.
         Err(WorldFault::Full) => unreachable!(),
         Err(WorldFault::FarShort) => unreachable!(),
         Err(WorldFault::NoMemory) => Err(LineError::NoMemory),

@@ -15,9 +15,9 @@ use std::marker::Model;
 use tool_text::{JobEnd, LineError, LineJob, run_lines};
 use two_ends::{World, every_run_is_safe};
 
-/// A schedule while it is played (own), with room for what one line says. Each kind of line that comes often has its own
-/// room, since a line that is read as another kind is cleared together with its room for data. Contracts see the state
-/// of the schedule.
+/// A schedule while it is played (own), with room for what one line says. Each kind of line that is frequent has its
+/// own room, since reading a line as another kind clears it together with its room for data. Contracts see the state of
+/// the schedule.
 #[derive(Drop)]
 pub struct Schedule {
     play: Play,
@@ -37,7 +37,7 @@ impl Model for Schedule {
 }
 
 impl Schedule {
-    /// Before the first line: the two usual ends are configured, and no event took place.
+    /// The state before the first line: the two usual ends are configured, and no event took place.
     #[tactic(auto, using(crate::proofs::SchedulesRunning::playable_at_first))]
     pub fn new() -> Schedule
         ensures value { result ≡ first_play }
@@ -82,7 +82,7 @@ impl LineJob for Schedule {
         line: &[u8],
         text: &mut Vec<u8>,
     ) -> Result<(), LineError> {
-        // Into which of the rooms a line is read changes nothing.
+        // The choice of the room for a line changes no result.
         match line {
             [b'd', ..] => {
                 judge_into(

@@ -20,7 +20,7 @@ pub(crate) fn arrived<'a>(world: &'a World<Kinds>, event: &Event) -> &'a [u8]
     }
 }
 
-/// Puts the line of the frame that a side sent in a step, if it sent one, where it had sent `before` frames before.
+/// Puts the line of the frame that a side sent in a step, if it sent one; before the step it had sent `before` frames.
 pub(crate) fn put_sent_line(
     text: &mut Vec<u8>,
     world: &World<Kinds>,
