@@ -1,4 +1,4 @@
--- What `campaign` writes: the counts over all its seeds, a line each (own).
+-- What `campaign` writes: the counts over all its seeds, one in each line (own).
 use Rattle.std.specs.Prelude.{◌≡◌, ◌≢◌, ℕ, ◌++◌, List, codes, Option}
 use Rattle.fault_campaign.specs.Totals.{totals}
 use Rattle.fault_campaign.specs.declared.report.Report.{Report}
@@ -24,17 +24,16 @@ arrival_text r =
     count_line (codes "took ") r.took ++ count_line (codes "delivered ") r.delivered ++ count_line (codes "dropped ") r.dropped
     ++ count_line (codes "synced ") r.synced ++ count_line (codes "was_reset ") r.was_reset ++ count_line (codes "sent_reset ") r.sent_reset
 
--- a report, a count in each line: what was run and arrived, then the refused calls and the settled features
+-- a report, one count in each line: what was run and arrived, then the refused calls and the settled features
 unfoldable pub report_text : Report → List ℕ
 report_text r = run_text r ++ arrival_text r ++ count_line (codes "refused ") r.refused ++ count_line (codes "settled ") r.settled
 
--- the sums over all seeds, which no number of workers changes
+-- the sums over all seeds, which do not depend on the number of workers
 unfoldable pub campaign_text : Campaign → List ℕ
 campaign_text c = report_text (totals c.first c.seeds c.events)
 
--- What a campaign guarantees, which reads nothing and has nothing to refuse: with Done the text is whole, and otherwise
--- it is a prefix. It ends with Write only if the sink failed; and if the sink did not, with Done, unless memory runs
--- out.
+-- What a campaign, which reads nothing and has nothing to refuse, guarantees: with Done the text is whole, and otherwise it is a prefix. It ends
+-- with Write only if the sink failed; and if the sink did not, with Done, unless memory runs out.
 pub record AnswersUnread (text : List ℕ) (result : JobEnd) (before after : Option (List ℕ)) (sink_failed : Type 0) : Type 0 where
   pub whole : result ≡ ended.Done → HasTaken before after text
   pub front : IsCutOff result → HasBegun before after text

@@ -17,10 +17,9 @@ abbrev pub reads_input : Form → Bool
 reads_input (form.Campaign campaign) = false
 reads_input _ = true
 
--- What a form writes of the bytes that it reads, when all is written: the transcript of a schedule, the text of a
--- replay without a receive buffer or with one, the sums of a campaign, the lines of a capture's packets, what a
--- listener answers its peers, and the results of events between an ECN-capable sender and receiver. For `campaign`,
--- which reads no bytes, it is the same for all; also below.
+-- What a form writes for the bytes that it reads, when all is written: the transcript of a schedule, the text of a replay without a receive
+-- buffer or with one, the sums of a campaign, the lines of a capture's packets, what a listener answers its peers, and the results of events
+-- between an ECN-capable sender and receiver. For `campaign`, which reads no bytes, it is the same for all; also below.
 abbrev pub form_text : Form → List ℕ → List ℕ
 form_text form.Run bytes = transcript bytes
 form_text (form.Replay side plain) bytes = replay_text side plain bytes

@@ -78,7 +78,7 @@ fn counted<R: Threads + Sync, G: Gate + Sync>(
     Ok(text)
 }
 
-/// Runs a campaign, and writes the counts over its seeds, a line each, when all have ended.
+/// Runs a campaign, and writes the counts over its seeds, one in each line, when all have ended.
 pub(crate) fn run_campaign<R: Threads + Sync, G: Gate + Sync, K: Sink>(
     rt: &R,
     alloc: Global,

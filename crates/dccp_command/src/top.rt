@@ -1,4 +1,4 @@
-//! The tool's one call: a form of its words over a source and a sink.
+//! The tool as one call: a form of its words over a source and a sink.
 ghost use Rattle.std.specs.Prelude.{◌≡◌, ◌⊎◌, ℕ, List, Some, None, true, false};
 ghost use Rattle.dccp_io.specs.Counts.{Rose};
 ghost use Rattle.tool_jobs.specs.Transcript.{SafeThroughout};
@@ -17,22 +17,21 @@ use tool_forms::{Campaign, Form, USAGE, form_of};
 use tool_jobs::{listen_to_peers, play_nonces, replay_at_buffer, replay_frames, run_schedule};
 use tool_text::{JobEnd, Status};
 
-/// Does what the words ask for (own), those after the program's name. `run` plays a schedule: it reads `input`, and
-/// writes to `output` a line for each event and for each frame that it sent, and at last the state of both ends.
-/// `replay` hands the frames of `input` to one end, and writes the same of it; if words ask for it, the end has a
-/// receive buffer, which is read as lines say. `show` reads a capture, and writes a line for each DCCP packet in it,
-/// and at last how many records it has or why it ends early. `listen` hands what many peers send to one listener, and
-/// writes a line for each answer and for each frame that goes to a peer, and at last the flows. `ecn` plays events
-/// between an ECN-capable sender and an ECN-capable receiver, and writes a line for each. Each form answers while it
-/// reads, a line or a record at a time. The answer goes out in blocks, and before the form reads more of the input.
-/// `campaign` reads nothing: it runs seeds on as many threads as the words say, each of which calls `gate` before each
-/// seed that it runs, and writes the counts over all of them, which are the same for every number of threads and every
-/// gate.
+/// Does what the words after the program's name ask for (own). `run` plays a schedule: it reads `input`, and writes to
+/// `output` a line for each event and for each frame that it sent, and last the state of both ends. `replay` hands the
+/// frames of `input` to one end, and writes the same for it; if words ask for it, the end has a receive buffer, which
+/// is read as lines say. `show` reads a capture, and writes a line for each DCCP packet in it, and last how many
+/// records it has or why it ends early. `listen` hands what many peers send to one listener, and writes a line for each
+/// answer and for each frame that goes to a peer, and last the flows. `ecn` plays events between an ECN-capable sender
+/// and an ECN-capable receiver, and writes a line for each. Each form answers while it reads, one line or record at a
+/// time. The answer goes out in blocks, and before the form reads more of the input. `campaign` reads nothing: it runs
+/// seeds on as many threads as the words say, each of which calls `gate` before each seed that it runs, and writes the
+/// counts over all of them, which are the same for every number of threads and every gate.
 ///
-/// Words are judged first; after that the first refusal met in the order of reading decides. With status 0 or 1 the
-/// output is the text of the whole input, and each event of a schedule took place in a safe world and left a safe one.
-/// With status 3, 4 or 5 it is a prefix of that text. The clauses on the output are about a source whose bytes are
-/// known, and a sink that shows what it took.
+/// Words are judged first; after that the first refusal in the order of reading decides. With status 0 or 1 the output
+/// is the text of the whole input, and each event of a schedule took place in a safe world and left a safe one. With
+/// status 3, 4 or 5 it is a prefix of that text. The clauses on the output are about a source whose bytes are known,
+/// and a sink that shows what it took.
 pub fn dccp<R: Threads + Sync, G: Gate + Sync, S: Source, K: Sink>(
     rt: &R,
     alloc: Global,
@@ -41,8 +40,8 @@ pub fn dccp<R: Threads + Sync, G: Gate + Sync, S: Source, K: Sink>(
     input: &mut S,
     output: &mut K,
 ) -> Status
-    // Words that are none of the forms are answered by the usage line, as far as the sink takes it. If no memory was
-    // left to read settings, nothing is written.
+    // The usage line answers words that are none of the forms, as far as the sink takes it. If no memory was left to
+    // read settings, nothing is written.
     ensures words { result ≡ Status.Words → form_of words.now ≡ None }
     ensures others { form_of words.now ≡ None
         → (result ≡ Status.Words) ⊎ ((result ≡ Status.Memory) × (has_settings words.now ≡ true)) }
