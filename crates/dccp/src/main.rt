@@ -1,5 +1,5 @@
-//! The program: the tool's one call over standard input and output, with its status as the exit status. A crate is a
-//! library or a program, so the call itself is in dccp_command.
+//! The program: the call of dccp_command over standard input and output, with its status as the exit status. A crate is
+//! either a library or a program, so the call itself is not here.
 #![tactic(auto)]
 
 use dccp_command::{OpenGate, Status, dccp};
@@ -21,7 +21,7 @@ fn main(rt: HostRuntime) -> ExitCode {
     code(status)
 }
 
-// What standard error says about a status with which the output is a front at most (own).
+// What standard error says about a status with which the output may be only a prefix (own).
 fn told(status: Status) -> &'static [u8] {
     match status {
         Status::Read => b"dccp: the input could not be read\n",
@@ -31,7 +31,7 @@ fn told(status: Status) -> &'static [u8] {
     }
 }
 
-// The words after the program's name. Where one is not UTF-8 they are none of the tool's forms, and neither are no
+// The words after the program's name. If one is not UTF-8, they are none of the tool's forms; nor is a call without
 // words.
 fn words_of(rt: &HostRuntime) -> Result<Vec<String>, AllocError> {
     let mut words = Vec::new(rt.alloc());
