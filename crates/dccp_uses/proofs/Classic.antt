@@ -24,7 +24,7 @@ use Rattle.dccp_uses.specs.declared.path.Path.{Path}
 use Rattle.dccp_uses.specs.declared.sight.Sight.{Sight}
 use Rattle.dccp_uses.specs.declared.news.News.TheVariants as news
 
--- a path that follows no rule, with whatever else was kept of it
+-- a path that follows no rule, with anything else that was kept of it
 abbrev bare : Path → Path
 bare path = record path { pace = classic_pace; ratio = None; reader = reader_begins }
 

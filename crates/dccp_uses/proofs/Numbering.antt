@@ -23,7 +23,7 @@ use Rattle.dccp_uses.specs.Notice.{drops_told, is_as_marked, is_code, new_reach,
 use Rattle.dccp_uses.specs.declared.notice.Drops.{Drops}
 use Rattle.dccp_uses.specs.declared.reader.Reader.{Reader}
 
--- so many numbers from one down
+-- this many numbers from one down
 abbrev pub numbers_down : ℕ → ℕ → List ℕ
 numbers_down left n = states_down (λ (m : ℕ). m) left n
 
@@ -32,7 +32,7 @@ one_more left n some =
     let back : suc (left - 1) ≡ left = omega (arith, some) in
     subst (λ (k : ℕ). numbers_down k n ≡ n ∷ numbers_down (left - 1) (down n 1)) back refl
 
--- what is counted already, and what is still to be counted, come to the whole
+-- what is counted already, and what is still to be counted, add up to the whole
 pub record IsCounted (whole : Drops) (mark : Option ℕ) (code : ℕ → Option ℕ) (drops : Drops) (left n : ℕ) : Type 0 where
   pub full : drops.full + count_by (λ (m : ℕ). is_code 2 (code m)) (numbers_down left n) ≡ whole.full
   pub refused : (drops.refused || list_any (λ (m : ℕ). is_code 0 (code m)) (numbers_down left n)) ≡ whole.refused

@@ -18,7 +18,7 @@ use Rattle.dccp_uses.specs.declared.reader.Reader.{Reader}
 use Rattle.dccp_uses.specs.declared.reader.Restraint.TheVariants as restraint
 use Rattle.dccp_uses.specs.declared.sight.Sight.{Sight}
 
--- an open end at this GSS and GAR, with so many packets in flight of such a window
+-- an open end at this GSS and GAR, with this many packets in flight of such a window
 abbrev seen : ℕ → ℕ → ℕ → ℕ → Sight
 seen gss gar in_flight window =
     record {
@@ -83,11 +83,12 @@ drops_are_recorded = (refl, refl, refl)
 abbrev trip : Option RoundTrip
 trip = Some (with_sample None 40)
 
--- At 1,000 a packet acknowledges 10 of 100 that were in flight, the whole window, and tells that three were dropped: 97 are left.
+-- At 1,000 a packet acknowledges 10 of 100 that were in flight, the whole window, and reports that three were dropped: 97 are left.
 abbrev slowed : Reader
 slowed = reader_heard trip heard_to_ten three_full (seen 30 10 100 100) (seen 30 20 90 100) 1000
 
--- The next one, 39 milliseconds later, acknowledges 90 more, and another, a millisecond after that, 97: the window stands still, and then opens by one packet.
+-- The next one, 39 milliseconds later, acknowledges 90 more, and another, a millisecond after that, 97: the window stays, and then opens by one
+-- packet.
 abbrev held : Reader
 held = reader_heard trip slowed no_notice (seen 120 20 90 100) (seen 120 110 0 102) 1039
 
@@ -101,7 +102,7 @@ the_window_follows :
     × ((reader_heard trip held no_notice (seen 220 110 97 102) (seen 220 207 0 97) 1040).allowance ≡ Some (record { most = 48; acked = 0 }))
 the_window_follows = (refl, refl, refl, refl, refl, refl)
 
--- Where no round trip was measured the window stands still until what was sent by then, up to 30, is acknowledged.
+-- If no round trip was measured, the window stays until what was sent by then, up to 30, is acknowledged.
 a_round_trip_is_waited_for :
     ((reader_heard None slowed no_notice (seen 120 20 97 100) (seen 120 29 0 100) 9000).allowance ≡ Some (record { most = 97; acked = 0 }))
     × ((reader_heard None slowed no_notice (seen 120 20 97 100) (seen 120 30 0 100) 1001).allowance ≡ Some (record { most = 98; acked = 0 }))
@@ -148,7 +149,7 @@ data_wait :
     × ((reader_heard trip heard_to_ten (told heard_to_ten 20 (40 ∷ 3 ∷ 128 ∷ [])) (seen 30 10 60 60) (seen 30 20 50 60) 1000).refused ≡ true)
 data_wait = (refl, refl, refl, refl, refl, refl)
 
--- What a packet tells counts where it was taken and the rule is followed; and what was told is gone then.
+-- What a packet says counts if it was taken and the rule is followed; and what was said is gone then.
 abbrev warned : Path
 warned = record (path_begins usual_pace) { notice = three_full }
 

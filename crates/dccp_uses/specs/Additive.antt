@@ -6,15 +6,15 @@ use Rattle.congestion_trait.specs.Flight.{States, acked_count, is_congested}
 use Rattle.congestion_trait.specs.Control.{KeepsWindow}
 use Rattle.congestion_trait.specs.Kind.{KindRules, control_by_rules}
 
--- A report of any loss or mark halves the window, down to a packet at least; one of something received lets it grow by
--- a packet, up to 1,024.
+-- A report of any loss or mark halves the window, down to at least one packet; one of something received lets it grow by one packet, up to
+-- 1,024.
 abbrev pub window_reported : ℕ → List FlightEntry → States → ℕ → ℕ
 window_reported window entries states ratio =
     if is_congested states None entries then max (window / 2) 1
     else if nat_lt 0 (acked_count states entries) && nat_lt window 1024 then window + 1
     else window
 
--- CCID 249: what is kept beside the flight list is the window alone.
+-- CCID 249: besides the flight list, only the window is kept.
 abbrev pub additive : KindRules ℕ
 additive = record {
   window = λ window. window;
@@ -30,7 +30,7 @@ reported_open true grows window wide = le-max_right (window / 2) 1
 reported_open false true window wide = le_trans wide (le-add_right window 1)
 reported_open false false window wide = wide
 
--- a halving leaves one packet at least, and a timeout is one
+-- a halving leaves at least one packet, and a timeout leaves one
 pub additive_window_stays : KeepsWindow (control_by_rules additive)
 additive_window_stays = record {
   start_opens = λ _ _. le-add_right 1 0;

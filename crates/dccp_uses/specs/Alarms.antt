@@ -38,10 +38,10 @@ with_alarm alarms timers.Rto alarm = record alarms { rto = alarm }
 with_alarm alarms timers.Close alarm = record alarms { close = alarm }
 with_alarm alarms timers.TimeWait alarm = record alarms { time_wait = alarm }
 
--- The waits of an end that knows nothing of its path. At first: a second for an answer to the Request (section 8.1.1),
--- for a Confirm (own) and for a report (RFC 4341, section 5); 200 for an Ack (section 8.1.5); two round trips of 200 for
--- the answer to a Close (sections 3.4 and 8.3); two lifetimes of a segment, of two minutes each, in TIMEWAIT (sections
--- 3.4 and 8.3). At most 64 seconds (sections 6.6.3, 8.1.1 and 8.3; RFC 2988, sections 2.5 and 5.5).
+-- The waits of an end that knows nothing of its path. At first: a second for an answer to the Request (section 8.1.1), for a Confirm (own) and
+-- for a report (RFC 4341, section 5); 200 for an Ack (section 8.1.5); two round trips of 200 for the answer to a Close (sections 3.4 and 8.3);
+-- two maximum segment lifetimes, of two minutes each, in TIMEWAIT (sections 3.4 and 8.3). At most 64 seconds (sections 6.6.3, 8.1.1 and 8.3; RFC
+-- 2988, sections 2.5 and 5.5).
 abbrev pub classic_waits : Waits
 classic_waits =
     record {
@@ -62,12 +62,12 @@ timer_wait waits timers.Rto = waits.rto
 timer_wait waits timers.Close = waits.close
 timer_wait waits timers.TimeWait = waits.time_wait
 
--- none of the six timers runs, and the timer rto has not run out since something was acknowledged
+-- no timer runs, and rto begins with its first wait
 abbrev pub no_alarms : Alarms
 no_alarms =
     record { request = None; ack = None; negotiate = None; rto = None; close = None; time_wait = None; rto_wait = classic_waits.rto.first }
 
--- each wait is twice the one before, within what its timer waits, and a millisecond at least
+-- each wait is twice the one before, within the waits of its timer, and at least a millisecond
 abbrev pub next_wait : Wait → ℕ → ℕ
 next_wait kind wait = max 1 (wait_after kind wait)
 
@@ -77,12 +77,12 @@ abbrev pub starting_wait_by : Waits → Alarms → Timer → ℕ
 starting_wait_by waits alarms timers.Rto = max (max 1 waits.rto.first) alarms.rto_wait
 starting_wait_by waits alarms timer = max 1 (timer_wait waits timer).first
 
--- A timer runs where the end would do something when it runs out; the timer negotiate runs also where no row asks.
+-- A timer runs in the phases in which the end would do something when it runs out; the timer negotiate runs even if no row asks.
 abbrev pub runs_in : Timer → Condition → Bool
 runs_in timers.Rto c = applies_in timers.Rto c.phase && c.in_flight
 runs_in timer c = applies_in timer c.phase
 
--- where it runs it goes on, or begins
+-- the alarm of a timer: it goes on or begins if the timer runs
 abbrev pub alarm_after : Bool → Option Alarm → ℕ → ℕ → Option Alarm
 alarm_after false old wait now = None
 alarm_after true (Some alarm) wait now = Some alarm
@@ -110,52 +110,52 @@ abbrev pub set_back : Wait → Option Alarm → ℕ → Option Alarm
 set_back kind None now = None
 set_back kind (Some alarm) now = Some (record { since = now; wait = next_wait kind alarm.wait })
 
--- The alarms once a timer has run out: it is set back, and the timer rto then also begins with twice its wait, even
--- where nothing is in flight any more (RFC 4341, section 5; RFC 2988, section 5.5).
+-- The alarms once a timer has run out: it is set back, and the timer rto then also begins with twice its wait, even if nothing is in flight any
+-- more (RFC 4341, section 5; RFC 2988, section 5.5).
 abbrev pub rung_by : Waits → Alarms → Timer → ℕ → Alarms
 rung_by waits alarms timers.Rto now =
     record alarms { rto = set_back waits.rto alarms.rto now; rto_wait = next_wait waits.rto alarms.rto_wait }
 rung_by waits alarms timer now = with_alarm alarms timer (set_back (timer_wait waits timer) (alarm_of alarms timer) now)
 
--- an alarm that is set back already begins anew, and one that waits no longer than at first goes on
+-- an alarm with a longer wait than its first is none, so that it begins again, and any other goes on
 abbrev pub first_again : Option Alarm → ℕ → Option Alarm
 first_again None wait = None
 first_again (Some alarm) wait = if nat_le alarm.wait wait then Some alarm else None
 
--- Where a packet that arrived took something out of flight, the timer rto begins anew, with its first wait (RFC 4341,
--- section 5; RFC 2988, section 5.3).
+-- If a packet that arrived took something out of flight, the timer rto starts again, with its first wait (RFC 4341, section 5; RFC 2988, section
+-- 5.3).
 abbrev pub progressed_by : Waits → Alarms → Bool → Alarms
 progressed_by waits alarms true = record alarms { rto = None; rto_wait = waits.rto.first }
 progressed_by waits alarms false = alarms
 
--- Where data were delivered, an Ack goes out no later than after the first wait of its timer.
+-- If data were delivered, an Ack goes out no later than after the first wait of its timer.
 abbrev pub ack_hurried_by : Waits → Alarms → Bool → Alarms
 ack_hurried_by waits alarms true = record alarms { ack = first_again alarms.ack waits.ack.first }
 ack_hurried_by waits alarms false = alarms
 
--- all alarms, with these waits
+-- all alarms, with the classic waits
 abbrev pub arranged : Alarms → Condition → ℕ → Alarms
 arranged alarms c now = arranged_by classic_waits alarms c now
 
--- once a timer has run out, with these waits
+-- the alarms once a timer has run out, with the classic waits
 abbrev pub rung : Alarms → Timer → ℕ → Alarms
 rung alarms timer now = rung_by classic_waits alarms timer now
 
--- where something came out of flight, with these waits
+-- the alarms if something came out of flight, with the classic waits
 abbrev pub with_progress : Alarms → Bool → Alarms
 with_progress alarms progress = progressed_by classic_waits alarms progress
 
--- where data were delivered, with these waits
+-- the alarms if data were delivered, with the classic waits
 abbrev pub with_delivery : Alarms → Bool → Alarms
 with_delivery alarms delivered = ack_hurried_by classic_waits alarms delivered
 
--- the sooner of two waits
+-- the shorter of a wait and of what is left of an alarm
 abbrev pub sooner : Option ℕ → Option Alarm → ℕ → Option ℕ
 sooner left None now = left
 sooner None (Some alarm) now = Some (time_left alarm now)
 sooner (Some left) (Some alarm) now = Some (min left (time_left alarm now))
 
--- how long it is until the first timer runs out
+-- in how many milliseconds the first timer runs out
 unfoldable pub until_first : Alarms → ℕ → Option ℕ
 until_first alarms now =
     sooner (sooner (sooner (sooner (sooner (sooner None alarms.request now) alarms.ack now) alarms.negotiate now) alarms.rto now) alarms.close now) alarms.time_wait now

@@ -1,5 +1,4 @@
--- By what the owner of a server's end knows that its client begins anew from the same port (own; RFC 4340, section 8.5,
--- step 4).
+-- How the owner of a server's end notices that its client connects again from the same port (own; RFC 4340, section 8.5, step 4).
 use Rattle.std.specs.Prelude.{◌==◌, ℕ, Bool, false, List, Option, Some, None, Result, Ok, Err, if◌then◌else◌}
 use Rattle.dccp_packets.specs.Grammar.{Parts, decoded}
 use Rattle.dccp_packets.specs.ResetCodes.{number_of_code}
@@ -18,12 +17,12 @@ abbrev pub sync_refused : Result Parts Malformed → Option ℕ
 sync_refused (Ok parts) = refused_number parts.header.kind
 sync_refused (Err _) = None
 
--- two numbers are there and are one
+-- both numbers are there, and they are equal
 abbrev pub is_same_number : Option ℕ → Option ℕ → Bool
 is_same_number (Some a) (Some b) = a == b
 is_same_number _ _ = false
 
--- The datagram is the Reset with which a client in REQUEST refuses the very Sync that its old connection sent last, which has
--- this number. Nobody who does not see the connection's packets knows it.
+-- The datagram is the Reset with which a client in REQUEST refuses the last Sync of its old connection, which has this number. Only someone who
+-- sees the connection's packets knows it.
 abbrev pub refuses_sync : Option ℕ → List ℕ → Bool
 refuses_sync last bytes = is_same_number last (sync_refused (decoded bytes))

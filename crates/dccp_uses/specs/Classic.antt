@@ -1,4 +1,4 @@
--- What an end with its timers is where no rule of its path is followed: a session with the timers alone (own).
+-- What an end with its timers is if no rule of its path is followed: a session with only the timers (own).
 use Rattle.std.specs.Prelude.{◌≡◌, ℕ, false, List, None, Result}
 use Rattle.congestion_trait.specs.Control.{Control, may_send}
 use Rattle.dccp_endpoint.specs.Calling.{aborts, closes, opens, prefers}
@@ -34,15 +34,15 @@ session_of s = record { end = s.end; alarms = s.alarms }
 abbrev pub session_refusal_named : {C : Type 0} → SessionStep C (Result (Unit {0}) SendFault) → SessionStep C (Result (Unit {0}) SendRefusal)
 session_refusal_named step = record { session = step.session; frame = step.frame; answer = refusal_named step.answer }
 
--- A step that an end with its timers takes as a session does: the same end, alarms, frame and answer, and no rule is
--- followed after it either.
+-- An end with its timers takes this step as a session does: with the same end, alarms, frame and answer, and no rule is followed after it
+-- either.
 pub record IsSessionStep {C Answer : Type 0} (step : TimedStep C Answer) (session : SessionStep C Answer) : Type 0 where
   pub session_is : session_of step.timed ≡ session.session
   pub frame_is : step.frame ≡ session.frame
   pub answer_is : step.answer ≡ session.answer
   pub stays_classic : IsClassic step.timed.path
 
--- Whatever is done to it, and whenever. Of its rules none is ever due.
+-- This holds after any inputs, at any times. No rule is ever due.
 pub record ClassicIsTheSession {C : Type 0} (control : Control C) : Type 0 where
   pub begins : (config : Config) (congestion : C)
       → session_of (timed_begins control config congestion classic_pace) ≡ session_begins control config congestion

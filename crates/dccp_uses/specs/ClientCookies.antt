@@ -1,4 +1,4 @@
--- The Init Cookie that a client returns (RFC 4340, section 8.1.4; that it returns one alone is own).
+-- The Init Cookie that a client returns (RFC 4340, section 8.1.4; that it returns one only if there is just one is own).
 use Rattle.std.specs.Prelude.{◌&&◌, false, ℕ, List, [], ◌∷◌, Option, Result, Ok, Err, if◌then◌else◌}
 use Rattle.dccp_endpoint.specs.Calling.{is_requesting}
 use Rattle.dccp_endpoint.specs.Early.{is_part_open}

@@ -25,18 +25,18 @@ abbrev pub all_recorded : {R : Type 0} → (ℕ → ℕ → R → R) → (ℕ �
 all_recorded one code [] drops = drops
 all_recorded one code (n ∷ rest) drops = all_recorded one code rest (recorded_if one n (code n) drops)
 
--- those that a report, if there is one, is the first to tell
+-- the drops that a report, if there is one, is the first to name
 abbrev pub report_recorded : {R : Type 0} → (ℕ → ℕ → R → R) → Option ℕ → Option VectorReport → R → R
 report_recorded one counted None drops = drops
 report_recorded one counted (Some report) drops = all_recorded one (code_at report.ack report.bytes) (new_numbers counted report.ack) drops
 
--- of a packet that reports from this number downwards
+-- the same for a packet that reports from this number downwards
 abbrev pub packet_recorded : {R : Type 0} → (ℕ → ℕ → R → R) → Option ℕ → ℕ → Result Parts Malformed → R → R
 packet_recorded one counted ack (Ok packet) drops =
     report_recorded one counted (drop_report ack (options_of packet.options (is_data (packet_type packet.header.kind)))) drops
 packet_recorded one counted ack (Err fault) drops = drops
 
--- Once a datagram was heard, after which reports are counted up to this number; before it up to that.
+-- The record once a datagram was heard. Reports were counted up to the first number before it, and are counted up to the second after it.
 abbrev pub record_after : {R : Type 0} → (ℕ → ℕ → R → R) → Option ℕ → Option ℕ → List ℕ → R → R
 record_after one counted None bytes drops = drops
 record_after one counted (Some ack) bytes drops = packet_recorded one counted ack (decoded bytes) drops

@@ -1,4 +1,4 @@
--- An end with its timers beside the inbox in which its data wait and the Init Cookie that it returns, where it has them (own).
+-- An end with its timers, the inbox in which its data wait, and the Init Cookie that it returns, if it has them (own).
 use Rattle.std.specs.Prelude.{ℕ, List, [], Option, None}
 use Rattle.data_dropped.specs.Inbox.{InboxState}
 use Rattle.data_dropped.specs.Intakes.{IntakeDelivery, came_in, spoken}
@@ -41,7 +41,7 @@ holding_frame h frame = frame_returned h.cookie h.timed (spoken_by h.inbox h.tim
 abbrev pub holding_step : {C Answer : Type 0} → HoldingState C → Option Outgoing → Answer → HoldingStep C Answer
 holding_step h frame answer = record { holding = h; frame = holding_frame h frame; answer = answer }
 
--- A step of the end with its timers, beside its inbox and its cookie, which stay.
+-- A step of the end with its timers, which leaves its inbox and its cookie unchanged.
 abbrev pub steps_beside : {C Answer : Type 0} → HoldingState C → TimedStep C Answer → HoldingStep C Answer
 steps_beside h step = holding_step (record h { timed = step.timed }) step.frame step.answer
 

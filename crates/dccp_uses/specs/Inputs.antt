@@ -1,4 +1,4 @@
--- What the rules do to an end is what a schedule of the world may do to it (own).
+-- The rules do to an end only what a schedule of the world may do to it (own).
 use Rattle.std.specs.Prelude.{◌≡◌, ℕ, List, Option, Some, None}
 use Rattle.congestion_trait.specs.Control.{Control, may_send}
 use Rattle.dccp_packets.specs.Outgoing.{Outgoing}
@@ -20,7 +20,7 @@ abbrev pub frame_after_input : {C : Type 0} → Control C → End C → Option I
 frame_after_input control e None = None
 frame_after_input control e (Some given) = (with_control control e.congestion (end_stepped e.state given)).frame
 
--- what comes with an input is what the end's own congestion control says
+-- an input's answers of the congestion control are those of the end's own
 abbrev pub IsItsOwn : {C : Type 0} → Control C → End C → Option Input → Type 0
 IsItsOwn control e None = Unit {0}
 IsItsOwn control e (Some (input.Arrives bytes)) = Unit {0}
@@ -39,11 +39,11 @@ pub record TookOneInput {C : Type 0} (control : Control C) (before after : End C
   pub end_is : after ≡ end_after_input control before given
   pub frame_is : frame ≡ frame_after_input control before given
 
--- by a step of an end with its timers
+-- the same for a step of an end with its timers
 abbrev pub TookOne : {C Answer : Type 0} → Control C → TimedState C → TimedStep C Answer → Type 0
 TookOne control s step = TookOneInput control s.end step.timed.end step.frame
 
--- Whatever the rules, the alarms, the path and the time.
+-- Each step is such an input, with any rules, alarms, path and time.
 pub record StepsAreInputs {C : Type 0} (control : Control C) : Type 0 where
   pub opens : (now : ℕ) (s : TimedState C) → TookOne control s (timed_opens control now s)
   pub sends : (now : ℕ) (s : TimedState C) (payload : List ℕ) → TookOne control s (timed_sends control now s payload)

@@ -8,7 +8,7 @@ use Rattle.dccp_uses.specs.Sessions.{session_accepted, holding_hears}
 use Rattle.dccp_uses.specs.Timed.{timed_begins}
 use Rattle.dccp_uses.specs.declared.pace.Pace.{Pace}
 
--- A fresh end hears the datagram; its answer is handed over, and it is a connection where it left LISTEN.
+-- A fresh end hears the datagram. Its answer is handed over, and it is a connection if it left LISTEN.
 pub record Accepts {C N : Type 0} (sends : N → List ℕ → N → Type 0) (control : Control C) (now : ℕ) (config : Config) (congestion : C)
     (pace : Pace) (bytes : List ℕ) (before after : N) (made : Option (HoldingState C)) : Type 0 where
   pub made_is : made ≡ session_accepted (holding_hears control now (without_inbox (timed_begins control config congestion pace)) bytes)

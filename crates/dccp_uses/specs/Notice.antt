@@ -1,4 +1,4 @@
--- What a packet reports of the application that reads an end's data (RFC 4340, sections 11.6, 11.7 and 11.7.2).
+-- What a packet says about the application that reads an end's data (RFC 4340, sections 11.6, 11.7 and 11.7.2).
 use Rattle.std.specs.Prelude.{ℕ, ◌+◌, ◌==◌, nat_le, min, Bool, true, false, ◌&&◌, ◌||◌, List, count_by, Option, Some, None, Result, Ok, Err, if◌then◌else◌}
 use Rattle.std.specs.List.{list_any}
 use Rattle.ack_vectors.specs.Coding.{states_down}
@@ -32,8 +32,8 @@ abbrev pub is_slow_option : Result Entry OptFault → Bool
 is_slow_option (Err _) = false
 is_slow_option (Ok entry) = entry.kind == slow_receiver
 
--- how many numbers from an acknowledgement number down no report has reached before: those after the last that one did, and
--- 2,048 at most (own)
+-- how many numbers, from an acknowledgement number down, no report has reached before: those after the last that one has reached, at most 2,048
+-- (own)
 abbrev pub new_reach : Option ℕ → ℕ → ℕ
 new_reach None ack = 2048
 new_reach (Some counted) ack = if is_before counted ack then min 2048 (distance counted ack) else 0
@@ -52,9 +52,9 @@ abbrev pub is_as_marked : Option ℕ → Bool
 is_as_marked None = false
 is_as_marked (Some code) = nat_le 3 code
 
--- What the codes of these numbers come to, which a report is the first to reach: how many the receive buffer dropped; and
--- whether one was dropped because of the protocol, because no application listens, or for a reason that counts as a mark, past
--- the recovery mark (section 11.7.2).
+-- The result of the codes of these numbers, which a report is the first to reach: how many the receive buffer dropped; and whether one was
+-- dropped because of the protocol, because no application listens, or for a reason that counts as a mark, past the recovery mark (section
+-- 11.7.2).
 abbrev pub drops_among : Option ℕ → (ℕ → Option ℕ) → List ℕ → Drops
 drops_among mark code numbers =
     record {
@@ -64,7 +64,7 @@ drops_among mark code numbers =
       marked = list_any (λ n. is_past mark n && is_as_marked (code n)) numbers;
     }
 
--- with the code of one number more, which is past the recovery mark or not
+-- the drops with the code of one more number, which is past the recovery mark or not
 abbrev pub drops_with_code : Drops → Bool → Option ℕ → Drops
 drops_with_code drops past code =
     record {
@@ -78,11 +78,11 @@ drops_with_code drops past code =
 abbrev pub no_drops : Drops
 no_drops = record { full = 0; refused = false; stopped = false; marked = false }
 
--- what a report of drops is the first to tell
+-- what a report of drops is the first to name
 abbrev pub drops_told : Reader → VectorReport → Drops
 drops_told reader report = drops_among reader.mark (code_at report.ack report.bytes) (new_numbers reader.counted report.ack)
 
--- what a packet tells, whether it is from a slow receiver, by its report of drops, if it has one
+-- what a packet says: whether it is from a slow receiver, and its report of drops, if it has one
 abbrev pub notice_with : Reader → Bool → Option VectorReport → Notice
 notice_with reader slow None = record { slow = slow; drops = no_drops; ack = None }
 notice_with reader slow (Some report) = record { slow = slow; drops = drops_told reader report; ack = Some report.ack }
@@ -92,11 +92,11 @@ abbrev pub drops_reported : Option ℕ → List (Result Entry OptFault) → Opti
 drops_reported None items = None
 drops_reported (Some ack) items = drop_report ack items
 
--- what is told by these options
+-- what these options say
 abbrev pub notice_of : Reader → Option ℕ → List (Result Entry OptFault) → Notice
 notice_of reader ack items = notice_with reader (list_any is_slow_option items) (drops_reported ack items)
 
--- nothing is told
+-- nothing is said
 abbrev pub no_notice : Notice
 no_notice = record { slow = false; drops = no_drops; ack = None }
 
@@ -106,15 +106,15 @@ is_valid_verdict Valid = true
 is_valid_verdict (SyncFor number) = false
 is_valid_verdict Drop = false
 
--- The number from which a packet of this type reports, by its own number in full: the one that it acknowledges, near GSS where
--- that is short (section 7.6). That of a Sync reports nothing, nor does a packet outside of the windows.
+-- The number from which a packet of this type reports, by its own number in full: the one that it acknowledges, near GSS if that is short
+-- (section 7.6). A Sync reports nothing, nor does a packet outside of the windows.
 abbrev pub report_base : Marks → Kind → Option ℕ → Option ℕ
 report_base marks kind None = None
 report_base marks kind (Some number) =
     if is_valid_verdict (verdict marks (packet_type kind) number (ack_near marks.gss kind)) then reported_from (packet_type kind) (ack_near marks.gss kind)
     else None
 
--- of what was read
+-- the notice of what was read
 abbrev pub notice_read : EndState → Reader → Result Parts Malformed → Notice
 notice_read e reader (Ok packet) =
     notice_of reader (report_base e.marks packet.header.kind (whole_number e packet.header.number))

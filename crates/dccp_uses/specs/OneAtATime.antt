@@ -4,8 +4,7 @@ use Rattle.std.proofs.Math.Nat.{le-add_right}
 use Rattle.congestion_trait.specs.Control.{KeepsWindow}
 use Rattle.congestion_trait.specs.Kind.{KindRules, control_by_rules}
 
--- It is in place of CCID 2, whose window is one packet at least: so it never sends faster. Beside the flight list it
--- keeps nothing.
+-- It replaces CCID 2, whose window is at least one packet, so it never sends faster. It keeps nothing besides the flight list.
 abbrev pub one_at_a_time : KindRules (Unit {0})
 one_at_a_time = record {
   window = λ _. 1;

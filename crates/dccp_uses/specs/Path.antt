@@ -110,12 +110,12 @@ is_stand_stable stands.Stable = true
 is_stand_stable stands.Changing = false
 is_stand_stable stands.Unstable = false
 
--- a rule's wait, or the usual one where the rule is not followed
+-- a rule's wait, or the usual one if the rule is not followed
 abbrev pub by_rule : Bool → Wait → Wait → Wait
 by_rule true ruled classic = ruled
 by_rule false ruled classic = classic
 
--- How long the timers wait: by the round trip where that is measured, and negotiate shorter while a probe is out.
+-- How long the timers wait: by the round trip if that is measured, and negotiate shorter while a probe is out.
 abbrev pub path_waits : Path → Waits
 path_waits path =
     record {
@@ -128,7 +128,7 @@ path_waits path =
       time_wait = classic_waits.time_wait;
     }
 
--- the packet that was timed first
+-- the first packet that was timed, or this one if there was none
 abbrev pub first_sent : Option TimedPacket → TimedPacket → Option TimedPacket
 first_sent None sent = Some sent
 first_sent (Some old) sent = Some old
@@ -140,11 +140,11 @@ handshake_timed path number now =
     record path { first = first_sent path.first (record { number = number; at = now }); timed = Some (record { number = number; at = now }) }
     else path
 
--- of data one packet at a time (RFC 6298, section 3)
+-- of data packets one at a time is timed (RFC 6298, section 3)
 abbrev pub data_timed : Path → ℕ → ℕ → Path
 data_timed path number now = if path.pace.measures then record path { timed = first_sent path.timed (record { number = number; at = now }) } else path
 
--- how long ago the packet was sent that is acknowledged
+-- how long ago the packet that is acknowledged was sent
 abbrev pub since_sent : Option TimedPacket → ℕ → ℕ → Option ℕ
 since_sent None gar now = None
 since_sent (Some sent) gar now = if sent.number == gar then Some (now - sent.at) else None
@@ -158,12 +158,12 @@ either_of (Some one) other = Some one
 abbrev pub none_timed : Path → Path
 none_timed path = record path { first = None; timed = None }
 
--- the round trip took so long, if that is known
+-- the round trip took this long, if that is known
 abbrev pub sampled_if : Path → Option ℕ → Path
 sampled_if path None = path
 sampled_if path (Some sample) = record path { round_trip = Some (with_sample path.round_trip sample) }
 
--- The answer to the handshake gives a sample where it acknowledges the first or the last of its packets.
+-- The answer to the handshake gives a sample if it acknowledges the first or the last of its packets.
 abbrev pub handshake_over : Path → ℕ → ℕ → Path
 handshake_over path gar now = sampled_if (none_timed path) (either_of (since_sent path.first gar now) (since_sent path.timed gar now))
 
@@ -177,7 +177,7 @@ abbrev pub sent_unless : Bool → Path → ℕ → ℕ → Path
 sent_unless true path number now = path
 sent_unless false path number now = handshake_timed path number now
 
--- what a packet that was heard tells of the round trip, by what was to be seen of the end before it, and is now
+-- what a packet that was heard says about the round trip, by what the rules saw of the end before and after it
 abbrev pub measured : Path → Sight → Sight → ℕ → Path
 measured path old new now =
     if not path.pace.measures then path
@@ -191,15 +191,15 @@ flown path in_flight now =
     if nat_le (period path.round_trip) (now - path.period) then record path { before = path.most; most = in_flight; period = now }
     else record path { most = max path.most in_flight }
 
--- so many packets are in flight
+-- this many packets are in flight
 abbrev pub with_flight : Path → ℕ → ℕ → Path
 with_flight path in_flight now = if not path.pace.moves_ratio then path else flown path in_flight now
 
--- what the sender uses of its window: twice what was lately in flight, at most
+-- what the sender uses of its window: at most twice what was lately in flight
 abbrev pub used_window : Path → ℕ → ℕ
 used_window path window = min window (2 * max path.most path.before)
 
--- the window of the sender: what the application that reads its data leaves of that of the congestion control
+-- the window of the sender: as much of the congestion control's window as the application that reads the data leaves
 abbrev pub window_left : Path → Sight → ℕ
 window_left path sight = window_within path.reader.allowance sight.window
 
@@ -207,13 +207,13 @@ window_left path sight = window_within path.reader.allowance sight.window
 abbrev pub aim_of : Path → Sight → ℕ
 aim_of path sight = ack_ratio_aim (window_left path sight) (used_window path (window_left path sight)) (min sight.width (2 ^ 40))
 
--- Under CCID 2, whose rule it is (RFC 4341, section 6.1.2), it is asked for in OPEN, while nothing is being negotiated of it.
+-- The ratio is asked for under CCID 2, whose rule it is (RFC 4341, section 6.1.2), in OPEN, while it is not being negotiated.
 abbrev pub wants_aim : Path → Sight → ℕ → Bool
 wants_aim path sight now =
     if not path.pace.moves_ratio || (not (sight.ccid == 2) || (not (is_open_phase sight.phase) || not (is_stand_stable sight.ratio.stand))) then false
     else wants_ack_ratio (record { held = sight.ratio.value; asked = path.asked }) (aim_of path sight) (window_left path sight) (period path.round_trip) now
 
--- and then at once
+-- the ratio is then asked for at once
 abbrev pub aimed : Path → Sight → ℕ → Path
 aimed path sight now =
     if wants_aim path sight now then record path { aim = aim_of path sight; ratio = Some (record { since = now; wait = 0 }) }
@@ -224,7 +224,7 @@ abbrev pub is_answered : Option ℕ → ℕ → Bool
 is_answered None gar = false
 is_answered (Some probe) gar = is_from probe gar
 
--- Then what is in flight still is taken for lost at once.
+-- Then what is still in flight is counted as lost at once.
 abbrev pub answered_probe : Path → ℕ → ℕ → Path
 answered_probe path gar now = if is_answered path.probe gar then record path { probing = Some (record { since = now; wait = 0 }) } else path
 
@@ -233,16 +233,16 @@ abbrev pub heard_from : Path → Bool → Path
 heard_from path true = record path { silence = None; give_up = None }
 heard_from path false = path
 
--- something came out of flight, and no question is out: it is waited for anew
+-- if something came out of flight and no question is out, the wait starts again
 abbrev pub fell : Path → Bool → Path
 fell path progress = if progress && not (is_some path.probe) then record path { probing = None } else path
 
--- what a packet that was taken has told of the peer's application
+-- what a packet that was taken has said about the peer's application
 abbrev pub reader_if : Path → Sight → Sight → Bool → ℕ → Reader
 reader_if path old new true now = reader_heard path.round_trip path.reader path.notice old new now
 reader_if path old new false now = path.reader
 
--- What it tells counts, where that rule is followed.
+-- What it says counts, if that rule is followed.
 abbrev pub notice_heeded : Path → Sight → Sight → Bool → ℕ → Path
 notice_heeded path old new taken now =
     if path.pace.heeds then record path { reader = reader_if path old new taken now; notice = no_notice } else path
@@ -256,12 +256,12 @@ path_heard path old new taken now =
     new now)
     new.gar now
 
--- After a timeout no packet is timed, and it is congestion for what is known of the peer's application, too.
+-- After a timeout no packet is timed. It also counts as congestion for what is known of the peer's application.
 abbrev pub timed_out_path : Path → ℕ → Path
 timed_out_path path gss =
     if path.pace.heeds then record path { timed = None; reader = reader_timed_out path.reader gss } else record path { timed = None }
 
--- what is kept after a timer was told: after a timeout the window is another
+-- what is kept after a timer has fired: after a timeout the window has changed
 abbrev pub told_timer : Path → Timer → Sight → ℕ → Path
 told_timer path timers.Request sight now = handshake_timed path sight.gss now
 told_timer path timers.Ack sight now = path
@@ -270,7 +270,7 @@ told_timer path timers.Rto sight now = aimed (timed_out_path path sight.gss) sig
 told_timer path timers.Close sight now = path
 told_timer path timers.TimeWait sight now = path
 
--- In OPEN with data in flight the peer is asked before a timeout where the window is large, or was asked already.
+-- In OPEN with data in flight, the peer is asked before a timeout if the window is large, or was asked already.
 abbrev pub is_probing : Path → Sight → Bool
 is_probing path sight =
     path.pace.probes && (is_open_phase sight.phase && (nat_lt 0 sight.in_flight && (probes_first sight.window || is_some path.probe)))
@@ -288,7 +288,7 @@ patience phases.CloseReq = Some 120000
 patience phases.Closing = Some 120000
 patience phases.TimeWait = None
 
--- and for ever where that rule is not followed
+-- for ever, if that rule is not followed
 abbrev pub ruled_patience : Pace → Phase → Option ℕ
 ruled_patience pace phase = if pace.gives_up then patience phase else None
 
@@ -302,7 +302,7 @@ abbrev pub kept_if : Bool → Option ℕ → Option ℕ
 kept_if true probe = probe
 kept_if false probe = None
 
--- the alarms of the rules as the end needs them, where the timer rto would begin with this wait; a minute of silence
+-- the alarms of the rules as the end needs them, if the timer rto would begin with this wait; a peer may be silent for a minute
 abbrev pub arranged_rules : Path → ℕ → Sight → ℕ → Path
 arranged_rules path wait sight now =
     record path {
@@ -312,16 +312,16 @@ arranged_rules path wait sight now =
       give_up = patient_alarm (ruled_patience path.pace sight.phase) path.give_up now;
     }
 
--- how long it is until a rule has something to do
+-- in how many milliseconds a rule has something to do
 abbrev pub rules_left : Path → ℕ → Option ℕ
 rules_left path now = sooner (sooner (sooner (sooner None path.give_up now) path.probing now) path.silence now) path.ratio now
 
--- one alarm for all of them, which runs for so long at least
+-- one alarm for all of them, which runs at least for this long
 abbrev pub rules_alarm : Option ℕ → ℕ → ℕ → Option Alarm
 rules_alarm None least now = None
 rules_alarm (Some left) least now = Some (record { since = now; wait = max left least })
 
--- with that alarm
+-- the path with that alarm
 abbrev pub with_rules : Path → ℕ → ℕ → Path
 with_rules path least now = record path { rules = rules_alarm (rules_left path now) least now }
 
@@ -333,7 +333,7 @@ arranged_path path wait sight least now = with_rules (arranged_rules path wait s
 abbrev pub wide_wished : Config → Config
 wide_wished config = record config { lists = with_wish config.lists SequenceWindow Here (wanted.Number 10000) }
 
--- and one that asks for it
+-- an end that asks for it
 abbrev pub wide_offered : Config → Config
 wide_offered config = record config { lists = with_offer config.lists SequenceWindow Here false }
 

@@ -16,12 +16,12 @@ use Rattle.dccp_uses.specs.declared.sight.Sight.{Sight}
 abbrev pub reader_begins : Reader
 reader_begins = record { counted = None; allowance = None; hold = None; mark = None; refused = false; stopped = false }
 
--- up to which number reports of drops were counted, once one at this number was
+-- the number up to which reports of drops were counted, after one at this number
 abbrev pub counted_up_to : Option ℕ → ℕ → ℕ
 counted_up_to None ack = ack
 counted_up_to (Some counted) ack = if is_before counted ack then ack else counted
 
--- once one was, if one was
+-- the same after a report, if there was one
 abbrev pub counted_after : Option ℕ → Option ℕ → Option ℕ
 counted_after counted None = counted
 counted_after counted (Some ack) = Some (counted_up_to counted ack)
@@ -39,30 +39,30 @@ abbrev pub halved_if_any : Option Allowance → ℕ → Option Allowance
 halved_if_any None window = None
 halved_if_any (Some it) window = Some (allowed_after_congestion (Some it) window)
 
--- Congestion: the window is halved once for all that was sent by then. A drop that counts as a mark halves the allowance alone,
--- since the congestion control knows nothing of it (RFC 4340, section 11.7.2).
+-- Congestion: the window is halved once for all that was sent by then. A drop that counts as a mark halves only the allowance, since the
+-- congestion control knows nothing of it (RFC 4340, section 11.7.2).
 abbrev pub reader_congested : Reader → Notice → Sight → Sight → Reader
 reader_congested reader notice old new =
     if narrows old new then record reader { allowance = halved_if_any reader.allowance old.window; mark = Some new.gss }
     else if notice.drops.marked then record reader { allowance = Some (allowed_after_congestion reader.allowance old.window); mark = Some new.gss }
     else reader
 
--- The sender goes slower by a packet for each that the buffer dropped, and no faster for a round trip from now on.
+-- The sender goes slower by one packet for each that the buffer dropped, and for a round trip from now on it goes no faster.
 abbrev pub reader_slowed : Reader → Notice → Sight → Sight → ℕ → Reader
 reader_slowed reader notice old new now =
     record reader { allowance = Some (allowed_after_drops reader.allowance old.window notice.drops.full); hold = Some (record { number = new.gss; at = now }) }
 
--- less than a round trip has gone by since the sender was to go slower
+-- less than a round trip has gone by since the sender had to go slower
 abbrev pub is_held : Option RoundTrip → Option TimedPacket → ℕ → ℕ → Bool
 is_held trip None gar now = false
 is_held trip (Some hold) gar now = is_within_round_trip trip (now - hold.at) (is_from hold.number gar)
 
--- what came out of flight opens the allowance, if there is one
+-- packets that came out of flight open the allowance, if there is one
 abbrev pub opened_if_any : Option Allowance → ℕ → ℕ → Option Allowance
 opened_if_any None window acked = None
 opened_if_any (Some it) window acked = Some (allowed_after_acks it window acked)
 
--- unless the window is to stand still
+-- the same, unless the window is not to grow now
 abbrev pub reader_opened : Reader → Bool → Sight → Sight → Reader
 reader_opened reader still old new =
     if still then reader else record reader { allowance = opened_if_any reader.allowance new.window (old.in_flight - new.in_flight) }
@@ -75,7 +75,7 @@ reader_moved trip reader notice old new now =
     reader_opened (reader_congested reader notice old new)
     (narrows old new || (notice.drops.marked || is_held trip reader.hold new.gar now)) old new
 
--- and what it tells the owner
+-- what the packet says to the owner is noted
 abbrev pub reader_told : Reader → Notice → Reader
 reader_told reader notice =
     record reader {
@@ -97,13 +97,12 @@ shrunk_if_any (Some it) = Some (allowed_after_timeout it)
 abbrev pub reader_timed_out : Reader → ℕ → Reader
 reader_timed_out reader gss = record reader { allowance = shrunk_if_any reader.allowance; mark = Some gss }
 
--- as many packets are in flight as the allowance leaves
+-- as many packets are in flight as the allowance permits
 abbrev pub is_used_up : Option Allowance → ℕ → Bool
 is_used_up None in_flight = false
 is_used_up (Some it) in_flight = nat_le it.most in_flight
 
--- Why data have to wait: no application listens any more (RFC 4340, section 11.7.2), or as many packets are in flight as it
--- leaves.
+-- Why data have to wait: no application listens any more (RFC 4340, section 11.7.2), or as many packets are in flight as it permits.
 abbrev pub restraint_of : Reader → ℕ → Option Restraint
 restraint_of reader in_flight =
     if reader.stopped then Some restraint.NotListening else if is_used_up reader.allowance in_flight then Some restraint.Full else None

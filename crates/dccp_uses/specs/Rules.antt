@@ -1,4 +1,4 @@
--- What a rule of a path has its end do (own).
+-- What a rule of a path makes its end do (own).
 use Rattle.std.specs.Prelude.{ℕ, Bool, false, [], ◌∷◌, Option, Some, None, Result, is_ok, if◌then◌else◌}
 use Rattle.congestion_trait.specs.Control.{Control}
 use Rattle.dccp_endpoint.specs.Calling.{aborts, fires, prefers}
@@ -16,7 +16,7 @@ use Rattle.dccp_uses.specs.declared.rule.Rule.TheVariants as rule
 use Rattle.dccp_uses.specs.declared.sight.Sight.{Sight}
 use Rattle.dccp_uses.specs.declared.waits.Waits.{Waits}
 
--- the question goes out; where it is out, its answer or a minute of waiting ends in a timeout
+-- the question goes out; if it is out already, its answer or a minute without one leads to a timeout
 abbrev pub probe_rule : Option ℕ → Rule
 probe_rule None = rule.Probe
 probe_rule (Some probe) = rule.TimeOut
@@ -30,15 +30,15 @@ due_rule path now =
     else if has_run_out path.ratio now then rule.Ratio
     else rule.Nothing
 
--- a step of the end, of which it is told whether it was refused
+-- a step of the end, with the answer whether it was accepted
 abbrev pub unless_denied : {C Fault : Type 0} → EndStep C (Result (Unit {0}) Fault) → EndStep C Bool
 unless_denied step = record { after = step.after; frame = step.frame; answer = is_ok step.answer }
 
--- a wish for this Ack Ratio (RFC 4340, section 6.6.1); one for the value that is held has the peer answer too
+-- a wish for this Ack Ratio (RFC 4340, section 6.6.1); even one for the present value makes the peer answer
 abbrev pub asks_ratio : {C : Type 0} → Control C → End C → ℕ → EndStep C Bool
 asks_ratio control end ratio = unless_denied (with_control control end.congestion (prefers end.state (AckRatio, Here) (ratio ∷ [])))
 
--- Each rule has the end do what a user or a timer may.
+-- Each rule makes the end do what a user or a timer may.
 abbrev pub rule_does : {C : Type 0} → Control C → End C → Rule → ℕ → EndStep C Bool
 rule_does control end rule.Nothing aim = record { after = end; frame = None; answer = false }
 rule_does control end rule.GiveUp aim = unless_denied (with_control control end.congestion (aborts end.state))
@@ -47,7 +47,7 @@ rule_does control end rule.Probe aim = asks_ratio control end (held_of end.state
 rule_does control end rule.Ask aim = asks_ratio control end (held_of end.state AckRatio Here).value
 rule_does control end rule.Ratio aim = asks_ratio control end aim
 
--- the timers after that: negotiate begins anew with a wish, and a timeout is one
+-- the timers after that: with a wish negotiate starts again, and a timeout counts as one of rto
 abbrev pub alarms_by_rule : Waits → Alarms → Rule → ℕ → Alarms
 alarms_by_rule waits alarms rule.Nothing now = alarms
 alarms_by_rule waits alarms rule.GiveUp now = alarms
@@ -56,8 +56,8 @@ alarms_by_rule waits alarms rule.Probe now = record alarms { negotiate = None }
 alarms_by_rule waits alarms rule.Ask now = record alarms { negotiate = None }
 alarms_by_rule waits alarms rule.Ratio now = record alarms { negotiate = None }
 
--- What is kept after that: a question waits a minute for its answer, a silent peer is asked again after ten seconds, and
--- it is kept when the Ack Ratio was asked for.
+-- What is kept after that: a question waits a minute for its answer, a silent peer is asked again after ten seconds, and the time of a wish for
+-- the Ack Ratio is kept.
 abbrev pub path_by_rule : Path → Rule → Sight → ℕ → Path
 path_by_rule path rule.Nothing sight now = path
 path_by_rule path rule.GiveUp sight now = record path { give_up = None }

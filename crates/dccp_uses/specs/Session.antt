@@ -1,4 +1,4 @@
--- An end with the timers that its owner keeps for it (own; the end is RFC 4340's).
+-- An end with the timers that its owner keeps for it (own; the end is that of RFC 4340).
 use Rattle.dccp_states.specs.Phases.{is_closed}
 use Rattle.std.specs.Prelude.{nat_lt, nat_le, ℕ, Bool, true, false, not, ◌&&◌, List, [], ◌∷◌, length, Option, Some, None, is_some, Result, Ok, Err, if◌then◌else◌}
 use Rattle.congestion_trait.specs.Control.{Control}
@@ -34,7 +34,7 @@ pub record SessionStep (C Answer : Type 0) : Type 0 where
 abbrev pub session_begins : {C : Type 0} → Control C → Config → C → SessionState C
 session_begins control config congestion = record { end = begins control config congestion; alarms = no_alarms }
 
--- what the timers of an end go by
+-- the condition by which the timers of an end run
 abbrev pub condition_of : {C : Type 0} → Control C → End C → Condition
 condition_of control end = record { phase = end.state.phase; in_flight = has_in_flight control end.congestion }
 
@@ -53,7 +53,7 @@ abbrev pub called : {C Fault : Type 0} → Control C → ℕ → SessionState C 
 called control now s alarms step (Ok _) = goes_on_with control now alarms step
 called control now s alarms step (Err fault) = record { session = s; frame = None; answer = Err fault }
 
--- a call of the end, after which its timers go on where they are still needed
+-- a call of the end, after which its timers go on if they are still needed
 abbrev pub calls : {C Fault : Type 0} → Control C → ℕ → SessionState C → EndStep C (Result (Unit {0}) Fault) → SessionStep C (Result (Unit {0}) Fault)
 calls control now s step = called control now s s.alarms step step.answer
 
@@ -61,11 +61,11 @@ calls control now s step = called control now s s.alarms step step.answer
 abbrev pub calls_anew : {C Fault : Type 0} → Control C → ℕ → SessionState C → EndStep C (Result (Unit {0}) Fault) → SessionStep C (Result (Unit {0}) Fault)
 calls_anew control now s step = called control now s (record s.alarms { negotiate = None }) step step.answer
 
--- the connection has come to its end with this step
+-- the connection has ended with this step
 abbrev pub has_closed : Phase → Phase → Bool
 has_closed was is = not (is_closed was) && is_closed is
 
--- What the owner is told of an outcome, by the phases before and after it.
+-- The news of an outcome for the owner, by the phases before and after it.
 abbrev pub news_of : Outcome → Phase → Phase → News
 news_of (Took (Some place)) was is = news.Data place.0 place.1
 news_of (Took None) was is = news.Quiet
@@ -82,7 +82,7 @@ is_delivery (Synced number) = false
 is_delivery (WasReset code) = false
 is_delivery (SentReset code detail) = false
 
--- the owner is told the news of a step that took bytes which arrived
+-- a step that took bytes, with its news for the owner
 abbrev pub tells_news : {C : Type 0} → SessionState C → SessionStep C Outcome → SessionStep C News
 tells_news s step =
     record {
@@ -91,9 +91,8 @@ tells_news s step =
       answer = news_of step.answer s.end.state.phase step.session.end.state.phase;
     }
 
--- The end has received a packet. Its timers go by what came out of flight with it, by a report or since a new CCID
--- begins with nothing there, and by data that were delivered. A timeout, which empties the flight too, is told by
--- `tells_end` and is no progress.
+-- The end has received a packet. Its timers depend on what came out of flight with it, by a report or since a new CCID begins with nothing in
+-- flight, and on data that were delivered. A timeout, which empties the flight too, goes by `tells_end`, and is no progress.
 abbrev pub after_hearing : {C : Type 0} → Control C → ℕ → SessionState C → EndStep C Outcome → SessionStep C Outcome
 after_hearing control now s step =
     goes_on_with control now
@@ -106,13 +105,13 @@ hears control now s bytes =
     if nat_le (length bytes) 2044 then tells_news s (after_hearing control now s (with_control control s.end.congestion (receives s.end.state bytes)))
     else record { session = s; frame = None; answer = news.TooLong }
 
--- A timer has run out: its end is told once.
+-- A timer has run out: its end is called once for it.
 abbrev pub tells_end : {C : Type 0} → Control C → ℕ → SessionState C → Timer → SessionStep C Bool
 tells_end control now s timer =
     goes_on_with control now (rung s.alarms timer now)
     (with_control control s.end.congestion (fires s.end.state timer (has_in_flight control s.end.congestion)))
 
--- where it has run out; else nothing happens
+-- the same if it has run out; otherwise nothing happens
 abbrev pub rings : {C : Type 0} → Control C → ℕ → SessionState C → Timer → SessionStep C Bool
 rings control now s timer =
     if has_run_out (alarm_of s.alarms timer) now then tells_end control now s timer else record { session = s; frame = None; answer = false }
@@ -121,7 +120,7 @@ rings control now s timer =
 abbrev pub every_timer : List Timer
 every_timer = timers.Request ∷ timers.Ack ∷ timers.Negotiate ∷ timers.Rto ∷ timers.Close ∷ timers.TimeWait ∷ []
 
--- A server's end for a peer hears its first datagram. It's a connection where it left LISTEN.
+-- A server's end for a peer that has heard its first datagram is a connection if it has left LISTEN.
 abbrev pub is_listening : Phase → Bool
 is_listening phases.Closed = false
 is_listening phases.Listen = true

@@ -28,7 +28,7 @@ abbrev pub news_if : Option Outcome → Phase → Phase → News
 news_if None was is = news.Quiet
 news_if (Some outcome) was is = news_of outcome was is
 
--- the owner is told the news of a step that took bytes which arrived
+-- a step that took bytes, with its news for the owner
 abbrev pub tells_news_of : {C : Type 0} → TimedState C → TimedStep C (Option Outcome) → TimedStep C News
 tells_news_of s step =
     record { timed = step.timed; frame = step.frame; answer = news_if step.answer s.end.state.phase step.timed.end.state.phase }
@@ -39,13 +39,13 @@ session_hears control now s bytes =
     if nat_le (length bytes) 2044 then tells_news_of s (timed_takes control now s bytes)
     else record { timed = s; frame = None; answer = news.TooLong }
 
--- what the owner is told of data that came into the inbox, and of all else as without one
+-- the news of data that came into the inbox; all other news are as without one
 abbrev pub news_kept : Option Arrival → News → News
 news_kept None told = told
 news_kept (Some Kept) told = news.Waits
 news_kept (Some (Dropped code)) told = news.Dropped code
 
--- the owner is told the news of a step by which a datagram arrived
+-- a step that took a datagram, with its news for the owner
 abbrev pub tells_reading : {C : Type 0} → HoldingState C → HoldingStep C Reading → HoldingStep C News
 tells_reading h step =
     record {
@@ -54,8 +54,8 @@ tells_reading h step =
       answer = news_kept step.answer.arrival (news_if step.answer.heard h.timed.end.state.phase step.holding.timed.end.state.phase);
     }
 
--- A datagram arrives: its data come into the inbox, where there is one, and the cookie of a Response is kept. One that is
--- longer than an end takes changes nothing.
+-- A datagram arrives: its data come into the inbox, if there is one, and the cookie of a Response is kept. One that is longer than an end takes
+-- changes nothing.
 abbrev pub holding_hears : {C : Type 0} → Control C → ℕ → HoldingState C → List ℕ → HoldingStep C News
 holding_hears control now h bytes =
     if nat_le (length bytes) 2044 then tells_reading h (holds_heard h bytes (timed_takes control now h.timed bytes))
@@ -65,11 +65,11 @@ holding_hears control now h bytes =
 abbrev pub stands_still : {C : Type 0} → TimedState C → TimedStep C Bool
 stands_still s = record { timed = s; frame = None; answer = false }
 
--- the end is told what is due, where it is
+-- the end does what is due, if it is
 abbrev pub rings_due : {C : Type 0} → Control C → ℕ → TimedState C → Due → TimedStep C Bool
 rings_due control now s due = if has_run_out (due_alarm s due) now then due_told control now s due else stands_still s
 
--- the same beside an inbox and a cookie
+-- the same with an inbox and a cookie
 abbrev pub holding_rings : {C : Type 0} → Control C → ℕ → HoldingState C → Due → HoldingStep C Bool
 holding_rings control now h due = steps_beside h (rings_due control now h.timed due)
 
@@ -78,11 +78,11 @@ pub record HoldingSteps (C : Type 0) : Type 0 where
   pub holding : HoldingState C
   pub frames : List (Option Outgoing)
 
--- a step in front of those that come after it, with its frame as the first
+-- a step before those that come after it, with its frame as the first
 abbrev pub ring_first : {C : Type 0} → HoldingStep C Bool → HoldingSteps C → HoldingSteps C
 ring_first step rest = record { holding = rest.holding; frames = step.frame ∷ rest.frames }
 
--- each that is due, one after another
+-- each of these that is due, one after another
 abbrev pub rings_each_due : {C : Type 0} → Control C → ℕ → HoldingState C → List Due → HoldingSteps C
 rings_each_due control now h [] = record { holding = h; frames = [] }
 rings_each_due control now h (it ∷ rest) =
@@ -92,11 +92,11 @@ rings_each_due control now h (it ∷ rest) =
 abbrev pub NoneIsDue : {C : Type 0} → ℕ → TimedState C → Type 0
 NoneIsDue now s = (it : Due) → has_run_out (due_alarm s it) now ≡ false
 
--- the session of an end that has left LISTEN
+-- the session of an end, if it has left LISTEN
 abbrev pub unless_it_listens : {C : Type 0} → HoldingState C → Bool → Option (HoldingState C)
 unless_it_listens h true = None
 unless_it_listens h false = Some h
 
--- the session that a first datagram has made, where its end has left LISTEN
+-- the session that a first datagram has made, if its end has left LISTEN
 abbrev pub session_accepted : {C : Type 0} → HoldingStep C News → Option (HoldingState C)
 session_accepted step = unless_it_listens step.holding (is_listening step.holding.timed.end.state.phase)

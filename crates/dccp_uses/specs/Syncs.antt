@@ -41,21 +41,21 @@ is_sync_verdict Drop = false
 abbrev pub wants_sync : Marks → Kind → ℕ → Bool
 wants_sync marks kind number = is_sync_verdict (verdict marks (packet_type kind) number (ack_near marks.gss kind))
 
--- its number in full, where it would
+-- its number in full, if it would be
 abbrev pub unanswered : Marks → Kind → Option ℕ → Option ℕ
 unanswered marks kind None = None
 unanswered marks kind (Some number) = if wants_sync marks kind number then Some number else None
 
--- of what was read
+-- the same for what was read
 abbrev pub number_unanswered : EndState → Result Parts Malformed → Option ℕ
 number_unanswered e (Ok packet) = unanswered e.marks packet.header.kind (whole_number e packet.header.number)
 number_unanswered e (Err fault) = None
 
--- of a datagram, where the windows judge it
+-- the same for a datagram, if the windows judge it
 abbrev pub number_judged : EndState → List ℕ → Option ℕ
 number_judged e bytes = if has_windows e.phase then number_unanswered e (decoded bytes) else None
 
--- what it tells of the peer's application, where they do
+-- what it says about the peer's application, if they do
 abbrev pub notice_judged : EndState → Reader → List ℕ → Notice
 notice_judged e reader bytes = if has_windows e.phase then notice_read e reader (decoded bytes) else no_notice
 
@@ -64,11 +64,11 @@ pub record Admission : Type 0 where
   pub heard : Bool
   pub path : Path
 
--- one with the token that was taken
+-- the admission with the token for a number near the peer's that was taken
 abbrev pub near_taken : Path → TokenGrant → Admission
 near_taken path taking = record { heard = taking.granted; path = record path { near = taking.bucket } }
 
--- and far from the numbers of the peer
+-- the same for a number far from the peer's
 abbrev pub far_taken : Path → TokenGrant → Admission
 far_taken path taking = record { heard = taking.granted; path = record path { far = taking.bucket } }
 
@@ -82,16 +82,16 @@ abbrev pub admitted_by : Path → Option ℕ → ℕ → ℕ → Admission
 admitted_by path None gsr now = record { heard = true; path = path }
 admitted_by path (Some number) gsr now = sync_bucketed path (is_near_greatest number gsr) now
 
--- so is each where the rule is not followed
+-- every datagram is heard if the rule is not followed
 abbrev pub admitted_within : Path → Option ℕ → ℕ → ℕ → Admission
 admitted_within path number gsr now =
     if path.pace.limits_syncs then admitted_by path number gsr now else record { heard = true; path = path }
 
--- what a datagram that is heard tells of the peer's application is in the path until its end has heard it
+-- what a datagram that is heard says about the peer's application is in the path until its end has heard it
 abbrev pub noticed : Notice → Admission → Admission
 noticed notice it = record it { path = record it.path { notice = if it.heard then notice else no_notice } }
 
--- where that rule is followed
+-- the same if that rule is followed
 abbrev pub noticed_if : Bool → Notice → Admission → Admission
 noticed_if true notice it = noticed notice it
 noticed_if false notice it = it

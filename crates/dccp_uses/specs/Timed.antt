@@ -1,4 +1,4 @@
--- An end with its timers and the rules of its path (own; the end is RFC 4340's).
+-- An end with its timers and the rules of its path (own; the end is that of RFC 4340).
 use Rattle.std.specs.Prelude.{ℕ, nat_lt, Bool, true, false, not, ◌&&◌, List, [], ◌∷◌, Option, Some, None, is_some, Result, Ok, Err, if◌then◌else◌}
 use Rattle.congestion_trait.specs.Control.{Control, may_send}
 use Rattle.dccp_packets.specs.Outgoing.{Outgoing}
@@ -55,12 +55,12 @@ pub record TimedStep (C Answer : Type 0) : Type 0 where
 abbrev pub timed_begins : {C : Type 0} → Control C → Config → C → Pace → TimedState C
 timed_begins control config congestion pace = record { end = begins control config congestion; alarms = no_alarms; path = path_begins pace }
 
--- what the timers go by: rto stands still while its question goes first
+-- the condition by which the timers run: rto does not run while a question comes first
 abbrev pub ruled_condition : Path → Sight → Condition
 ruled_condition path sight = record { phase = sight.phase; in_flight = nat_lt 0 sight.in_flight && not (is_probing path sight) }
 
--- The timers and the rules go on for this end, of which this is to be seen, from these alarms and this path on; no rule is
--- due before `least` milliseconds have gone by.
+-- The timers and the rules go on for this end, of which the rules see this, from these alarms and this path on; no rule is due before `least`
+-- milliseconds have gone by.
 abbrev pub timers_go_on_seen : {C : Type 0} → ℕ → ℕ → Alarms → Path → Sight → End C → TimedState C
 timers_go_on_seen now least alarms path sight end =
     record {
@@ -69,11 +69,11 @@ timers_go_on_seen now least alarms path sight end =
       path = arranged_path path (starting_wait_by (path_waits path) alarms timers.Rto) sight least now;
     }
 
--- by what is to be seen of it now
+-- the same by what the rules see of it now
 abbrev pub timers_go_on : {C : Type 0} → Control C → ℕ → ℕ → Alarms → Path → End C → TimedState C
 timers_go_on control now least alarms path end = timers_go_on_seen now least alarms path (sight_of control end) end
 
--- so they do after a step of the end
+-- the same after a step of the end
 abbrev pub timers_go_on_after : {C Answer : Type 0} → Control C → ℕ → ℕ → Alarms → Path → EndStep C Answer → TimedStep C Answer
 timers_go_on_after control now least alarms path step =
     record { timed = timers_go_on control now least alarms path step.after; frame = step.frame; answer = step.answer }
@@ -84,7 +84,7 @@ abbrev pub timed_called : {C Fault : Type 0} → Control C → ℕ → TimedStat
 timed_called control now s alarms path step (Ok _) = timers_go_on_after control now 0 alarms path step
 timed_called control now s alarms path step (Err fault) = record { timed = s; frame = None; answer = Err fault }
 
--- with these alarms and this path
+-- the same with these alarms and this path
 abbrev pub timed_calls : {C Fault : Type 0} → Control C → ℕ → TimedState C → Alarms → Path → EndStep C (Result (Unit {0}) Fault)
     → TimedStep C (Result (Unit {0}) Fault)
 timed_calls control now s alarms path step = timed_called control now s alarms path step step.answer
@@ -108,7 +108,7 @@ timed_hands control now s payload =
     (with_control control s.end.congestion (sends_soon s.end.state payload (may_send control s.end.congestion))).after now)
     (with_control control s.end.congestion (sends_soon s.end.state payload (may_send control s.end.congestion)))
 
--- a refusal of the end's, as one of the two that there are
+-- a refusal of the end, as one of the two kinds of refusals
 abbrev pub refusal_named : Result (Unit {0}) SendFault → Result (Unit {0}) SendRefusal
 refusal_named (Ok done) = Ok done
 refusal_named (Err fault) = Err (refusals.Refused fault)
@@ -122,7 +122,7 @@ abbrev pub timed_sends_by : {C : Type 0} → Control C → ℕ → TimedState C 
 timed_sends_by control now s payload None = with_refusal_named (timed_hands control now s payload)
 timed_sends_by control now s payload (Some why) = record { timed = s; frame = None; answer = Err (refusals.Held why) }
 
--- by what the peer's application leaves of the window
+-- the same, by what the peer's application leaves of the window
 abbrev pub timed_sends : {C : Type 0} → Control C → ℕ → TimedState C → List ℕ → TimedStep C (Result (Unit {0}) SendRefusal)
 timed_sends control now s payload = timed_sends_by control now s payload (restraint_of s.path.reader (in_flight_of control s.end.congestion))
 
@@ -132,7 +132,7 @@ timed_prefers control now s feature place values =
     timed_calls control now s (record s.alarms { negotiate = None }) s.path
     (with_control control s.end.congestion (prefers s.end.state (feature, place) values))
 
--- the connection is closed in order: its peer's answer is waited for anew
+-- the connection is closed in order: the wait for its peer's answer starts
 abbrev pub timed_closes : {C : Type 0} → Control C → ℕ → TimedState C → TimedStep C (Result (Unit {0}) CloseFault)
 timed_closes control now s =
     timed_calls control now s s.alarms (record s.path { give_up = None }) (with_control control s.end.congestion (closes s.end.state))
@@ -149,7 +149,7 @@ is_taken (Synced number) = false
 is_taken (WasReset code) = false
 is_taken (SentReset code detail) = false
 
--- data came that show a hole before them, and nothing went out that tells of it
+-- data came with a hole before them, and nothing went out that reports the hole
 abbrev pub is_hole : Path → Sight → Sight → Bool → Bool → Bool
 is_hole path old new delivered silent = path.pace.acks_soon && (delivered && (silent && nat_lt 1 (distance old.gsr new.gsr)))
 
@@ -164,14 +164,14 @@ alarms_heard waits path alarms old new delivered silent now =
     acks_now (ack_hurried_by waits (progressed_by waits alarms (nat_lt new.in_flight old.in_flight)) delivered)
     (is_hole path old new delivered silent) now
 
--- the end has received a packet, with what was to be seen of it before, and is now
+-- the end has received a packet, with what the rules saw of it before and after
 abbrev pub after_datagram : {C : Type 0} → Control C → ℕ → TimedState C → Sight → Path → EndStep C Outcome → TimedStep C Outcome
 after_datagram control now s new path step =
     timers_go_on_after control now 0
     (alarms_heard (path_waits path) s.path s.alarms (sight_of control s.end) new (is_delivery step.answer) (not (is_some step.frame)) now)
     path step
 
--- by its step
+-- the same by its step
 abbrev pub timed_heard : {C : Type 0} → Control C → ℕ → TimedState C → EndStep C Outcome → TimedStep C Outcome
 timed_heard control now s step =
     after_datagram control now s (sight_of control step.after)
@@ -190,12 +190,12 @@ abbrev pub heard_if : {C : Type 0} → Control C → ℕ → TimedState C → Li
 heard_if control now s bytes true = heard_out (timed_hears control now s bytes)
 heard_if control now s bytes false = record { timed = s; frame = None; answer = None }
 
--- by whether there is a token, where a Sync would answer it
+-- the same, by whether there is a token if a Sync would answer the datagram
 abbrev pub timed_takes : {C : Type 0} → Control C → ℕ → TimedState C → List ℕ → TimedStep C (Option Outcome)
 timed_takes control now s bytes =
     heard_if control now (record s { path = (admitted s.end.state s.path bytes now).path }) bytes (admitted s.end.state s.path bytes now).heard
 
--- a timer has run out: its end was told
+-- a timer has run out, and its end was called for it
 abbrev pub timed_told : {C : Type 0} → Control C → ℕ → TimedState C → Timer → EndStep C Bool → TimedStep C Bool
 timed_told control now s timer step =
     timers_go_on_after control now 0 (rung_by (path_waits s.path) s.alarms timer now) (told_timer s.path timer (sight_of control step.after) now) step
@@ -205,16 +205,16 @@ abbrev pub timed_fires : {C : Type 0} → Control C → ℕ → TimedState C →
 timed_fires control now s timer =
     timed_told control now s timer (with_control control s.end.congestion (fires s.end.state timer (has_in_flight control s.end.congestion)))
 
--- what a rule has its end do was done; no rule is due again in the same millisecond
+-- the end has done what a rule says; no rule is due again in the same millisecond
 abbrev pub ruled : {C : Type 0} → Control C → ℕ → TimedState C → Rule → EndStep C Bool → TimedStep C Bool
 ruled control now s rule step =
     timers_go_on_after control now 1 (alarms_by_rule (path_waits s.path) s.alarms rule now) (path_by_rule s.path rule (sight_of control step.after) now) step
 
--- by this rule
+-- the end does what this rule says
 abbrev pub obeys : {C : Type 0} → Control C → ℕ → TimedState C → Rule → TimedStep C Bool
 obeys control now s rule = ruled control now s rule (rule_does control s.end rule s.path.aim)
 
--- by the first rule that is due
+-- the end does what the first rule that is due says
 abbrev pub tells_rules : {C : Type 0} → Control C → ℕ → TimedState C → TimedStep C Bool
 tells_rules control now s = obeys control now s (due_rule s.path now)
 
@@ -223,12 +223,12 @@ abbrev pub due_alarm : {C : Type 0} → TimedState C → Due → Option Alarm
 due_alarm s (due.Timer timer) = alarm_of s.alarms timer
 due_alarm s due.Rules = s.path.rules
 
--- the end is told what is due
+-- the end does what is due
 abbrev pub due_told : {C : Type 0} → Control C → ℕ → TimedState C → Due → TimedStep C Bool
 due_told control now s (due.Timer timer) = timed_fires control now s timer
 due_told control now s due.Rules = tells_rules control now s
 
--- how long it is until something is due
+-- in how many milliseconds something is due
 abbrev pub first_wait_left : {C : Type 0} → TimedState C → ℕ → Option ℕ
 first_wait_left s now = sooner (until_first s.alarms now) s.path.rules now
 
@@ -238,7 +238,7 @@ every_due =
     due.Timer timers.Request ∷ due.Timer timers.Ack ∷ due.Timer timers.Negotiate ∷ due.Timer timers.Rto ∷ due.Timer timers.Close
     ∷ due.Timer timers.TimeWait ∷ due.Rules ∷ []
 
--- of several the first that is due
+-- the first of these that is due
 abbrev pub first_due_of : {C : Type 0} → TimedState C → ℕ → List Due → Option Due
 first_due_of s now [] = None
 first_due_of s now (it ∷ rest) = if has_run_out (due_alarm s it) now then Some it else first_due_of s now rest

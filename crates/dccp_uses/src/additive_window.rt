@@ -1,6 +1,6 @@
-//! An own kind of congestion control with a window that moves: it begins with a packet, grows by one for each report of
-//! something received, and is halved by each report of a loss or of a marked packet (own; CCIDs from 248 are for
-//! experiments, RFC 4340, section 10).
+//! An example of a user's kind of congestion control, with a window that moves. It begins with one packet, grows by one
+//! for each report of something received, and is halved by each report of a loss or of a marked packet (own; CCIDs from
+//! 248 are for experiments, RFC 4340, section 10).
 ghost use Rattle.std.specs.Prelude.{IfOk, [], ◌≡◌};
 
 use congestion_trait::{Flight, LARGEST_WINDOW, Standing};
@@ -11,7 +11,7 @@ use std::marker::Model;
 
 const CCID: u8 = 249;
 
-/// A window that grows by a packet and is halved.
+/// A window that grows by one packet and is halved.
 #[derive(Drop)]
 pub struct AdditiveWindow {
     flight: Flight,
@@ -30,7 +30,7 @@ impl Model for AdditiveWindow {
 }
 
 impl AdditiveWindow {
-    /// A window of one packet with nothing in flight. NoMemory where no block for the flight list is to be had.
+    /// A window of one packet with nothing in flight. NoMemory if there is no block for the flight list.
     pub fn new(alloc: Global) -> Result<AdditiveWindow, NoMemory>
         ensures { IfOk result (λ made. made ≡ record { flight = []; rest = 1 }) }
     {

@@ -1,4 +1,4 @@
-//! When each timer of an end runs out. The times are its owner's, in milliseconds from any beginning.
+//! When each timer of an end runs out. The times are those of its owner, in milliseconds since any moment.
 ghost use Rattle.std.specs.Prelude.{◌≡◌};
 ghost use Rattle.dccp_uses.specs.Alarms.{alarm_after, alarm_of, arranged_by, arranged_alarm_by, ack_hurried_by, first_again, has_run_out, time_left, next_wait, no_alarms, progressed_by, rung_by, runs_in, set_back, sooner, starting_wait_by};
 ghost use Rattle.dccp_uses.specs.Timed.{acks_now};
@@ -17,7 +17,7 @@ pub struct Alarm {
 }
 
 impl Alarm {
-    /// How many milliseconds it has still to run: at 0 it has run out.
+    /// How many milliseconds it still has to run. At 0 it has run out.
     pub fn left(&self, now: u64) -> u64
         ensures { result ≡ time_left self.now now }
     {
@@ -25,10 +25,10 @@ impl Alarm {
     }
 }
 
-/// What the timers of an end go by, after something happened to it.
+/// The condition of an end, by which its timers run.
 #[derive(Clone, Copy, Debug, PartialEq, Eq)]
 pub struct Condition {
-    /// Where its connection stands.
+    /// The phase of its connection.
     pub phase: Phase,
     /// Whether data packets are in flight.
     pub in_flight: bool,
@@ -37,7 +37,7 @@ pub struct Condition {
 impl Condition {
     ghost use Rattle.dccp_uses.specs.Session.{condition_of};
 
-    /// What the timers of this end go by now (own).
+    /// The present condition of this end (own).
     pub fn of<C: Congestion>(end: &Endpoint<C>) -> Condition
         ensures { result ≡ condition_of C.control end.now }
     {
@@ -55,16 +55,16 @@ pub struct Alarms {
     pub request: Option<Alarm>,
     /// An Ack goes out.
     pub ack: Option<Alarm>,
-    /// The Changes that no Confirm answered go out, if there are any.
+    /// The Changes that no Confirm has answered go out again, if there are any.
     pub negotiate: Option<Alarm>,
-    /// What is in flight is taken for lost.
+    /// What is in flight is counted as lost.
     pub rto: Option<Alarm>,
     /// Another Close or CloseReq goes out.
     pub close: Option<Alarm>,
     /// TIMEWAIT is over.
     pub time_wait: Option<Alarm>,
-    /// The wait with which the timer rto begins: twice as long after each time that it has run out, up to 64 seconds,
-    /// and its first again once a packet that arrives takes something out of flight.
+    /// The wait with which the timer rto begins. It doubles each time that rto runs out, up to 64 seconds. It is the
+    /// first wait again once a packet arrives after which fewer packets are in flight.
     pub rto_wait: u64,
 }
 
@@ -72,7 +72,7 @@ impl Alarms {
     ghost use Rattle.std.specs.Prelude.{◌≡◌};
     ghost use Rattle.dccp_uses.specs.Alarms.{IsNoSooner, until_first};
 
-    /// None of them runs, and rto will begin with its first wait.
+    /// No timer runs, and rto will begin with its first wait.
     pub fn none() -> Alarms
         ensures { result ≡ no_alarms }
     {
@@ -101,7 +101,7 @@ impl Alarms {
         }
     }
 
-    /// How many milliseconds it is until the first of them runs out, or None where none runs.
+    /// In how many milliseconds the first of them runs out, or None if none runs.
     pub fn until_first(&self, now: u64) -> Option<u64>
         ensures value { result ≡ until_first self.now now }
         ensures first { (timer : Timer) → IsNoSooner (alarm_of self.now timer) now result }
@@ -115,7 +115,7 @@ impl Alarms {
     }
 }
 
-/// The sooner of what is left of a wait and of what an alarm has still to run at `now`, in milliseconds (own).
+/// The shorter of a wait and of what an alarm still has to run at `now`, in milliseconds (own).
 pub fn sooner(left: Option<u64>, alarm: Option<Alarm>, now: u64) -> Option<u64>
     ensures { result ≡ sooner left alarm now }
 {
@@ -126,7 +126,7 @@ pub fn sooner(left: Option<u64>, alarm: Option<Alarm>, now: u64) -> Option<u64>
     }
 }
 
-/// Whether an alarm has run out by `now`, in milliseconds from the beginning from which its `since` counts (own).
+/// Whether an alarm has run out by `now`, in milliseconds since the same moment as its `since` (own).
 pub fn has_run_out(alarm: Option<Alarm>, now: u64) -> bool
     ensures { result ≡ has_run_out alarm now }
 {
@@ -136,14 +136,14 @@ pub fn has_run_out(alarm: Option<Alarm>, now: u64) -> bool
     }
 }
 
-// How long a timer waits after this wait, a millisecond at least.
+// How long a timer waits after this wait: at least a millisecond.
 fn next_wait(kind: &Wait, wait: u64) -> u64
     ensures { result ≡ next_wait kind.now wait }
 {
     kind.after(wait).max(1)
 }
 
-/// The wait with which a timer begins, in milliseconds, one at least (own). That of the timer rto stays as long as its
+/// The wait with which a timer begins, at least one millisecond (own). That of the timer rto stays as long as its
 /// timeouts have made it (RFC 2988, section 5.5).
 pub fn starting_wait(waits: &Waits, alarms: &Alarms, timer: Timer) -> u64
     ensures { result ≡ starting_wait_by waits.now alarms.now timer }
@@ -175,7 +175,7 @@ pub(crate) fn alarm_after(runs: bool, old: Option<Alarm>, wait: u64, now: u64) -
     Some(old.unwrap_or(Alarm { since: now, wait }))
 }
 
-// An alarm that runs for so many milliseconds from `now` on.
+// An alarm that runs for `wait` milliseconds from `now` on.
 pub(crate) fn alarm_for(wait: u64, now: u64) -> Option<Alarm>
     ensures { result ≡ Some (record { since = now; wait = wait }) }
 {
@@ -206,7 +206,7 @@ fn first_again(alarm: Option<Alarm>, wait: u64) -> Option<Alarm>
 }
 
 impl Alarms {
-    // The timer runs as it does from `now` on.
+    // Starts, keeps or stops a timer at `now`.
     fn arranged(
         &self,
         waits: &Waits,
@@ -221,8 +221,8 @@ impl Alarms {
         alarm_after(runs, self.of(timer), wait, now)
     }
 
-    /// The timers run as they do from `now` on for an end in this condition (own), with these waits: after each call of
-    /// the end, and after `ring`, `note_packet` and `note_rule` where one of these has its place.
+    /// Starts, keeps or stops each timer at `now`, as an end in this condition needs it, with these waits (own). Call
+    /// it after each call of the end, and after `ring`, `note_packet` or `note_rule` if one of these was due.
     pub fn arrange(&mut self, waits: &Waits, condition: &Condition, now: u64)
         ensures { self.new ≡ arranged_by waits.now self.old condition.now now }
     {
@@ -234,7 +234,7 @@ impl Alarms {
         self.time_wait = self.arranged(waits, Timer::TimeWait, condition, now);
     }
 
-    /// This timer has run out at `now`, in milliseconds, and its call was made of the end (own): it waits twice as long
+    /// This timer has run out at `now`, in milliseconds, and the end was called for it (own). It waits twice as long
     /// the next time, up to its longest wait. The timer rto also begins with a longer wait from then on.
     pub fn ring(&mut self, waits: &Waits, timer: Timer, now: u64)
         ensures { self.new ≡ rung_by waits.now self.old timer now }
@@ -253,7 +253,8 @@ impl Alarms {
         }
     }
 
-    // A packet that arrived took something out of flight, or not: the timer rto begins anew, with its first wait.
+    // If `progress`, a packet that arrived took something out of flight: the timer rto starts again, with its first
+    // wait.
     fn progress(&mut self, waits: &Waits, progress: bool)
         ensures { self.new ≡ progressed_by waits.now self.old progress }
     {
@@ -263,7 +264,7 @@ impl Alarms {
         }
     }
 
-    // Data were delivered, or not: an Ack goes out no later than after its timer's first wait.
+    // If data were delivered, an Ack goes out no later than after its timer's first wait.
     fn hurry_ack(&mut self, waits: &Waits, delivered: bool)
         ensures { self.new ≡ ack_hurried_by waits.now self.old delivered }
     {
@@ -272,7 +273,7 @@ impl Alarms {
         }
     }
 
-    // There is a hole, or not: an Ack goes out at once.
+    // If there is a hole before the data, an Ack goes out at once.
     fn ack_at_once(&mut self, hole: bool, now: u64)
         ensures { self.new ≡ acks_now self.old hole now }
     {
@@ -281,9 +282,9 @@ impl Alarms {
         }
     }
 
-    /// The end has heard a packet at `now` (own), and what it took out of flight begins the timer rto anew. Where it
-    /// delivered data, an Ack goes out no later than after its timer's first wait, and at once where there is a hole
-    /// before them.
+    /// The end has heard a packet at `now` (own). If it took something out of flight, the timer rto starts again. If it
+    /// delivered data, an Ack goes out no later than after its timer's first wait, and at once if there is a hole
+    /// before the data.
     pub fn note_packet(
         &mut self,
         waits: &Waits,

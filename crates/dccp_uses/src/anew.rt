@@ -1,4 +1,4 @@
-//! A client that begins anew from its port, where its old connection has not ended.
+//! A client that connects again from the same port, while its old connection has not ended.
 ghost use Rattle.std.specs.Prelude.{◌≡◌};
 ghost use Rattle.dccp_packets.specs.Grammar.{decoded};
 ghost use Rattle.dccp_uses.specs.Anew.{refused_number, refuses_sync, sync_refused};
@@ -28,8 +28,8 @@ fn refused_number(kind: Kind) -> Option<Seq48>
     }
 }
 
-/// The number of the Sync that a datagram refuses, where it is the Reset with which a client in REQUEST answers one (RFC
-/// 4340, section 8.5, step 4).
+/// The number of the Sync that a datagram refuses, if it is the Reset with which a client in REQUEST answers a Sync
+/// (RFC 4340, section 8.5, step 4).
 pub fn sync_refused(bytes: &[u8]) -> Option<Seq48>
     ensures { result ≡ sync_refused (decoded bytes.now) }
 {
@@ -39,9 +39,10 @@ pub fn sync_refused(bytes: &[u8]) -> Option<Seq48>
     }
 }
 
-/// Whether a datagram refuses the last Sync of its client's old connection, which has this number (own). The old connection
-/// answers such a Reset with a further Sync, and so on without end. So its owner ends it, sends nothing, and the client's next
-/// Request opens another. Only who sees the connection's packets knows the number.
+/// Whether a datagram refuses the last Sync of its client's old connection, which has this number (own). The old
+/// connection answers such a Reset with a further Sync, and so on without end. So its owner ends it and sends nothing,
+/// and the client's next Request opens another connection. Only someone who sees the connection's packets knows the
+/// number.
 pub fn refuses_sync(last: Option<Seq48>, bytes: &[u8]) -> bool
     ensures { result ≡ refuses_sync last bytes.now }
 {

@@ -46,8 +46,8 @@ fn add_cookie(pseudo: &Pseudo, cookie: &CookieOption, out: &mut Outbox)
     append_options(out, cookie.as_slice(), pseudo);
 }
 
-/// The Init Cookie that a client returns (RFC 4340, section 8.1.4), if it has one. Its owner has it hear each datagram after
-/// the end, and put it into each frame that the end leaves.
+/// The Init Cookie that a client returns (RFC 4340, section 8.1.4), if it has one. Its owner calls `keep` with each
+/// datagram that the end has heard, and `put` for each frame that the end leaves.
 #[derive(Clone, Debug, Drop)]
 pub struct ClientCookie {
     option: CookieOption,
@@ -67,7 +67,7 @@ impl ClientCookie {
     ghost use Rattle.std.specs.Prelude.{◌≡◌, ◌≤◌, [], None, length};
     ghost use Rattle.dccp_uses.specs.ClientCookies.{cookie_kept, returning};
 
-    /// None yet.
+    /// No cookie yet.
     pub fn none() -> ClientCookie
         ensures { result ≡ [] }
     {
@@ -76,8 +76,8 @@ impl ClientCookie {
         }
     }
 
-    /// A datagram of at most 2,044 bytes has led the end from one phase to another: where it has answered the question of a
-    /// client, its Init Cookie is kept, if it has one alone (own).
+    /// A datagram of at most 2,044 bytes has led the end from one phase to another. If it has answered the Request of a
+    /// client, its Init Cookie is kept, if it has exactly one (own).
     pub fn keep(&mut self, was: Phase, is: Phase, datagram: &[u8])
         requires { length datagram.now ≤ 2044 }
         ensures { self.new ≡ cookie_kept was is datagram.now self.old }
@@ -87,8 +87,8 @@ impl ClientCookie {
         }
     }
 
-    /// The frame that an end in this phase has left in the box returns the cookie in PARTOPEN, where it has room for it. The
-    /// addresses are those by which the end sends.
+    /// In PARTOPEN, adds the cookie to the frame that the end has left in the box, if the frame has room for it. The
+    /// addresses are those of the packets that the end sends.
     pub fn put(&self, phase: Phase, pseudo: &Pseudo, out: &mut Outbox)
         ensures returns { out.new ≡ returning phase pseudo.now self.now out.old }
         ensures silent { out.old ≡ None → out.new ≡ None }
@@ -98,7 +98,7 @@ impl ClientCookie {
         }
     }
 
-    /// How many bytes it has as an option; 0 where there is none.
+    /// How many bytes it has as an option; 0 if there is none.
     pub fn bytes(&self) -> usize
         ensures value { result ≡ length self.now }
         ensures few { result ≤ 255 }

@@ -16,10 +16,10 @@ use std::marker::Model;
 
 const MOST_DROPS: usize = 2048;
 
-/// The last 2,048 packets that a peer has reported as dropped, and why: what the owner of a sender may ask beside
-/// `Endpoint::stands`, for a packet that was dropped is one that came (RFC 4340, section 11.7; own). The owner keeps one
-/// beside an end, whose rules have to heed (`Pace::heeds`). It takes its memory when it is made. Contracts see the list of
-/// its drops, the oldest first.
+/// The last 2,048 packets that a peer has reported as dropped, and why. The owner of a sender may ask this besides
+/// `Endpoint::stands`, since a packet that was dropped counts there as one that came (RFC 4340, section 11.7; own). The
+/// owner keeps a record for an end, whose rules have to heed its reader (`Pace::heeds`). Only `new` takes memory.
+/// Contracts see the list of its drops, the oldest first.
 #[derive(Drop)]
 pub struct DropRecord {
     drops: HeapCircularBuffer<DropEntry>,
@@ -39,7 +39,7 @@ impl Model for DropRecord {
 impl DropRecord {
     ghost use Rattle.std.specs.Prelude.{◌≡◌, [], IfOk};
 
-    /// A record of nothing. NoMemory where no block for 2,048 drops is to be had.
+    /// An empty record. NoMemory if there is no block for 2,048 drops.
     pub fn new(alloc: Global) -> Result<DropRecord, NoMemory>
         ensures { IfOk result (λ it. it ≡ []) }
     {
@@ -49,14 +49,14 @@ impl DropRecord {
         Ok(DropRecord { drops })
     }
 
-    // One drop more, which may drive the oldest out.
+    // Adds one more drop, which may replace the oldest.
     fn note(&mut self, number: Seq48, code: u8)
         ensures { self.new ≡ drop_recorded number code self.old }
     {
         self.drops.push_back(DropEntry { number, code });
     }
 
-    // The drops that a report is the first to tell.
+    // The drops that a report is the first to name.
     fn note_report(&mut self, counted: Option<Seq48>, ack: Seq48, report: &DropReport<'_>)
         requires { report.now.ack ≡ ack }
         ensures { self.new ≡ report_recorded drop_recorded counted (Some report.now) self.old }
@@ -72,7 +72,7 @@ impl DropRecord {
         }
     }
 
-    // The drops that a datagram is the first to tell, which reports from this number downwards.
+    // The drops that a datagram, which reports from this number downwards, is the first to name.
     fn note_datagram(&mut self, counted: Option<Seq48>, ack: Seq48, datagram: &[u8])
         ensures { self.new ≡ packet_recorded drop_recorded counted ack (decoded datagram.now) self.old }
     {
@@ -85,7 +85,7 @@ impl DropRecord {
         }
     }
 
-    /// An end has heard this datagram: `before` and `after` are what was known of its reader before that and is now
+    /// An end has heard this datagram. `before` and `after` are what was known of its reader before and after that
     /// (`Path::reader`).
     #[tactic(auto, using(crate::proofs::Numbering::nothing_new))]
     pub fn heard(&mut self, before: &Reader, after: &Reader, datagram: &[u8])
@@ -100,8 +100,8 @@ impl DropRecord {
         self.note_datagram(before.counted, ack, datagram);
     }
 
-    /// The Drop Code of the packet with this number, 0 to 7 (RFC 4340, section 11.7), or None where none is recorded. The
-    /// cost is that of the record.
+    /// The Drop Code of the packet with this number, 0 to 7 (RFC 4340, section 11.7), or None if none is recorded. It
+    /// looks through the whole record.
     pub fn code(&self, number: Seq48) -> Option<u8>
         ensures { result ≡ drop_code self.now number }
     {
@@ -109,7 +109,7 @@ impl DropRecord {
     }
 }
 
-// The code of the number, where it is that of this drop, or else the one found before.
+// The code of this drop, if it is of the number, otherwise the one found before.
 fn found_in(found: Option<u8>, drop: &DropEntry, number: Seq48) -> Option<u8>
     ensures { result ≡ (if drop.now.number == number then Some drop.now.code else found) }
 {

@@ -22,16 +22,16 @@ use validity_windows::Verdict;
 pub(crate) struct Judgement {
     /// The number in full of a packet that would be answered by a Sync.
     pub number: Option<Seq48>,
-    /// What it tells of the application that reads the end's data.
+    /// What it says about the application that reads the end's data.
     pub notice: Notice,
 }
 
 // What the windows say of a packet.
 #[derive(Clone, Copy)]
 struct Placement {
-    // Its number, where it would be answered by a Sync.
+    // Its number, if it would be answered by a Sync.
     unanswered: Option<Seq48>,
-    // The number that it reports from.
+    // The number from which it reports.
     base: Option<Seq48>,
 }
 
@@ -45,7 +45,7 @@ fn has_windows(phase: Phase) -> bool
     )
 }
 
-// A number in full, where the end takes numbers of this form.
+// A number in full, if the end takes numbers of this form.
 fn whole_number<C: Congestion>(end: &Endpoint<C>, number: Number) -> Option<Seq48>
     ensures { result ≡ whole_number end.now.state number }
 {
@@ -56,7 +56,7 @@ fn whole_number<C: Congestion>(end: &Endpoint<C>, number: Number) -> Option<Seq4
     }
 }
 
-// The number that a packet of this type reports from, if its type reports.
+// The number from which a packet of this type reports, if its type reports.
 fn reported_from(marks: &Marks, kind: &Kind) -> Option<Seq48>
     ensures { result ≡ reported_from (packet_type kind.now) (ack_near marks.now.gss kind.now) }
 {
@@ -122,7 +122,7 @@ fn read<C: Congestion>(end: &Endpoint<C>, reader: &Reader, datagram: &[u8]) -> J
     }
 }
 
-/// What a datagram would be answered by, and what it tells of the application that reads this end's data (RFC 4340,
+/// Whether a Sync would answer a datagram, and what it says about the application that reads this end's data (RFC 4340,
 /// sections 7.5.4, 11.6 and 11.7).
 pub(crate) fn judge<C: Congestion>(end: &Endpoint<C>, reader: &Reader, datagram: &[u8]) -> Judgement
     ensures number { result.number ≡ number_judged end.now.state datagram.now }

@@ -1,15 +1,16 @@
-//! The loop around one `Endpoint`, for a voice, game or streaming transport (own; the end is RFC 4340's).
+//! The loop around one `Endpoint`, for a voice, game or streaming transport (own; the end is that of RFC 4340).
 //!
-//! A [`TimedEnd`] is an end with the timers that its owner keeps for it, and with the rules by which it fills its path
-//! and spares it. What happens goes in by its calls, each with the time: a datagram that arrived, data to send, a
-//! feature's new value, the end of the connection, and what is due. A [`Session`] is a `TimedEnd` over a [`Network`], to
-//! which each frame is handed; it may hold the data that arrive in an inbox. [`accept`] is what a server does with a datagram of a peer that it does not know. There
-//! is no socket here and no clock, and no memory is taken once an end is made.
+//! A [`TimedEnd`] is an end with the timers that its owner keeps for it, and with the rules by which it uses its path
+//! well without overloading it. Its calls take what happens, each with the time: a datagram that arrived, data to send,
+//! a feature's new value, the end of the connection, and what is due. A [`Session`] is a `TimedEnd` over a [`Network`],
+//! to which each frame is handed; it may hold the data that arrive in an inbox. A server calls [`accept`] for a
+//! datagram of a peer that it does not know. There is no socket here and no clock, and no memory is taken once an end
+//! is made.
 //!
 //! A [`Pace`] says which rules are followed, and [`Path`] is what is kept of the path for them. The rules' formulas are
-//! those of path_rules. They have an end do only what a caller or a timer may (`rules_are_inputs`); where none is
-//! followed, a `TimedEnd` is an end with its timers alone (`classic_is_the_session`). An owner that keeps ends in
-//! another way finds the same steps one by one, from [`Sight`], which is what the rules see of an end, to [`obey`].
+//! those of path_rules. The rules make an end do only what a caller or a timer may (`rules_are_inputs`). If none is
+//! followed, a `TimedEnd` is an end with only its timers (`classic_is_the_session`). An owner that keeps ends in
+//! another way can use the same steps one by one, from [`Sight`], which is what the rules see of an end, to [`obey`].
 //!
 //! It has two kinds of congestion control, [`OneAtATime`] and [`AdditiveWindow`]. This crate is an example to read and
 //! to copy from; dccp_greeting is a program over it.

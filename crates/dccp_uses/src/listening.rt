@@ -13,14 +13,14 @@ fn is_listening(phase: Phase) -> bool
     matches!(phase, Phase::Listen)
 }
 
-/// Takes the first datagram of a peer. A Request for the server's service opens a connection, whose session is the
-/// answer; anything else is answered or dropped as RFC 4340, section 8.5 says, and leaves nothing: None. Where
-/// an option of the Request is a fault, the session's end is CLOSED already, and may be let go. NoMemory where no
-/// memory is to be had for an end.
+/// Takes the first datagram of a peer. A Request for the server's service opens a connection, and its session is
+/// returned. Anything else is answered or dropped as RFC 4340, section 8.5, says, and None is returned. If an option of
+/// the Request is a fault, the session's end is CLOSED already, and may be dropped. NoMemory if there is none for an
+/// end.
 ///
-/// The configuration is the server's for this very peer (`Config::server`), and the congestion control has to know CCID
-/// 2. All further datagrams of the peer belong to the connection, until it has ended. How many connections a server
-/// takes, and how many Resets and Responses it sends in a second, is for its owner to limit.
+/// The configuration is the server's for this peer (`Config::server`), and the congestion control has to know CCID 2.
+/// All further datagrams of the peer belong to the connection, until it has ended. The owner limits how many
+/// connections a server takes, and how many Resets and Responses it sends in a second.
 pub fn accept<C: Congestion + Drop, N: Network>(
     alloc: Global,
     config: Config,

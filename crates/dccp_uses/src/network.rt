@@ -4,11 +4,11 @@ ghost use Rattle.dccp_uses.specs.Handing.{Hands};
 
 use dccp_endpoint::Outbox;
 
-/// What carries frames to the peer: a socket, a tunnel, or a wire of a test. A frame that it does not carry is a lost
-/// one, for which the protocol is made; so there is no answer.
+/// What carries frames to the peer: a socket, a tunnel, or a wire of a test. A frame that it does not carry is lost, as
+/// the protocol expects, so there is no answer.
 pub trait Network {
-    // What becomes of the network by a frame: the network before, the frame's bytes, and the network after. It is a
-    // relation, and no definition that computes: a socket says nothing.
+    // What a frame does to the network: the network before, the frame's bytes, and the network after. It is a relation,
+    // and nothing that computes, since nothing is known about a socket.
     ghost sends: { Self → List ℕ → Self → Type 0 };
 
     /// Takes a frame for the peer, at most 2,044 bytes.

@@ -15,18 +15,18 @@ pub enum News {
     /// It brought data to a session with an inbox: they wait there.
     Waits,
     /// It brought data that the inbox dropped, for the reason of this Drop Code (RFC 4340, section 11.7): 1, the
-    /// application listens no more; 2, the inbox is full.
+    /// application no longer listens; 2, the inbox is full.
     Dropped { code: u8 },
-    /// Nothing that the owner has to do with: it was taken, answered or dropped.
+    /// Nothing that concerns the owner: it was taken, answered or dropped.
     Quiet,
-    /// The connection has ended by a Reset with this code (RFC 4340, section 5.6), either end's. 1 is an orderly close,
+    /// The connection has ended by a Reset of either end with this code (RFC 4340, section 5.6): 1 is an orderly close,
     /// 2 an end that gave up, any other a fault.
     Ended { code: u8 },
-    /// It is longer than any frame of an end. It was not looked at.
+    /// It is longer than any frame of an end, and was ignored.
     TooLong,
 }
 
-// The connection has come to its end.
+// Whether the connection has ended.
 fn has_closed(was: Phase, is: Phase) -> bool
     ensures { result ≡ has_closed was is }
 {
@@ -54,7 +54,7 @@ fn news_of(outcome: &Outcome, was: Phase, is: Phase) -> News
     }
 }
 
-// What a datagram means that was heard, or left out.
+// The meaning of a datagram that was heard or left out.
 pub(crate) fn news_if(outcome: Option<Outcome>, was: Phase, is: Phase) -> News
     ensures { result ≡ news_if outcome was is }
 {
@@ -64,7 +64,7 @@ pub(crate) fn news_if(outcome: Option<Outcome>, was: Phase, is: Phase) -> News
     }
 }
 
-// What it means where its data came into the inbox, and what it means else.
+// The meaning of a datagram by what became of its data in the inbox, or `told` if none came there.
 pub(crate) fn news_kept(arrival: Option<Arrival>, told: News) -> News
     ensures { result ≡ news_kept arrival told }
 {

@@ -1,4 +1,4 @@
-//! What a packet tells of the application that reads an end's data.
+//! What a packet says about the application that reads an end's data.
 ghost use Rattle.std.specs.Prelude.{◌≡◌, ◌<◌, ◌≤◌};
 ghost use Rattle.std.specs.List.{list_any};
 ghost use Rattle.congestion_trait.specs.Flight.{is_past};
@@ -10,7 +10,7 @@ use dccp_endpoint::Seq48;
 use dccp_options::OptList;
 use dccp_options::kinds::SLOW_RECEIVER;
 
-/// How many numbers a first report of drops is read for, from its acknowledgement number down (own).
+/// For how many numbers a first report of drops is read, from its acknowledgement number down (own).
 const MOST_NUMBERS: u64 = 2048;
 
 // The Drop Codes (RFC 4340, section 11.7): the protocol allowed no data there; no application listens; no room in the
@@ -23,7 +23,7 @@ const BUFFER_FULL: u8 = 2;
 
 const CORRUPT: u8 = 3;
 
-/// What a report of drops is the first to tell (RFC 4340, sections 11.7 and 11.7.2).
+/// What a report of drops is the first to name (RFC 4340, sections 11.7 and 11.7.2).
 #[derive(Clone, Copy, Debug, PartialEq, Eq)]
 pub struct Drops {
     /// How many packets the receive buffer had no room for: Drop Code 2.
@@ -36,19 +36,19 @@ pub struct Drops {
     pub marked: bool,
 }
 
-/// What a packet tells of the application that reads an end's data.
+/// What a packet says about the application that reads an end's data.
 #[derive(Clone, Copy, Debug, PartialEq, Eq)]
 pub struct Notice {
     /// It is slow (RFC 4340, section 11.6).
     pub slow: bool,
-    /// What its report of drops is the first to tell.
+    /// What its report of drops is the first to name.
     pub drops: Drops,
     /// The number from which that report goes down, if the packet has one.
     pub ack: Option<Seq48>,
 }
 
 impl Notice {
-    /// Nothing is told.
+    /// A notice that says nothing.
     pub fn none() -> Notice
         ensures { result ≡ no_notice }
     {
@@ -100,8 +100,8 @@ fn is_past(mark: Option<Seq48>, number: Seq48) -> bool
     }
 }
 
-/// How many numbers from an acknowledgement number down no report of drops has reached before, where the last that one did
-/// is `counted`: 2,048 at most (own).
+/// How many numbers, from an acknowledgement number down, no report of drops has reached before, if `counted` is the
+/// last that one has reached: at most 2,048 (own).
 pub fn new_reach(counted: Option<Seq48>, ack: Seq48) -> u64
     ensures value { result ≡ new_reach counted ack }
     ensures few { result ≤ 2048 }
@@ -114,7 +114,7 @@ pub fn new_reach(counted: Option<Seq48>, ack: Seq48) -> u64
 }
 
 impl Drops {
-    // With the code of one number more, which is past the recovery mark or not.
+    // The drops with the code of one more number, which is past the recovery mark or not.
     fn with_code(&self, past: bool, code: Option<u8>) -> Drops
         requires { self.now.full < 2048 }
         ensures { result ≡ drops_with_code self.now past code }
@@ -128,7 +128,7 @@ impl Drops {
     }
 }
 
-// What the codes of the numbers that no report has reached before come to.
+// The result of the codes of the numbers that no report has reached before.
 fn drops_told(reader: &Reader, ack: Seq48, report: &DropReport<'_>) -> Drops
     requires { report.now.ack ≡ ack }
     ensures { result ≡ drops_told reader.now report.now }
@@ -157,7 +157,7 @@ fn is_slow(options: &mut OptList<'_>) -> bool
     false
 }
 
-/// What these options tell, where they report from this number downwards.
+/// What these options say, if they report from this number downwards.
 pub(crate) fn notice_of(reader: &Reader, base: Option<Seq48>, options: OptList<'_>) -> Notice
     ensures { result ≡ notice_of reader.now base options.entry }
 {

@@ -24,9 +24,9 @@ fn wide_offered(config: Config) -> Config
     }
 }
 
-/// The configuration with an offer of a Sequence Window of 10,000 for this end, in place of what was wished there (RFC
-/// 4340, section 7.5.2, advises five times the packets of a round trip; own): acknowledgements are valid for windows of
-/// up to 1,024 packets then. A guessed number lies in it once in 2^48 / 10,000 times.
+/// The configuration with an offer of a Sequence Window of 10,000 for this end, in place of an earlier wish (RFC 4340,
+/// section 7.5.2, advises five times the packets of a round trip; own). Then acknowledgements are valid for windows of
+/// up to 1,024 packets. A guessed number lies in the Sequence Window once in 2^48 / 10,000 times.
 pub fn widened(config: Config) -> Config
     ensures { result ≡ widened config }
 {

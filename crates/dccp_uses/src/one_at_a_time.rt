@@ -1,4 +1,4 @@
-//! An own congestion control, as small as one can be: one packet in flight at a time.
+//! An example of a user's congestion control, as small as possible: one packet in flight at a time.
 ghost use Rattle.std.specs.Prelude.{◌≡◌, [], IfOk};
 
 use congestion_trait::{Flight, Standing};
@@ -11,8 +11,8 @@ const CCID: u8 = 2;
 
 const WINDOW: u32 = 1;
 
-/// A window of one packet, in place of CCID 2: the next packet goes out once the last one was reported, or taken for
-/// lost. It never sends faster than CCID 2, whose window is one packet at least (RFC 4341, section 5).
+/// A window of one packet, in place of CCID 2: the next packet goes out once the last one was reported, or counted as
+/// lost. It never sends faster than CCID 2, whose window is at least one packet (RFC 4341, section 5).
 #[derive(Drop)]
 pub struct OneAtATime {
     flight: Flight,
@@ -27,7 +27,7 @@ impl Model for OneAtATime {
 }
 
 impl OneAtATime {
-    /// Nothing is in flight. NoMemory where no block for the flight list is to be had.
+    /// Nothing is in flight. NoMemory if there is no block for the flight list.
     pub fn new(alloc: Global) -> Result<OneAtATime, NoMemory>
         ensures { IfOk result (λ made. made ≡ record { flight = []; rest = tt }) }
     {

@@ -21,12 +21,12 @@ pub struct TimedPacket {
     pub at: u64,
 }
 
-/// What the owner of an end keeps of its path. What belongs to a rule that it does not follow stays as it was.
+/// What the owner of an end keeps of its path. The fields of a rule that it does not follow do not change.
 #[derive(Clone, Copy, Debug, PartialEq, Eq)]
 pub struct Path {
     /// The rules that are followed.
     pub pace: Pace,
-    /// What samples of the round trip have come to.
+    /// The round trip by its samples.
     pub round_trip: Option<RoundTrip>,
     /// The first packet of the handshake.
     pub first: Option<TimedPacket>,
@@ -34,7 +34,7 @@ pub struct Path {
     pub timed: Option<TimedPacket>,
     /// The most data packets that were in flight in this period.
     pub most: u32,
-    /// The most of the period before.
+    /// The most of the previous period.
     pub before: u32,
     /// When this period began.
     pub period: u64,
@@ -42,13 +42,13 @@ pub struct Path {
     pub asked: Option<u64>,
     /// The Ack Ratio that is wanted.
     pub aim: u64,
-    /// The number of the question that goes before a timeout, once it was asked.
+    /// The number of the question that comes before a timeout, once it was asked.
     pub probe: Option<Seq48>,
-    /// What limits Syncs to numbers near the greatest received.
+    /// The limit of Syncs for numbers near the greatest received.
     pub near: Bucket,
-    /// What limits Syncs to all others.
+    /// The limit of Syncs for all other numbers.
     pub far: Bucket,
-    /// The peer is asked for a sign of life; once it was asked, what is in flight is taken for lost.
+    /// The peer is asked for a sign of life; once it was asked, what is in flight is counted as lost.
     pub probing: Option<Alarm>,
     /// The Ack Ratio is asked for.
     pub ratio: Option<Alarm>,
@@ -60,11 +60,11 @@ pub struct Path {
     pub rules: Option<Alarm>,
     /// What is known of the application that reads the end's data.
     pub reader: Reader,
-    /// What the datagram that was admitted last tells of it.
+    /// What the datagram that was admitted last says about it.
     pub notice: Notice,
 }
 
-// A rule's wait, or the usual one where the rule is not followed.
+// A rule's wait, or the usual one if the rule is not followed.
 fn by_rule(follows: bool, ruled: Wait, classic: Wait) -> Wait
     ensures { result ≡ by_rule follows ruled classic }
 {
@@ -131,7 +131,7 @@ fn first_sent(old: Option<TimedPacket>, sent: TimedPacket) -> Option<TimedPacket
     }
 }
 
-// How long ago this packet was sent, where it is the one that is acknowledged.
+// How long ago this packet was sent, if it is the one that is acknowledged.
 fn since_sent(timed: Option<TimedPacket>, gar: Seq48, now: u64) -> Option<u64>
     ensures { result ≡ since_sent timed gar now }
 {
@@ -152,7 +152,7 @@ fn either_of(one: Option<u64>, other: Option<u64>) -> Option<u64>
 
 // What the round trip is measured by.
 impl Path {
-    /// A packet of the handshake with this number was sent at `now`: of these the first and the last are timed (own).
+    /// A packet of the handshake with this number was sent at `now`. Of these the first and the last are timed (own).
     pub fn time_handshake(&mut self, number: Seq48, now: u64)
         ensures { self.new ≡ handshake_timed self.old number now }
     {
@@ -163,7 +163,7 @@ impl Path {
         self.timed = Some(TimedPacket { number, at: now });
     }
 
-    /// Data with this number were sent at `now`: one packet at a time is timed (RFC 6298, section 3).
+    /// Data with this number were sent at `now`. One packet at a time is timed (RFC 6298, section 3).
     pub fn time_data(&mut self, number: Seq48, now: u64)
         ensures { self.new ≡ data_timed self.old number now }
     {
@@ -210,7 +210,7 @@ impl Path {
         }
     }
 
-    // What a packet that was heard tells of the round trip.
+    // What a packet that was heard says about the round trip.
     fn measure(&mut self, old: &Sight, new: &Sight, now: u64)
         ensures { self.new ≡ measured self.old old.now new.now now }
     {
@@ -241,7 +241,8 @@ impl Path {
         }
     }
 
-    /// So many data packets are in flight at `now` (own): the most of a period, of a round trip at least, is kept.
+    /// `in_flight` data packets are in flight at `now` (own). The most of a period, which is at least a round trip, is
+    /// kept.
     pub fn note_flight(&mut self, in_flight: u32, now: u64)
         ensures { self.new ≡ with_flight self.old in_flight now }
     {
@@ -258,7 +259,8 @@ impl Path {
         u64::from(window).min(2 * most) as u32
     }
 
-    // The window of the sender: what the application that reads its data leaves of that of the congestion control.
+    // The window of the sender: as much of the congestion control's window as the application that reads the data
+    // leaves.
     fn window_left(&self, sight: &Sight) -> u32
         ensures { result ≡ window_left self.now sight.now }
     {
@@ -292,8 +294,8 @@ impl Path {
         wants_ack_ratio(&ratio, aim, window, period(self.round_trip), now)
     }
 
-    /// The Ack Ratio is asked for at once, where the one that is wanted differs enough from the one held (RFC 4341, section
-    /// 6.1.2; own).
+    /// The Ack Ratio is asked for at once, if the one that is wanted differs enough from the present one (RFC 4341,
+    /// section 6.1.2; own).
     pub fn aim_ratio(&mut self, sight: &Sight, now: u64)
         ensures { self.new ≡ aimed self.old sight.now now }
     {
@@ -315,7 +317,7 @@ fn is_answered(probe: Option<Seq48>, gar: Seq48) -> bool
     }
 }
 
-// What a packet tells that the end has heard.
+// What a packet that the end has heard says.
 impl Path {
     fn answer_probe(&mut self, gar: Seq48, now: u64)
         ensures { self.new ≡ answered_probe self.old gar now }
@@ -342,7 +344,7 @@ impl Path {
         }
     }
 
-    // What the packet tells of the application that reads the end's data counts.
+    // What the packet says about the application that reads the end's data counts.
     fn heed_notice(&mut self, old: &Sight, new: &Sight, taken: bool, now: u64)
         ensures { self.new ≡ notice_heeded self.old old.now new.now taken now }
     {
@@ -356,8 +358,8 @@ impl Path {
         self.notice = Notice::none();
     }
 
-    /// The end has heard a packet at `now` (own). `old` and `new` are what there was to see of the end before it and is
-    /// now; `taken` says whether the packet was taken.
+    /// The end has heard a packet at `now` (own). `old` and `new` are what the rules saw of the end before and after
+    /// it; `taken` says whether the packet was taken.
     pub fn hear(&mut self, old: &Sight, new: &Sight, taken: bool, now: u64)
         ensures { self.new ≡ path_heard self.old old.now new.now taken now }
     {
@@ -417,7 +419,7 @@ fn rules_alarm(left: Option<u64>, least: u64, now: u64) -> Option<Alarm>
     }
 }
 
-// Timers that were told, and how the rules go on.
+// Timers that have run out, and how the rules go on.
 impl Path {
     // After a timeout, at this GSS.
     pub(crate) fn time_out(&mut self, gss: Seq48)
@@ -429,8 +431,8 @@ impl Path {
         }
     }
 
-    /// The end was told at `now` that a timer has run out, where this is to be seen of it afterwards (own): after a timeout
-    /// no packet is timed.
+    /// The end was called at `now` for a timer that has run out; `sight` is what the rules see of it afterwards (own).
+    /// After a timeout no packet is timed.
     pub fn note_timer(&mut self, timer: Timer, sight: &Sight, now: u64)
         ensures { self.new ≡ told_timer self.old timer sight.now now }
     {
@@ -444,8 +446,8 @@ impl Path {
         }
     }
 
-    /// Whether the peer is asked for a sign of life before what is in flight is taken for lost, or was asked (own). The
-    /// timer rto stands still as long.
+    /// Whether the peer is asked for a sign of life before what is in flight is counted as lost, or was asked already
+    /// (own). Meanwhile the timer rto does not run.
     pub fn is_probing(&self, sight: &Sight) -> bool
         ensures { result ≡ is_probing self.now sight.now }
     {
@@ -467,7 +469,7 @@ impl Path {
         self.give_up = patient_alarm(patience, self.give_up, now);
     }
 
-    // How long it is until a rule has something to do.
+    // In how many milliseconds a rule has something to do.
     fn rules_left(&self, now: u64) -> Option<u64>
         ensures { result ≡ rules_left self.now now }
     {
@@ -477,9 +479,9 @@ impl Path {
         sooner(left, self.ratio, now)
     }
 
-    /// The rules go on from `now` for an end of which this is to be seen (own). The timer rto would begin with a wait of
-    /// `wait` milliseconds, and no rule is due before `least` milliseconds have gone by: 1 after a rule had the end do
-    /// something, else 0.
+    /// The rules go on from `now` for an end of which they see `sight` (own). The timer rto would begin with a wait of
+    /// `wait` milliseconds. No rule is due before `least` milliseconds have gone by: 1 after a rule made the end do
+    /// something, otherwise 0.
     pub fn arrange(&mut self, wait: u64, sight: &Sight, least: u64, now: u64)
         ensures { self.new ≡ arranged_path self.old wait sight.now least now }
     {

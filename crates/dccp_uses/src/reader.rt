@@ -12,14 +12,14 @@ use path_rules::{
 /// What is known of the application that reads an end's data (RFC 4340, sections 11.6 and 11.7; RFC 4341, section 5.2).
 #[derive(Clone, Copy, Debug, PartialEq, Eq)]
 pub struct Reader {
-    /// Up to which number reports of drops were counted. A packet that its peer takes after a later one was reported is
-    /// not counted (own).
+    /// The number up to which reports of drops were counted. A packet that the peer takes after a later one was
+    /// reported is not counted (own).
     pub counted: Option<Seq48>,
     /// What its reports leave of the window.
     pub allowance: Option<Allowance>,
-    /// GSS when the sender was last to go slower: it goes no faster for a round trip.
+    /// GSS when the sender last had to go slower: for a round trip it goes no faster.
     pub hold: Option<TimedPacket>,
-    /// GSS when the window was last halved: what was sent by then halves it no second time.
+    /// GSS when the window was last halved: packets sent by then do not halve it again.
     pub mark: Option<Seq48>,
     /// Data were dropped because of the protocol: Drop Code 0.
     pub refused: bool,
@@ -27,19 +27,19 @@ pub struct Reader {
     pub stopped: bool,
 }
 
-/// Why data have to wait for the sake of the application that reads them.
+/// Why data have to wait for the application that reads them.
 #[derive(Clone, Copy, Debug, PartialEq, Eq)]
 pub enum Restraint {
-    /// It listens no more: no further data will reach it (RFC 4340, section 11.7.2).
+    /// It no longer listens: no further data will reach it (RFC 4340, section 11.7.2).
     NotListening,
-    /// As many packets are in flight as its reports leave.
+    /// As many packets are in flight as its reports allow.
     Full,
 }
 
 /// Why data were not sent.
 #[derive(Clone, Copy, Debug, PartialEq, Eq)]
 pub enum SendRefusal {
-    /// They have to wait for the sake of the application that reads them.
+    /// They have to wait for the application that reads them.
     Held(Restraint),
     /// The end has refused them.
     Refused(SendFault),
@@ -189,9 +189,9 @@ impl Reader {
         self.stopped = self.stopped || notice.drops.stopped;
     }
 
-    /// A packet with this notice was taken at `now` (RFC 4340, sections 11.6, 11.7.1 and 11.7.2; RFC 4341, section 5.2).
-    /// `trip` is what the round trip was measured to take; `old` and `new` are what there was to see of the end before
-    /// the packet and is now.
+    /// A packet with this notice was taken at `now` (RFC 4340, sections 11.6, 11.7.1 and 11.7.2; RFC 4341, section
+    /// 5.2). `trip` is the measured round trip; `old` and `new` are what the rules saw of the end before and after the
+    /// packet.
     pub fn hear(
         &mut self,
         trip: Option<RoundTrip>,
@@ -224,7 +224,8 @@ fn is_used_up(allowance: Option<Allowance>, in_flight: u32) -> bool
     }
 }
 
-/// Why data have to wait where so many packets are in flight, if they have to (RFC 4340, section 11.7.2; own).
+/// Why data have to wait while `in_flight` packets are in flight, or None if they need not (RFC 4340, section 11.7.2;
+/// own).
 pub fn restraint_of(reader: &Reader, in_flight: u32) -> Option<Restraint>
     ensures { result ≡ restraint_of reader.now in_flight }
 {

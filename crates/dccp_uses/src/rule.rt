@@ -1,4 +1,4 @@
-//! What a rule of a path has its end do.
+//! What a rule of a path makes its end do.
 ghost use Rattle.std.specs.Prelude.{◌≡◌};
 ghost use Rattle.dccp_uses.specs.Rules.{alarms_by_rule, asks_ratio, due_rule, path_by_rule, probe_rule, rule_does};
 
@@ -6,24 +6,24 @@ use crate::alarms::{Alarms, alarm_for, has_run_out};
 use crate::{Path, Sight, Waits};
 use dccp_endpoint::{Congestion, Endpoint, Feature, Outbox, Place, Seq48, Timer};
 
-/// What a rule of a path has its end do.
+/// What a rule of a path makes its end do.
 #[derive(Clone, Copy, Debug, PartialEq, Eq)]
 pub enum Rule {
     /// Nothing: none is due.
     Nothing,
     /// The connection is given up.
     GiveUp,
-    /// What is in flight is taken for lost.
+    /// What is in flight is counted as lost.
     TimeOut,
-    /// The peer is asked for a sign of life before that.
+    /// The peer is asked for a sign of life before what is in flight is counted as lost.
     Probe,
-    /// A silent peer is asked for one.
+    /// A silent peer is asked for a sign of life.
     Ask,
     /// The Ack Ratio is asked for.
     Ratio,
 }
 
-// Whether the question goes out, or was out for long enough.
+// The rule of a probe: the question goes out, or has been out for long enough.
 fn probe_rule(probe: Option<Seq48>) -> Rule
     ensures { result ≡ probe_rule probe }
 {
@@ -60,8 +60,8 @@ fn ask<C: Congestion>(end: &mut Endpoint<C>, ratio: u64, out: &mut Outbox) -> bo
         .is_ok()
 }
 
-/// The end does what the rule says, with an Ack Ratio of `aim` where it asks for one (own). Whether it did something: false
-/// also where the end refused the call, which has then changed nothing.
+/// The end does what the rule says, with an Ack Ratio of `aim` if it asks for one (own). Returns whether it did
+/// something: also false if the end refused the call, which then has changed nothing.
 pub fn obey<C: Congestion>(end: &mut Endpoint<C>, rule: Rule, aim: u64, out: &mut Outbox) -> bool
     ensures { record { after = end.new; frame = out.new; answer = result } ≡ rule_does C.control end.old rule aim }
 {
@@ -81,7 +81,7 @@ pub fn obey<C: Congestion>(end: &mut Endpoint<C>, rule: Rule, aim: u64, out: &mu
 }
 
 impl Alarms {
-    /// A rule had the end do something at `now` (own): negotiate begins anew with a wish.
+    /// A rule made the end do something at `now` (own). With a wish, the timer negotiate starts again.
     pub fn note_rule(&mut self, waits: &Waits, rule: Rule, now: u64)
         ensures { self.new ≡ alarms_by_rule waits.now self.old rule now }
     {
@@ -94,7 +94,7 @@ impl Alarms {
 }
 
 impl Path {
-    /// A rule had the end do something at `now`, where this is to be seen of it afterwards (own).
+    /// A rule made the end do something at `now`; `sight` is what the rules see of it afterwards (own).
     pub fn note_rule(&mut self, rule: Rule, sight: &Sight, now: u64)
         ensures { self.new ≡ path_by_rule self.old rule sight.now now }
     {

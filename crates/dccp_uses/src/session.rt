@@ -14,14 +14,14 @@ use path_rules::window_within;
 use std::alloc::Global;
 use std::marker::Model;
 
-/// An end with the timers that its owner keeps for it. Each call takes the time, in milliseconds from any beginning,
-/// and the network that carries the end's frames to its peer.
+/// An end with the timers that its owner keeps for it. Each call takes the time, in milliseconds since any moment, and
+/// the network that carries the end's frames to its peer.
 ///
-/// The order of calls: a client is made (`new`) and opened (`open`); a server's end is made by `accept`. After that
-/// each datagram from the peer goes into `arrived`, and `tick` is called once `until_first` has passed, which is asked
-/// again after every other call. `send` sends data as long as there is `room`. `close` ends the connection in order,
-/// `abort` at once. It has ended once the phase of `end` is CLOSED. Keep the session in TIMEWAIT, since it still
-/// answers late packets.
+/// The order of calls: a client is made (`new`) and opened (`open`); a server's end is made by `accept`. After that,
+/// call `arrived` for each datagram from the peer, and `tick` once `until_first` has passed; ask for that again after
+/// every other call. `send` sends data as long as there is `room`. `close` ends the connection in order, `abort` at
+/// once. It has ended once the phase of `end` is CLOSED. Keep the session in TIMEWAIT, since it still answers late
+/// packets.
 ///
 /// Data that arrive are in their datagram. If `holding` gives the session an inbox, they wait there until `read` takes
 /// them, and drops are reported to the peer. A client returns the Init Cookie of its server (RFC 4340, section 8.1.4).
@@ -108,15 +108,15 @@ impl<C: Congestion> Session<C> {
         self.timed.path()
     }
 
-    /// How many milliseconds it is until `tick` has something to do, or None where it will have nothing.
+    /// In how many milliseconds `tick` has something to do, or None if it will have nothing.
     pub fn until_first(&self, now: u64) -> Option<u64>
         ensures { result ≡ first_wait_left self.now.timed now }
     {
         self.timed.until_first(now)
     }
 
-    /// How many further data packets the window has room for, by what the application that reads them leaves of it:
-    /// where it is 0, `send` is refused, with `WindowFull` or `Held`.
+    /// For how many further data packets the window has room, as far as the application that reads them allows. If it
+    /// is 0, `send` is refused, with `WindowFull` or `Held`.
     pub fn room(&self) -> u32
         ensures { result ≡ window_within self.now.timed.path.reader.allowance (window_of C.control self.now.timed.end.congestion) - in_flight_of C.control self.now.timed.end.congestion }
     {
@@ -125,7 +125,7 @@ impl<C: Congestion> Session<C> {
         window.saturating_sub(end.in_flight())
     }
 
-    // Hands over the frame that the end has left, which says what the inbox has to say, and returns the cookie.
+    // Hands over the frame that the end has left, with what the inbox has to say, and with the cookie.
     fn hand<N: Network>(&self, out: &mut Outbox, network: &mut N)
         ensures handed { Hands N.sends network.old (holding_frame self.now out.old) network.new }
         ensures quiet { out.old ≡ None → network.new ≡ network.old }
@@ -135,8 +135,8 @@ impl<C: Congestion> Session<C> {
         hand_over(out, network);
     }
 
-    /// Takes the data that have waited longest in the inbox: they are written over the front of `into`, and their
-    /// packet's number and their length are answered. None where none wait; then nothing changes.
+    /// Takes the data that have waited longest in the inbox: writes them over the front of `into`, and returns their
+    /// packet's number and their length. None if none wait; then nothing changes.
     pub fn read(&mut self, into: &mut [u8; 2032]) -> Option<(Seq48, usize)>
         ensures rest { self.new ≡ record self.old { inbox = without_first self.old.inbox } }
         ensures answer { result ≡ first_read self.old.inbox }
@@ -145,8 +145,8 @@ impl<C: Congestion> Session<C> {
         self.intake.read(into)
     }
 
-    /// The application listens no more: data that arrive from now on are dropped, and the peer is told so (RFC 4340,
-    /// section 11.7). False where there is no inbox; then nothing changes.
+    /// The application stops listening: data that arrive from now on are dropped, and this is reported to the peer (RFC
+    /// 4340, section 11.7). False if there is no inbox; then nothing changes.
     pub fn stop(&mut self) -> bool
         ensures stops { self.new ≡ record self.old { inbox = without_listener self.old.inbox } }
         ensures no_inbox { (result ≡ false) ↔ (self.old.inbox ≡ None) }
@@ -174,10 +174,10 @@ impl<C: Congestion> Session<C> {
         answer
     }
 
-    /// Sends data, at most 1,024 bytes, if the end takes them, in PARTOPEN too, so that a client may speak first.
-    /// `Held` where they have to wait for the sake of the application that reads them; else refused as
-    /// `Endpoint::send_soon` is, with `WindowFull` where there is no room. Then nothing has changed and nothing is sent,
-    /// and the data may be offered again, unless it is that no application listens any more.
+    /// Sends data, at most 1,024 bytes, if the end takes them, also in PARTOPEN, so that a client may speak first.
+    /// Refused with `Held` if they have to wait for the application that reads them; otherwise refused as
+    /// `Endpoint::send_soon` is, with `WindowFull` if there is no room. Then nothing has changed and nothing is sent.
+    /// The data may be offered again, unless the application no longer listens.
     pub fn send<N: Network>(
         &mut self,
         payload: &[u8],
@@ -195,7 +195,7 @@ impl<C: Congestion> Session<C> {
     }
 
     /// Asks for these values of a feature, best first. Refused as `Endpoint::prefer` is; then nothing has changed and
-    /// nothing is sent. What comes of it is seen by `Endpoint::held`, once that is Stable again.
+    /// nothing is sent. `Endpoint::held` shows the result, once that is Stable again.
     pub fn prefer<N: Network>(
         &mut self,
         feature: Feature,
@@ -239,8 +239,8 @@ impl<C: Congestion> Session<C> {
     }
 
     /// Takes a datagram from the peer, the bytes of a DCCP packet. One that is longer than 2,044 bytes is no frame of
-    /// such an end: it changes nothing and nothing is sent. Data that come with it are within it; of a session with an
-    /// inbox they wait there, or were dropped.
+    /// such an end: it changes nothing and nothing is sent. Data that it brings are within the datagram; in a session
+    /// with an inbox they wait there, or were dropped.
     pub fn arrived<N: Network>(&mut self, datagram: &[u8], now: u64, network: &mut N) -> News
         ensures does { Does N.sends (holding_hears C.control now self.old datagram.now) self.new network.old network.new result }
         ensures too_long { (result ≡ News.TooLong) ↔ (2044 < length datagram.now) }
@@ -261,8 +261,8 @@ impl<C: Congestion> Session<C> {
         news_kept(arrival, news_if(outcome, was, is))
     }
 
-    /// It is this time now: fires each timer that has run out, once, and then follows one rule of the path. After that
-    /// nothing is due at this time.
+    /// Fires each timer that has run out by `now`, once, and then follows one rule of the path. After that nothing is
+    /// due at this time.
     pub fn tick<N: Network>(&mut self, now: u64, network: &mut N)
         ensures session { self.new ≡ (rings_each_due C.control now self.old every_due).holding }
         ensures handed { HandsAll N.sends network.old (rings_each_due C.control now self.old every_due).frames network.new }
@@ -277,7 +277,7 @@ impl<C: Congestion> Session<C> {
         self.ring(Due::Rules, now, network);
     }
 
-    // Tells the end what is due, if it is. Whether the end had something to do.
+    // Does what is due of the end, if it is. Returns whether the end had something to do.
     fn ring<N: Network>(&mut self, due: Due, now: u64, network: &mut N) -> bool
         ensures does { Does N.sends (holding_rings C.control now self.old due) self.new network.old network.new result }
     {

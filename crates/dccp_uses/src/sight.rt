@@ -7,7 +7,7 @@ use dccp_endpoint::{Congestion, Endpoint, Feature, Held, Phase, Place, Seq48, St
 /// What the rules of a path see of an end.
 #[derive(Clone, Copy, Debug, PartialEq, Eq)]
 pub struct Sight {
-    /// Where its connection stands.
+    /// The phase of its connection.
     pub phase: Phase,
     /// GSS, the greatest number sent.
     pub gss: Seq48,
@@ -17,7 +17,7 @@ pub struct Sight {
     pub gsr: Seq48,
     /// How many data packets are in flight.
     pub in_flight: u32,
-    /// How many may be.
+    /// How many data packets may be in flight.
     pub window: u32,
     /// The CCID of its data.
     pub ccid: u64,
@@ -28,7 +28,7 @@ pub struct Sight {
 }
 
 impl Sight {
-    /// What there is to see of this end now (own).
+    /// What the rules see of this end now (own).
     pub fn of<C: Congestion>(end: &Endpoint<C>) -> Sight
         ensures { result ≡ sight_of C.control end.now }
     {

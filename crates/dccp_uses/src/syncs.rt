@@ -7,7 +7,7 @@ use crate::{Notice, Path};
 use dccp_endpoint::{Congestion, Endpoint, Seq48};
 use path_rules::{far_syncs, is_near_greatest, near_syncs};
 
-// A token for a Sync is taken, if there is one. Whether there was.
+// Takes a token for a Sync, if there is one. Returns whether there was.
 fn take_token(path: &mut Path, near: bool, now: u64) -> bool
     ensures heard { result ≡ (sync_bucketed path.old near now).heard }
     ensures path { path.new ≡ (sync_bucketed path.old near now).path }
@@ -44,9 +44,9 @@ fn admit_within(path: &mut Path, number: Option<Seq48>, gsr: Seq48, now: u64) ->
     }
 }
 
-/// Whether a datagram is heard: one that its numbers would have answered by a Sync is heard where there is a token for
-/// that (own; RFC 4340, section 7.5.4, limits the Syncs). What it tells of the application that reads the end's data is
-/// noted, for `Path::hear`. Whether its checksum and ports are right is not looked at: such a one is dropped in any case.
+/// Whether a datagram is heard: one whose numbers would bring a Sync is heard if there is a token for that (own; RFC
+/// 4340, section 7.5.4, limits the Syncs). What it says about the application that reads the end's data is noted, for
+/// `Path::hear`. Its checksum and ports are not checked here: if they are wrong, it is dropped in any case.
 pub fn admit<C: Congestion>(end: &Endpoint<C>, path: &mut Path, datagram: &[u8], now: u64) -> bool
     ensures heard { result ≡ (admitted end.now.state path.old datagram.now now).heard }
     ensures path { path.new ≡ (admitted end.now.state path.old datagram.now now).path }

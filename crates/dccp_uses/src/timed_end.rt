@@ -15,7 +15,7 @@ use dccp_endpoint::{
 use std::alloc::Global;
 use std::marker::Model;
 
-/// What is due of an end: a timer of its own has run out, or a rule of its path has something to do.
+/// What is due of an end: one of its timers has run out, or a rule of its path has something to do.
 #[derive(Clone, Copy, Debug, PartialEq, Eq)]
 pub enum Due {
     /// This timer has run out.
@@ -25,7 +25,7 @@ pub enum Due {
 }
 
 /// An end with its timers and the rules of its path. Its calls are those of `Endpoint`, with the time, in milliseconds
-/// from any beginning: each leaves a frame in the Outbox, or none. `tell` does what is `due`; ask for that after every
+/// since any moment: each leaves a frame in the Outbox, or none. `tell` does what is `due`; ask for that after every
 /// other call, and again once `until_first` has passed.
 #[derive(Drop)]
 pub struct TimedEnd<C> {
@@ -42,7 +42,8 @@ impl<C> Model for TimedEnd<C> {
     ghost view = { λ s. record { end = s.end; alarms = s.alarms; path = s.path } };
 }
 
-/// What the timers of an end go by, where this is to be seen of it (own): rto stands still while its question goes first.
+/// The condition by which the timers of an end run, if the rules see `sight` of it (own): rto does not run while a
+/// question comes first.
 pub fn ruled_condition(path: &Path, sight: &Sight) -> Condition
     ensures { result ≡ ruled_condition path.now sight.now }
 {
@@ -52,8 +53,8 @@ pub fn ruled_condition(path: &Path, sight: &Sight) -> Condition
     }
 }
 
-/// Whether a packet has brought data that show a hole before them (own). `old` and `new` are what there was to see of the
-/// end before the packet and is now; `silent` says that nothing went out in answer, which would have told of the hole.
+/// Whether a packet has brought data that show a hole before them (own). `old` and `new` are what the rules saw of the
+/// end before and after the packet; `silent` says that no answer went out, which would have reported the hole.
 pub fn is_hole(path: &Path, old: &Sight, new: &Sight, delivered: bool, silent: bool) -> bool
     ensures { result ≡ is_hole path.now old.now new.now delivered silent }
 {
@@ -120,14 +121,15 @@ impl<C: Congestion> TimedEnd<C> {
         &self.path
     }
 
-    /// How long a report is waited for from now on, in milliseconds (RFC 6298).
+    /// How long the sender waits for a report from now on, in milliseconds (RFC 6298).
     pub fn timeout(&self) -> u64
         ensures { result ≡ starting_wait_by (path_waits self.now.path) self.now.alarms timers.Rto }
     {
         starting_wait(&self.path.waits(), &self.alarms, Timer::Rto)
     }
 
-    // The timers and the rules go on, by what there is to see of the end, no rule before `least` milliseconds have gone by.
+    // The timers and the rules go on, by what the rules see of the end; no rule is due before `least` milliseconds have
+    // gone by.
     fn go_on_seen(&mut self, sight: &Sight, least: u64, now: u64)
         ensures { self.new ≡ timers_go_on_seen now least self.old.alarms self.old.path sight.now self.old.end }
     {
@@ -160,15 +162,15 @@ impl<C: Congestion> TimedEnd<C> {
         Ok(())
     }
 
-    /// Why data have to wait for the sake of the application that reads them, if they have to (RFC 4340, sections 11.6
-    /// and 11.7).
+    /// Why data have to wait for the application that reads them, or None if they need not (RFC 4340, sections 11.6 and
+    /// 11.7).
     pub fn restraint(&self) -> Option<Restraint>
         ensures { result ≡ restraint_of self.now.path.reader (in_flight_of C.control self.now.end.congestion) }
     {
         restraint_of(&self.path.reader, self.end.in_flight())
     }
 
-    /// Sends data, at most 1,024 bytes. `Held` exactly where there is a `restraint`; else refused as
+    /// Sends data, at most 1,024 bytes. Refused with `Held` exactly if there is a `restraint`; otherwise refused as
     /// `Endpoint::send_soon` is. Then nothing has changed and there is no frame.
     pub fn send(&mut self, payload: &[u8], now: u64, out: &mut Outbox) -> Result<(), SendRefusal>
         ensures step { record { timed = self.new; frame = out.new; answer = result } ≡ timed_sends C.control now self.old payload.now }
@@ -244,8 +246,8 @@ impl<C: Congestion> TimedEnd<C> {
         Ok(())
     }
 
-    /// Takes a datagram of at most 2,044 bytes from the peer. None where it is left out, since it would be answered by
-    /// one Sync too many: then nothing but that limit has changed.
+    /// Takes a datagram of at most 2,044 bytes from the peer. None if it is left out, since it would be answered by one
+    /// Sync too many: then only that limit has changed.
     pub fn receive(&mut self, datagram: &[u8], now: u64, out: &mut Outbox) -> Option<Outcome>
         requires { length datagram.now ≤ 2044 }
         ensures step { record { timed = self.new; frame = out.new; answer = result } ≡ timed_takes C.control now self.old datagram.now }
@@ -279,7 +281,7 @@ impl<C: Congestion> TimedEnd<C> {
         outcome
     }
 
-    /// A timer has run out: the end's own, or one that its owner keeps. False where it has nothing to do.
+    /// A timer has run out: the end's own, or one that its owner keeps. False if it has nothing to do.
     pub fn timer(&mut self, timer: Timer, now: u64, out: &mut Outbox) -> bool
         ensures { record { timed = self.new; frame = out.new; answer = result } ≡ timed_fires C.control now self.old timer }
     {
@@ -292,7 +294,7 @@ impl<C: Congestion> TimedEnd<C> {
         applies
     }
 
-    // The first rule that is due has its end do something. False where none has.
+    // The first rule that is due makes its end do something. False if none does.
     fn obey_rules(&mut self, now: u64, out: &mut Outbox) -> bool
         ensures { record { timed = self.new; frame = out.new; answer = result } ≡ tells_rules C.control now self.old }
     {
@@ -300,7 +302,7 @@ impl<C: Congestion> TimedEnd<C> {
         self.obey_rule(rule, now, out)
     }
 
-    // This rule has its end do something.
+    // This rule makes its end do something.
     fn obey_rule(&mut self, rule: Rule, now: u64, out: &mut Outbox) -> bool
         ensures { record { timed = self.new; frame = out.new; answer = result } ≡ obeys C.control now self.old rule }
     {
@@ -330,7 +332,7 @@ impl<C: Congestion> TimedEnd<C> {
         has_run_out(self.alarm(due), now)
     }
 
-    /// Tells the end what is due: a timer, or what a rule has it do. Whether the end had something to do.
+    /// Does what is due: a timer, or what a rule makes the end do. Returns whether the end had something to do.
     pub fn tell(&mut self, due: Due, now: u64, out: &mut Outbox) -> bool
         ensures { record { timed = self.new; frame = out.new; answer = result } ≡ due_told C.control now self.old due }
     {
@@ -340,14 +342,14 @@ impl<C: Congestion> TimedEnd<C> {
         }
     }
 
-    /// How many milliseconds it is until something is due, or None where nothing will be.
+    /// In how many milliseconds something is due, or None if nothing will be.
     pub fn until_first(&self, now: u64) -> Option<u64>
         ensures { result ≡ first_wait_left self.now now }
     {
         sooner(self.alarms.until_first(now), self.path.rules, now)
     }
 
-    /// The first that is due, in the order in which a session tells them: the six timers, and then the rules.
+    /// The first of what is due, in a session's order: the six timers, and then the rules.
     pub fn due(&self, now: u64) -> Option<Due>
         ensures { result ≡ first_due_of self.now now every_due }
     {

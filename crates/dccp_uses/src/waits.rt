@@ -14,7 +14,7 @@ pub struct Waits {
     pub ack: Wait,
     /// Until Changes that no Confirm answered go out again.
     pub negotiate: Wait,
-    /// Until what is in flight is taken for lost.
+    /// Until what is in flight is counted as lost.
     pub rto: Wait,
     /// Until another Close or CloseReq.
     pub close: Wait,
@@ -22,7 +22,7 @@ pub struct Waits {
     pub time_wait: Wait,
 }
 
-// A first wait, which doubles up to 64 seconds.
+// The waits from this first one, doubled up to 64 seconds.
 fn doubling(first: u64) -> Wait
     ensures { result ≡ record { first = first; most = 64000 } }
 {
