@@ -396,7 +396,7 @@ typedef struct dccp_view {
 
 #define DCCP_VIEW_INIT {sizeof(dccp_view), 0, 0, 0, 0, 0, 0, 0, 0, 0, 0}
 
-/* What an end has measured of its path, by the times of its calls: the round trip and its variance in microseconds (SRTT and RTTVAR of RFC
+/* What an end has measured of its path, by the times of its calls: the round trip and its variation in microseconds (SRTT and RTTVAR of RFC
  * 6298), 0 before the first sample; and how many milliseconds it waits for a report (RTO). */
 typedef struct dccp_round_trip {
     size_t size; /* sizeof(dccp_round_trip) */

@@ -39,7 +39,7 @@ pub struct Segments {
 pub struct RoundTrip {
     /// The round trip; zero before the first sample.
     pub smoothed: Duration,
-    /// Its variance; zero before the first sample.
+    /// Its variation, RTTVAR; zero before the first sample.
     pub variance: Duration,
     /// How long the end waits for a report.
     pub timeout: Duration,
