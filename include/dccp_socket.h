@@ -109,7 +109,7 @@ typedef struct dccp_socket_options {
 #define DCCP_SOCKET_OPTIONS_INIT {sizeof(dccp_socket_options), NULL, 0, NULL, NULL, 0, 0, 0, 0, 0, NULL}
 
 /* A client of the server at this host and port, which asks for this Service Code. `options` may be NULL. Returns NULL if none was made, and errno
- * says why: EINVAL for bad wishes or names, ENOENT for a host or a port without an address (`address_fault` of the options tells which), ENOMEM,
+ * says why: EINVAL for bad wishes or names, ENOENT for a host or a port without an address (`address_fault` of the options says which), ENOMEM,
  * or an error of a system call. */
 dccp_socket *dccp_socket_connect(const char *host, const char *port, uint32_t service, const dccp_socket_options *options);
 
@@ -124,7 +124,7 @@ const char *dccp_socket_address_text(int fault);
 void dccp_socket_free(dccp_socket *socket);
 
 /* Does what is due, and waits for an event, for at most this many milliseconds, or for ever if the number is below 0. Returns 1 with an event;
- * 0 if the time is over, or there was the client's last event before; -1 if the system's socket failed, and errno says how. */
+ * 0 if the time is over, or the last event of a client was returned before; -1 if the system's socket failed, and errno says how. */
 int dccp_socket_poll(dccp_socket *socket, int milliseconds, dccp_socket_event *event);
 
 /* The system's socket. Use it only to wait until it is readable. */
