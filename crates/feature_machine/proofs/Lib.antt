@@ -2,6 +2,7 @@ pub mod Asking
 pub mod Causes
 pub mod DueKeys
 pub mod Listing
+pub mod Loud
 pub mod Openings
 pub mod Places
 pub mod Quiet

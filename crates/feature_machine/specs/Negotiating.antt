@@ -1,6 +1,6 @@
 -- The eighteen rows of an end: an event is the step of its row (own).
 use Rattle.std.specs.List.{list_all}
-use Rattle.std.specs.Prelude.{◌≡◌, ◌≢◌, ◌&&◌, not, ℕ, Bool, true, false, List, [], ◌∷◌, length, map, filter, Option, Some, None, slice_index_or, slice_set, if◌then◌else◌}
+use Rattle.std.specs.Prelude.{◌≡◌, ◌≢◌, ◌&&◌, not, ℕ, ◌+◌, Bool, true, false, List, [], ◌∷◌, length, map, filter, Option, Some, None, slice_index_or, slice_set, if◌then◌else◌}
 use Rattle.feature_lists.specs.Features.{feature_numbered, initial_of}
 use Rattle.feature_lists.specs.declared.features.Feature.{Feature}
 use Rattle.feature_lists.specs.declared.features.Feature.TheVariants as f
@@ -132,6 +132,15 @@ is_quiet row = is_offerless row.offer && not (is_due row)
 -- no row has anything to say by itself
 abbrev pub are_quiet : List Row → Bool
 are_quiet rows = list_all is_quiet rows
+
+-- 1 for a row that has something to say by itself, and else 0
+abbrev pub loud_of : Row → ℕ
+loud_of row = if is_quiet row then 0 else 1
+
+-- how many rows have
+abbrev pub loud_rows : List Row → ℕ
+loud_rows [] = 0
+loud_rows (row ∷ rows) = loud_of row + loud_rows rows
 
 -- all features at all places, by features, Here before There
 abbrev pub every_place : List (Feature × Place)

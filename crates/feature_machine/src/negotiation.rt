@@ -1,12 +1,12 @@
 //! The eighteen rows of an end.
-ghost use Rattle.std.specs.Prelude.{◌≡◌, ◌≢◌, ◌↔◌, ◌⊎◌, ◌<◌, ℕ, Bool, true, false, [], IsNone, IfSome, length};
+ghost use Rattle.std.specs.Prelude.{◌≡◌, ◌≢◌, ◌↔◌, ◌⊎◌, ◌<◌, ◌≤◌, ◌+◌, ℕ, Bool, true, false, [], IsNone, IfSome, length};
 ghost use Rattle.feature_lists.specs.Features.{described, feature_number};
 ghost use Rattle.feature_lists.specs.Wishes.{IsNotOurs, is_wish};
 ghost use Rattle.feature_lists.specs.declared.features.Feature.{Feature};
 ghost use Rattle.feature_lists.specs.declared.features.Place.{Place};
 ghost use Rattle.feature_machine.specs.Answers.{reply_of, shown, answered, Ignoring, Failing, settling_of, opening_of, is_opening};
 ghost use Rattle.feature_machine.specs.Lists.{index_of};
-ghost use Rattle.feature_machine.specs.Negotiating.{AreRowsOf, IsDue, IsNegotiation, RestStays, are_quiet, changes, confirmed, due_keys, first_rows, held_by, is_due, is_next_mandatory, place_of, put, row_at, stepped};
+ghost use Rattle.feature_machine.specs.Negotiating.{AreRowsOf, IsDue, IsNegotiation, RestStays, are_quiet, changes, confirmed, due_keys, first_rows, held_by, is_due, is_next_mandatory, loud_of, loud_rows, place_of, put, row_at, stepped};
 ghost use Rattle.feature_machine.specs.Rows.{Change, Confirm, Prefers, Offers, Sends};
 ghost use Rattle.feature_machine.specs.Sound.{IsRowOf, IsRefusal};
 ghost use Rattle.feature_machine.specs.declared.stands.Stand.TheVariants.{Stable};
@@ -36,6 +36,8 @@ use std::marker::Model;
 #[derive(Clone, Copy, Debug, PartialEq, Eq)]
 pub struct Negotiation {
     rows: [Row; 18],
+    // How many of them have something to say by themselves: mostly none, which is asked for each Response.
+    loud: u8,
 }
 
 impl Model for Negotiation {
@@ -44,13 +46,17 @@ impl Model for Negotiation {
 
     ghost Value = { List Row };
 
-    ghost use Rattle.feature_machine.specs.Negotiating.{IsNegotiation};
+    ghost use Rattle.std.specs.Prelude.{◌≡◌};
+    ghost use Rattle.feature_machine.specs.Counted.{counted_again};
+    ghost use Rattle.feature_machine.specs.Negotiating.{IsNegotiation, loud_rows};
 
     ghost view = { λ n. n.rows };
 
-    ghost invariant = { λ n. IsNegotiation n.rows };
+    ghost invariant = { λ n. IsNegotiation n.rows × (n.loud ≡ loud_rows n.rows) };
 
-    ghost inverse = { λ rows. record { rows = rows } };
+    ghost inverse = { λ rows. record { rows = rows; loud = loud_rows rows } };
+
+    ghost inverse_ok = { counted_again };
 }
 
 // The place of a row among the eighteen.
@@ -82,11 +88,32 @@ fn fill(rows: &mut [Row], role: Role2, listed: &[RowSetup])
     }
 }
 
-// Whether no row has anything to say by itself.
-fn are_quiet(rows: &[Row]) -> bool
-    ensures { result ≡ are_quiet rows.now }
+// 1 for a row that has something to say by itself, and else 0.
+fn loud_of(row: &Row) -> u8
+    ensures { result ≡ loud_of row.now }
 {
-    rows.iter().all(|row| row.is_quiet())
+    if row.is_quiet() { 0 } else { 1 }
+}
+
+// How many of the rows have something to say by themselves.
+fn loud_rows(rows: &[Row]) -> u8
+    requires { length rows.now ≤ 18 }
+    ensures { result ≡ loud_rows rows.now }
+{
+    let mut loud = 0;
+    for row in rows {
+        loud += loud_of(row);
+    }
+    loud
+}
+
+// How many have, of `loud` rows, once one of all rows is another.
+fn loud_after(loud: u8, old: &Row, new: &Row) -> u8
+    requires some { loud_of old.now ≤ loud }
+    requires few { loud ≤ 18 }
+    ensures { result + loud_of old.now ≡ loud + loud_of new.now }
+{
+    loud - loud_of(old) + loud_of(new)
 }
 
 impl Negotiation {
@@ -99,7 +126,8 @@ impl Negotiation {
         let listed = lists.all();
         let mut rows = [Row::first(role, &listed[0]); 18];
         fill(&mut rows, role, listed);
-        Negotiation { rows }
+        let loud = loud_rows(&rows);
+        Negotiation { rows, loud }
     }
 
     fn row(&self, feature: Feature, place: Place) -> Row
@@ -121,7 +149,9 @@ impl Negotiation {
         requires { IsRowOf feature place row }
         ensures { self.new ≡ put self.old feature place row }
     {
-        self.rows[index_of(feature, place)] = row;
+        let index = index_of(feature, place);
+        self.loud = loud_after(self.loud, &self.rows[index], &row);
+        self.rows[index] = row;
     }
 
     fn change(&mut self, feature: Feature, place: Place, body: &[u8], mandatory: bool) -> RowReply
@@ -191,7 +221,7 @@ impl Negotiation {
             → (stepped self.now feature place (Offers confirmed)).rows ≡ self.now }
         ensures due { result ≡ true → due_keys self.now ≡ [] }
     {
-        are_quiet(&self.rows)
+        self.loud == 0
     }
 
     /// A Change L (`left`) or Change R of a newest packet comes, with its data after the feature number.
