@@ -30,7 +30,7 @@ use Rattle.dccp_server.proofs.Judging.{lives_change_nothing}
 use Rattle.dccp_server.proofs.Through.{run_through}
 use Rattle.dccp_server.proofs.Tying.{through_tied}
 
--- an end that stands is CLOSED once it aborts, or is in TIMEWAIT still, and then its timer closes it
+-- an end of a flow is CLOSED once it aborts, or is in TIMEWAIT still, and then its timer closes it
 
 abbrev IsOverOrWaits : Phase → Type 0
 IsOverOrWaits phase = (phase ≡ phases.Closed) ⊎ (phase ≡ phases.TimeWait)
@@ -107,7 +107,7 @@ module _ (peer : Peer) where
   gone-by l config None ordered is stands = none-stays (called l Aborts) (Fires timers.TimeWait) (none-stays l Aborts is)
   gone-by l config (Some e) ordered is stands = gone-so l e ordered is (aborted-by e.state e.state.phase refl stands.phase_is)
 
-  -- the end that a chain leaves stands
+  -- the end that a chain leaves is a flow's
   chain-stands : (config : ListenConfig) (before after : Option FlowEnd) (turns : List PeerTurn) → IsLists config.lists
       → IfSome before (IsFlowOf config peer) → IsChain config peer before after turns → IfSome after (IsFlowOf config peer)
   chain-stands config before after [] lists stands is = subst (λ (x : Option FlowEnd). IfSome x (IsFlowOf config peer)) (sym is) stands

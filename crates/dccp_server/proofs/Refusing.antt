@@ -214,7 +214,7 @@ spent-lives : (now : ℕ) (s : ServedListener) (peer : Peer) (bytes : List ℕ) 
 spent-lives now s peer bytes u None all = all
 spent-lives now s peer bytes u (Some e) all = all
 
--- what is kept stands with the flows, in order, and none of these is over
+-- what is kept belongs to the flows, in order, and none of these is over
 pub record IsResting (s : ServedListener) : Type 0 where
   pub tied : IsTied s
   pub live : AllLive s.listening

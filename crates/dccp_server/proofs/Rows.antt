@@ -40,7 +40,7 @@ who_makes_room :
     × (makes_way no_rules false 240000 lingering ≡ None)
 who_makes_room = (refl, refl)
 
--- Else of those in RESPOND the one that stands longest, once its time is over: four minutes, or ten seconds in a crowd.
+-- Else of those in RESPOND the oldest, once its time is over: four minutes, or ten seconds in a crowd.
 abbrev half_open : Lives
 half_open = (peer 1, life phase.Respond 700 0) ∷ (peer 2, life phase.Respond 600 0) ∷ (peer 3, life phase.Open 0 0) ∷ []
 
@@ -119,7 +119,7 @@ what_is_a_sign :
     × (signs_of WasBusy ≡ record { taken = false; synced = false })
 what_is_a_sign = (refl, refl, refl)
 
--- what is left of the limits: so many thousandths of a token for all answers, and for Resets without a connection
+-- what is left of the limits: this many thousandths of a token for all answers, and for Resets without a connection
 abbrev left : ℕ → ℕ → ℕ → Strangers
 left answers resets since =
     record { answers = record { thousandths = answers; since = since }; resets = record { thousandths = resets; since = since } }

@@ -39,7 +39,7 @@ who_has_ended_it :
     × (aborted_end causes.Silent ≡ record { cause = causes.Silent; code = Some 2 })
 who_has_ended_it = (refl, refl, refl, refl, refl, refl, refl, refl)
 
--- A handshake is told once; data are told with their place; room is told where there was none.
+-- A handshake is told once; data are told with their place; room is told if there was none.
 what_is_told :
     (events_between peer (flow phase.Respond) taking (Some (20, 25)) (silent_end causes.Peer) None
     ≡ record {

@@ -139,7 +139,7 @@ what_a_duty_does = (refl, refl, refl)
 
 -- a listener, whatever else it is made from
 module _ (config : ListenConfig) (pace : Pace) where
-  -- a room of so many places with these lives, of which nothing runs out
+  -- a room of this many places with these lives, of which nothing runs out
   abbrev room_of : ℕ → Lives → Room
   room_of most lives = as_room (serving_begins (record config { most = most }) pace) lives
 

@@ -1,6 +1,6 @@
 -- No time at all (own).
 use Rattle.std.specs.Prelude.{ℕ, ◌^◌, ◌-◌}
 
--- no time at all: 2^64 - 1
+-- the number that means never: 2^64 - 1
 abbrev pub never : ℕ
 never = 2 ^ 64 - 1

@@ -19,23 +19,23 @@ use Rattle.dccp_server.specs.declared.life.Life.{Life}
 use Rattle.dccp_server.specs.declared.rules.Rules.{Rules}
 use Rattle.dccp_server.specs.declared.upkeep.Upkeep.{Upkeep}
 
--- what is done with what is due: a timer is told to the peer's end, or a rule is followed
+-- what is done with what is due: a timer of the peer's end fires, or a rule is followed
 abbrev pub doing_due : Due → PeerDeed
 doing_due (due.Timer timer) = Does (Calls (Fires timer))
 doing_due due.Rules = Follows
 
--- where something is due
+-- the listener after what is due was done, if something is due
 abbrev pub due_served : ℕ → ServedListener → Option (Peer × Due) → ServedListener
 due_served now s None = s
 due_served now s (Some it) = served_by now s it.0 (doing_due it.1)
 
--- a listener after so many ticks at one time
+-- a listener after this many ticks at one time
 abbrev pub listener_ticked : ℕ → ℕ → ServedListener → ServedListener
 listener_ticked now zero s = s
 listener_ticked now (suc n) s = listener_ticked now n (due_served now s (first_due_flow now s.upkeeps))
 
--- Thirteen ticks for each flow leave nothing that is due, whatever was done before: each of its six timers is told once,
--- and the rules once at first and once after each of them.
+-- Thirteen ticks for each flow leave nothing that is due, whatever was done before: each of its six timers fires once, and the rules are
+-- followed once at first and once after each of them.
 abbrev pub ListenerTicksEnd : Type 0
 ListenerTicksEnd =
     (config : ListenConfig) (pace : Pace) (all : List TimedDeed) (now : ℕ)
@@ -43,18 +43,18 @@ ListenerTicksEnd =
     (listener_ticked now (13 * length (served_through (serving_begins config pace) all).listening.flows) (served_through (serving_begins config pace) all)).upkeeps
     ≡ None
 
--- Nothing is due of a flow before its moment, and from then on something is. So no flow is passed over: where there is
--- nothing to do, nothing is due of any flow; and the wait that is told is exact. Clocks have 64 bits.
+-- Nothing is due at a flow before its moment, and from then on something is. So no flow is passed over: if there is nothing to do, nothing is
+-- due at any flow. The wait that is returned is exact. Clocks have 64 bits.
 pub record IsNonePassedOver (upkeeps : Upkeeps) (now later : ℕ) : Type 0 where
   pub none_is_due : first_due_flow later upkeeps ≡ None → (peer : Peer) (u : Upkeep) → lookup (is_peer peer) upkeeps ≡ Some u → first_due u later every_due ≡ None
   pub wait_is_exact : is_some (first_due_flow later upkeeps) ≡ nat_le (now + least_wait now upkeeps) later
 
--- whatever is kept of peers in their order, and whatever the times
+-- this holds whatever is kept of peers in their order, and whatever the times
 abbrev pub NoneIsPassedOver : Type 0
 NoneIsPassedOver =
     (upkeeps : Upkeeps) (now later : ℕ) → IsStrictlySortedBy peer_cmp (keys_of upkeeps) → now ≤ later → later < never → IsNonePassedOver upkeeps now later
 
--- No flow that has stood for too long is passed over either, whatever the rules: where none is given up, each may stay.
+-- No flow that has stayed for too long is passed over either, with any rules: if none is given up, each may stay.
 abbrev pub EachMayStay : Type 0
 EachMayStay =
     (rules : Rules) (crowded : Bool) (now : ℕ) (lives : Lives) → IsStrictlySortedBy peer_cmp (keys_of lives) → first_given_up rules crowded now lives ≡ None

@@ -1,4 +1,4 @@
--- First numbers that nobody can guess who has not the key (RFC 4340, section 7.2, as RFC 1948 draws TCP's; own).
+-- First numbers that nobody without the key can guess (RFC 4340, section 7.2, drawn as RFC 1948 does for TCP; own).
 use Rattle.std.specs.Prelude.{ℕ, ◌+◌, ◌*◌, List, ◌++◌}
 use Rattle.byteorder.specs.Endian.{big_bytes, big_number}
 use Rattle.dccp_listener.specs.declared.peer.Peer.{Peer}

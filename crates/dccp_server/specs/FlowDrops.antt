@@ -10,7 +10,7 @@ use Rattle.dccp_server.specs.declared.flow_drops.FlowDrop.{FlowDrop}
 abbrev pub flow_recorded : Peer → ℕ → ℕ → List FlowDrop → List FlowDrop
 flow_recorded peer number code drops = keep_last 2048 (drops ++ record { peer = peer; number = number; code = code } ∷ [])
 
--- of these entries, the oldest first, the code of the last one of a peer's number, or else the one found before
+-- the code of the last of these entries, the oldest first, for a peer's number, or else the one found before
 abbrev pub flow_drop_code_from : Peer → ℕ → Option ℕ → List FlowDrop → Option ℕ
 flow_drop_code_from peer n found [] = found
 flow_drop_code_from peer n found (d ∷ ds) = flow_drop_code_from peer n (if is_peer peer d.peer && d.number == n then Some d.code else found) ds
@@ -19,6 +19,7 @@ flow_drop_code_from peer n found (d ∷ ds) = flow_drop_code_from peer n (if is_
 abbrev pub flow_drop_code : List FlowDrop → Peer → ℕ → Option ℕ
 flow_drop_code drops peer n = flow_drop_code_from peer n None drops
 
--- Once a peer's flow has heard a datagram, before which reports were counted up to the one number, and after it up to the other.
+-- The record once a peer's flow has heard a datagram. Reports were counted up to the first number before it, and are counted up to the second
+-- after it.
 abbrev pub flow_record_after : Peer → Option ℕ → Option ℕ → List ℕ → List FlowDrop → List FlowDrop
 flow_record_after peer counted after bytes drops = record_after (flow_recorded peer) counted after bytes drops

@@ -20,8 +20,8 @@ use Rattle.dccp_server.specs.declared.flow_event.FlowEvent.{FlowEvent}
 use Rattle.dccp_states.specs.declared.outcome.Outcome.{Outcome}
 use Rattle.dccp_states.specs.declared.outcome.Outcome.TheVariants.{Took}
 
--- For how many packets each flow has room, where 0 is that none has an inbox; how many inboxes there may be; and that of
--- each peer that has one, in the order of peers.
+-- For how many packets each inbox has room, with 0 if no flow has an inbox; how many inboxes there may be; and the inbox of each peer that has
+-- one, in the order of peers.
 pub record Inboxes : Type 0 where
   pub capacity : ℕ
   pub most : ℕ
@@ -35,12 +35,12 @@ no_inboxes capacity most = record { capacity = capacity; most = most; entries = 
 abbrev pub flow_inbox : Inboxes → Peer → Option InboxState
 flow_inbox s peer = unwrap_or (lookup (is_peer peer) s.entries) None
 
--- a peer's inbox is this from now on, where it had one
+-- a peer's inbox is this from now on, if it had one
 abbrev pub with_flow_inbox_by : Inboxes → Peer → Option InboxState → Option (Option InboxState) → Inboxes
 with_flow_inbox_by s peer inbox None = s
 with_flow_inbox_by s peer inbox (Some was) = record s { entries = set_value (is_peer peer) s.entries inbox }
 
--- by whether it had one
+-- the same, by whether it had one
 abbrev pub with_flow_inbox : Inboxes → Peer → Option InboxState → Inboxes
 with_flow_inbox s peer inbox = with_flow_inbox_by s peer inbox (lookup (is_peer peer) s.entries)
 
@@ -52,11 +52,11 @@ without_inbox_of s peer = record s { entries = remove_entry (is_peer peer) s.ent
 abbrev pub needs_no_inbox : Inboxes → Peer → Bool
 needs_no_inbox s peer = s.capacity == 0 || is_some (lookup (is_peer peer) s.entries)
 
--- A peer has an inbox from now on, where flows have any.
+-- A peer has an inbox from now on, if flows have any.
 abbrev pub with_place : Inboxes → Peer → Inboxes
 with_place s peer = if needs_no_inbox s peer then s else record s { entries = insert_entry peer_cmp s.entries peer (intake_of s.capacity) }
 
--- as many inboxes stand as may, and the peer's would be a further one
+-- there are as many inboxes as the limit allows, and the peer's would be a further one
 abbrev pub lacks_place : Inboxes → Peer → Bool
 lacks_place s peer = not (needs_no_inbox s peer) && nat_le s.most (length s.entries)
 
@@ -69,7 +69,7 @@ pub record FlowDelivery : Type 0 where
 abbrev pub settled_there : Inboxes → Peer → IntakeDelivery → FlowDelivery
 settled_there s peer settled = record { inboxes = with_flow_inbox s peer settled.inbox; arrival = settled.arrival }
 
--- data of a peer came under this number, which are there in the datagram
+-- data of a peer came under this number, at this place in the datagram
 abbrev pub flow_takes_in : Inboxes → Peer → ℕ → List ℕ → ℕ × ℕ → FlowDelivery
 flow_takes_in s peer number bytes place = settled_there s peer (came_in (flow_inbox s peer) number bytes (Some (Took (Some place))))
 
@@ -81,18 +81,18 @@ no_flow_delivery s = record { inboxes = s; arrival = None }
 abbrev pub lies_within : List ℕ → ℕ × ℕ → Bool
 lies_within bytes place = nat_le place.0 place.1 && nat_le place.1 (length bytes)
 
--- Data of a peer came that are there, if any did, and it has this end now, if it has one.
+-- Data of a peer came at this place, if any did, and the peer has this end now, if it has one.
 abbrev pub flow_delivers_by : Inboxes → Peer → List ℕ → Option (ℕ × ℕ) → Option FlowEnd → FlowDelivery
 flow_delivers_by s peer bytes (Some place) (Some e) =
     if lies_within bytes place then flow_takes_in (with_place s peer) peer (last_taken e.state) bytes place else no_flow_delivery s
 flow_delivers_by s peer bytes _ _ = no_flow_delivery s
 
--- A datagram of a peer has led the server to this one, and that was told of it: data that it brought come into the peer's
--- inbox, which is made for the first that come.
+-- A datagram of a peer has led the server to this one, with this result. Data that it brought come into the peer's inbox, which is made for the
+-- first that come.
 abbrev pub flow_delivers : Inboxes → RuledRoom → Peer → List ℕ → Option CallTold → FlowDelivery
 flow_delivers s after peer bytes told = flow_delivers_by s peer bytes (data_told told) (end_of_peer after.room.served.listening.flows peer)
 
--- data came that are there, if any did, and the peer has a flow for them, if it has one
+-- data came that lie within the datagram, and the peer has a flow for them
 abbrev pub has_data_by : List ℕ → Option (ℕ × ℕ) → Option FlowEnd → Bool
 has_data_by bytes (Some place) (Some e) = lies_within bytes place
 has_data_by bytes _ _ = false
@@ -101,12 +101,12 @@ has_data_by bytes _ _ = false
 abbrev pub finds_no_place_by : Inboxes → Peer → List ℕ → Option (ℕ × ℕ) → Option FlowEnd → Bool
 finds_no_place_by s peer bytes place flow = has_data_by bytes place flow && lacks_place s peer
 
--- the same of what a datagram has led the server to, and was told of it
+-- the same for a datagram that has led the server to this one, with this result
 abbrev pub finds_no_place : Inboxes → RuledRoom → Peer → List ℕ → Option CallTold → Bool
 finds_no_place s after peer bytes told = finds_no_place_by s peer bytes (data_told told) (end_of_peer after.room.served.listening.flows peer)
 
--- A peer that had a flow before a datagram, or had none, has this one after it: with a new flow, what waited of the one
--- before it is lost.
+-- A peer that had a flow before a datagram, or had none, has this one after it. With a new flow, the data that waited from the one before are
+-- lost.
 abbrev pub begun_fresh : Inboxes → Peer → Bool → Option FlowEnd → Inboxes
 begun_fresh s peer false (Some e) = without_inbox_of s peer
 begun_fresh s peer _ _ = s
@@ -125,11 +125,11 @@ abbrev pub tidied_by : Inboxes → Peer → Option FlowEnd → Inboxes
 tidied_by s peer (Some e) = s
 tidied_by s peer None = if count_held (flow_inbox s peer) == 0 then without_inbox_of s peer else s
 
--- A peer's inbox stands as long as its flow does, or data wait in it.
+-- A peer has an inbox as long as it has its flow, or data wait in it.
 abbrev pub tidied : Inboxes → RuledRoom → Peer → Inboxes
 tidied s server peer = tidied_by s peer (end_of_peer server.room.served.listening.flows peer)
 
--- and that of a peer whose flow may have made room
+-- the same for a peer whose flow may have made room
 abbrev pub tidied_if : Inboxes → RuledRoom → Option Peer → Inboxes
 tidied_if s server None = s
 tidied_if s server (Some peer) = tidied s server peer
@@ -146,7 +146,7 @@ flow_first_read s peer = first_read (flow_inbox s peer)
 abbrev pub flow_read_over : Inboxes → Peer → List ℕ → List ℕ
 flow_read_over s peer old = read_over (flow_inbox s peer) old
 
--- a peer's data are wanted no more
+-- the owner stops reading a peer's data
 abbrev pub flow_stopped : Inboxes → Peer → Inboxes
 flow_stopped s peer = with_flow_inbox s peer (without_listener (flow_inbox s peer))
 
@@ -154,26 +154,26 @@ flow_stopped s peer = with_flow_inbox s peer (without_listener (flow_inbox s pee
 abbrev pub flow_held : Inboxes → Peer → ℕ
 flow_held s peer = count_held (flow_inbox s peer)
 
--- how many bytes a peer's inbox adds to an acknowledgement, at most
+-- the most bytes that a peer's inbox adds to an acknowledgement
 abbrev pub flow_most_said : Inboxes → Peer → ℕ
 flow_most_said s peer = most_said (flow_inbox s peer)
 
--- what is told of data that came into an inbox, and of all else as without one
+-- the event of data that came into an inbox, and all others as without one
 abbrev pub kind_kept : Option Arrival → EventKind → EventKind
 kind_kept (Some Kept) (kinds.Data first past) = kinds.Waits
 kind_kept (Some (arrival.Dropped code)) (kinds.Data first past) = kinds.Dropped code
 kind_kept _ kind = kind
 
--- of a flow
+-- the same for an event with its flow
 abbrev pub event_kept : Option Arrival → FlowEvent → FlowEvent
 event_kept kept event = record event { kind = kind_kept kept event.kind }
 
--- at most as many inboxes stand as may
+-- there are at most as many inboxes as the limit allows
 abbrev pub HasFewInboxes : Inboxes → Type 0
 HasFewInboxes s = length s.entries ≤ s.most
 
--- What each call leaves of few inboxes is few. Data that arrive, and an owner who stops, are refused where an inbox more
--- than may stand would be made.
+-- After each call there are no more inboxes than the limit allows, if it was so before. Data that arrive, and an owner who stops, are refused if
+-- an inbox beyond the limit would be made.
 pub record InboxesStayFew : Type 0 where
   pub at_first : (capacity most : ℕ) → HasFewInboxes (no_inboxes capacity most)
   pub settled : (s : Inboxes) (after : RuledRoom) (peer : Peer) (bytes : List ℕ) (told : Option CallTold)

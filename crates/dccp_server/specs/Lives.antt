@@ -1,5 +1,5 @@
--- What an owner knows of a flow beside its end: since when it stands where it does, and its signs of life (own; the
--- phases are RFC 4340's, section 8.4).
+-- What an owner knows of a flow besides its end: since when it is in its phase, and its signs of life (own; the phases are those of RFC 4340,
+-- section 8.4).
 use Rattle.std.specs.Prelude.{◌==◌, ℕ, true, false, List, Option, Some, None, unwrap_or, if◌then◌else◌}
 use Rattle.std.specs.Map.{lookup}
 use Rattle.dccp_listener.specs.Peers.{FlowEnd, is_peer}
@@ -22,7 +22,7 @@ Lives = List (Peer × Life)
 abbrev pub no_life : Life
 no_life = record { phase = phases.Closed; since = 0; taken = 0; sync = None; user = 0 }
 
--- the life of a peer, which has not begun where it has no flow
+-- the life of a peer, which has not begun if it has no flow
 abbrev pub life_of : Lives → Peer → Life
 life_of lives peer = unwrap_or (lookup (is_peer peer) lives) no_life
 
@@ -38,22 +38,21 @@ rank_of phases.CloseReq = 6
 rank_of phases.Closing = 7
 rank_of phases.TimeWait = 8
 
--- the connection is in this phase, and where it stood there before, since the same time
+-- the connection is in this phase; if it was before, it has been since the same time
 abbrev pub stands_in : ℕ → Phase → Life → Life
 stands_in now phase life = if rank_of life.phase == rank_of phase then life else record life { phase = phase; since = now }
 
--- What an outcome tells of a peer. A packet that was taken is the only sign of life; one that was answered with a Sync
--- is none.
+-- What an outcome says about a peer. A packet that was taken is the only sign of life; one that was answered with a Sync is none.
 abbrev pub signs_in : Outcome → Signs
 signs_in (Took delivered) = record { taken = true; synced = false }
 signs_in (Synced number) = record { taken = false; synced = true }
 signs_in _ = record { taken = false; synced = false }
 
--- what tells nothing of a peer
+-- signs that say nothing about a peer
 abbrev pub no_signs : Signs
 no_signs = record { taken = false; synced = false }
 
--- what a deed tells of its peer
+-- what a deed says about its peer
 abbrev pub signs_of : CallTold → Signs
 signs_of (Stepped (Some (Received outcome))) = signs_in outcome
 signs_of _ = record { taken = false; synced = false }
@@ -66,11 +65,11 @@ lives_on now e signs life =
       sync = if signs.synced then Some e.state.marks.gss else life.sync;
     }
 
--- the life of a peer goes on from this one with its end, and goes with it
+-- the life of a peer goes on from this one with its end, and ends with it
 abbrev pub life_then : ℕ → Lives → Peer → Option FlowEnd → Signs → Life → Lives
 life_then now lives peer end signs life = kept_then lives peer (λ e. lives_on now e signs life) end
 
--- the owner writes a number beside a peer's flow, where it has one
+-- the owner sets a number for a peer's flow, if it has one
 abbrev pub user_written : ℕ → Lives → Peer → Option FlowEnd → Lives
 user_written user lives peer None = lives
 user_written user lives peer (Some e) = kept_then lives peer (λ e. record (life_of lives peer) { user = user }) (Some e)

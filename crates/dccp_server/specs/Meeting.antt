@@ -1,4 +1,4 @@
--- How a server meets a datagram that may need no flow, or bring its own opening back (RFC 4340, section 8.1.4; own).
+-- How a server meets a datagram that may need no flow, or may bring its opening back (RFC 4340, section 8.1.4; own).
 use Rattle.std.specs.Prelude.{◌≡◌, ◌==◌, ◌&&◌, not, nat_le, ℕ, Bool, true, false, List, length, Option, Some, None, is_some, Result, Ok, Err, if◌then◌else◌}
 use Rattle.dccp_options.specs.Grammar.{options_of}
 use Rattle.dccp_packets.specs.Grammar.{Parts, decoded, packet_type}
@@ -45,11 +45,11 @@ use Rattle.dccp_server.specs.declared.rules.Rules.{Rules}
 use Rattle.dccp_server.specs.declared.meeting.CookieUse.{CookieUse}
 use Rattle.dccp_server.specs.declared.meeting.CookieUse.TheVariants.{Always, InACrowd, Never}
 
--- between a peer and the listener (section 5.1)
+-- the route between a peer and the listener (section 5.1)
 abbrev pub route_of : ListenConfig → Peer → Route
 route_of config peer = record { pseudo = V4 peer.address config.own_address; from = peer.port; to = config.own_port }
 
--- the same of a server
+-- the same for a server
 abbrev pub route_to : RuledRoom → Peer → Route
 route_to s peer = route_of s.room.served.listening.config peer
 
@@ -67,7 +67,7 @@ abbrev pub asking_by : ℕ → ℕ → List ℕ → Kind → Number → Datagram
 asking_by now iss area (kind.Request service) (Long number) = asking_this now iss area number service
 asking_by now iss area _ _ = Nothing
 
--- the sum of a packet fits (section 9.1)
+-- the checksum of a packet is right (section 9.1)
 abbrev pub is_summed : Result (Unit {0}) SumFault → Bool
 is_summed (Ok _) = true
 is_summed (Err fault) = false
@@ -82,7 +82,7 @@ asking_read now iss route bytes (Ok p) =
     if travels_by route bytes p.header then asking_by now iss p.options p.header.kind p.header.number else Nothing
 asking_read now iss route bytes (Err fault) = Nothing
 
--- What a datagram asks for that came by this route: a Request whose checksum and ports are right.
+-- What a datagram that came by this route asks for: it has to be a Request whose checksum and ports are right.
 abbrev pub asking_of : ℕ → ℕ → Route → List ℕ → DatagramRequest
 asking_of now iss route bytes = asking_read now iss route bytes (decoded bytes)
 
@@ -112,8 +112,7 @@ returned_by now s peer bytes None = None
 returned_by now s peer bytes (Some keys) =
     if is_unproved (flow_at s peer) then opening_in now keys (route_to s peer) (cookie_read (decoded bytes)) else None
 
--- What a datagram brings back to a server: the opening of a good cookie, where the peer has no flow or one that is half
--- open.
+-- What a datagram brings back to a server: the opening of a valid cookie, if the peer has no flow or one that is half open.
 abbrev pub returned : ℕ → RuledRoom → Peer → List ℕ → Option OpeningState
 returned now s peer bytes = returned_by now s peer bytes s.keys
 
@@ -136,23 +135,23 @@ needs_no_flow now s peer bytes None = is_in_use s.cookies (is_crowded s.room)
 needs_no_flow now s peer bytes (Some e) =
     is_ever_in_use s.cookies && (is_half_open e.state.phase && not (is_to_be_heard now s.rules s.room peer bytes))
 
--- what a Request is, by what it asks for
+-- the kind of a Request, by what it asks for
 abbrev pub entry_by : DatagramRequest → DatagramKind
 entry_by Nothing = entry.Plain
 entry_by TooLong = entry.TooLong
 entry_by (This o) = entry.Asks o
 
--- a datagram that brings nothing back
+-- the kind of a datagram that brings nothing back
 abbrev pub entry_without : ℕ → RuledRoom → Peer → ℕ → List ℕ → DatagramKind
 entry_without now s peer iss bytes =
     if is_some s.keys && needs_no_flow now s peer bytes (flow_at s peer) then entry_by (asking_of now iss (route_to s peer) bytes) else entry.Plain
 
--- or something
+-- the kind of a datagram that may bring an opening back
 abbrev pub entry_or : DatagramKind → Option OpeningState → DatagramKind
 entry_or other None = other
 entry_or other (Some o) = entry.Returns o
 
--- What a datagram is to a server.
+-- The kind of a datagram, as a server meets it.
 abbrev pub entry_met : ℕ → RuledRoom → Peer → ℕ → List ℕ → DatagramKind
 entry_met now s peer iss bytes = entry_or (entry_without now s peer iss bytes) (returned now s peer bytes)
 
@@ -160,12 +159,12 @@ entry_met now s peer iss bytes = entry_or (entry_without now s peer iss bytes) (
 abbrev pub request_at : RuledRoom → Peer → OpeningState → List ℕ
 request_at s peer o = request_bytes (route_to s peer) o
 
--- the keys with this one to write by: the one before it stays good for its cookies
+-- the keys, with this one for new cookies; the one before it stays valid for its cookies
 abbrev pub rekeyed : List ℕ → ℕ → Option CookieKeys → CookieKeys
 rekeyed key now None = record { key = key; before = key; since = now }
 rekeyed key now (Some keys) = record { key = key; before = keys.key; since = now }
 
--- the option that a Response has then
+-- the option with the cookie of an opening
 abbrev pub cookie_at : CookieKeys → RuledRoom → Peer → OpeningState → List ℕ
 cookie_at keys s peer o = spelled false init_cookie (cookie_bytes keys (route_to s peer) o)
 
@@ -179,11 +178,11 @@ abbrev pub cleared_if : ℕ → RuledRoom → Peer → Option FlowEnd → RuledR
 cleared_if now s peer None = s
 cleared_if now s peer (Some e) = record s { room = forgets now s.room peer }
 
--- of a peer
+-- the server without that flow of a peer
 abbrev pub cleared : ℕ → RuledRoom → Peer → RuledRoom
 cleared now s peer = cleared_if now s peer (flow_at s peer)
 
--- half-open flows are over their time at once, beside a peer that has shown where it is
+-- the rules by which half-open flows are over their time at once, for a peer that has proved its address
 abbrev pub hurried : Rules → Rules
 hurried rules = record rules { respond = Some 0; crowded = Some 0 }
 
@@ -195,36 +194,36 @@ going_by rules s = record s { rules = rules }
 abbrev pub hurrying : RuledRoom → RuledRoom
 hurrying s = going_by (hurried s.rules) s
 
--- once a Request has arrived at it in haste, where memory is found
+-- the server once a Request has arrived in that haste, if there is memory
 abbrev pub received_hurrying : ℕ → RuledRoom → Peer → ℕ → List ℕ → RuledRoom
 received_hurrying now s peer iss bytes = going_by s.rules (received_at now (hurrying s) peer iss bytes).server
 
--- where none is found
+-- the same if there is no memory
 abbrev pub unreceived_hurrying : ℕ → RuledRoom → Peer → ℕ → List ℕ → Option Peer → RuledRoom
 unreceived_hurrying now s peer iss bytes evicted = going_by s.rules (unreceived_at now (hurrying s) peer iss bytes evicted)
 
--- The server once the Request of an opening has arrived again, where memory is found: at the time when it was answered,
--- and under the number of its Response.
+-- The server once the Request of an opening has arrived again, if there is memory: as of the time when it was answered, and under the number of
+-- its Response.
 abbrev pub heard_again : ℕ → RuledRoom → Peer → OpeningState → RuledRoom
 heard_again now s peer o = received_hurrying o.time (cleared now s peer) peer o.iss (request_at s peer o)
 
--- the server with this number beside a peer's flow, if it has one
+-- the server with this number of the owner for a peer's flow, if it has one
 abbrev pub user_kept : ℕ → Peer → RuledRoom → RuledRoom
 user_kept user peer s = record s { room = with_user user s.room peer }
 
--- the same, and the number beside a flow that was half open stays
+-- the same, and the owner's number for a flow that was half open stays
 abbrev pub reopened : ℕ → RuledRoom → Peer → OpeningState → RuledRoom
 reopened now s peer o = user_kept (life_of s.room.lives peer).user peer (heard_again now s peer o)
 
--- the same where none is found
+-- the same if there is no memory
 abbrev pub unreopened : ℕ → RuledRoom → Peer → OpeningState → Option Peer → RuledRoom
 unreopened now s peer o made_room = unreceived_hurrying o.time (cleared now s peer) peer o.iss (request_at s peer o) made_room
 
--- whose flow makes room for the one that an opening opens
+-- the peer whose flow makes room for the one that an opening opens
 abbrev pub maker_of : ℕ → RuledRoom → Peer → OpeningState → Option Peer
 maker_of now s peer o = (received_at o.time (hurrying (cleared now s peer)) peer o.iss (request_at s peer o)).evicted
 
--- nobody's flow has made room, and none was ended
+-- no flow has made room, and none was ended
 abbrev pub MovesNobody : Option Peer → Bool → Option Peer → Type 0
 MovesNobody evicted anew made_room = (evicted ≡ None) × (anew ≡ false) × (made_room ≡ None)
 
@@ -243,7 +242,7 @@ IsUnopened now (entry.Returns o) s after peer frame (Ok it) made_room =
 IsUnopened now (entry.Returns o) s after peer frame (Err _) made_room = (after ≡ unreopened now s peer o made_room) × (frame ≡ None)
 IsUnopened now _ s after peer frame told made_room = ⊥
 
--- An opening came back, and its flow stands: the datagram was served then.
+-- An opening came back, and its flow was opened; then the datagram was served.
 abbrev pub IsReopened : ℕ → DatagramKind → RuledRoom → RuledRoom → Peer → ℕ → List ℕ → Option Outgoing → Result (Option Heard) NoMemory → Option Peer → Bool → Option Peer
     → Type 0
 IsReopened now (entry.Returns o) s after peer iss bytes frame told evicted anew made_room =
@@ -263,8 +262,7 @@ IsMet now s after peer iss bytes frame told evicted anew made_room way.Reopened 
 IsMet now s after peer iss bytes frame told evicted anew made_room way.Unopened =
     IsUnopened now (entry_met now s peer iss bytes) s after peer frame told made_room × (evicted ≡ None) × (anew ≡ false)
 
--- Which ways there are to meet an entry: a Request that a fresh end does not take is served as it would be without
--- cookies.
+-- In which ways a datagram of a kind may be met: a Request that a fresh end does not take is served as it would be without cookies.
 abbrev pub may_meet : DatagramKind → Way → Bool
 may_meet entry.Plain way.Plain = true
 may_meet entry.TooLong way.Unanswered = true
@@ -275,8 +273,8 @@ may_meet (entry.Returns o) way.Reopened = true
 may_meet (entry.Returns o) way.Unopened = true
 may_meet _ _ = false
 
--- What is met leaves the listener, and what is kept of its flows, as a list of doings would: what a listener's own owner
--- might have done. The Request of an opening is done as of the time when it was answered.
+-- A datagram that is met leaves the listener, and what is kept of its flows, as a list of deeds would that a listener's owner might have done.
+-- The Request of an opening is done as of the time when it was answered.
 abbrev pub MeetingsAreDeeds : Type 0
 MeetingsAreDeeds =
     (now : ℕ) (s after : RuledRoom) (peer : Peer) (iss : ℕ) (bytes : List ℕ) (frame : Option Outgoing) (told : Result (Option Heard) NoMemory)

@@ -7,7 +7,7 @@ use Rattle.std.specs.Ordering.{is_lt}
 use Rattle.dccp_listener.specs.Peers.{FlowEnd, is_peer, peer_cmp}
 use Rattle.dccp_listener.specs.declared.peer.Peer.{Peer}
 
--- what is kept of a peer is this of its end, and goes with it
+-- what is kept of a peer follows from its end, and is dropped with it
 abbrev pub kept_then : {V : Type 0} → List (Peer × V) → Peer → (FlowEnd → V) → Option FlowEnd → List (Peer × V)
 kept_then kept peer value None = remove_entry (is_peer peer) kept
 kept_then kept peer value (Some e) = insert_entry peer_cmp kept peer (value e)
@@ -27,7 +27,7 @@ abbrev pub peer_after : Peer → List Peer → Option Peer
 peer_after peer [] = None
 peer_after peer (one ∷ rest) = if is_lt (peer_cmp peer one) then Some one else peer_after peer rest
 
--- the peers that a walk names, at most so many: this one, and then the peer after the last
+-- the peers that a walk names, at most this many: this one, and each time the peer after the last
 abbrev pub peers_walked : ℕ → List Peer → Option Peer → List Peer
 peers_walked zero peers here = []
 peers_walked (suc most) peers None = []

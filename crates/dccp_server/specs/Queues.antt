@@ -1,4 +1,4 @@
--- The tickets of peers: in which order what is kept of them wants something (own).
+-- The tickets of peers: the order in which something is due for what is kept of them (own).
 use Rattle.std.specs.Prelude.{◌≡◌, ◌≤◌, ◌<◌, ◌==◌, ℕ, not, List, [], ◌∷◌, Option, Some, None, T, length, if◌then◌else◌}
 use Rattle.std.specs.BTreeMap.{is_at}
 use Rattle.std.specs.BTreeSet.{insert_key}
@@ -20,12 +20,12 @@ ticket_cmp a b = ordering_then (nat_cmp a.class b.class) (ordering_then (nat_cmp
 abbrev pub ticket : ℕ × ℕ → Peer → Ticket
 ticket moment peer = record { class = moment.0; time = moment.1; peer = peer }
 
--- the queue with the ticket of a peer, where it has a moment
+-- the queue with the ticket of a peer, if it has a moment
 abbrev pub queued : Option (ℕ × ℕ) → Peer → List Ticket → List Ticket
 queued None peer queue = queue
 queued (Some moment) peer queue = insert_key ticket_cmp queue (ticket moment peer)
 
--- all tickets but this
+-- all tickets except this one
 abbrev pub without : Ticket → List Ticket → List Ticket
 without it queue = filter (λ other. not (is_at (ticket_cmp it) other)) queue
 
@@ -53,7 +53,7 @@ abbrev pub first_in : ℕ → List Ticket → Option Ticket
 first_in class [] = None
 first_in class (one ∷ rest) = if one.class == class then Some one else first_in class rest
 
--- how many there are of a class
+-- how many tickets of a class there are
 abbrev pub count_in : ℕ → List Ticket → ℕ
 count_in class queue = length (filter (λ it. it.class == class) queue)
 

@@ -1,4 +1,4 @@
--- How a server turns a datagram away that would open a connection, without an end (own; RFC 4340, sections 5.6 and 8.3.1).
+-- How a server turns away, without an end, a datagram that would open a connection (own; RFC 4340, sections 5.6 and 8.3.1).
 use Rattle.std.specs.Prelude.{ℕ, Bool, true, false, List, Option, Some, None, is_some, Result, Ok, Err, if◌then◌else◌}
 use Rattle.dccp_endpoint.specs.Drafts.{sent_of}
 use Rattle.dccp_endpoint.specs.End.{new_end}
@@ -17,7 +17,7 @@ use Rattle.dccp_packets.specs.declared.reading.Malformed.{Malformed}
 use Rattle.dccp_server.specs.Rooms.{RuledRoom}
 use Rattle.dccp_server.specs.Strangers.{answer_spared, frame_if_goes}
 
--- A server that has heard nothing would stay with what the datagram opens.
+-- The end of a server that has received nothing would stay, with the connection that the datagram opens.
 abbrev pub opens_by : Config → List ℕ → Bool
 opens_by config bytes = stays_in (receives (new_end config) bytes).after.phase
 
@@ -40,7 +40,7 @@ refusal_frame code config bytes = if opens_by config bytes then reset_for code c
 abbrev pub service_opened : Config → List ℕ → Option ℕ
 service_opened config bytes = if opens_by config bytes then Some config.service else None
 
--- The Service Code of the flow that a datagram of a peer would open, where the peer has none.
+-- The Service Code of the flow that a datagram of a peer would open, if the peer has none.
 abbrev pub flow_asked : ListenerState → Peer → List ℕ → Option ℕ
 flow_asked l peer bytes = if is_some (end_of_peer l.flows peer) then None else service_opened (config_for l.config peer 0 bytes) bytes
 

@@ -1,5 +1,4 @@
--- A server in its owner's room: a listener with what is kept of its flows and their lives, and what the rules make of it
--- (own; the flows are the listener's).
+-- A room: a listener with what is kept of its flows and their lives, and what the rules do with it (own; the flows are the listener's).
 use Rattle.std.specs.Prelude.{◌≡◌, ◌&&◌, ◌||◌, ℕ, Bool, true, false, not, List, [], ◌∷◌, Option, Some, None, is_some, Result, Ok, Err, if◌then◌else◌}
 use Rattle.std.specs.Map.{keys_of}
 use Rattle.dccp_packets.specs.Outgoing.{Outgoing}
@@ -38,7 +37,7 @@ pub record Room : Type 0 where
   pub served : ServedListener
   pub lives : List (Peer × Life)
 
--- the two of them
+-- the room of these two
 abbrev pub as_room : ServedListener → Lives → Room
 as_room served lives = record { served = served; lives = lives }
 
@@ -51,7 +50,7 @@ pub record IsLiving (r : Room) : Type 0 where
 abbrev pub room_begins : ListenConfig → Pace → Room
 room_begins config pace = as_room (serving_begins config pace) []
 
--- what a deed tells of its peer, as far as it is kept
+-- what a deed says about its peer, as far as it is kept
 abbrev pub signs_by : ListenerState → Peer → Deed → Signs
 signs_by l peer (Arrives iss bytes) = signs_noted bytes (signs_of (listens l peer (Arrives iss bytes)).told)
 signs_by l peer (Calls call) = signs_of (listens l peer (Calls call)).told
@@ -61,18 +60,18 @@ abbrev pub room_then : ℕ → Room → Peer → ServedListener → Signs → Ro
 room_then now r peer after signs =
     as_room after (life_then now r.lives peer (end_of_peer after.listening.flows peer) signs (life_of r.lives peer))
 
--- Something is done with a peer, where memory is found: the listener and what is kept of the flow do it, and its life goes
--- on. A datagram that is only counted is no part of its life.
+-- Something is done with a peer, if there is memory: the listener and what is kept of the flow change by it, and its life goes on. A datagram
+-- that is only counted is no part of its life.
 abbrev pub room_does : ℕ → Room → Peer → PeerDeed → Room
 room_does now r peer (Does deed) = room_then now r peer (served_by now r.served peer (Does deed)) (signs_by r.served.listening peer deed)
 room_does now r peer (Spends bytes) = record r { served = served_by now r.served peer (Spends bytes) }
 room_does now r peer Follows = room_then now r peer (served_by now r.served peer Follows) no_signs
 
--- A peer's flow is forgotten: its end aborts, and where it is in TIMEWAIT that is over. Neither frame is sent.
+-- A peer's flow is forgotten: its end aborts, and if it is in TIMEWAIT, that ends. No frame is sent.
 abbrev pub forgets : ℕ → Room → Peer → Room
 forgets now r peer = room_does now (room_does now r peer (Does (Calls Aborts))) peer (Does (Calls (Fires timers.TimeWait)))
 
--- the owner writes a number beside a peer's flow
+-- the owner sets a number for a peer's flow
 abbrev pub with_user : ℕ → Room → Peer → Room
 with_user user r peer = record r { lives = user_written user r.lives peer (end_of_peer r.served.listening.flows peer) }
 
@@ -80,16 +79,16 @@ with_user user r peer = record r { lives = user_written user r.lives peer (end_o
 abbrev pub is_crowded : Room → Bool
 is_crowded r = is_crowd r.served.listening.config.most r.lives
 
--- who makes room in it
+-- the peer whose flow makes room
 abbrev pub who_leaves : ℕ → Rules → Room → Option Peer
 who_leaves now rules r = makes_way rules (is_crowded r) now r.lives
 
--- the first flow that is given up in it
+-- the peer whose flow is given up first
 abbrev pub who_is_over : ℕ → Rules → Room → Option Peer
 who_is_over now rules r = first_given_up rules (is_crowded r) now r.lives
 
--- What comes of a datagram: the room after it, the frame that is for its peer, what was told, if it was heard, whose flow
--- made room, and whether the peer's old flow was ended.
+-- What comes of a datagram: the room after it, the frame for its peer, its result, if it was heard, the peer whose flow made room, and whether
+-- the peer's old flow was ended.
 pub record RoomStep : Type 0 where
   pub room : Room
   pub frame : Option Outgoing
@@ -113,19 +112,19 @@ abbrev pub room_made : ℕ → Room → Peer → ℕ → List ℕ → Option Pee
 room_made now r peer iss bytes None busy = busy
 room_made now r peer iss bytes (Some leaving) busy = heard_plainly now (forgets now r leaving) peer iss bytes (Some leaving)
 
--- The peer has begun anew: its old flow is forgotten, and the Sync is not sent, so that the peer asks again.
+-- If the peer has connected again, its old flow is forgotten, and the Sync is not sent, so that the peer asks again.
 abbrev pub begun_anew : ℕ → Peer → RoomStep → Bool → RoomStep
 begun_anew now peer plain false = plain
 begun_anew now peer plain true = record plain { room = forgets now plain.room peer; frame = None; anew = true }
 
--- what comes of a datagram that was heard, by what was told
+-- what comes of a datagram that was heard, by its result
 abbrev pub comes_by : ℕ → Rules → Room → Peer → ℕ → List ℕ → RoomStep → CallTold → RoomStep
 comes_by now rules r peer iss bytes plain WasBusy = room_made now plain.room peer iss bytes (who_leaves now rules plain.room) plain
 comes_by now rules r peer iss bytes plain HadNoMemory = plain
 comes_by now rules r peer iss bytes plain (Stepped it) =
     begun_anew now peer plain (begins_anew rules (life_of r.lives peer) bytes (signs_of (Stepped it)))
 
--- What comes of a datagram that is heard, where memory is found.
+-- What comes of a datagram that is heard, if there is memory.
 abbrev pub comes_heard : ℕ → Rules → Room → Peer → ℕ → List ℕ → RoomStep
 comes_heard now rules r peer iss bytes =
     comes_by now rules r peer iss bytes (heard_plainly now r peer iss bytes None) (listens r.served.listening peer (Arrives iss bytes)).told
@@ -134,7 +133,7 @@ comes_heard now rules r peer iss bytes =
 abbrev pub left_out : Room → RoomStep
 left_out r = record { room = r; frame = None; told = None; evicted = None; anew = false }
 
--- the room once a datagram was counted; one that refuses the last Sync is not
+-- the room once a datagram was counted; one that refuses the last Sync is not counted
 abbrev pub counted_room : ℕ → Rules → Room → Peer → List ℕ → Room
 counted_room now rules r peer bytes = if refuses_last_sync rules (life_of r.lives peer) bytes then r else room_does now r peer (Spends bytes)
 
@@ -147,42 +146,42 @@ abbrev pub comes_if : ℕ → Rules → Room → Peer → ℕ → List ℕ → B
 comes_if now rules r peer iss bytes true = comes_heard now rules r peer iss bytes
 comes_if now rules r peer iss bytes false = left_out r
 
--- What comes of a datagram, where memory is found.
+-- What comes of a datagram, if there is memory.
 abbrev pub comes : ℕ → Rules → Room → Peer → ℕ → List ℕ → RoomStep
 comes now rules r peer iss bytes =
     comes_if now rules (counted_room now rules r peer bytes) peer iss bytes (is_to_be_heard now rules r peer bytes)
 
--- where none is found, the room is as it was, or only without the flow that made room
+-- if there is no memory, the room is as it was, or only without the flow that made room
 abbrev pub left_without_memory : ℕ → Room → Peer → ℕ → List ℕ → Option Peer → Room
 left_without_memory now r peer iss bytes None = r
 left_without_memory now r peer iss bytes (Some leaving) = forgets now (room_does now r peer (Does (Arrives iss bytes))) leaving
 
--- how long it is until something is due of a flow or one is given up; 2^64 - 1 where there is no such time
+-- in how many milliseconds something is due at a flow or one is given up; 2^64 - 1 if there is no such time
 abbrev pub room_waits : ℕ → Rules → Room → ℕ
 room_waits now rules r = least_left rules (is_crowded r) now (least_wait now r.served.upkeeps) r.lives
 
--- what is due of a flow: a timer is told, or the first rule that is due is followed
+-- the duty for what is due at a flow: a timer fires, or the first rule that is due is followed
 abbrev pub duty_due : ℕ → ServedListener → Peer → Due → Duty
 duty_due now s peer (due.Timer timer) = Ring peer timer
 duty_due now s peer due.Rules = Follow peer (due_rule (upkeep_at s.pace s.upkeeps peer).path now)
 
--- what there is to do first: what is due is done, or else a flow that is over is given up
+-- the first duty: what is due is done, or else a flow that is over its time is given up
 abbrev pub duty_of : ℕ → ServedListener → Option (Peer × Due) → Option Peer → Option Duty
 duty_of now s (Some it) over = Some (duty_due now s it.0 it.1)
 duty_of now s None (Some peer) = Some (GiveUp peer)
 duty_of now s None None = None
 
--- the same of a room
+-- the same for a room
 abbrev pub duty_in : ℕ → Rules → Room → Option Duty
 duty_in now rules r = duty_of now r.served (first_due_flow now r.served.upkeeps) (who_is_over now rules r)
 
--- whose it is
+-- the peer of a duty
 abbrev pub duty_peer : Duty → Peer
 duty_peer (Ring peer timer) = peer
 duty_peer (Follow peer rule) = peer
 duty_peer (GiveUp peer) = peer
 
--- how it is done: a flow is given up by aborting its end
+-- how a duty is done: a flow is given up by aborting its end
 abbrev pub doing_for : Duty → PeerDeed
 doing_for (Ring peer timer) = Does (Calls (Fires timer))
 doing_for (Follow peer rule) = Follows
@@ -216,8 +215,8 @@ pub record RuledRoom : Type 0 where
 abbrev pub ruled_begins : ListenConfig → Pace → Rules → RuledRoom
 ruled_begins config pace rules = record { room = room_begins config pace; rules = rules; strangers = strangers_begin; cookies = InACrowd; keys = None }
 
--- The listener was busy with a datagram, and is this then, and a frame was left. Who leaves is forgotten, and the
--- datagram heard once more, if memory is found.
+-- The listener was busy when a datagram came, the room is this one, and a frame was left. The flow that leaves is forgotten, and the datagram is
+-- heard once more, if there is memory.
 abbrev pub IsRoomMade : ℕ → Room → Room → Peer → ℕ → List ℕ → Option Peer → Option Outgoing → Option Outgoing → Result Heard NoMemory → Type 0
 IsRoomMade now busy after peer iss bytes None left frame result = (after ≡ busy) × (frame ≡ left) × (result ≡ Ok heard.Busy)
 IsRoomMade now busy after peer iss bytes (Some leaving) left frame (Ok it) =
@@ -226,8 +225,8 @@ IsRoomMade now busy after peer iss bytes (Some leaving) left frame (Ok it) =
     × (told_of (Ok it) ≡ (listens (forgets now busy leaving).served.listening peer (Arrives iss bytes)).told)
 IsRoomMade now busy after peer iss bytes (Some leaving) left frame (Err _) = after ≡ forgets now busy leaving
 
--- The rules were applied to a datagram that was heard in this room, of a peer with this life before it, and that left a
--- frame: where the listener was busy a flow may make way, and else the peer may have begun anew.
+-- The rules were applied to a datagram that was heard in this room, from a peer with this life before it, and that left a frame: if the listener
+-- was busy, a flow may make room; otherwise the peer may have connected again.
 abbrev pub IsJudged : ℕ → Rules → Life → Room → Room → Peer → ℕ → List ℕ → Heard → Option Outgoing → Option Outgoing → Result Heard NoMemory → Option Peer → Bool
     → Type 0
 IsJudged now rules life before after peer iss bytes heard.Busy left frame result evicted anew =
@@ -236,37 +235,37 @@ IsJudged now rules life before after peer iss bytes (heard.Flow outcome) left fr
     (anew ≡ begins_anew rules life bytes (signs_in outcome)) × (after ≡ (if anew then forgets now before peer else before))
     × (frame ≡ (if anew then None else left)) × (evicted ≡ None) × (result ≡ Ok (heard.Flow outcome))
 
--- What hearing a datagram does, by its answer: what comes of it; or no memory was found.
+-- What hearing a datagram does, by its answer: what comes of it, or there was no memory.
 abbrev pub HasHeard : ℕ → Rules → Room → Room → Peer → ℕ → List ℕ → Option Outgoing → Result Heard NoMemory → Option Peer → Bool → Type 0
 HasHeard now rules before after peer iss bytes frame (Ok it) evicted anew =
     record { room = after; frame = frame; told = Some (told_of (Ok it)); evicted = evicted; anew = anew } ≡ comes_heard now rules before peer iss bytes
 HasHeard now rules before after peer iss bytes frame (Err _) evicted anew =
     (after ≡ left_without_memory now before peer iss bytes evicted) × (anew ≡ false)
 
--- what was told of a datagram: nothing where it was left out, or no memory was found
+-- the result of a datagram: nothing if it was left out, or if there was no memory
 abbrev pub told_of_arrival : Result (Option Heard) NoMemory → Option CallTold
 told_of_arrival (Ok None) = None
 told_of_arrival (Ok (Some it)) = Some (told_of (Ok it))
 told_of_arrival (Err _) = None
 
--- what a datagram that was heard comes to as one that might have been left out
+-- the result of a datagram that was heard, as one that might have been ignored
 abbrev pub heard_or_fault : Result Heard NoMemory → Result (Option Heard) NoMemory
 heard_or_fault (Ok it) = Ok (Some it)
 heard_or_fault (Err fault) = Err fault
 
--- the frame that was left, but none where there was no memory
+-- the frame that was left, but none if there was no memory
 abbrev pub unless_fault : Result Heard NoMemory → Option Outgoing → Option Outgoing
 unless_fault (Ok it) left = left
 unless_fault (Err fault) left = None
 
--- What a datagram does that may be left out, by its answer.
+-- What a datagram that may be left out does, by its answer.
 abbrev pub HasArrived : ℕ → Rules → Room → Room → Peer → ℕ → List ℕ → Option Outgoing → Result (Option Heard) NoMemory → Option Peer → Bool → Type 0
 HasArrived now rules before after peer iss bytes frame (Ok it) evicted anew =
     record { room = after; frame = frame; told = told_of_arrival (Ok it); evicted = evicted; anew = anew } ≡ comes now rules before peer iss bytes
 HasArrived now rules before after peer iss bytes frame (Err _) evicted anew =
     (after ≡ left_without_memory now (counted_room now rules before peer bytes) peer iss bytes evicted) × (frame ≡ None) × (anew ≡ false)
 
--- a frame goes to a stranger: its peer has no flow, and had none
+-- a frame goes to a stranger: a peer that has no flow, and had none
 abbrev pub is_to_stranger : Room → Room → Peer → Option Outgoing → Bool
 is_to_stranger before after peer frame =
     not (is_some (end_of_peer before.served.listening.flows peer))
@@ -276,8 +275,8 @@ is_to_stranger before after peer frame =
 abbrev pub reply_spared : ℕ → RuledRoom → Peer → Room → Option Outgoing → Option CallTold → StrangerAnswer
 reply_spared now s peer after left told = spared_if now s.rules s.strangers (is_to_stranger s.room after peer left) told
 
--- What a server makes of a datagram: itself after it, the frame that goes to the peer, what was told, if it was heard,
--- whose flow made room, and whether the peer's old flow was ended.
+-- What a datagram does to a server: the server after it, the frame that goes to the peer, the answer, if it was heard, the peer whose flow made
+-- room, and whether the peer's old flow was ended.
 pub record Reception : Type 0 where
   pub server : RuledRoom
   pub frame : Option Outgoing
@@ -285,7 +284,7 @@ pub record Reception : Type 0 where
   pub evicted : Option Peer
   pub anew : Bool
 
--- the server with this room, and this left of its limits
+-- the server with this room, and with this much left of its limits
 abbrev pub moved_on : RuledRoom → Room → Strangers → RuledRoom
 moved_on s room strangers = record s { room = room; strangers = strangers }
 
@@ -300,11 +299,11 @@ reception_of now s peer coming =
       anew = coming.anew;
     }
 
--- What a server makes of a datagram, where memory is found.
+-- What a datagram does to a server, if there is memory.
 abbrev pub received_at : ℕ → RuledRoom → Peer → ℕ → List ℕ → Reception
 received_at now s peer iss bytes = reception_of now s peer (comes now s.rules s.room peer iss bytes)
 
--- where none is found
+-- the server after it, if there is no memory
 abbrev pub unreceived_at : ℕ → RuledRoom → Peer → ℕ → List ℕ → Option Peer → RuledRoom
 unreceived_at now s peer iss bytes evicted =
     moved_on s (left_without_memory now (counted_room now s.rules s.room peer bytes) peer iss bytes evicted) s.strangers
@@ -316,7 +315,7 @@ IsServed now s after peer iss bytes frame (Ok it) evicted anew =
 IsServed now s after peer iss bytes frame (Err _) evicted anew =
     (after ≡ unreceived_at now s peer iss bytes evicted) × (frame ≡ None) × (anew ≡ false)
 
--- What comes of a datagram, whatever the rules, is done by a list of doings: what a listener's own owner might have done.
+-- Whatever the rules, what comes of a datagram is the effect of a list of deeds that a listener's owner might have done.
 abbrev pub RulesAreDeeds : Type 0
 RulesAreDeeds =
     (now : ℕ) (rules : Rules) (r : Room) (peer : Peer) (iss : ℕ) (bytes : List ℕ)
@@ -326,7 +325,7 @@ RulesAreDeeds =
 abbrev pub LivesChangeNothing : Type 0
 LivesChangeNothing = (r : Room) (all : List TimedDeed) → (does_all r all).served ≡ served_through r.served all
 
--- Whatever was done before, a peer whose flow is forgotten has none.
+-- After any deeds, a peer whose flow is forgotten has none.
 abbrev pub ForgottenHaveNone : Type 0
 ForgottenHaveNone =
     (config : ListenConfig) (pace : Pace) (all : List TimedDeed) (now : ℕ) (peer : Peer) → IsLists config.lists

@@ -1,5 +1,4 @@
--- By which rules a server's owner gives flows up and makes room (own, but where a section of RFC 4340 is named). Times
--- are in milliseconds.
+-- The rules by which a server gives flows up and makes room (own, except where a section of RFC 4340 is named). Times are in milliseconds.
 use Rattle.std.specs.Prelude.{◌==◌, ◌&&◌, ◌-◌, nat_lt, ℕ, Bool, true, false, not, List, length, Option, Some, None, is_some, min, unwrap_or, if◌then◌else◌}
 use Rattle.std.specs.Option.{option_map}
 use Rattle.dccp_listener.specs.declared.peer.Peer.{Peer}
@@ -22,15 +21,14 @@ use Rattle.dccp_uses.specs.Anew.{refuses_sync, sync_refused}
 abbrev pub answers_to_strangers : Limit
 answers_to_strangers = record { per_second = 100; burst = 100 }
 
--- no rule at all: what a listener alone does
+-- no rules: a listener by itself
 abbrev pub no_rules : Rules
 no_rules =
     record { makes_room = false; ends_old_flows = false; respond = None; crowded = None; closing = None; idle = None; answers = None; resets = None }
 
--- The rules by default: RESPOND for four minutes, two lifetimes of a segment (RFC 4340, section 8.1.3), and for ten
--- seconds where it is crowded; CLOSEREQ and CLOSING for 64 seconds, the longest wait between two of their packets
--- (section 8.3); two minutes of silence; a hundred answers a second to strangers, and eight of them Resets without a
--- connection.
+-- The rules by default: RESPOND for four minutes, two maximum segment lifetimes (RFC 4340, section 8.1.3), and for ten seconds in a crowd;
+-- CLOSEREQ and CLOSING for 64 seconds, the longest wait between two of their packets (section 8.3); two minutes of silence; a hundred answers a
+-- second to strangers, and eight of them Resets without a connection.
 abbrev pub usual_rules : Rules
 usual_rules =
     record {
@@ -51,7 +49,7 @@ class_of stage.Live = 1
 class_of stage.Ending = 2
 class_of stage.Lingering = 3
 
--- Since when a flow counts as standing where it does: an open one since it last took a packet.
+-- The stage of a flow, and since when it counts as being in it: for an open one, since it last took a packet.
 abbrev pub since_in : Life → Phase → Option (Stage × ℕ)
 since_in life phases.Respond = Some (stage.HalfOpen, life.since)
 since_in life phases.PartOpen = Some (stage.Live, life.taken)
@@ -65,11 +63,11 @@ since_in life _ = None
 abbrev pub life_moment : Life → Option (ℕ × ℕ)
 life_moment life = option_map (λ it. (class_of it.0, it.1)) (since_in life life.phase)
 
--- all flows by stage, and in each the longest first; of two the first in the order of peers
+-- all flows by stage, in each stage the longest first, and of two the first in the order of peers
 abbrev pub queue_of_lives : Lives → List Ticket
 queue_of_lives lives = queue_of life_moment lives
 
--- the flow that stands longest in a stage
+-- the flow that has been longest in a stage
 abbrev pub longest : Stage → Lives → Option Ticket
 longest it lives = first_in (class_of it) (queue_of_lives lives)
 
@@ -77,24 +75,24 @@ longest it lives = first_in (class_of it) (queue_of_lives lives)
 abbrev pub how_many_half_open : Lives → ℕ
 how_many_half_open lives = count_in (class_of stage.HalfOpen) (queue_of_lives lives)
 
--- There is a crowd, where so many flows may stand: more are half open than places are free. So half-open flows have over
--- half of the places that the others leave.
+-- There is a crowd, if there may be this many flows: more are half open than places are free. So half-open flows have over half of the places
+-- that the others leave.
 abbrev pub is_crowd : ℕ → Lives → Bool
 is_crowd most lives = nat_lt (most - length lives) (how_many_half_open lives)
 
--- for how long a flow may be in a stage, where there is a limit
+-- for how long a flow may be in a stage, if there is a limit
 abbrev pub limit_in : Rules → Bool → Stage → Option ℕ
 limit_in rules crowded stage.HalfOpen = if crowded then rules.crowded else rules.respond
 limit_in rules crowded stage.Live = rules.idle
 limit_in rules crowded stage.Ending = rules.closing
 limit_in rules crowded stage.Lingering = None
 
--- how long it may still stand so, by since when it does; at 0 it is given up
+-- how long a flow may still be in its stage, by since when it has been; at 0 it is given up
 abbrev pub left_since : Rules → Bool → ℕ → Option (Stage × ℕ) → Option ℕ
 left_since rules crowded now None = None
 left_since rules crowded now (Some it) = option_map (λ limit. limit - (now - it.1)) (limit_in rules crowded it.0)
 
--- the same of its life
+-- the same by its life
 abbrev pub life_left : Rules → Bool → ℕ → Life → Option ℕ
 life_left rules crowded now life = left_since rules crowded now (since_in life life.phase)
 
@@ -103,53 +101,53 @@ abbrev pub is_none_left : Option ℕ → Bool
 is_none_left None = false
 is_none_left (Some left) = left == 0
 
--- how long the flow that stands longest in a stage may still stand so
+-- how long the flow that has been longest in a stage may still stay there
 abbrev pub stage_left : Rules → Bool → ℕ → Stage → Option Ticket → Option ℕ
 stage_left rules crowded now it ticket = left_since rules crowded now (option_map (λ t. (it, t.time)) ticket)
 
--- it, where it may no longer
+-- the flow that has been longest in a stage, if it may stay no longer
 abbrev pub over_in : Rules → Bool → ℕ → Stage → Lives → Option Ticket
 over_in rules crowded now it lives = if is_none_left (stage_left rules crowded now it (longest it lives)) then longest it lives else None
 
--- the first that there is
+-- the first ticket, if there is one, otherwise the second
 abbrev pub or_else : Option Ticket → Option Ticket → Option Ticket
 or_else (Some it) other = Some it
 or_else None other = other
 
--- whose ticket it is
+-- the peer of a ticket
 abbrev pub holder : Option Ticket → Option Peer
 holder ticket = option_map (λ t. t.peer) ticket
 
--- Which flow is given up first: of those over their time the longest half open, else the one that has been silent for
--- longest, else the longest in CLOSEREQ or CLOSING.
+-- Which flow is given up first, of those over their time: the longest half open, else the one that has been silent for longest, else the longest
+-- in CLOSEREQ or CLOSING.
 abbrev pub first_given_up : Rules → Bool → ℕ → Lives → Option Peer
 first_given_up rules crowded now lives =
     holder (or_else (over_in rules crowded now stage.HalfOpen lives) (or_else (over_in rules crowded now stage.Live lives) (over_in rules crowded now stage.Ending lives)))
 
--- what is left in a stage, at most so long
+-- how long is left in a stage, at most this long
 abbrev pub least_in : Rules → Bool → ℕ → Lives → Stage → ℕ → ℕ
 least_in rules crowded now lives it least = min least (unwrap_or (stage_left rules crowded now it (longest it lives)) least)
 
--- how long it is until the first flow is given up, at most so long
+-- in how many milliseconds the first flow is given up, at most this many
 abbrev pub least_left : Rules → Bool → ℕ → ℕ → Lives → ℕ
 least_left rules crowded now least lives =
     least_in rules crowded now lives stage.Ending (least_in rules crowded now lives stage.Live (least_in rules crowded now lives stage.HalfOpen least))
 
--- Who makes room: the flow longest in TIMEWAIT, else the one longest in RESPOND over its time.
+-- Which flow makes room: the longest in TIMEWAIT, else the longest in RESPOND, if it is over its time.
 abbrev pub makes_way : Rules → Bool → ℕ → Lives → Option Peer
 makes_way rules crowded now lives =
     if rules.makes_room then holder (or_else (longest stage.Lingering lives) (over_in rules crowded now stage.HalfOpen lives)) else None
 
--- The datagram is the Reset with which a client in REQUEST refuses the very Sync that its old flow sent last. Nobody who
--- does not see the flow's packets knows that number.
+-- The datagram is the Reset with which a client in REQUEST refuses the last Sync of its old flow. Only someone who sees the flow's packets knows
+-- its number.
 abbrev pub refuses_last_sync : Rules → Life → List ℕ → Bool
 refuses_last_sync rules life bytes = rules.ends_old_flows && refuses_sync life.sync bytes
 
--- The peer has begun anew: it was heard, and answered with a Sync.
+-- The peer has connected again: the datagram was heard, and answered with a Sync.
 abbrev pub begins_anew : Rules → Life → List ℕ → Signs → Bool
 begins_anew rules life bytes signs = signs.synced && refuses_last_sync rules life bytes
 
--- What a datagram tells of its peer, as far as it is kept: a Sync that answers such a Reset is not noted, so that two
--- exchanges at one time do not hide each other's numbers.
+-- What a datagram says about its peer, as far as it is kept: a Sync that answers such a Reset is not noted, so that two exchanges at one time do
+-- not hide each other's numbers.
 abbrev pub signs_noted : List ℕ → Signs → Signs
 signs_noted bytes signs = record signs { synced = signs.synced && not (is_some (sync_refused (decoded bytes))) }

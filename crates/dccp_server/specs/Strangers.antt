@@ -19,17 +19,17 @@ use Rattle.dccp_server.specs.declared.strangers.Strangers.{Strangers}
 abbrev pub strangers_begin : Strangers
 strangers_begin = record { answers = full answers_to_strangers 0; resets = full resets_to_strangers 0 }
 
--- a token is taken, or none is wanted where there is no limit
+-- a token is taken; without a limit none is needed
 abbrev pub taken_if : Option Limit → Bucket → ℕ → TokenGrant
 taken_if None bucket now = record { granted = true; bucket = bucket }
 taken_if (Some limit) bucket now = token_taken limit bucket now
 
--- what was told is a Reset to a packet that belongs to no connection (RFC 4340, section 5.6: No Connection)
+-- the answer is a Reset to a packet that belongs to no connection (RFC 4340, section 5.6: No Connection)
 abbrev pub is_no_connection : Option CallTold → Bool
 is_no_connection (Some (Stepped (Some (Received (SentReset code detail))))) = code == number_of_code codes.NoConnection
 is_no_connection _ = false
 
--- with what is left of the limit on all answers
+-- the answer, with what is left of the limit of all answers
 abbrev pub answers_spared : Strangers → TokenGrant → StrangerAnswer
 answers_spared it taking = record { goes = taking.granted; strangers = record it { answers = taking.bucket } }
 
@@ -37,18 +37,18 @@ answers_spared it taking = record { goes = taking.granted; strangers = record it
 abbrev pub answer_spared : ℕ → Rules → Strangers → StrangerAnswer
 answer_spared now rules it = answers_spared it (taken_if rules.answers it.answers now)
 
--- a Reset without a connection takes one of its own first, and where there is none does not go out
+-- a Reset without a connection takes another one first, and does not go out if there is none
 abbrev pub reset_spared : ℕ → Rules → Strangers → TokenGrant → StrangerAnswer
 reset_spared now rules it taking =
     if taking.granted then answer_spared now rules (record it { resets = taking.bucket })
     else record { goes = false; strangers = record it { resets = taking.bucket } }
 
--- whether an answer to a stranger goes out, by what was told
+-- whether an answer to a stranger goes out, by what it is
 abbrev pub spared : ℕ → Rules → Strangers → Bool → StrangerAnswer
 spared now rules it true = reset_spared now rules it (taken_if rules.resets it.resets now)
 spared now rules it false = answer_spared now rules it
 
--- whether a frame goes out, and what is left of the limits: those to peers with a flow do
+-- whether a frame goes out, and what is left of the limits; one to a peer with a flow always goes out
 abbrev pub spared_if : ℕ → Rules → Strangers → Bool → Option CallTold → StrangerAnswer
 spared_if now rules it true told = spared now rules it (is_no_connection told)
 spared_if now rules it false told = record { goes = true; strangers = it }

@@ -16,12 +16,12 @@ use Rattle.dccp_server.specs.Upkeeps.{arrived_so, call_for_rule, next_upkeep, ti
 use Rattle.dccp_server.specs.declared.happening.FlowHappening.TheVariants as happening
 use Rattle.dccp_server.specs.declared.upkeep.Upkeep.{Upkeep}
 
--- an end after a call that there may be
+-- an end after a call, if there is one
 abbrev pub flow_after : FlowEnd → Option FlowCall → FlowEnd
 flow_after e None = e
 flow_after e (Some call) = (flow_step e (Calls call)).after
 
--- Whatever is kept, whatever the time: a datagram that is heard, a timer that is told, and a rule that is followed.
+-- With anything kept, and at any time, this holds for a datagram that is heard, a timer that fires, and a rule that is followed.
 pub record KeepsAsTimedEnds (now : ℕ) (pace : Pace) (e : FlowEnd) (u : Upkeep) : Type 0 where
   pub hears : (bytes : List ℕ)
       → next_upkeep now pace u
@@ -36,6 +36,6 @@ pub record KeepsAsTimedEnds (now : ℕ) (pace : Pace) (e : FlowEnd) (u : Upkeep)
       ≡ upkeep_of (tells_rules kinds_control now (timed_flow e u)).timed
   pub same_ends : flow_after e (call_for_rule (due_rule u.path now) u.path.aim (Some e)) ≡ (tells_rules kinds_control now (timed_flow e u)).timed.end
 
--- of each flow
+-- the same for each flow
 abbrev pub FlowsAreTimedEnds : Type 0
 FlowsAreTimedEnds = (now : ℕ) (pace : Pace) (e : FlowEnd) (u : Upkeep) → KeepsAsTimedEnds now pace e u

@@ -1,5 +1,5 @@
--- What an owner keeps of a flow's end for its sake: its timers, and what is known of its path (own; the end is RFC
--- 4340's). Both go on as those of an end with its timers do.
+-- What an owner keeps for a flow's end: its timers, and what is known of its path (own; the end is that of RFC 4340). Both go on as those of an
+-- end with its timers do.
 use Rattle.std.specs.Prelude.{◌^◌, ◌+◌, ◌==◌, nat_lt, min, ℕ, Bool, true, false, List, [], ◌∷◌, Option, Some, None, if◌then◌else◌}
 use Rattle.std.specs.Option.{option_map}
 use Rattle.ccid_two.specs.Kinds.{Both, kinds_control}
@@ -35,7 +35,7 @@ use Rattle.dccp_server.specs.declared.upkeep.Upkeep.{Upkeep}
 abbrev pub timed_flow : FlowEnd → Upkeep → TimedState Both
 timed_flow e u = record { end = e; alarms = u.alarms; path = u.path }
 
--- what is kept of one beside its end
+-- what is kept of such an end besides the end
 abbrev pub upkeep_of : TimedState Both → Upkeep
 upkeep_of s = record { alarms = s.alarms; path = s.path }
 
@@ -43,7 +43,7 @@ upkeep_of s = record { alarms = s.alarms; path = s.path }
 abbrev pub upkeep_begins : Pace → Upkeep
 upkeep_begins pace = record { alarms = no_alarms; path = path_begins pace }
 
--- the timers and the rules go on for an end of which this is to be seen, from these alarms and this path on
+-- the timers and the rules go on for an end of which the rules see this, from these alarms and this path on
 abbrev pub kept_seen : ℕ → ℕ → Alarms → Path → Sight → Upkeep
 kept_seen now least alarms path sight =
     record {
@@ -51,7 +51,7 @@ kept_seen now least alarms path sight =
       path = arranged_path path (starting_wait_by (path_waits path) alarms timers.Rto) sight least now;
     }
 
--- for this end
+-- the same for this end
 abbrev pub kept_on : ℕ → ℕ → Alarms → Path → FlowEnd → Upkeep
 kept_on now least alarms path e = upkeep_of (timers_go_on kinds_control now least alarms path e)
 
@@ -64,7 +64,7 @@ abbrev pub kept_with_path : ℕ → Upkeep → HeardDatagram → Path → FlowEn
 kept_with_path now u it path e =
     kept_on now 0 (alarms_heard (path_waits path) u.path u.alarms it.was (sight_of kinds_control e) it.delivered it.silent now) path e
 
--- by what there was to see of the end before, and is now
+-- the same by what the rules saw of the end before and after
 abbrev pub kept_heard : ℕ → Upkeep → HeardDatagram → FlowEnd → Upkeep
 kept_heard now u it e = kept_with_path now u it (path_heard u.path it.was (sight_of kinds_control e) it.taken now) e
 
@@ -72,25 +72,25 @@ kept_heard now u it e = kept_with_path now u it (path_heard u.path it.was (sight
 abbrev pub kept_sent : ℕ → Upkeep → FlowEnd → Upkeep
 kept_sent now u e = kept_on now 0 u.alarms (path_sent kinds_control u.path e now) e
 
--- a timer was told
+-- a timer has fired
 abbrev pub kept_rung : ℕ → Upkeep → Timer → FlowEnd → Upkeep
 kept_rung now u timer e =
     kept_on now 0 (rung_by (path_waits u.path) u.alarms timer now) (told_timer u.path timer (sight_of kinds_control e) now) e
 
--- it began to close: its peer's answer is waited for anew
+-- it began to close: the wait for its peer's answer starts
 abbrev pub kept_closed : ℕ → Upkeep → FlowEnd → Upkeep
 kept_closed now u e = kept_on now 0 u.alarms (record u.path { give_up = None }) e
 
--- it took a wish: the timer negotiate starts anew
+-- it took a wish: the timer negotiate starts again
 abbrev pub kept_preferred : ℕ → Upkeep → FlowEnd → Upkeep
 kept_preferred now u e = kept_on now 0 (record u.alarms { negotiate = None }) u.path e
 
--- a rule had it do something; none is due again in the same millisecond
+-- a rule made it do something; none is due again in the same millisecond
 abbrev pub kept_ruled : ℕ → Upkeep → Rule → FlowEnd → Upkeep
 kept_ruled now u rule e =
     kept_on now 1 (alarms_by_rule (path_waits u.path) u.alarms rule now) (path_by_rule u.path rule (sight_of kinds_control e) now) e
 
--- What is kept once something happened to a flow: its end is this then. A refused call changes nothing.
+-- What is kept once something happened to a flow, whose end is then this one. A refused call changes nothing.
 abbrev pub next_upkeep : ℕ → Pace → Upkeep → FlowHappening → FlowEnd → Upkeep
 next_upkeep now pace u happening.Opened e = kept_opened now pace e
 next_upkeep now pace u (happening.Heard it) e = kept_heard now u it e
@@ -112,7 +112,7 @@ abbrev pub tells_data : CallTold → Bool
 tells_data (Stepped (Some (Received outcome))) = is_delivery outcome
 tells_data _ = false
 
--- what there is to see of an end, if there is one
+-- what the rules see of an end, if there is one
 abbrev pub sight_if : Option FlowEnd → Option Sight
 sight_if None = None
 sight_if (Some e) = Some (sight_of kinds_control e)
@@ -138,8 +138,8 @@ abbrev pub called_so : FlowCall → Bool → FlowHappening
 called_so call true = happening.Refused
 called_so call false = call_happening call
 
--- What a rule of its path has a flow's end do, where this Ack Ratio is held and that one wanted: a question asks for the
--- one that is held.
+-- The call that a rule of its path makes of a flow's end, by its present Ack Ratio and the one that is wanted: a question asks for the present
+-- one.
 abbrev pub rule_call : Rule → ℕ → ℕ → Option FlowCall
 rule_call rules.Nothing held aim = None
 rule_call rules.GiveUp held aim = Some Aborts
@@ -153,26 +153,26 @@ abbrev pub ratio_held : Option FlowEnd → Option ℕ
 ratio_held None = None
 ratio_held (Some e) = Some (held_of e.state AckRatio Here).value
 
--- by the rule, where one is held
+-- the same, if there is an Ack Ratio
 abbrev pub call_if_held : Rule → ℕ → Option ℕ → Option FlowCall
 call_if_held rule aim None = None
 call_if_held rule aim (Some held) = rule_call rule held aim
 
--- what a rule has an end do, if there is one
+-- the call that a rule makes of an end, if there is one
 abbrev pub call_for_rule : Rule → ℕ → Option FlowEnd → Option FlowCall
 call_for_rule rule aim found = call_if_held rule aim (ratio_held found)
 
--- the alarm of what may be due of a flow
+-- the alarm of what may be due at a flow
 abbrev pub kept_alarm : Upkeep → Due → Option Alarm
 kept_alarm u (due.Timer timer) = alarm_of u.alarms timer
 kept_alarm u due.Rules = u.path.rules
 
--- of several the first that is due
+-- the first of these that is due
 abbrev pub first_due : Upkeep → ℕ → List Due → Option Due
 first_due u now [] = None
 first_due u now (it ∷ rest) = if has_run_out (kept_alarm u it) now then Some it else first_due u now rest
 
--- a time as far as a clock of 64 bits comes
+-- a time, if it is within a clock of 64 bits
 abbrev pub on_clock : ℕ → Option ℕ
 on_clock time = if nat_lt time (2 ^ 64) then Some time else None
 
@@ -187,11 +187,11 @@ earlier None other = other
 earlier (Some time) None = Some time
 earlier (Some time) (Some other) = Some (min time other)
 
--- of several the time at which the first is due
+-- the time at which the first of these is due
 abbrev pub first_end : Upkeep → List Due → Option ℕ
 first_end u [] = None
 first_end u (it ∷ rest) = earlier (alarm_end (kept_alarm u it)) (first_end u rest)
 
--- the moment at which something is first due of a flow; there is one class
+-- the moment at which something is first due at a flow; there is one class
 abbrev pub upkeep_moment : Upkeep → Option (ℕ × ℕ)
 upkeep_moment u = option_map (λ time. (0, time)) (first_end u every_due)

@@ -1,4 +1,4 @@
-//! What a datagram asks for, and what it brings back.
+//! What a datagram asks for, and which opening it brings back.
 ghost use Rattle.std.specs.Prelude.{◌≡◌, ◌≤◌, Ok, length};
 ghost use Rattle.dccp_packets.specs.Grammar.{decoded};
 ghost use Rattle.dccp_sum.specs.Checksum.{checked};
@@ -17,13 +17,13 @@ use init_cookies::{CookieKeys, FirstRequest, Route, first_cookie};
 pub enum DatagramRequest {
     /// No connection.
     Nothing,
-    /// A connection, by options that are too long for a cookie.
+    /// A connection, with options that are too long for a cookie.
     TooLong,
     /// This connection.
     This(FirstRequest),
 }
 
-/// Between a peer and the listener.
+/// The route between a peer and the listener.
 pub(crate) fn route_of(config: &ListenConfig, peer: Peer) -> Route
     ensures { result ≡ route_of config.now peer }
 {
@@ -103,7 +103,8 @@ fn travels_by(route: &Route, bytes: &[u8], header: &Header) -> bool
     is_summed(route, bytes) && (header.from == route.from && header.to == route.to)
 }
 
-/// What a datagram of at most 2,044 bytes asks for that came by this route, and would be answered now under this number.
+/// What a datagram of at most 2,044 bytes asks for, if it came by this route and would be answered now under this
+/// number.
 pub fn asking_of(now: u64, iss: Seq48, route: &Route, bytes: &[u8]) -> DatagramRequest
     requires { length bytes.now ≤ 2044 }
     ensures { result ≡ asking_of now iss route.now bytes.now }
@@ -135,7 +136,7 @@ fn opening_in(
     keys.read(route, body, now)
 }
 
-/// What the Init Cookie of a datagram of at most 2,044 bytes opens that came by this route, if it has one.
+/// What the Init Cookie of a datagram of at most 2,044 bytes opens, if it has one and came by this route.
 pub fn opening_of(now: u64, keys: &CookieKeys, route: &Route, bytes: &[u8]) -> Option<FirstRequest>
     requires { length bytes.now ≤ 2044 }
     ensures { result ≡ opening_in now keys.now route.now (cookie_read (decoded bytes.now)) }

@@ -1,16 +1,16 @@
-//! What there is to do as time goes by.
+//! What has to be done as time goes by.
 use dccp_endpoint::Timer;
 use dccp_listener::Peer;
 use dccp_uses::Rule;
 
-/// What there is to do as time goes by (own).
+/// What has to be done as time goes by (own).
 #[derive(Clone, Copy, Debug, PartialEq, Eq)]
 pub enum Duty {
-    /// A timer of the peer's end has run out, and is told.
+    /// A timer of the peer's end has run out, and fires.
     Ring(Peer, Timer),
-    /// A rule of the peer's path has its end do something.
+    /// A rule of the peer's path makes its end do something.
     Follow(Peer, Rule),
-    /// The peer's flow has stood or been silent for too long, and is given up: its end aborts.
+    /// The peer's flow has been in its phase or silent for too long, and is given up: its end aborts.
     GiveUp(Peer),
 }
 
@@ -18,7 +18,7 @@ impl Duty {
     ghost use Rattle.std.specs.Prelude.{◌≡◌};
     ghost use Rattle.dccp_server.specs.Rooms.{duty_peer};
 
-    /// Whose it is.
+    /// The peer of the duty.
     pub fn peer(self) -> Peer
         ensures { result ≡ duty_peer self }
     {

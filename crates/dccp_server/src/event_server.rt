@@ -28,7 +28,7 @@ fn flow_state(server: &Server, peer: Peer) -> Option<FlowState>
     }
 }
 
-// As of when a datagram opens a flow, if it opens one.
+// The time as of which a datagram opens a flow, if it opens one.
 fn time_of_opening(now: u64, opening: &Option<FirstRequest>) -> u64
     ensures { result ≡ time_of_opening now opening.now }
 {
@@ -38,7 +38,7 @@ fn time_of_opening(now: u64, opening: &Option<FirstRequest>) -> u64
     }
 }
 
-// By which rules room is made for it.
+// The rules by which room is made for it.
 fn rules_of_opening(rules: Rules, opening: &Option<FirstRequest>) -> Rules
     ensures { result ≡ rules_of_opening rules opening.now }
 {
@@ -48,7 +48,7 @@ fn rules_of_opening(rules: Rules, opening: &Option<FirstRequest>) -> Rules
     }
 }
 
-// The life of the flow that would make room for one more of this peer, where all places are taken.
+// The life of the flow that would make room for one more of this peer, if all places are taken.
 fn leaver_life(server: &Server, peer: Peer, bytes: &[u8], now: u64) -> Option<Life>
     requires { length bytes.now ≤ 2044 }
     ensures { result ≡ leaver_life now server.now peer bytes.now }
@@ -64,7 +64,7 @@ fn leaver_life(server: &Server, peer: Peer, bytes: &[u8], now: u64) -> Option<Li
     }
 }
 
-// Whose flow has made room.
+// The peer whose flow has made room.
 fn room_maker(made_room: Option<Peer>, evicted: Option<Peer>) -> Option<Peer>
     ensures { result ≡ room_maker made_room evicted }
 {
@@ -74,7 +74,7 @@ fn room_maker(made_room: Option<Peer>, evicted: Option<Peer>) -> Option<Peer>
     }
 }
 
-// Whether the flow that the peer had was ended, since the peer has begun anew.
+// Whether the flow that the peer had was ended, since the peer has connected again.
 fn ends_old(anew: bool, way: Way) -> bool
     ensures { result ≡ ends_old anew way }
 {
@@ -84,7 +84,7 @@ fn ends_old(anew: bool, way: Way) -> bool
     }
 }
 
-// What is told of a flow that has made room, by its life before.
+// The event of a flow that has made room, by its life before.
 fn evicted_event(life: Option<Life>, evicted: Option<Peer>) -> Option<FlowEvent>
     ensures { result ≡ evicted_event life evicted }
 {
@@ -102,7 +102,7 @@ fn evicted_event(life: Option<Life>, evicted: Option<Peer>) -> Option<FlowEvent>
 pub struct NoNewFlows;
 
 /// A [`Server`] that lists what its calls have done to its flows (own). The calls are those of the server. After each,
-/// ask `next_event` until it has nothing more: events that were not taken before the next call are lost.
+/// call `next_event` until it returns None: events that are not taken before the next call are lost.
 #[derive(Drop)]
 pub struct EventServer {
     server: Server,
@@ -154,7 +154,8 @@ impl EventServer {
         &self.server
     }
 
-    /// What is kept of a peer's flow is at hand from now on: calls about the same peer are faster, and do the same.
+    /// Keeps what is known of a peer's flow at hand from now on: calls about the same peer are faster, and have the
+    /// same results.
     pub fn seek(&mut self, peer: Peer)
         ensures { self.new ≡ self.old }
     {
@@ -171,9 +172,9 @@ impl EventServer {
         next
     }
 
-    /// `Server::meet`, of which the owner is told. NoNewFlows comes exactly where no new flow is taken and the datagram would open
-    /// one: it is refused by a Reset with the code Connection Refused (RFC 4340, section 5.6). Where no new flow is taken no
-    /// cookie is given, and none opens a flow.
+    /// `Server::meet`, with its events. NoNewFlows comes exactly if no new flow is taken and the datagram would open
+    /// one: it is refused by a Reset with the code Connection Refused (RFC 4340, section 5.6). While no new flow is
+    /// taken, no cookie is given, and none opens a flow.
     pub fn arrive(
         &mut self,
         peer: Peer,
@@ -198,7 +199,7 @@ impl EventServer {
         Ok(self.hear(peer, iss, bytes, now, out))
     }
 
-    // The same where it is not refused.
+    // The same if it is not refused.
     fn hear(&mut self, peer: Peer, iss: Seq48, bytes: &[u8], now: u64, out: &mut Outbox) -> Meeting
         requires { length bytes.now ≤ 2044 }
         ensures met { IsMet now self.old.server self.new.server peer iss bytes.now out.new result.arrival.heard result.arrival.evicted result.arrival.anew result.made_room result.way }
@@ -221,7 +222,7 @@ impl EventServer {
         meeting
     }
 
-    // It is met, or where no new flow is taken served without cookies.
+    // The datagram is met, or served without cookies if no new flow is taken.
     fn meet(&mut self, peer: Peer, iss: Seq48, bytes: &[u8], now: u64, out: &mut Outbox) -> Meeting
         requires { length bytes.now ≤ 2044 }
         ensures met { IsMet now self.old.server self.new.server peer iss bytes.now out.new result.arrival.heard result.arrival.evicted result.arrival.anew result.made_room result.way }
@@ -246,14 +247,14 @@ impl EventServer {
         self.server.refuse(peer, bytes, code, now, out)
     }
 
-    /// Takes no new flows from now on, or takes them again. Those that stand go on.
+    /// Takes no new flows from now on, or takes them again. Present flows go on.
     pub fn set_shut(&mut self, is_shut: bool)
         ensures { self.new ≡ record self.old { is_shut = is_shut } }
     {
         self.is_shut = is_shut;
     }
 
-    /// `Server::ask`, of which the owner is told: a call that ends a connection is an abort of his.
+    /// `Server::ask`, with its events: a call that ends a connection counts as the owner's abort.
     pub fn ask(
         &mut self,
         peer: Peer,
@@ -271,7 +272,7 @@ impl EventServer {
         answer
     }
 
-    // The owner is told of a peer's flow, of which he saw this before.
+    // Lists the events of a peer's flow, of which the owner saw `was` before.
     fn tell(&mut self, peer: Peer, was: Option<FlowState>, ending: EndReason)
         ensures { self.new ≡ record self.old { events = events_between peer was (flow_state self.old.server.room peer) None ending None } }
     {
@@ -279,7 +280,7 @@ impl EventServer {
         self.events = events_between(peer, was, is, None, ending, None);
     }
 
-    /// `Server::forget`, of which the owner is told.
+    /// `Server::forget`, with its events.
     pub fn forget(&mut self, peer: Peer, now: u64, out: &mut Outbox)
         ensures after { self.new ≡ called_on self.old (record self.old.server { room = forgets now self.old.server.room peer }) peer (silent_end causes.Own) }
         ensures sent { out.new ≡ None }
@@ -289,7 +290,7 @@ impl EventServer {
         self.tell(peer, was, silent_end(EndCause::Own));
     }
 
-    // What is kept of the flow of which there is something to do is at hand.
+    // Keeps the flow of a duty at hand.
     fn seek_due(&mut self, duty: Option<Duty>)
         ensures { self.new ≡ self.old }
     {
@@ -298,7 +299,7 @@ impl EventServer {
         }
     }
 
-    // What the owner sees of the flow of which there is something to do.
+    // What the owner sees of the flow of a duty.
     fn due_state(&self, duty: Option<Duty>) -> Option<FlowState>
         ensures { result ≡ due_state self.now.server.room duty }
     {
@@ -308,7 +309,7 @@ impl EventServer {
         }
     }
 
-    // The owner is told of what was done.
+    // Lists the events of a duty that was done.
     fn tell_duty(&mut self, duty: Option<Duty>, was: Option<FlowState>)
         ensures { self.new ≡ record self.old { events = told_of_duty was self.old.server.room duty } }
     {
@@ -318,7 +319,7 @@ impl EventServer {
         }
     }
 
-    /// `Server::tick`, of which the owner is told: a connection that it ends is given up.
+    /// `Server::tick`, with its events: a connection that it ends was given up.
     pub fn tick(&mut self, now: u64, out: &mut Outbox) -> Option<Duty>
         ensures duty { result ≡ duty_in now self.old.server.rules self.old.server.room }
         ensures after { self.new ≡ ticked_on self.old (record self.old.server { room = duty_done now self.old.server.room result }) result }

@@ -24,7 +24,7 @@ fn put_end(address: [u8; 4], port: u16, out: &mut Ends)
     let _ = out.try_extend_from_slice(&bytes);
 }
 
-// What the first number of a connection between these ends is drawn from, beside the key.
+// The text from which the first number of a connection between these ends is drawn, besides the key.
 fn named_ends(own_address: [u8; 4], own_port: u16, peer: Peer) -> Ends
     ensures { result.items ≡ named_ends own_address own_port peer }
 {

@@ -29,8 +29,8 @@ pub struct FlowDrop {
     pub code: u8,
 }
 
-/// The last 2,048 packets that the peers of a listener have reported as dropped, and why: what `DropRecord` of dccp_uses is
-/// to an end of its own (RFC 4340, section 11.7; own). It takes its memory when it is made. Contracts see the list of its
+/// The last 2,048 packets that the peers of a listener have reported as dropped, and why. It is what `DropRecord` of
+/// dccp_uses is for a single end (RFC 4340, section 11.7; own). Only `new` takes memory. Contracts see the list of its
 /// drops, the oldest first.
 #[derive(Drop)]
 pub struct FlowDropRecord {
@@ -51,7 +51,7 @@ impl Model for FlowDropRecord {
 impl FlowDropRecord {
     ghost use Rattle.std.specs.Prelude.{◌≡◌, [], IfOk};
 
-    /// A record of nothing. NoMemory where no block for 2,048 drops is to be had.
+    /// An empty record. NoMemory if there is no block for 2,048 drops.
     pub fn new(alloc: Global) -> Result<FlowDropRecord, NoMemory>
         ensures { IfOk result (λ it. it ≡ []) }
     {
@@ -61,14 +61,14 @@ impl FlowDropRecord {
         Ok(FlowDropRecord { drops })
     }
 
-    // One drop more, which may drive the oldest out.
+    // Adds one more drop, which may replace the oldest.
     fn note(&mut self, peer: Peer, number: Seq48, code: u8)
         ensures { self.new ≡ flow_recorded peer number code self.old }
     {
         self.drops.push_back(FlowDrop { peer, number, code });
     }
 
-    // The drops that a report is the first to tell.
+    // The drops that a report is the first to name.
     fn note_report(
         &mut self,
         peer: Peer,
@@ -90,7 +90,7 @@ impl FlowDropRecord {
         }
     }
 
-    // The drops that a datagram is the first to tell, which reports from this number downwards.
+    // The drops that a datagram, which reports from this number downwards, is the first to name.
     fn note_datagram(&mut self, peer: Peer, counted: Option<Seq48>, ack: Seq48, datagram: &[u8])
         ensures { self.new ≡ packet_recorded (flow_recorded peer) counted ack (decoded datagram.now) self.old }
     {
@@ -103,8 +103,8 @@ impl FlowDropRecord {
         }
     }
 
-    /// A peer's flow has heard this datagram: `before` and `after` are what was known of its reader before that and is now
-    /// (`Path::reader` of its `Upkeep`).
+    /// A peer's flow has heard this datagram. `before` and `after` are what was known of its reader before and after
+    /// that (`Path::reader` of its `Upkeep`).
     #[tactic(auto, using(dccp_uses::proofs::Numbering::nothing_new))]
     pub fn heard(&mut self, peer: Peer, before: &Reader, after: &Reader, datagram: &[u8])
         ensures { self.new ≡ flow_record_after peer before.now.counted after.now.counted datagram.now self.old }
@@ -118,8 +118,8 @@ impl FlowDropRecord {
         self.note_datagram(peer, before.counted, ack, datagram);
     }
 
-    /// The Drop Code of the packet to a peer with this number, 0 to 7 (RFC 4340, section 11.7), or None where none is
-    /// recorded. The cost is that of the record.
+    /// The Drop Code of the packet to a peer with this number, 0 to 7 (RFC 4340, section 11.7), or None if none is
+    /// recorded. It looks through the whole record.
     pub fn code(&self, peer: Peer, number: Seq48) -> Option<u8>
         ensures { result ≡ flow_drop_code self.now peer number }
     {
@@ -127,7 +127,7 @@ impl FlowDropRecord {
     }
 }
 
-// The code of the peer's number, where it is that of this drop, or else the one found before.
+// The code of this drop, if it is of the peer's number, otherwise the one found before.
 fn found_in(found: Option<u8>, drop: &FlowDrop, peer: Peer, number: Seq48) -> Option<u8>
     ensures { result ≡ (if is_peer peer drop.now.peer && drop.now.number == number then Some drop.now.code else found) }
 {

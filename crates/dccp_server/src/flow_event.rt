@@ -17,13 +17,13 @@ pub enum EndCause {
     Peer,
     /// The owner has closed, aborted or forgotten it.
     Own,
-    /// The peer was silent, or did not go on with the handshake or the closing, for as long as the rules let it.
+    /// The peer was silent, or did not continue the handshake or the closing, for longer than the rules allow.
     Silent,
     /// It made room for another.
     Evicted,
-    /// The end has answered a fault of the peer's with a Reset.
+    /// The end has answered a fault of the peer with a Reset.
     Fault,
-    /// The peer has begun anew from its port.
+    /// The peer has connected again from its port.
     Anew,
 }
 
@@ -41,15 +41,15 @@ pub struct EndReason {
 pub enum EventKind {
     /// The handshake is complete: the peer has shown that it hears the answers.
     Opened,
-    /// Data came: in the datagram from the place `first` up to the place `past`.
+    /// Data came: they are in the datagram from the place `first` up to the place `past`.
     Data { first: usize, past: usize },
     /// Data came, and wait in the flow's inbox (`FlowInboxes`).
     Waits,
-    /// Data came that the flow's inbox dropped, for the reason of this Drop Code (RFC 4340, section 11.7): 1, they are
-    /// wanted no more; 2, the inbox is full.
+    /// Data came that the flow's inbox dropped, for the reason of this Drop Code (RFC 4340, section 11.7): 1, the owner
+    /// no longer reads; 2, the inbox is full.
     Dropped { code: u8 },
-    /// Data may be sent that were refused before the call: the window has room, so has the application that reads them,
-    /// and the peer sends the Ack Vectors of CCID 2.
+    /// Data that were refused before the call may be sent now: the window has room, the application that reads them has
+    /// room, and the peer sends the Ack Vectors that CCID 2 needs.
     Room,
     /// The connection is over. Each flow has this event once, even if its handshake was never complete.
     Ended(EndReason),
@@ -58,9 +58,9 @@ pub enum EventKind {
 /// An event, and the peer of its flow (own).
 #[derive(Clone, Copy, Debug, PartialEq, Eq)]
 pub struct FlowEvent {
-    /// Its peer.
+    /// The peer of the flow.
     pub peer: Peer,
-    /// The owner's number beside it.
+    /// The owner's number for the flow.
     pub user: u64,
     /// What has happened.
     pub kind: EventKind,
@@ -69,15 +69,15 @@ pub struct FlowEvent {
 /// What an owner sees of a flow (own).
 #[derive(Clone, Copy, Debug, PartialEq, Eq)]
 pub struct FlowState {
-    /// Where its connection stands.
+    /// The phase of its connection.
     pub phase: Phase,
     /// Whether data may be sent.
     pub takes_data: bool,
-    /// The owner's number beside it.
+    /// The owner's number for the flow.
     pub user: u64,
 }
 
-/// What is to be told of a call, each at most once; in this order (own).
+/// The events of a call, each at most once, in this order (own).
 #[derive(Clone, Copy, Debug, PartialEq, Eq)]
 pub struct FlowEvents {
     /// The end of a flow that made room.
@@ -96,7 +96,7 @@ impl FlowEvents {
     ghost use Rattle.std.specs.Prelude.{◌≡◌};
     ghost use Rattle.dccp_server.specs.Events.{events_left, first_event, no_events};
 
-    /// Nothing is to be told.
+    /// No events.
     pub(crate) fn none() -> FlowEvents
         ensures { result ≡ no_events }
     {
@@ -126,7 +126,7 @@ impl FlowEvents {
         }
     }
 
-    /// The first was told.
+    /// Drops the first.
     pub(crate) fn drop_first(&mut self)
         ensures { self.new ≡ events_left self.old }
     {
@@ -171,7 +171,7 @@ fn is_closing(phase: Phase) -> bool
     matches!(phase, Phase::CloseReq | Phase::Closing)
 }
 
-// CCID 2 has no Ack Vectors of the peer.
+// Whether CCID 2 gets no Ack Vectors from the peer.
 fn lacks_vectors(end: &Endpoint<Kinds>) -> bool
     ensures { result ≡ lacks_vectors end.now.state.rows }
 {
@@ -179,14 +179,14 @@ fn lacks_vectors(end: &Endpoint<Kinds>) -> bool
         && end.held(Feature::SendAckVector, Place::There).value != 1
 }
 
-// Data may be sent: `Endpoint::send` would refuse no more than their length.
+// Whether data may be sent: `Endpoint::send` would refuse them at most for their length.
 fn takes_data(end: &Endpoint<Kinds>) -> bool
     ensures { result ≡ takes_data end.now }
 {
     is_open(end.phase()) && !lacks_vectors(end) && end.in_flight() < end.window()
 }
 
-/// What an owner sees of a flow with this end and this number beside it, whose data have to wait for the sake of the
+/// What an owner sees of a flow with this end and this number of the owner. `held` is why its data have to wait for the
 /// application that reads them, if they have to.
 pub(crate) fn seen_flow(end: &Endpoint<Kinds>, user: u64, held: Option<Restraint>) -> FlowState
     ensures { result ≡ seen_flow user held end.now }
@@ -198,7 +198,7 @@ pub(crate) fn seen_flow(end: &Endpoint<Kinds>, user: u64, held: Option<Restraint
     }
 }
 
-// The connection stands, and is not over.
+// Whether there is a connection, and it is not over.
 fn is_on(flow: Option<FlowState>) -> bool
     ensures { result ≡ is_on flow }
 {
@@ -251,7 +251,7 @@ fn is_orderly(code: u8) -> bool
     code == ResetCode::Closed.number()
 }
 
-// Who has ended a connection by the peer's Reset: it may answer the own Close.
+// Who has ended a connection by the peer's Reset, which may answer this end's Close.
 fn reset_cause(was: Option<FlowState>, code: u8) -> EndCause
     ensures { result ≡ reset_cause was code }
 {
@@ -291,7 +291,7 @@ fn ending_told(was: Option<FlowState>, outcome: &Outcome) -> EndReason
     }
 }
 
-// What came of a datagram has ended a connection.
+// How the result of a datagram has ended a connection.
 fn ending_by(was: Option<FlowState>, heard: &Result<Option<Heard>, NoMemory>) -> EndReason
     ensures { result ≡ ending_by was (told_of_arrival heard.now) }
 {
@@ -301,14 +301,14 @@ fn ending_by(was: Option<FlowState>, heard: &Result<Option<Heard>, NoMemory>) ->
     }
 }
 
-/// An end of which no Reset tells.
+/// An end that no Reset announces.
 pub(crate) fn silent_end(cause: EndCause) -> EndReason
     ensures { result ≡ silent_end cause }
 {
     EndReason { cause, code: None }
 }
 
-/// An end by the own Reset, with the code Aborted.
+/// An end by this end's Reset, with the code Aborted.
 pub(crate) fn aborted_end(cause: EndCause) -> EndReason
     ensures { result ≡ aborted_end cause }
 {
@@ -318,7 +318,7 @@ pub(crate) fn aborted_end(cause: EndCause) -> EndReason
     }
 }
 
-/// How a datagram ends a connection that it ends.
+/// How a datagram ends a connection, if it does.
 pub(crate) fn ending_heard(
     was: Option<FlowState>,
     heard: &Result<Option<Heard>, NoMemory>,
@@ -354,7 +354,7 @@ pub(crate) fn data_told(heard: &Result<Option<Heard>, NoMemory>) -> Option<(usiz
     }
 }
 
-/// It is told where this holds.
+/// The event, if this holds.
 pub(crate) fn event_if(holds: bool, peer: Peer, user: u64, kind: EventKind) -> Option<FlowEvent>
     ensures { result ≡ event_if holds peer user kind }
 {
@@ -374,8 +374,8 @@ fn data_event(place: Option<(usize, usize)>, peer: Peer, user: u64) -> Option<Fl
     }
 }
 
-/// What is told of a peer's flow, of which an owner saw this before a call and sees that after it. The call has brought
-/// data, which are there, and has ended the connection so, if it has ended it.
+/// The events of a peer's flow, by what its owner saw of it before a call and sees after it. The call may have brought
+/// data, at this place, and ends the connection in this way, if it ends it.
 pub(crate) fn events_between(
     peer: Peer,
     was: Option<FlowState>,

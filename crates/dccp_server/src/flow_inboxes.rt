@@ -15,12 +15,12 @@ use std::alloc::Global;
 use std::collections::BTreeMap;
 use std::marker::Model;
 
-/// The data of a listener's flows that wait until their owner reads them: an inbox for each flow with data, beside the
-/// listener's server (own). Contracts see the inboxes in the order of peers.
+/// The data of a listener's flows that wait until their owner reads them: an inbox for each flow with data, to be kept
+/// with the listener's server (own). Contracts see the inboxes in the order of peers.
 ///
-/// After each datagram, `settle` takes its data; `speak` adds to each frame of a flow what was dropped (RFC 4340,
-/// sections 11.6 and 11.7). After each call that may end a flow, `tidy` drops its inbox, unless data wait there, which
-/// can still be read. The next flow of the same peer has a new inbox, and data that waited are lost.
+/// After each datagram, `settle` takes its data. `speak` adds to each frame of a flow the report of what was dropped
+/// (RFC 4340, sections 11.6 and 11.7). After each call that may end a flow, `tidy` drops its inbox, unless data wait
+/// there, which can still be read. The next flow of the same peer has a new inbox, and data that waited are lost.
 ///
 /// No call takes memory, except those of `settle` and `stop` that make an inbox: 2,048 bytes for each packet that it may
 /// hold, and 32 KB. So a flow whose handshake is not complete takes none.
@@ -43,7 +43,7 @@ impl Model for FlowInboxes {
     ghost invariant = { λ it. it.capacity ≤ 1024 };
 }
 
-// The place lies within the datagram.
+// Whether the place lies within the datagram.
 fn lies_within(bytes: &[u8], place: (usize, usize)) -> bool
     ensures value { result ≡ lies_within bytes.now place }
     ensures within { result ≡ true → HasDataWithin bytes.now (Took (Some place)) }
@@ -51,7 +51,7 @@ fn lies_within(bytes: &[u8], place: (usize, usize)) -> bool
     place.0 <= place.1 && place.1 <= bytes.len()
 }
 
-// Data came under this number, which are there in the datagram.
+// Data came under this number, at this place in the datagram.
 fn settle_in(
     intake: &mut Intake,
     number: Seq48,
@@ -68,7 +68,7 @@ fn settle_in(
     intake.settle(number, bytes, &Some(outcome))
 }
 
-// The frame in the box says what this has to say, if the peer that it goes to has a flow.
+// Adds what this inbox has to say to the frame in the box, if the peer to which it goes has a flow.
 fn speak_at(intake: &Intake, server: &Server, peer: Peer, out: &mut Outbox)
     ensures says { out.new ≡ flow_speaks_by intake.now (end_of_peer server.now.room.served.listening.flows peer) out.old }
     ensures silent { out.old ≡ None → out.new ≡ None }
@@ -87,7 +87,7 @@ impl FlowInboxes {
     ghost use Rattle.dccp_states.specs.declared.outcome.Outcome.TheVariants.{Took};
 
     /// No flow has an inbox yet. Each inbox has room for this many packets, at most 1,024; with 0, no flow gets an
-    /// inbox. There are at most `most` of them, with those of flows that are over. It takes no memory.
+    /// inbox. There are at most `most` of them, those of flows that are over included. It takes no memory.
     pub fn new(alloc: Global, capacity: u16, most: u16) -> FlowInboxes
         requires { capacity ≤ 1024 }
         ensures { result ≡ no_inboxes capacity most }
@@ -106,14 +106,14 @@ impl FlowInboxes {
         self.capacity == 0 || self.intakes.contains_key(&peer)
     }
 
-    // As many inboxes stand as may, and the peer's would be a further one.
+    // Whether there are as many inboxes as the limit allows, and the peer's would be a further one.
     fn lacks_place(&self, peer: Peer) -> bool
         ensures { result ≡ lacks_place self.now peer }
     {
         !self.needs_no_inbox(peer) && usize::from(self.most) <= self.intakes.len()
     }
 
-    // The peer has an inbox from now on, where flows have any. NoMemory where it lacks a place, or finds no memory.
+    // The peer has an inbox from now on, if flows have any. NoMemory if there is no place for it, or no memory.
     fn place(&mut self, peer: Peer) -> Result<(), NoMemory>
         ensures placed { OnOk result (self.new ≡ with_place self.old peer) }
         ensures room { OnOk result (lacks_place self.old peer ≡ false) }
@@ -132,7 +132,7 @@ impl FlowInboxes {
         }
     }
 
-    // Data of the peer came under this number, which are there in the datagram.
+    // Data of the peer came under this number, at this place in the datagram.
     fn take_in(
         &mut self,
         peer: Peer,
@@ -150,7 +150,7 @@ impl FlowInboxes {
         }
     }
 
-    // The same, where they lie within it, once the peer has an inbox.
+    // The same for data within the datagram, once the peer has an inbox.
     fn keep(
         &mut self,
         server: &Server,
@@ -172,10 +172,10 @@ impl FlowInboxes {
         Ok(self.take_in(peer, end.last_taken(), bytes, place))
     }
 
-    /// The server has heard a datagram of a peer, or left it out: data that it brought come into the peer's inbox, which
-    /// is made for the first that come. What became of them, or None where none came into one. NoMemory where the inbox
-    /// finds none, and always where `most` of them stand and it would be a further one; then nothing changes, and the data
-    /// are in the datagram alone.
+    /// The server has heard a datagram of a peer, or left it out. Data that it brought come into the peer's inbox,
+    /// which is made for the first that come. Returns what became of them, or None if none came into an inbox. NoMemory
+    /// if there is none for the inbox, and always if there are `most` inboxes and it would be a further one; then
+    /// nothing changes, and the data are only in the datagram.
     pub fn settle(
         &mut self,
         server: &Server,
@@ -193,14 +193,15 @@ impl FlowInboxes {
         }
     }
 
-    // The peer has no inbox any more.
+    // Removes the peer's inbox.
     fn remove(&mut self, peer: Peer)
         ensures { self.new ≡ without_inbox_of self.old peer }
     {
         let _ = self.intakes.remove(&peer);
     }
 
-    /// Whether the peer had a flow before a datagram: with a new flow, what waited of the one before it is lost.
+    /// `had` says whether the peer had a flow before a datagram. With a new flow, the data that waited from the one
+    /// before are lost.
     pub fn begin(&mut self, server: &Server, peer: Peer, had: bool)
         ensures { self.new ≡ begun_fresh self.old peer had (end_of_peer server.now.room.served.listening.flows peer) }
     {
@@ -210,7 +211,7 @@ impl FlowInboxes {
     }
 
     #[tactic(auto, using(crate::proofs::FlowInboxing::nothing_said))]
-    /// The frame in the box, which goes to the peer, says what the peer's inbox has to say.
+    /// Adds what the peer's inbox has to say to the frame in the box, which goes to the peer.
     pub fn speak(&self, server: &Server, peer: Peer, out: &mut Outbox)
         ensures says { out.new ≡ flow_speaks self.now server.now peer out.old }
         ensures silent { out.old ≡ None → out.new ≡ None }
@@ -232,7 +233,7 @@ impl FlowInboxes {
         }
     }
 
-    /// The same of a peer whose flow may have made room.
+    /// The same for a peer whose flow may have made room.
     pub fn tidy_if(&mut self, server: &Server, peer: Option<Peer>)
         ensures { self.new ≡ tidied_if self.old server.now peer }
     {
@@ -248,7 +249,7 @@ impl FlowInboxes {
         self.remove(peer);
     }
 
-    /// Takes the data of a peer that have waited longest: writes them over the front of `into`, and answers their
+    /// Takes the data of a peer that have waited longest: writes them over the front of `into`, and returns their
     /// packet's number and their length. None if none wait; then nothing changes.
     pub fn read(&mut self, peer: Peer, into: &mut [u8; 2032]) -> Option<(Seq48, usize)>
         ensures rest { self.new ≡ flow_without_first self.old peer }
@@ -261,7 +262,7 @@ impl FlowInboxes {
         }
     }
 
-    // The peer's data are wanted no more, where it has an inbox.
+    // Stops the peer's inbox, if it has one.
     fn stop_there(&mut self, peer: Peer)
         ensures { self.new ≡ flow_stopped self.old peer }
     {
@@ -270,9 +271,9 @@ impl FlowInboxes {
         }
     }
 
-    /// A peer's data are wanted no more: those that arrive from now on are dropped, and the peer is told so (RFC 4340,
-    /// section 11.7). False where flows have no inbox; then nothing changes, nor with NoMemory, which comes as in
-    /// `settle`.
+    /// The owner stops reading a peer's data: those that arrive from now on are dropped, and this is reported to the
+    /// peer (RFC 4340, section 11.7). False if flows have no inbox. NoMemory comes as in `settle`. In both cases
+    /// nothing changes.
     pub fn stop(&mut self, peer: Peer) -> Result<bool, NoMemory>
         ensures stopped { OnOk result (self.new ≡ flow_stopped (with_place self.old peer) peer) }
         ensures room { OnOk result (lacks_place self.old peer ≡ false) }
@@ -294,7 +295,7 @@ impl FlowInboxes {
         }
     }
 
-    /// How many bytes a peer's inbox adds to an acknowledgement, at most.
+    /// The most bytes that a peer's inbox adds to an acknowledgement.
     pub fn most_said(&self, peer: Peer) -> usize
         ensures { result ≡ flow_most_said self.now peer }
     {
@@ -323,7 +324,7 @@ fn kind_kept(arrival: Option<Arrival>, kind: EventKind) -> EventKind
     }
 }
 
-/// What has happened to a flow, where that became of the data that the datagram brought: data in an inbox are told so.
+/// The event of a flow, by what became of the data that the datagram brought: data in an inbox have their own event.
 pub fn event_kept(event: FlowEvent, arrival: Option<Arrival>) -> FlowEvent
     ensures { result ≡ event_kept arrival event }
 {

@@ -1,4 +1,4 @@
-//! What may happen to a flow's end, as far as its timers and its path go by it.
+//! What may happen to a flow's end, as far as it concerns its timers and its path.
 ghost use Rattle.std.specs.Prelude.{◌≡◌, Ok};
 ghost use Rattle.dccp_listener.specs.Chain.{asked};
 ghost use Rattle.dccp_listener.specs.Calls.{seen_if};
@@ -13,7 +13,7 @@ use dccp_uses::{Rule, Sight, is_delivery, is_taken};
 /// A datagram that a flow's end has heard.
 #[derive(Clone, Copy, Debug, PartialEq, Eq)]
 pub struct HeardDatagram {
-    /// What there was to see of the end before.
+    /// What the rules saw of the end before.
     pub was: Sight,
     /// The packet was taken.
     pub taken: bool,
@@ -32,17 +32,17 @@ pub enum FlowHappening {
     Heard(HeardDatagram),
     /// Data went out.
     Sent,
-    /// It was told this timer.
+    /// This timer has fired.
     Rang(Timer),
     /// It began to close.
     Closed,
-    /// It took a call that shows in its phase alone.
+    /// It took a call that changes only its phase.
     Called,
     /// It took a wish for a feature.
     Preferred,
     /// It refused a call.
     Refused,
-    /// A rule of its path had it do something.
+    /// A rule of its path made it do something.
     Ruled(Rule),
 }
 
@@ -64,7 +64,8 @@ fn tells_data(heard: &Heard) -> bool
     }
 }
 
-/// A datagram was heard, by an end of which there was this to see, if there was one; whether nothing went out.
+/// A datagram was heard, by an end of which the rules saw `was` before, if there was one. `silent` says whether nothing
+/// went out.
 pub(crate) fn arrived_so(was: Option<Sight>, heard: &Heard, silent: bool) -> FlowHappening
     ensures { result ≡ arrived_so was (told_of (Ok heard.now)) silent }
 {
@@ -103,7 +104,7 @@ fn is_refusal(answer: &Result<Seen, NoFlow>) -> bool
     }
 }
 
-/// A call was answered so.
+/// A call with this answer.
 pub(crate) fn called_so(call: UserCall<'_>, answer: &Result<Seen, NoFlow>) -> FlowHappening
     ensures { result ≡ called_so (asked call.entry) (is_refusal (Stepped (seen_if answer.now))) }
 {

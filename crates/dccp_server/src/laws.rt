@@ -7,64 +7,63 @@ ghost use Rattle.dccp_server.specs.Rooms.{ForgottenHaveNone, LivesChangeNothing,
 ghost use Rattle.dccp_server.specs.Serving.{CallsAreARun, CallsWantNoMemory, OnlyStrangersWantMemory, RefusedCallsChangeNothing, UpkeepsStandWithFlows};
 ghost use Rattle.dccp_server.specs.Timing.{FlowsAreTimedEnds};
 
-/// Where memory is found, what is done with a listener is a run of it, whatever the times and the rules of paths. So
-/// each peer is answered by the chain of its own calls (`each_peer_has_its_own_chain` of dccp_listener; own).
+/// If there is memory, what is done with a listener is a run of it, with any times and rules of paths. So each peer is
+/// answered by the chain of its own calls (`each_peer_has_its_own_chain` of dccp_listener; own).
 pub fn calls_are_a_run()
     ensures { CallsAreARun }
 {}
 
-/// Whatever is done, something is kept exactly for the peers that have a flow. So only a datagram of a peer without a
-/// flow can fail for want of memory, and no call or tick (own).
+/// After any deeds, something is kept exactly for the peers that have a flow. So only a datagram of a peer without a
+/// flow can fail for lack of memory, and no call or tick (own).
 pub fn only_strangers_want_memory()
     ensures kept { UpkeepsStandWithFlows }
     ensures memory { OnlyStrangersWantMemory }
     ensures calls { CallsWantNoMemory }
 {}
 
-/// Whatever was done before, a call that a peer's end refuses, or of a peer that has no end, changes nothing: no flow, no
-/// timer and nothing that is known of a path (own).
+/// After any deeds, a call that a peer's end refuses, or of a peer that has no end, changes nothing: no flow, no timer
+/// and nothing that is known of a path (own).
 pub fn refused_calls_change_nothing()
     ensures { RefusedCallsChangeNothing }
 {}
 
-/// Whatever was done before, ticks of a listener at one time come to an end: after thirteen for each flow nothing of it is
-/// due (own).
+/// After any deeds, the ticks of a listener at one time end: after thirteen for each flow nothing is due (own).
 pub fn ticks_of_a_listener_end()
     ensures { ListenerTicksEnd }
 {}
 
-/// No flow is passed over, whatever is kept for the peers: if there is nothing to do, nothing is due at any flow, and
-/// each may stay in its phase; and something is due as soon as the answered wait has passed, and not before (own).
+/// No flow is passed over, whatever is kept for the peers. If there is nothing to do, nothing is due at any flow, and
+/// each may stay in its phase. Something is due as soon as the wait that was returned has passed, and not before (own).
 pub fn no_flow_is_passed_over()
     ensures due { NoneIsPassedOver }
     ensures stays { EachMayStay }
 {}
 
-/// Whatever is known of a flow and its path, what is kept of it after a datagram, a timer or a rule is what an end of its
-/// own with its timers would keep (`TimedEnd` of dccp_uses; own).
+/// Whatever is known of a flow and its path, a listener keeps of it, after a datagram, a timer or a rule, what a single
+/// end with its timers would keep (`TimedEnd` of dccp_uses; own).
 pub fn flows_are_timed_ends()
     ensures { FlowsAreTimedEnds }
 {}
 
-/// Whatever the rules, what comes of a datagram is a list of doings, and the lives of flows change nothing of them: so each
-/// peer is still answered by the chain of its own deeds (`calls_are_a_run`; own).
+/// Whatever the rules, the effect of a datagram is that of a list of deeds, and the lives of flows do not change them.
+/// So each peer is still answered by the chain of its own deeds (`calls_are_a_run`; own).
 pub fn rules_are_deeds()
     ensures rules { RulesAreDeeds }
     ensures lives { LivesChangeNothing }
 {}
 
-/// Whatever a datagram is to a server, and whatever cookies are used, what meeting it leaves of the listener and of what is
-/// kept of its flows is what a list of doings leaves; so `calls_are_a_run` holds of it, too (own).
+/// Whatever kind a datagram is, and however cookies are used, a server that meets it leaves the listener, and what is
+/// kept of its flows, as a list of deeds does. So `calls_are_a_run` holds of it, too (own).
 pub fn meetings_are_deeds()
     ensures { MeetingsAreDeeds }
 {}
 
-/// Whatever was done before, a peer whose flow is forgotten has none, whatever phase it was in (own).
+/// After any deeds, a peer whose flow is forgotten has none, whatever phase it was in (own).
 pub fn forgotten_peers_have_no_flow()
     ensures { ForgottenHaveNone }
 {}
 
-/// No more inboxes stand than may, whatever arrives, is read, stopped or forgotten (own).
+/// There are no more inboxes than are allowed, whatever arrives, is read, stopped or forgotten (own).
 pub fn inboxes_stay_few()
     ensures { InboxesStayFew }
 {}

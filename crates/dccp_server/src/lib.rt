@@ -1,5 +1,5 @@
 //! A server: a listener of many peers with the timers of its flows, and rules by which it makes room and gives flows up
-//! (own; the flows are RFC 4340's).
+//! (own; the flows are those of RFC 4340).
 //!
 //! A [`TimedListener`] does with a listener what a [`TimedEnd`](dccp_uses::TimedEnd) does with one end: it keeps the
 //! timers that the owner would have to keep for each flow, and follows the rules of its path. A [`Server`] also follows

@@ -8,7 +8,7 @@ use ccid_two::Kinds;
 use dccp_endpoint::{Endpoint, Outcome, Phase, Seen, Seq48};
 use dccp_listener::{Heard, NoFlow};
 
-/// What an owner knows of a flow beside its end. Times are in milliseconds from any beginning (own).
+/// What an owner knows of a flow besides its end (own). Times are in milliseconds since any moment.
 #[derive(Clone, Copy, Debug, PartialEq, Eq)]
 pub struct Life {
     /// The phase of its connection.
@@ -19,21 +19,21 @@ pub struct Life {
     pub taken: u64,
     /// The number of the last Sync that its end has sent as an answer.
     pub sync: Option<Seq48>,
-    /// A number that the owner has written beside it; 0 at first.
+    /// A number of the owner for the flow; 0 at first.
     pub user: u64,
 }
 
 /// What a packet shows about the peer (own).
 #[derive(Clone, Copy, Debug, PartialEq, Eq)]
 pub struct Signs {
-    /// It was taken.
+    /// The packet was taken.
     pub taken: bool,
-    /// It was answered with a Sync.
+    /// The packet was answered with a Sync.
     pub synced: bool,
 }
 
 impl Signs {
-    /// What tells nothing of a peer.
+    /// Signs that say nothing about a peer.
     pub(crate) fn none() -> Signs
         ensures { result ≡ no_signs }
     {
@@ -87,7 +87,7 @@ fn stands_in(life: &Life, phase: Phase, now: u64) -> Life
     life
 }
 
-/// What an outcome tells of a peer.
+/// What an outcome says about a peer.
 pub(crate) fn signs_in(outcome: &Outcome) -> Signs
     ensures { result ≡ signs_in outcome.now }
 {
@@ -106,7 +106,7 @@ pub(crate) fn signs_in(outcome: &Outcome) -> Signs
     }
 }
 
-/// What a datagram that was heard tells of its peer.
+/// What a datagram that was heard says about its peer.
 pub(crate) fn signs_heard(heard: &Heard) -> Signs
     ensures { result ≡ signs_of (told_of (Ok heard.now)) }
 {
@@ -116,7 +116,7 @@ pub(crate) fn signs_heard(heard: &Heard) -> Signs
     }
 }
 
-/// What the answer to a call tells of its peer.
+/// What the answer to a call says about its peer.
 pub(crate) fn signs_answered(answer: &Result<Seen, NoFlow>) -> Signs
     ensures { result ≡ signs_of (Stepped (seen_if answer.now)) }
 {

@@ -9,7 +9,7 @@ use crate::register::Register;
 use crate::timed_listener::TimedListener;
 use dccp_listener::{NoFlow, Peer};
 
-/// The life of a peer's flow, which has not begun where it has none.
+/// The life of a peer's flow, or one that has not begun if it has none.
 pub(crate) fn life_of(lives: &Register<Life>, peer: Peer) -> Life
     ensures { result ≡ life_of lives.now peer }
 {
@@ -19,7 +19,7 @@ pub(crate) fn life_of(lives: &Register<Life>, peer: Peer) -> Life
     }
 }
 
-/// The peer's life goes on from this one with its end, and goes with it.
+/// The peer's life goes on from this one with its end, and ends with it.
 pub(crate) fn go_on(
     timed: &TimedListener,
     lives: &mut Register<Life>,
@@ -42,7 +42,7 @@ pub(crate) fn go_on(
     }
 }
 
-/// The owner writes a number beside a peer's flow. NoFlow comes exactly where the peer has none.
+/// Sets the owner's number for a peer's flow. NoFlow comes exactly if the peer has none.
 pub(crate) fn write_user(
     timed: &TimedListener,
     lives: &mut Register<Life>,

@@ -1,4 +1,4 @@
-//! How a server meets a datagram that may need no flow, or bring its own opening back.
+//! How a server meets a datagram that may need no flow, or may bring its opening back.
 ghost use Rattle.std.specs.Prelude.{◌≡◌, ◌≤◌, IfOk, OnErr, OnOk, None, false, length};
 ghost use Rattle.dccp_listener.specs.Greeting.{greets};
 ghost use Rattle.dccp_server.specs.Meeting.{MovesNobody, entry_by, hurried, is_ever_in_use, is_half_open, is_in_use, rekeyed, route_of};
@@ -20,19 +20,19 @@ use init_cookies::{
     put_request,
 };
 
-/// When a Request of a peer without a flow is answered by an Init Cookie, and no flow is made (RFC 4340, section 8.1.4;
-/// own): never without a key.
+/// When a Request of a peer without a flow is answered with an Init Cookie, and no flow is made (RFC 4340, section
+/// 8.1.4; own). Without a key it never is.
 #[derive(Clone, Copy, Debug, PartialEq, Eq)]
 pub enum CookieUse {
     /// Never.
     Never,
-    /// Where more flows are in RESPOND than places are free, and where its answer would be one Sync too many.
+    /// If more flows are in RESPOND than places are free, or if its answer would be one Sync too many.
     InACrowd,
     /// Always.
     Always,
 }
 
-/// What a datagram is to a server.
+/// The kinds of datagrams, as a server meets them.
 #[derive(Clone, Debug, Drop)]
 pub enum DatagramKind {
     /// One that is served.
@@ -48,7 +48,7 @@ pub enum DatagramKind {
 /// The way in which a datagram was met (RFC 4340, section 8.1.4; own).
 #[derive(Clone, Copy, Debug, PartialEq, Eq)]
 pub enum Way {
-    /// It was served as without cookies.
+    /// It was served as if there were no cookies.
     Plain,
     /// It was a Request, and its Response went out with an Init Cookie: no flow was made.
     Greeted,
@@ -56,19 +56,19 @@ pub enum Way {
     Unanswered,
     /// Its Init Cookie opened a flow, which has heard it.
     Reopened,
-    /// Its Init Cookie was good, but there was no room or no memory for a flow: nothing went out, and the peer's next
-    /// packet brings it again.
+    /// Its Init Cookie was valid, but there was no room or no memory for a flow: nothing went out, and the peer's next
+    /// packet brings the cookie again.
     Unopened,
 }
 
-/// What came of a datagram that was met (own).
+/// The result of a datagram that was met (own).
 #[derive(Clone, Copy, Debug, PartialEq, Eq)]
 pub struct Meeting {
-    /// What came of it as it arrived; where it was not served, what a fresh end made of it, or nothing.
+    /// Its result as it arrived; if it was not served, the answer of a fresh end, or nothing.
     pub arrival: ArrivalResult,
     /// How it was met.
     pub way: Way,
-    /// Whose flow made room for the flow that its cookie opened.
+    /// The peer whose flow made room for the flow that its cookie opened.
     pub made_room: Option<Peer>,
 }
 
@@ -77,7 +77,7 @@ impl Meeting {
     ghost use Rattle.dccp_listener.specs.declared.calls.Heard.TheVariants as heard;
     ghost use Rattle.dccp_server.specs.Meeting.{MovesNobody};
 
-    // A Request was greeted, and this came of it.
+    // A Request was greeted, with this outcome.
     pub(crate) fn greeted(outcome: Outcome) -> Meeting
         ensures heard { result.arrival.heard ≡ Ok (Some (heard.Flow outcome)) }
         ensures nobody { MovesNobody result.arrival.evicted result.arrival.anew result.made_room }
@@ -94,7 +94,7 @@ impl Meeting {
         }
     }
 
-    // An opening came back in vain.
+    // An opening came back, but could not be opened.
     pub(crate) fn unopened(
         heard: Result<Option<Heard>, NoMemory>,
         made_room: Option<Peer>,
@@ -135,7 +135,7 @@ pub(crate) fn leave_out(heard: Result<Option<Heard>, NoMemory>, out: &mut Outbox
     }
 }
 
-/// The keys with this one to write by.
+/// The keys, with this one for new cookies.
 pub(crate) fn rekeyed(keys: &Option<CookieKeys>, key: [u8; 32], now: u64) -> CookieKeys
     ensures { result ≡ rekeyed key now keys.now }
 {
@@ -149,7 +149,7 @@ pub(crate) fn rekeyed(keys: &Option<CookieKeys>, key: [u8; 32], now: u64) -> Coo
     }
 }
 
-/// What a Request is, by what it asks for.
+/// The kind of a Request, by what it asks for.
 pub(crate) fn entry_by(asking: DatagramRequest) -> DatagramKind
     ensures { result ≡ entry_by asking }
 {
@@ -160,7 +160,7 @@ pub(crate) fn entry_by(asking: DatagramRequest) -> DatagramKind
     }
 }
 
-/// Half-open flows are over their time at once.
+/// The rules by which half-open flows are over their time at once.
 pub(crate) fn hurried(rules: &Rules) -> Rules
     ensures { result ≡ hurried rules.now }
 {
@@ -226,7 +226,7 @@ fn request_of(timed: &TimedListener, peer: Peer, opening: &FirstRequest) -> Fram
     request
 }
 
-// The cookie of an opening, as the option that it is.
+// The cookie of an opening, as an option.
 fn put_option(keys: &CookieKeys, route: &Route, opening: &FirstRequest, out: &mut CookieOption)
     ensures value { out.new.items ≡ spelled false 36 (cookie_bytes keys.now route.now opening.now) }
     ensures short { length out.new.items ≤ 255 }
@@ -236,7 +236,7 @@ fn put_option(keys: &CookieKeys, route: &Route, opening: &FirstRequest, out: &mu
     init_cookie(bytes.as_slice(), out);
 }
 
-// The frame in the box goes back by a route with an option.
+// Adds an option to the frame in the box, which goes back by a route.
 fn append_option(route: &Route, option: &CookieOption, out: &mut Outbox)
     requires { length option.now.items ≤ 255 }
     ensures { out.new ≡ appended (reversed route.now.pseudo) option.now.items out.old }
@@ -245,7 +245,7 @@ fn append_option(route: &Route, option: &CookieOption, out: &mut Outbox)
     append_options(out, option.as_slice(), &pseudo);
 }
 
-/// The frame in the box goes back by a route with the cookie of an opening, where it has room for it.
+/// Adds the cookie of an opening to the frame in the box, which goes back by a route, if it has room for it.
 pub fn append_cookie(keys: &CookieKeys, route: &Route, opening: &FirstRequest, out: &mut Outbox)
     ensures { out.new ≡ appended (reversed route.now.pseudo) (spelled false 36 (cookie_bytes keys.now route.now opening.now)) out.old }
 {
@@ -254,7 +254,7 @@ pub fn append_cookie(keys: &CookieKeys, route: &Route, opening: &FirstRequest, o
     append_option(route, &option, out);
 }
 
-// The frame in the box goes out with the cookie of an opening.
+// Adds the cookie of an opening to the frame in the box.
 fn put_cookie(
     timed: &TimedListener,
     keys: &CookieKeys,
@@ -268,8 +268,8 @@ fn put_cookie(
     append_cookie(keys, &route, opening, out);
 }
 
-/// A Request is answered with a cookie, and no flow is made: what a fresh end made of it. That has not taken it where it
-/// asks for no service of the listener, or its options have a fault.
+/// A Request is answered with a cookie, and no flow is made. Returns the outcome of a fresh end, which does not take
+/// the Request if it asks for no service of the listener, or if its options have a fault.
 pub(crate) fn greet_with_cookie(
     timed: &TimedListener,
     keys: &CookieKeys,

@@ -6,7 +6,7 @@ ghost use Rattle.dccp_server.specs.Naming.{EqualSumsReadAlike, StandInsCountAlik
 use dccp_listener::Peer;
 use dccp_sum::Pseudo;
 
-// The words of an address.
+// The sum of the words of an address.
 fn word_sum(address: &[u8]) -> u64
     requires { length address.now ≤ 16 }
     ensures value { result ≡ word_sum address.now }
@@ -24,7 +24,7 @@ fn word_sum(address: &[u8]) -> u64
     sum
 }
 
-// The words of two addresses of IPv4.
+// The sum of the words of two addresses of IPv4.
 fn words_v4(from: [u8; 4], to: [u8; 4]) -> u64
     ensures value { result ≡ word_sum from + word_sum to }
     ensures bound { result ≤ 32 * 65536 }
@@ -32,7 +32,7 @@ fn words_v4(from: [u8; 4], to: [u8; 4]) -> u64
     word_sum(&from) + word_sum(&to)
 }
 
-// The words of two addresses of IPv6.
+// The sum of the words of two addresses of IPv6.
 fn words_v6(from: [u8; 16], to: [u8; 16]) -> u64
     ensures value { result ≡ word_sum from + word_sum to }
     ensures bound { result ≤ 32 * 65536 }
@@ -40,7 +40,7 @@ fn words_v6(from: [u8; 16], to: [u8; 16]) -> u64
     word_sum(&from) + word_sum(&to)
 }
 
-// The words of both addresses.
+// The sum of the words of both addresses.
 fn address_words(path: &Pseudo) -> u64
     ensures value { result ≡ address_words path.now }
     ensures bound { result ≤ 32 * 65536 }
@@ -58,10 +58,10 @@ fn missing_word(wanted: u64, held: u64) -> u16
     ((wanted + (65535 - held % 65535)) % 65535) as u16
 }
 
-/// A name for the peer of this path, from the own address to the peer's, at a listener of IPv4 at the address `own`: each
-/// turn has another. The port is that of the peer's packets. Packets read and are sealed between `own` and the name as they
-/// are on the path, since both count as much in the checksum (RFC 4340, section 9.1; own). The owner keeps the table of
-/// names, and gives each peer one that no other has.
+/// A name for the peer of this path, which goes from the owner's address to the peer's, at a listener of IPv4 at the
+/// address `own`. Each turn gives another name. The port is that of the peer's packets. Between `own` and the name,
+/// packets have the same checksums as on the path, since both pairs of addresses count the same in the checksum (RFC
+/// 4340, section 9.1; own). The owner keeps the table of names, and gives each peer one that no other has.
 pub fn stand_in(own: [u8; 4], path: &Pseudo, port: u16, turn: u16) -> Peer
     ensures { result ≡ stand_in own path.now port turn }
 {
@@ -74,8 +74,9 @@ pub fn stand_in(own: [u8; 4], path: &Pseudo, port: u16, turn: u16) -> Peer
     }
 }
 
-/// Packets between addresses of the same sum have the same verdict and get the same checksum, and a stand-in has the sum
-/// of its peer's path: so what a listener makes of the packets of a stand-in, it makes of those of the peer (own; RFC 1071).
+/// Packets between addresses with the same sum have the same verdict and get the same checksum, and a stand-in has the
+/// sum of its peer's path. So a listener treats the packets of a stand-in as it would treat those of the peer (own; RFC
+/// 1071).
 pub fn stand_ins_are_read_as_their_peers()
     ensures alike { EqualSumsReadAlike }
     ensures counted { StandInsCountAlike }

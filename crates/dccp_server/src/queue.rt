@@ -1,4 +1,4 @@
-//! The tickets of peers: in which order what is kept of them wants something.
+//! The tickets of peers: the order in which something is due for what is kept of them.
 ghost use Rattle.std.specs.Prelude.{◌≡◌, ◌<◌, ◌≤◌, length, true, vec_capacity};
 ghost use Rattle.std.proofs.Common.{rules};
 ghost use Rattle.std.specs.BTreeSet.{insert_key};
@@ -13,15 +13,15 @@ ghost use Rattle.dccp_server.specs.Queues.{AreTicketsInOrder, count_in, first_in
 use dccp_listener::Peer;
 use std::cmp::Ordering;
 
-/// The ticket of a peer: at which time of its class something is wanted (own). Tickets are in the order of classes, then
-/// of times, then of peers. Its fields are in the order in which they take 16 bytes.
+/// The ticket of a peer: the time at which something of this class is due (own). Tickets are ordered by class, then by
+/// time, then by peer. The order of the fields makes a ticket 16 bytes.
 #[derive(Clone, Copy, Debug, PartialEq, Eq)]
 pub struct Ticket {
-    /// In milliseconds.
+    /// The time, in milliseconds.
     pub time: u64,
-    /// Whose it is.
+    /// The peer of the ticket.
     pub peer: Peer,
-    /// What it is for.
+    /// What is due.
     pub class: u8,
 }
 
@@ -51,7 +51,7 @@ impl PartialOrd for Ticket {
     }
 }
 
-// A ticket gets its place, unless it is there.
+// Puts a ticket in its place, unless it is there.
 fn put(tickets: &mut Vec<Ticket>, ticket: Ticket)
     requires order { AreTicketsInOrder tickets.old.items }
     requires room { length tickets.old.items < vec_capacity tickets.old }
@@ -63,7 +63,7 @@ fn put(tickets: &mut Vec<Ticket>, ticket: Ticket)
     }
 }
 
-// A ticket goes, if it is there.
+// Removes a ticket, if it is there.
 fn take(tickets: &mut Vec<Ticket>, ticket: Ticket)
     requires { AreTicketsInOrder tickets.old.items }
     ensures taken { tickets.new.items ≡ without ticket tickets.old.items }
@@ -95,7 +95,7 @@ fn enqueue(tickets: &mut Vec<Ticket>, peer: Peer, next: Option<(u8, u64)>)
     }
 }
 
-/// Whether two moments are one, so that a ticket need not move.
+/// Whether two moments are equal, so that a ticket need not move.
 pub(crate) fn is_one_moment(from: Option<(u8, u64)>, to: Option<(u8, u64)>) -> bool
     ensures { result ≡ true → from ≡ to }
 {
@@ -106,7 +106,7 @@ pub(crate) fn is_one_moment(from: Option<(u8, u64)>, to: Option<(u8, u64)>) -> b
     }
 }
 
-/// The ticket of a peer goes from one moment to another, if it had and has one.
+/// Moves the ticket of a peer from one moment to another, if it had one and has one.
 pub(crate) fn requeue(
     tickets: &mut Vec<Ticket>,
     peer: Peer,
@@ -143,7 +143,7 @@ pub(crate) fn first_in(tickets: &[Ticket], class: u8) -> Option<Ticket>
     }
 }
 
-/// How many tickets there are of a class.
+/// How many tickets of a class there are.
 pub(crate) fn count_in(tickets: &[Ticket], class: u8) -> usize
     requires { AreTicketsInOrder tickets.now }
     ensures { result ≡ count_in class tickets.now }

@@ -1,4 +1,4 @@
-//! How a server turns a datagram away that would open a connection, without an end.
+//! How a server turns away, without an end, a datagram that would open a connection.
 ghost use Rattle.std.specs.Prelude.{◌≡◌, ◌≤◌, None, Ok, if◌then◌else◌, is_some, length};
 ghost use Rattle.dccp_endpoint.specs.Incoming.{parts_of_packet};
 ghost use Rattle.dccp_listener.specs.Chain.{config_for};
@@ -37,7 +37,7 @@ fn put_refusal(config: &Config, number: &Number, code: u8, out: &mut Outbox)
     }
 }
 
-// The same for a packet. Its bytes are looked at by the clauses alone.
+// The same for a packet. Only the clauses look at its bytes.
 fn refuse_packet(config: &Config, packet: &Packet<'_>, bytes: &[u8], code: u8, out: &mut Outbox)
     requires empty { out.old ≡ None }
     requires read { decoded bytes.now ≡ Ok (parts_of_packet packet.now) }
@@ -47,7 +47,7 @@ fn refuse_packet(config: &Config, packet: &Packet<'_>, bytes: &[u8], code: u8, o
     put_refusal(config, &packet.header.number, code, out);
 }
 
-// Turns a packet away. Whether it would have opened a connection.
+// Turns a packet away. Returns whether it would have opened a connection.
 fn turn_away(config: &Config, packet: &Packet<'_>, bytes: &[u8], code: u8, out: &mut Outbox) -> bool
     requires server { config.now.role ≡ Role.Server }
     requires empty { out.old ≡ None }
@@ -64,9 +64,9 @@ fn turn_away(config: &Config, packet: &Packet<'_>, bytes: &[u8], code: u8, out: 
     true
 }
 
-/// Turns a datagram away, of at most 2,044 bytes, as a server's end of this configuration would answer it that has heard
-/// nothing; but what would open a connection there is answered by a Reset with this code (own; RFC 4340, sections 5.6 and
-/// 8.3.1). Whether it would. It takes no memory.
+/// Turns a datagram of at most 2,044 bytes away. It is answered as a server's end of this configuration that has
+/// received nothing would answer it, except that a Reset with this code answers one that would open a connection there
+/// (own; RFC 4340, sections 5.6 and 8.3.1). Returns whether it would. It takes no memory.
 #[tactic(auto, unfolding(dccp_endpoint::specs::Receiving::receives))]
 pub fn refuse(config: &Config, bytes: &[u8], code: u8, out: &mut Outbox) -> bool
     requires server { config.now.role ≡ Role.Server }
@@ -81,7 +81,7 @@ pub fn refuse(config: &Config, bytes: &[u8], code: u8, out: &mut Outbox) -> bool
     }
 }
 
-// The same of a packet of a peer without a flow: nothing goes out where it opens none.
+// The same for a packet of a peer without a flow: nothing goes out if it opens none.
 fn refuse_flow(
     config: &ListenConfig,
     peer: Peer,
@@ -105,8 +105,8 @@ fn refuse_flow(
     None
 }
 
-/// Refuses a datagram of a peer without a flow by a Reset with this code, and tells the Service Code of the flow that it
-/// would have opened. Nothing goes out where it opens none.
+/// Refuses a datagram of a peer without a flow by a Reset with this code, and returns the Service Code of the flow that
+/// it would have opened. Nothing goes out if it opens none.
 #[tactic(auto, unfolding(dccp_endpoint::specs::Receiving::receives))]
 pub(crate) fn refuse_stranger(
     config: &ListenConfig,

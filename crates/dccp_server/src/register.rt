@@ -1,4 +1,4 @@
-//! What is kept of each peer that has a flow, and in which order it wants something.
+//! What is kept of each peer that has a flow, and the order in which something is due for it.
 ghost use Rattle.std.specs.Prelude.{◌≡◌, IsSome};
 ghost use Rattle.std.specs.Map.{lookup, set_value};
 ghost use Rattle.dccp_listener.specs.Peers.{is_peer};
@@ -14,7 +14,7 @@ use std::collections::BTreeMap;
 use std::marker::Model;
 use std::ops::Bound;
 
-/// What is kept of a peer wants something at a moment, a time of a class, or at none.
+/// Something that is kept of a peer. It is due at a moment, which is a class and a time, or at none.
 pub trait Moment: Copy {
     ghost use Rattle.std.specs.Prelude.{◌≡◌, ℕ, Option};
 
@@ -25,12 +25,12 @@ pub trait Moment: Copy {
         ensures { result ≡ moment_of self.now };
 }
 
-/// What is kept of each peer that has a flow. Contracts see the list of it, in the order of peers.
+/// What is kept of each peer that has a flow. Contracts see it as a list, in the order of peers.
 #[derive(Drop)]
 pub struct Register<V: Moment> {
     entries: BTreeMap<Peer, V>,
     tickets: Vec<Ticket>,
-    /// What is kept of the last peer, so that a call that looks at it again and again searches once.
+    /// What is kept of the last peer, so that a call that looks at it several times searches once.
     at_hand: Option<(Peer, V)>,
 }
 
@@ -57,7 +57,7 @@ fn entry_of<V: Moment>(entries: &BTreeMap<Peer, V>, peer: Peer) -> Option<(Peer,
     }
 }
 
-// Writes over what is kept of a peer, and answers at which moment that wanted something.
+// Writes over what is kept of a peer, and returns the moment at which that was due.
 fn write_over<V: Moment>(
     entries: &mut BTreeMap<Peer, V>,
     peer: Peer,
@@ -78,7 +78,7 @@ fn write_over<V: Moment>(
     }
 }
 
-/// Whether two peers are one.
+/// Whether two peers are the same.
 pub(crate) fn is_peer(one: Peer, other: Peer) -> bool
     ensures { result ≡ is_peer one other }
 {
@@ -144,7 +144,7 @@ impl<V: Moment> Register<V> {
         self.get(peer).is_some()
     }
 
-    /// The peer has a place from now on: whether it had one before.
+    /// The peer has a place from now on. Returns whether it had one before.
     pub(crate) fn place_for(&mut self, peer: Peer, fresh: V) -> Result<bool, NoMemory>
         ensures placed { IfOk result (λ had. IsPlaced fresh had self.old self.new peer) }
         ensures there { OnOk result (IsSome (lookup (is_peer peer) self.new)) }
@@ -168,7 +168,7 @@ impl<V: Moment> Register<V> {
         }
     }
 
-    /// The peer's place goes again, unless it had one before.
+    /// Removes the peer's place again, unless it had one before.
     pub(crate) fn take_back(&mut self, peer: Peer, had: bool)
         ensures { self.new ≡ (if had then self.old else remove_entry (is_peer peer) self.old) }
     {
@@ -177,7 +177,7 @@ impl<V: Moment> Register<V> {
         }
     }
 
-    /// The peer, which has a place, has this there from now on.
+    /// Puts this into the peer's place, which it has.
     pub(crate) fn put(&mut self, peer: Peer, value: &V)
         requires { IsSome (lookup (is_peer peer) self.old) }
         ensures { self.new ≡ insert_entry peer_cmp self.old peer value.now }
@@ -190,7 +190,7 @@ impl<V: Moment> Register<V> {
         }
     }
 
-    /// The peer's place goes, if it has one.
+    /// Removes the peer's place, if it has one.
     pub(crate) fn remove(&mut self, peer: Peer)
         ensures { self.new ≡ remove_entry (is_peer peer) self.old }
     {
@@ -221,7 +221,7 @@ impl<V: Moment> Register<V> {
         }
     }
 
-    /// Of how many peers something is kept.
+    /// For how many peers something is kept.
     pub(crate) fn len(&self) -> usize
         ensures { result ≡ length self.now }
     {
@@ -235,7 +235,7 @@ impl<V: Moment> Register<V> {
         first_in(self.tickets.as_slice(), class)
     }
 
-    /// How many tickets there are of a class.
+    /// How many tickets of a class there are.
     pub(crate) fn count_in(&self, class: u8) -> usize
         ensures { result ≡ count_in class (queue_of V.moment_of self.now) }
     {

@@ -1,4 +1,4 @@
-//! What is done with a listener, what is kept of its flows and their lives.
+//! The calls of a listener, with what is kept of its flows and with their lives.
 ghost use Rattle.std.specs.Prelude.{◌≡◌, ◌≤◌, None, Some, Ok, IfOk, OnOk, OnErr, length, if◌then◌else◌};
 ghost use Rattle.dccp_listener.specs.Calls.{seen_if};
 ghost use Rattle.dccp_listener.specs.Chain.{Arrives, Calls, asked};
@@ -16,19 +16,19 @@ use crate::timed_listener::TimedListener;
 use dccp_endpoint::{NoMemory, Outbox, Seen, Seq48, Timer, UserCall};
 use dccp_listener::{Heard, NoFlow, Peer};
 
-/// What came of a datagram (own).
+/// The result of a datagram (own).
 #[derive(Clone, Copy, Debug, PartialEq, Eq)]
 pub struct ArrivalResult {
-    /// What became of it, or None where it was left out, since it would have been answered by one Sync too many;
-    /// NoMemory where it would have opened a flow and no memory was to be had.
+    /// What became of it, or None if it was left out, since it would have been answered by one Sync too many. NoMemory
+    /// if it would have opened a flow and there was no memory.
     pub heard: Result<Option<Heard>, NoMemory>,
     /// The peer whose flow made room for it.
     pub evicted: Option<Peer>,
-    /// Whether the flow that the peer had was ended, since the peer has begun anew.
+    /// Whether the flow that the peer had was ended, since the peer has connected again.
     pub anew: bool,
 }
 
-// What came of a datagram that was heard.
+// The result of a datagram that was heard.
 #[derive(Clone, Copy, Debug, PartialEq, Eq)]
 pub(crate) struct HearingResult {
     pub(crate) heard: Result<Heard, NoMemory>,
@@ -70,7 +70,7 @@ pub(crate) fn hear(
     }
 }
 
-/// The owner calls a peer's end, of which each that stands has a life.
+/// The owner calls a peer's end. Each flow has a life.
 pub(crate) fn ask(
     timed: &mut TimedListener,
     lives: &mut Register<Life>,
@@ -92,7 +92,7 @@ pub(crate) fn ask(
     answer
 }
 
-/// The first rule of a peer's path that is due has its end do something.
+/// The first rule of a peer's path that is due makes its end do something.
 pub(crate) fn follow(
     timed: &mut TimedListener,
     lives: &mut Register<Life>,
@@ -135,7 +135,7 @@ pub(crate) fn forget(
     out.clear();
 }
 
-// A datagram that found the listener busy: this flow leaves, and it is heard once more.
+// A datagram found the listener busy: this flow leaves, and the datagram is heard once more.
 fn make_room(
     timed: &mut TimedListener,
     lives: &mut Register<Life>,
@@ -156,7 +156,7 @@ fn make_room(
     hear(timed, lives, &life, peer, iss, bytes, now, out)
 }
 
-// A peer that has begun anew loses its old flow, and the Sync is not sent.
+// A peer that has connected again loses its old flow, and the Sync is not sent.
 fn begin_anew(
     timed: &mut TimedListener,
     lives: &mut Register<Life>,
@@ -182,7 +182,7 @@ pub(crate) fn is_crowded(timed: &TimedListener, lives: &Register<Life>) -> bool
     is_crowd(lives, timed.config().most)
 }
 
-/// Who makes room.
+/// The peer whose flow makes room, if there is one.
 pub(crate) fn who_leaves(
     timed: &TimedListener,
     lives: &Register<Life>,
@@ -265,7 +265,7 @@ fn hear_by(
     }
 }
 
-// A datagram is counted. Whether it is to be heard.
+// Counts a datagram. Returns whether it is to be heard.
 fn count(
     timed: &mut TimedListener,
     lives: &Register<Life>,
@@ -287,7 +287,8 @@ fn count(
     timed.admits(peer, bytes, now)
 }
 
-// What came of a datagram that was heard, where it might have been left out. Nothing goes out where there was no memory.
+// The result of a datagram that was heard, as one that might have been left out. Nothing goes out if there was no
+// memory.
 fn as_arrival(judged: &HearingResult, out: &mut Outbox) -> ArrivalResult
     ensures heard { result.heard ≡ heard_or_fault judged.now.heard }
     ensures evicted { result.evicted ≡ judged.now.evicted }

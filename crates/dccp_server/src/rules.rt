@@ -20,23 +20,23 @@ pub fn answers_to_strangers() -> Limit
     }
 }
 
-/// The rules of a server (own). Times are in milliseconds; None is for ever.
+/// The rules of a server (own). Times are in milliseconds; None means for ever.
 #[derive(Clone, Copy, Debug, PartialEq, Eq)]
 pub struct Rules {
-    /// Whether a Request at a full table ends the flow longest in TIMEWAIT, or else the one longest in RESPOND over its
-    /// time, where there is one.
+    /// Whether a Request at a full table ends the flow that has been in TIMEWAIT for longest, or else the one that has
+    /// been in RESPOND for longest, if it is over its time.
     pub makes_room: bool,
-    /// Whether a peer that begins anew from its port ends its old flow.
+    /// Whether a peer that connects again from its port ends its old flow.
     pub ends_old_flows: bool,
     /// How long a flow may be in RESPOND (RFC 4340, section 8.1.3).
     pub respond: Option<u64>,
-    /// The same in a crowd: where more flows are in RESPOND than places are free.
+    /// The same in a crowd: while more flows are in RESPOND than places are free.
     pub crowded: Option<u64>,
     /// How long a flow may be in CLOSEREQ and in CLOSING.
     pub closing: Option<u64>,
     /// How long a flow in OPEN may take no packet.
     pub idle: Option<u64>,
-    /// How many answers go to strangers, peers without a flow, all together; None is as many as there are.
+    /// How many answers go to strangers, which are peers without a flow, all together; None means no limit.
     pub answers: Option<Limit>,
     /// How many of them are Resets to packets that belong to no connection (RFC 4340, section 8.1.3).
     pub resets: Option<Limit>,
@@ -46,7 +46,7 @@ impl Rules {
     ghost use Rattle.std.specs.Prelude.{◌≡◌};
     ghost use Rattle.dccp_server.specs.Rules.{no_rules, usual_rules};
 
-    /// No rule: what a listener alone does.
+    /// No rules: a listener by itself.
     pub fn none() -> Rules
         ensures { result ≡ no_rules }
     {
@@ -62,8 +62,8 @@ impl Rules {
         }
     }
 
-    /// Both rules, RESPOND for four minutes, or ten seconds in a crowd, CLOSEREQ and CLOSING for 64 seconds, two minutes
-    /// of silence, and a hundred answers a second to strangers, of which eight are Resets without a connection.
+    /// Both rules; RESPOND for four minutes, or ten seconds in a crowd; CLOSEREQ and CLOSING for 64 seconds; two
+    /// minutes of silence; and a hundred answers a second to strangers, of which eight are Resets without a connection.
     pub fn usual() -> Rules
         ensures { result ≡ usual_rules }
     {
@@ -80,7 +80,7 @@ impl Rules {
     }
 }
 
-/// Whether more flows are half open than places are free, where so many may stand.
+/// Whether more flows are half open than places are free, of this many places.
 pub(crate) fn is_crowd(lives: &Register<Life>, most: u16) -> bool
     ensures { result ≡ is_crowd most lives.now }
 {
@@ -88,7 +88,7 @@ pub(crate) fn is_crowd(lives: &Register<Life>, most: u16) -> bool
     free < lives.count_in(class_of(Stage::HalfOpen))
 }
 
-// The flow that stands longest in a stage.
+// The flow that has been in a stage for the longest time.
 fn longest(lives: &Register<Life>, stage: Stage) -> Option<Ticket>
     ensures { result ≡ longest stage lives.now }
 {
@@ -141,7 +141,7 @@ fn is_none_left(left: Option<u64>) -> bool
     }
 }
 
-// The flow that stands longest in a stage, where it may no longer.
+// The flow that has been longest in a stage, if it may stay no longer.
 fn over_in(
     rules: &Rules,
     crowded: bool,
@@ -167,7 +167,7 @@ fn holder(ticket: Option<Ticket>) -> Option<Peer>
     }
 }
 
-/// Which flow is given up first, if one is.
+/// The flow that is given up first, if one is.
 pub(crate) fn first_given_up(
     rules: &Rules,
     crowded: bool,
@@ -185,7 +185,7 @@ pub(crate) fn first_given_up(
     holder(over_in(rules, crowded, Stage::Ending, lives, now))
 }
 
-// What is left in a stage, at most so long.
+// How long is left in a stage, at most `most`.
 fn least_in(
     rules: &Rules,
     crowded: bool,
@@ -201,7 +201,7 @@ fn least_in(
     least.min(left.unwrap_or(least))
 }
 
-/// How many milliseconds it is until the first flow is given up, at most `most`.
+/// In how many milliseconds the first flow is given up, at most `most`.
 pub(crate) fn least_left(
     rules: &Rules,
     crowded: bool,
@@ -241,14 +241,14 @@ pub(crate) fn refuses_last_sync(rules: &Rules, life: &Life, bytes: &[u8]) -> boo
     rules.ends_old_flows && refuses_sync(life.sync, bytes)
 }
 
-/// Whether the peer has begun anew, by its life before the datagram and what the datagram told.
+/// Whether the peer has connected again, by its life before the datagram and by the signs in the datagram.
 pub(crate) fn begins_anew(rules: &Rules, life: &Life, bytes: &[u8], signs: Signs) -> bool
     ensures { result ≡ begins_anew rules.now life.now bytes.now signs }
 {
     signs.synced && refuses_last_sync(rules, life, bytes)
 }
 
-/// What a datagram tells of its peer, as far as it is kept.
+/// What a datagram says about its peer, as far as it is kept.
 pub(crate) fn signs_noted(bytes: &[u8], signs: Signs) -> Signs
     ensures { result ≡ signs_noted bytes.now signs }
 {

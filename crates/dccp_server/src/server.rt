@@ -1,4 +1,4 @@
-//! A server in the room of its owner.
+//! A server, as its owner uses it.
 ghost use Rattle.std.specs.Prelude.{◌≡◌};
 
 use crate::asking::{asking_of, opening_of, route_of};
@@ -26,12 +26,11 @@ use std::alloc::Global;
 use std::marker::Model;
 
 /// A server: a listener with the timers of its flows and the rules of their paths, which makes room and gives flows up
-/// by its own rules. Each call takes the time, in milliseconds from any beginning, and leaves at most one frame in the
+/// by its own rules. Each call takes the time, in milliseconds since any moment, and leaves at most one frame in the
 /// Outbox, which goes to the peer of the call.
 ///
-/// Datagrams go into `arrive`, and the owner's calls into `ask`. Call `tick` once `until_first` has passed, until there
-/// is nothing to do; ask `until_first` again after every other call. `forget` removes a flow at once, whatever its
-/// phase.
+/// Datagrams go into `arrive`, and the owner's calls into `ask`. Once `until_first` has passed, call `tick` until it
+/// returns None; call `until_first` again after every other call. `forget` removes a flow at once, whatever its phase.
 #[derive(Drop)]
 pub struct Server {
     timed: TimedListener,
@@ -72,8 +71,8 @@ impl Server {
     ghost use Rattle.dccp_server.specs.Rooms.{HasArrived, IsServed, forgets, is_to_be_heard, received_at, duty_done, duty_due, duty_frame, duty_in, room_does, room_waits, ruled_begins, who_is_over, who_leaves, with_user};
     ghost use Rattle.dccp_server.specs.Serving.{Does, Follows, doing_frame, flow_restraint, flow_restraint_by, upkeep_at};
 
-    /// A server without flows, whose ends make the offers of the lists, follow the rules of `pace` on their paths, and are
-    /// kept by the rules of `rules`. It takes no memory.
+    /// A server without flows. Its ends make the offers of the lists, and follow the rules of `pace` on their paths;
+    /// the server follows `rules`. It takes no memory.
     pub fn new(alloc: Global, config: ListenConfig, pace: Pace, rules: Rules) -> Server
         requires { IsListening config }
         ensures { result ≡ ruled_begins config pace rules }
@@ -95,7 +94,8 @@ impl Server {
         self.lives.has(peer)
     }
 
-    /// What is kept of a peer's flow is at hand from now on: calls about the same peer are faster, and do the same.
+    /// Keeps what is known of a peer's flow at hand from now on: calls about the same peer are faster, and have the
+    /// same results.
     pub(crate) fn seek(&mut self, peer: Peer)
         ensures { self.new ≡ self.old }
     {
@@ -103,10 +103,11 @@ impl Server {
         self.lives.seek(peer);
     }
 
-    /// A datagram of a peer has arrived, at most 2,044 bytes: `Listener::arrive`, and then the rules. One that would be
-    /// answered by one Sync too many is left out. Where the listener is busy and a flow may leave, that is forgotten, and
-    /// the datagram is heard once more. Where it shows that the peer has begun anew, the peer's old flow is forgotten and
-    /// nothing is sent, so that the peer asks again. An answer to a peer without a flow that is one too many is not sent.
+    /// A datagram of a peer has arrived, at most 2,044 bytes: `Listener::arrive`, and then the rules. A datagram that
+    /// would be answered by one Sync too many is ignored. If the listener is busy and a flow may leave, that flow is
+    /// forgotten, and the datagram is heard once more. If the datagram shows that the peer has connected again, the
+    /// peer's old flow is forgotten and nothing is sent, so that the peer asks again. An answer to a peer without a
+    /// flow that is one too many is not sent.
     pub fn arrive(
         &mut self,
         peer: Peer,
@@ -132,7 +133,7 @@ impl Server {
         arrival
     }
 
-    // The same, except that the frame for a stranger may be one too many.
+    // The same, but a frame to a stranger is not counted.
     fn come(
         &mut self,
         peer: Peer,
@@ -160,7 +161,7 @@ impl Server {
         )
     }
 
-    // What flow the peer had goes, since its cookie was good.
+    // Drops the flow that the peer had, since its cookie was valid.
     fn clear(&mut self, peer: Peer, now: u64, out: &mut Outbox)
         ensures { self.new ≡ cleared now self.old peer }
     {
@@ -169,7 +170,7 @@ impl Server {
         }
     }
 
-    // Whether nothing shows yet that the peer is where its datagrams say.
+    // Whether nothing has proved yet that the peer is at the address in its datagrams.
     fn is_unproved(&self, peer: Peer) -> bool
         ensures { result ≡ is_unproved (flow_at self.now peer) }
     {
@@ -179,7 +180,7 @@ impl Server {
         }
     }
 
-    /// What a datagram brings back.
+    /// The opening that a datagram brings back, if it brings one.
     pub(crate) fn returned(&self, peer: Peer, bytes: &[u8], now: u64) -> Option<FirstRequest>
         requires { length bytes.now ≤ 2044 }
         ensures { result ≡ returned now self.now peer bytes.now }
@@ -216,7 +217,7 @@ impl Server {
         self.timed.would_admit(peer, bytes, now)
     }
 
-    // What a datagram is that brings nothing back.
+    // The kind of a datagram that brings no opening back.
     fn entry_without(&self, peer: Peer, iss: Seq48, bytes: &[u8], now: u64) -> DatagramKind
         requires { length bytes.now ≤ 2044 }
         ensures { result ≡ entry_without now self.now peer iss bytes.now }
@@ -228,7 +229,7 @@ impl Server {
         DatagramKind::Plain
     }
 
-    // What a datagram is.
+    // The kind of a datagram.
     fn entry_met(&self, peer: Peer, iss: Seq48, bytes: &[u8], now: u64) -> DatagramKind
         requires { length bytes.now ≤ 2044 }
         ensures { result ≡ entry_met now self.now peer iss bytes.now }
@@ -278,7 +279,7 @@ impl Server {
         arrival
     }
 
-    // The same, and the number beside a flow that was half open stays.
+    // The same, and the owner's number for a flow that was half open stays.
     fn reopen(
         &mut self,
         peer: Peer,
@@ -298,16 +299,16 @@ impl Server {
         arrival
     }
 
-    // Writes a number beside a peer's flow, if it has one.
+    // Sets the owner's number for a peer's flow, if it has one.
     fn write_user(&mut self, peer: Peer, user: u64)
         ensures { self.new ≡ user_kept user peer self.old }
     {
         let _ = self.set_user(peer, user);
     }
 
-    /// A datagram of a peer has arrived, at most 2,044 bytes: `arrive`, with Init Cookies where the rules say so and there
-    /// is a key (RFC 4340, section 8.1.4). A Request that needs no flow is answered with a cookie, or left out where its
-    /// options are too long for one. A packet that brings a good cookie back opens its flow and is served.
+    /// A datagram of a peer has arrived, at most 2,044 bytes: `arrive`, with Init Cookies if `set_cookies` says so and
+    /// there is a key (RFC 4340, section 8.1.4). A Request that needs no flow is answered with a cookie, or left out if
+    /// its options are too long for one. A packet that brings a valid cookie back opens its flow and is served.
     pub fn meet(
         &mut self,
         peer: Peer,
@@ -330,7 +331,7 @@ impl Server {
         }
     }
 
-    /// It is served as without cookies.
+    /// It is served as if there were no cookies.
     pub(crate) fn serve(
         &mut self,
         peer: Peer,
@@ -352,7 +353,7 @@ impl Server {
         }
     }
 
-    // A Request that needs no flow: it is greeted, where a fresh end takes it, and else served.
+    // A Request that needs no flow: it is greeted if a fresh end takes it, otherwise served.
     fn greet(
         &mut self,
         peer: Peer,
@@ -435,7 +436,7 @@ impl Server {
         forget(&mut self.timed, &mut self.lives, peer, now, out);
     }
 
-    // Whose flow is given up first.
+    // The peer whose flow is given up first, if one is.
     fn over(&self, now: u64) -> Option<Peer>
         ensures { result ≡ who_is_over now self.now.rules self.now.room }
     {
@@ -443,7 +444,7 @@ impl Server {
         first_given_up(&self.rules, crowded, &self.lives, now)
     }
 
-    // What there is to do with what is due of a peer's flow.
+    // The duty for what is due at a peer's flow.
     fn duty_due(&self, peer: Peer, due: Due, now: u64) -> Duty
         ensures { result ≡ duty_due now self.now.room.served peer due }
     {
@@ -453,9 +454,9 @@ impl Server {
         }
     }
 
-    /// What is to be done first. It is the first thing due of the flow that has waited longest: a timer, or a rule of
-    /// its path. If nothing is due, a flow that has been in its phase or silent for too long is given up: the longest
-    /// half open, else the longest silent, else the longest in CLOSEREQ or CLOSING.
+    /// What has to be done first: the first thing due at the flow that has waited longest, a timer or a rule of its
+    /// path. If nothing is due, a flow that has been in its phase or silent for too long is given up: the longest half
+    /// open, else the longest silent, else the longest in CLOSEREQ or CLOSING.
     pub fn duty(&self, now: u64) -> Option<Duty>
         ensures { result ≡ duty_in now self.now.rules self.now.room }
     {
@@ -468,7 +469,7 @@ impl Server {
         }
     }
 
-    // The first rule of a peer's path that is due has its end do something.
+    // The first rule of a peer's path that is due makes its end do something.
     fn follow(&mut self, peer: Peer, now: u64, out: &mut Outbox)
         ensures after { self.new ≡ record self.old { room = room_does now self.old.room peer Follows } }
         ensures sent { out.new ≡ doing_frame now self.old.room.served peer Follows }
@@ -476,7 +477,7 @@ impl Server {
         follow(&mut self.timed, &mut self.lives, peer, now, out);
     }
 
-    // Does it.
+    // Does a duty.
     fn do_duty(&mut self, duty: Duty, now: u64, out: &mut Outbox)
         ensures after { self.new ≡ record self.old { room = duty_done now self.old.room (Some duty) } }
         ensures sent { out.new ≡ duty_frame now self.old.room (Some duty) }
@@ -492,7 +493,7 @@ impl Server {
         }
     }
 
-    /// Does what there is to do first, and tells what it was, or None where there was nothing.
+    /// Does what has to be done first, and returns it, or None if there was nothing to do.
     pub fn tick(&mut self, now: u64, out: &mut Outbox) -> Option<Duty>
         ensures duty { result ≡ duty_in now self.old.rules self.old.room }
         ensures after { self.new ≡ record self.old { room = duty_done now self.old.room result } }
@@ -503,7 +504,7 @@ impl Server {
         duty
     }
 
-    /// Does what there is to do, if there is something.
+    /// Does a duty, if there is one.
     pub(crate) fn perform(&mut self, duty: Option<Duty>, now: u64, out: &mut Outbox)
         ensures after { self.new ≡ record self.old { room = duty_done now self.old.room duty } }
         ensures sent { out.new ≡ duty_frame now self.old.room duty }
@@ -514,7 +515,7 @@ impl Server {
         }
     }
 
-    /// How many milliseconds it is until something is due of a flow or one is given up; 2^64 - 1 where there is no such time.
+    /// In how many milliseconds something is due at a flow, or one is given up; 2^64 - 1 if there is no such time.
     pub fn until_first(&self, now: u64) -> u64
         ensures { result ≡ room_waits now self.now.rules self.now.room }
     {
@@ -523,7 +524,7 @@ impl Server {
         least_left(&self.rules, crowded, &self.lives, now, least)
     }
 
-    /// A peer's end, or None exactly where it has none.
+    /// A peer's end, or None exactly if it has none.
     pub fn flow(&self, peer: Peer) -> Option<&Endpoint<Kinds>>
         ensures { MatchOption result (end_of_peer self.now.room.served.listening.flows peer ≡ None) (λ end. end_of_peer self.now.room.served.listening.flows peer ≡ Some end.now) }
     {
@@ -544,23 +545,24 @@ impl Server {
         self.lives.first_peer()
     }
 
-    /// The first peer that has a flow and comes after this one, which may have none. From `first_peer` on it leads to each
-    /// peer once, and no call goes through the flows.
+    /// The first peer that has a flow and comes after this one, which may have none. From `first_peer` on it names each
+    /// peer once, and no call goes through all flows.
     pub fn peer_after(&self, peer: Peer) -> Option<Peer>
         ensures { result ≡ peer_after peer (keys_of self.now.room.served.listening.flows) }
     {
         self.lives.peer_after(peer)
     }
 
-    /// What is kept of a peer's flow: its timers and its path; where it has none, what is kept of one that begins.
+    /// What is kept of a peer's flow: its timers and its path. If the peer has no flow, it is what is kept of one that
+    /// begins.
     pub fn upkeep(&self, peer: Peer) -> Upkeep
         ensures { result ≡ upkeep_at self.now.room.served.pace self.now.room.served.upkeeps peer }
     {
         self.timed.upkeep(peer)
     }
 
-    /// Why data to a peer have to wait for the application that reads them, if they have to (RFC 4340, sections 11.6
-    /// and 11.7); None also if it has no flow. Ask this before each send: `ask` does not.
+    /// Why data to a peer have to wait for the application that reads them (RFC 4340, sections 11.6 and 11.7). None if
+    /// they need not, and also if it has no flow. Check this before each send: `ask` does not.
     pub fn restraint(&self, peer: Peer) -> Option<Restraint>
         ensures { result ≡ flow_restraint self.now.room.served peer }
     {
@@ -584,7 +586,7 @@ impl Server {
         self.timed.reader(peer)
     }
 
-    /// What is known of a peer's flow beside its end; a life that has not begun where it has none.
+    /// What is known of a peer's flow besides its end; a life that has not begun if the peer has none.
     pub fn life(&self, peer: Peer) -> Life
         ensures { result ≡ life_of self.now.room.lives peer }
     {
@@ -611,8 +613,8 @@ impl Server {
         self.timed.config().most <= self.timed.flows()
     }
 
-    /// The Service Code of the flow that a datagram of at most 2,044 bytes would open, so that the owner may ask himself
-    /// whether he wants it; None where it opens none, or the peer has one. Nothing changes.
+    /// The Service Code of the flow that a datagram of at most 2,044 bytes would open, so that the owner can decide
+    /// whether to accept it; None if it opens none, or the peer has one. Nothing changes.
     pub fn asks(&self, peer: Peer, bytes: &[u8]) -> Option<u32>
         requires { length bytes.now ≤ 2044 }
         ensures { result ≡ flow_asked self.now.room.served.listening peer bytes.now }
@@ -624,7 +626,7 @@ impl Server {
         refuse_stranger(self.timed.config(), peer, bytes, 0, &mut out)
     }
 
-    // Refuses a datagram of a peer that has no flow. Whether it would have opened one.
+    // Refuses a datagram of a peer that has no flow. Returns whether it would have opened one.
     fn turn_away(&self, peer: Peer, bytes: &[u8], code: u8, out: &mut Outbox) -> bool
         requires { length bytes.now ≤ 2044 }
         ensures opens { result ≡ is_some (flow_asked self.now.room.served.listening peer bytes.now) }
@@ -637,9 +639,9 @@ impl Server {
         refuse_stranger(self.timed.config(), peer, bytes, code, out).is_some()
     }
 
-    /// Refuses a datagram of at most 2,044 bytes that would open a flow, by a Reset with this code (RFC 4340, section 5.6),
-    /// which is one of the answers to strangers that the rules limit. False where it opens none, or the peer has one; then
-    /// nothing changes and nothing goes out.
+    /// Refuses a datagram of at most 2,044 bytes that would open a flow, by a Reset with this code (RFC 4340, section
+    /// 5.6), which is one of the answers to strangers that the rules limit. False if it opens none, or the peer has
+    /// one; then nothing changes and nothing goes out.
     pub fn refuse(&mut self, peer: Peer, bytes: &[u8], code: u8, now: u64, out: &mut Outbox) -> bool
         requires { length bytes.now ≤ 2044 }
         ensures opens { result ≡ is_some (flow_asked self.old.room.served.listening peer bytes.now) }
@@ -671,8 +673,8 @@ impl Server {
         who_leaves(&self.timed, &self.lives, rules, now)
     }
 
-    /// Writes a number beside a peer's flow, which goes with it. NoFlow comes exactly where the peer has none, and then
-    /// nothing changes.
+    /// Sets the owner's number for a peer's flow, which is dropped with the flow. NoFlow comes exactly if the peer has
+    /// none, and then nothing changes.
     pub fn set_user(&mut self, peer: Peer, user: u64) -> Result<(), NoFlow>
         ensures after { self.new ≡ record self.old { room = with_user user self.old.room peer } }
         ensures no_flow { IsErr result ↔ (end_of_peer self.old.room.served.listening.flows peer ≡ None) }
@@ -680,7 +682,7 @@ impl Server {
         write_user(&self.timed, &mut self.lives, peer, user)
     }
 
-    /// Cookies are used so from now on, once there is a key.
+    /// Cookies are used in this way from now on, once there is a key.
     pub fn set_cookies(&mut self, cookies: CookieUse)
         ensures { self.new ≡ record self.old { cookies = cookies } }
     {
@@ -697,8 +699,8 @@ impl Server {
         }
     }
 
-    /// Its cookies are written by this key from now on, 32 bytes that were drawn at random; those of the key before it stay
-    /// good for their two minutes.
+    /// Cookies are written with this key from now on: 32 bytes that were drawn at random. Those of the key before it
+    /// stay valid for their two minutes.
     pub fn rekey(&mut self, key: [u8; 32], now: u64)
         ensures { self.new ≡ record self.old { keys = Some (rekeyed key now self.old.keys) } }
     {

@@ -1,4 +1,4 @@
-//! What is done with a listener and what is kept of its flows.
+//! The calls of a listener, with what is kept of its flows.
 ghost use Rattle.std.specs.Prelude.{◌≡◌, ◌≤◌, [], ◌∷◌, None, Ok, IfOk, OnOk, OnErr, IsSome, is_some, not, length};
 ghost use Rattle.std.specs.BTreeMap.{insert_entry};
 ghost use Rattle.std.specs.Map.{lookup};
@@ -21,7 +21,7 @@ use dccp_endpoint::{Endpoint, Feature, NoMemory, Outbox, Place, Seen, Seq48, Tim
 use dccp_listener::{Heard, Listener, NoFlow, Peer};
 use dccp_uses::{Due, Pace, Reader, Rule, Sight, admit, due_rule};
 
-// What there is to see of a peer's end, if it has one.
+// What the rules see of a peer's end, if it has one.
 fn sight_at(listener: &Listener, peer: Peer) -> Option<Sight>
     ensures { result ≡ sight_if (end_of_peer listener.now.flows peer) }
 {
@@ -53,7 +53,7 @@ pub(crate) fn upkeep_at(upkeeps: &Register<Upkeep>, pace: Pace, peer: Peer) -> U
     }
 }
 
-// The peer has a place for what is kept of it from now on: whether it had one before.
+// The peer has a place for what is kept of it from now on. Returns whether it had one before.
 fn place(upkeeps: &mut Register<Upkeep>, pace: Pace, peer: Peer) -> Result<bool, NoMemory>
     ensures placed { IfOk result (λ had. IsPlaced (upkeep_begins pace) had upkeeps.old upkeeps.new peer) }
     ensures there { OnOk result (IsSome (lookup (is_peer peer) upkeeps.new)) }
@@ -76,7 +76,7 @@ pub(crate) fn reader_at(upkeeps: &Register<Upkeep>, pace: Pace, peer: Peer) -> R
     }
 }
 
-// What is kept of the peer goes on from this with its end, and goes with it.
+// What is kept of the peer goes on from this with its end, and ends with it.
 fn arrange(
     listener: &Listener,
     upkeeps: &mut Register<Upkeep>,
@@ -129,14 +129,14 @@ fn ask(
     listener.ask(peer, call, out)
 }
 
-// The ticket of the flow of which something is due before it is of any other.
+// The ticket of the flow at which something is due first.
 fn soonest(upkeeps: &Register<Upkeep>) -> Option<Ticket>
     ensures { result ≡ soonest upkeeps.now }
 {
     upkeeps.first_in(0)
 }
 
-// The first that is due of a peer's flow, by what is kept of it.
+// The first thing that is due at a peer's flow, by what is kept of it.
 fn due_of_flow(upkeeps: &Register<Upkeep>, peer: Peer, now: u64) -> Option<(Peer, Due)>
     ensures { result ≡ due_of_flow now peer (lookup (is_peer peer) upkeeps.now) }
 {
@@ -149,7 +149,7 @@ fn due_of_flow(upkeeps: &Register<Upkeep>, peer: Peer, now: u64) -> Option<(Peer
     }
 }
 
-/// The flow of which something has been due for longest, and the first that is.
+/// The flow at which something has been due for longest, and the first thing that is due there.
 pub(crate) fn first_due_flow(upkeeps: &Register<Upkeep>, now: u64) -> Option<(Peer, Due)>
     ensures { result ≡ first_due_flow now upkeeps.now }
 {
@@ -159,7 +159,7 @@ pub(crate) fn first_due_flow(upkeeps: &Register<Upkeep>, now: u64) -> Option<(Pe
     }
 }
 
-/// How many milliseconds it is until something is due of any flow; 2^64 - 1 where nothing will be.
+/// In how many milliseconds something is due at any flow; 2^64 - 1 if nothing will be.
 pub(crate) fn least_wait(upkeeps: &Register<Upkeep>, now: u64) -> u64
     ensures { result ≡ least_wait now upkeeps.now }
 {
@@ -169,7 +169,7 @@ pub(crate) fn least_wait(upkeeps: &Register<Upkeep>, now: u64) -> u64
     }
 }
 
-// A datagram of a flow is counted. Whether it is to be heard.
+// Counts a datagram of a flow. Returns whether it is to be heard.
 fn count(
     end: &Endpoint<Kinds>,
     upkeeps: &mut Register<Upkeep>,
@@ -188,8 +188,8 @@ fn count(
     heard
 }
 
-/// A datagram of a peer, of which something is kept where it has a flow, takes a token where its numbers would have it
-/// answered by a Sync. Whether it is to be heard.
+/// A datagram of a peer takes a token if its numbers would have a Sync answer it. Something is kept of the peer if it
+/// has a flow. Returns whether the datagram is to be heard.
 pub(crate) fn spend(
     listener: &Listener,
     upkeeps: &mut Register<Upkeep>,
@@ -208,7 +208,8 @@ pub(crate) fn spend(
     }
 }
 
-/// A datagram of a peer. NoMemory where it has no flow, or no place for what is kept of it, and none is to be had.
+/// A datagram of a peer. NoMemory if the peer has no flow, or no place for what is kept of it, and there is no memory
+/// for that.
 pub(crate) fn arrive(
     listener: &mut Listener,
     upkeeps: &mut Register<Upkeep>,
@@ -242,7 +243,8 @@ pub(crate) fn arrive(
     }
 }
 
-/// A call of a peer's end. NoMemory where it has a flow without a place for what is kept of it, and none is to be had.
+/// A call of a peer's end. NoMemory if the peer has a flow without a place for what is kept of it, and there is no
+/// memory for that.
 pub(crate) fn act(
     listener: &mut Listener,
     upkeeps: &mut Register<Upkeep>,
@@ -284,7 +286,7 @@ fn ask_ratio(listener: &mut Listener, peer: Peer, ratio: u64, out: &mut Outbox)
     let _ = ask(listener, peer, call, out);
 }
 
-// The peer's end does what a rule says, where this Ack Ratio is held and that one wanted.
+// The peer's end does what a rule says; `held` is its Ack Ratio, and `aim` the one that is wanted.
 fn obey(listener: &mut Listener, peer: Peer, rule: Rule, held: u64, aim: u64, out: &mut Outbox)
     ensures after { listener.new ≡ listening_if listener.old peer (rule_call rule held aim) }
     ensures sent { out.new ≡ frame_if listener.old peer (rule_call rule held aim) }
@@ -302,7 +304,7 @@ fn obey(listener: &mut Listener, peer: Peer, rule: Rule, held: u64, aim: u64, ou
     }
 }
 
-// The Ack Ratio that a peer's end holds, if it has one.
+// The Ack Ratio of a peer's end, if it has one.
 fn held_at(listener: &Listener, peer: Peer) -> Option<u64>
     ensures { result ≡ ratio_held (end_of_peer listener.now.flows peer) }
 {
@@ -312,7 +314,7 @@ fn held_at(listener: &Listener, peer: Peer) -> Option<u64>
     }
 }
 
-// The peer's end, if it has one, does what a rule says, where this Ack Ratio is wanted.
+// The peer's end, if it has one, does what a rule says; `aim` is the Ack Ratio that is wanted.
 fn obey_at(listener: &mut Listener, peer: Peer, rule: Rule, aim: u64, out: &mut Outbox)
     ensures after { listener.new ≡ listening_if listener.old peer (call_for_rule rule aim (end_of_peer listener.old.flows peer)) }
     ensures sent { out.new ≡ frame_if listener.old peer (call_for_rule rule aim (end_of_peer listener.old.flows peer)) }
@@ -323,8 +325,8 @@ fn obey_at(listener: &mut Listener, peer: Peer, rule: Rule, aim: u64, out: &mut 
     }
 }
 
-/// The first rule of a peer's path that is due has its end do something. NoMemory where it has a flow without a place for
-/// what is kept of it, and none is to be had.
+/// The first rule of a peer's path that is due makes its end do something. NoMemory if the peer has a flow without a
+/// place for what is kept of it, and there is no memory for that.
 pub(crate) fn follow(
     listener: &mut Listener,
     upkeeps: &mut Register<Upkeep>,

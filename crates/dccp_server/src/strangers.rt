@@ -8,12 +8,12 @@ use dccp_endpoint::{NoMemory, Outbox, Outcome, ResetCode};
 use dccp_listener::Heard;
 use path_rules::{Bucket, Limit, TokenGrant, resets_to_strangers};
 
-/// What is left of the limits on answers to strangers.
+/// What is left of the limits of answers to strangers.
 #[derive(Clone, Copy, Debug, PartialEq, Eq)]
 pub struct Strangers {
-    /// Of that on all answers.
+    /// What is left of the limit of all answers.
     pub answers: Bucket,
-    /// Of that on Resets to packets that belong to no connection.
+    /// What is left of the limit of Resets to packets that belong to no connection.
     pub resets: Bucket,
 }
 
@@ -22,7 +22,7 @@ pub struct Strangers {
 pub struct StrangerAnswer {
     /// It goes out.
     pub goes: bool,
-    /// What is left.
+    /// What is left of the limits.
     pub strangers: Strangers,
 }
 
@@ -130,8 +130,8 @@ fn spared_if(
     }
 }
 
-/// The frame that a datagram has left goes out, or not where it is one too many for a stranger. What is left of the
-/// limits then.
+/// The frame that a datagram has left goes out, unless it is one too many for a stranger. Returns what is then left of
+/// the limits.
 pub(crate) fn spare(
     rules: &Rules,
     strangers: &Strangers,

@@ -14,8 +14,8 @@ use std::alloc::Global;
 use std::marker::Model;
 
 /// A listener with what its owner keeps of its flows: their timers, and the rules of their paths. Each call takes the
-/// time, in milliseconds from any beginning, and leaves at most one frame in the Outbox, which goes to the peer of the
-/// call. Each flow does what an end of its own with its timers would do (`TimedEnd` of dccp_uses).
+/// time, in milliseconds since any moment, and leaves at most one frame in the Outbox, which goes to the peer of the
+/// call. Each flow does what a single end with its timers would do (`TimedEnd` of dccp_uses).
 ///
 /// `admits` counts a datagram, and if it says so, `arrive` hears it; the owner's calls go into `ask`. Once
 /// `until_first` has passed, do what is `due`: a timer by `ask`, the rules by `follow`.
@@ -59,9 +59,9 @@ impl TimedListener {
         }
     }
 
-    /// Counts a datagram of a peer, which takes a token where its numbers would have it answered by a Sync. False where
-    /// there was none: then it is left out, and no number is used (RFC 4340, section 7.5.4; own). The datagrams of peers
-    /// without a flow are not counted.
+    /// Counts a datagram of a peer, which takes a token if its numbers would have a Sync answer it. False if there was
+    /// none: then it is left out, and no number is used (RFC 4340, section 7.5.4; own). The datagrams of peers without
+    /// a flow are not counted.
     pub fn admits(&mut self, peer: Peer, bytes: &[u8], now: u64) -> bool
         ensures counted { self.new ≡ served_counted now self.old peer bytes.now }
         ensures heard { result ≡ is_admitted now self.old peer bytes.now }
@@ -76,7 +76,7 @@ impl TimedListener {
         )
     }
 
-    /// Whether `admits` would say so; nothing is counted.
+    /// What `admits` would return; nothing is counted.
     pub fn would_admit(&self, peer: Peer, bytes: &[u8], now: u64) -> bool
         ensures { result ≡ is_admitted now self.now peer bytes.now }
     {
@@ -90,7 +90,7 @@ impl TimedListener {
     }
 
     /// A datagram of a peer has arrived, at most 2,044 bytes: `Listener::arrive`, and what is kept of its flow goes on.
-    /// NoMemory comes only where the peer has no flow, or no place for that; then nothing changes.
+    /// NoMemory comes only if the peer has no flow, or no place for that; then nothing changes.
     pub fn arrive(
         &mut self,
         peer: Peer,
@@ -118,8 +118,8 @@ impl TimedListener {
         )
     }
 
-    /// The owner calls a peer's end: `Listener::ask`, and what is kept of its flow goes on. NoFlow comes exactly where the
-    /// peer has none. It takes no memory, and where it is refused nothing changes (`refused_calls_change_nothing`).
+    /// The owner calls a peer's end: `Listener::ask`, and what is kept of its flow goes on. NoFlow comes exactly if the
+    /// peer has none. It takes no memory, and a refused call changes nothing (`refused_calls_change_nothing`).
     pub fn ask(
         &mut self,
         peer: Peer,
@@ -146,7 +146,7 @@ impl TimedListener {
         }
     }
 
-    /// The first rule of a peer's path that is due has its end do something. It takes no memory.
+    /// The first rule of a peer's path that is due makes its end do something. It takes no memory.
     pub fn follow(&mut self, peer: Peer, now: u64, out: &mut Outbox)
         ensures after { self.new ≡ rule_followed now self.old peer }
         ensures sent { out.new ≡ frame_if self.old.listening peer (call_due now self.old peer) }
@@ -164,21 +164,22 @@ impl TimedListener {
         }
     }
 
-    /// The peer of which something has been due for longest, and the first that is; of two the first in their order.
+    /// The peer at whose flow something has been due for longest, and the first thing that is due there; of two peers
+    /// the first in their order.
     pub fn due(&self, now: u64) -> Option<(Peer, Due)>
         ensures { result ≡ first_due_flow now self.now.upkeeps }
     {
         first_due_flow(&self.upkeeps, now)
     }
 
-    /// How many milliseconds it is until something is due of any flow; 2^64 - 1 where nothing will be.
+    /// In how many milliseconds something is due at any flow; 2^64 - 1 if nothing will be.
     pub fn until_first(&self, now: u64) -> u64
         ensures { result ≡ least_wait now self.now.upkeeps }
     {
         least_wait(&self.upkeeps, now)
     }
 
-    /// What a fresh end makes of a datagram of a peer: `Listener::greet`. Nothing is kept.
+    /// How a fresh end answers a datagram of a peer: `Listener::greet`. Nothing is kept.
     pub fn greet(
         &self,
         peer: Peer,
@@ -194,21 +195,21 @@ impl TimedListener {
         self.listener.greet(peer, iss, bytes, out)
     }
 
-    /// What is kept of a peer's flow is at hand from now on, and found without a search.
+    /// Keeps what is known of a peer's flow at hand from now on, so that it is found without a search.
     pub(crate) fn seek(&mut self, peer: Peer)
         ensures { self.new ≡ self.old }
     {
         self.upkeeps.seek(peer);
     }
 
-    /// A peer's end, or None exactly where it has none.
+    /// A peer's end, or None exactly if it has none.
     pub fn flow(&self, peer: Peer) -> Option<&Endpoint<Kinds>>
         ensures { MatchOption result (end_of_peer self.now.listening.flows peer ≡ None) (λ end. end_of_peer self.now.listening.flows peer ≡ Some end.now) }
     {
         self.listener.flow(peer)
     }
 
-    /// What is kept of a peer's flow; where it has none, what is kept of one that begins.
+    /// What is kept of a peer's flow. If the peer has no flow, it is what is kept of one that begins.
     pub fn upkeep(&self, peer: Peer) -> Upkeep
         ensures { result ≡ upkeep_at self.now.pace self.now.upkeeps peer }
     {
@@ -222,14 +223,14 @@ impl TimedListener {
         reader_at(&self.upkeeps, self.pace, peer)
     }
 
-    /// What it was made from.
+    /// The configuration from which it was made.
     pub fn config(&self) -> &ListenConfig
         ensures { result.now ≡ self.now.listening.config }
     {
         self.listener.config()
     }
 
-    /// How many flows stand.
+    /// How many flows there are.
     pub fn flows(&self) -> u16
         ensures { result ≡ length self.now.listening.flows }
     {

@@ -1,4 +1,4 @@
-//! What an owner keeps of a flow's end for its sake.
+//! What an owner keeps for a flow's end.
 ghost use Rattle.std.specs.Prelude.{◌≡◌};
 ghost use Rattle.dccp_uses.specs.Alarms.{has_run_out};
 ghost use Rattle.dccp_uses.specs.Timed.{every_due};
@@ -13,7 +13,7 @@ use dccp_uses::{
     starting_wait,
 };
 
-/// What an owner keeps of a flow's end for its sake (own): its timers, and what is known of its path.
+/// What an owner keeps for a flow's end (own): its timers, and what is known of its path.
 #[derive(Clone, Copy, Debug, PartialEq, Eq)]
 pub struct Upkeep {
     /// The timers that run.
@@ -50,7 +50,7 @@ impl Upkeep {
         has_run_out(self.alarm(due), now)
     }
 
-    /// The first that is due, in the order in which a session tells them.
+    /// The first that is due, in a session's order.
     pub(crate) fn first_due(&self, now: u64) -> Option<Due>
         ensures { result ≡ first_due self.now now every_due }
     {
@@ -103,7 +103,7 @@ impl Moment for Upkeep {
     }
 }
 
-// When an alarm runs out, as far as a clock of 64 bits comes.
+// When an alarm runs out, if that is within a clock of 64 bits.
 fn alarm_end(alarm: Option<Alarm>) -> Option<u64>
     ensures { result ≡ alarm_end alarm }
 {
@@ -127,8 +127,8 @@ fn earlier(time: Option<u64>, other: Option<u64>) -> Option<u64>
 }
 
 impl Upkeep {
-    // The timers and the rules go on for an end of which this is to be seen, no rule before `least` milliseconds have gone
-    // by.
+    // The timers and the rules go on for an end of which the rules see `sight`; no rule is due before `least`
+    // milliseconds have gone by.
     fn go_on_seen(&mut self, sight: &Sight, least: u64, now: u64)
         ensures { self.new ≡ kept_seen now least self.old.alarms self.old.path sight.now }
     {
@@ -211,7 +211,7 @@ impl Upkeep {
         self.go_on(end, now);
     }
 
-    /// Something happened to a flow, whose end is this then.
+    /// Something happened to a flow, whose end is now this one.
     pub(crate) fn note(
         &mut self,
         happening: &FlowHappening,
