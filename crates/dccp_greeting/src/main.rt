@@ -1,9 +1,9 @@
-//! Two servers in one process, whose clients send a greeting and close: a server of one connection, and a server of
-//! many peers, where a second client finds no place, since there may be one flow only. It prints what each server got,
-//! and then what the second client was told.
+//! Two servers in one process, whose clients send a greeting and close. One is a server of one connection. The other is
+//! a server of many peers, at which a second client finds no place, since there may be only one flow. It prints what
+//! each server got, and then the Reset Code that the second client got.
 //!
-//! It is the program of docs/USING.md, to be read whole and copied from, and has no contract of its own. Its wires are
-//! in memory, since this repository opens no socket. It takes memory for each frame on them.
+//! It is the program of docs/USING.md, to read and to copy from, and has no contract. Its wires are in memory, since
+//! crates open no socket. It takes memory for each frame on them.
 #![tactic(auto)]
 
 mod client;

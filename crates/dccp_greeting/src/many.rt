@@ -47,7 +47,7 @@ impl ServerOfMany {
             .arrive(peer, first, datagram, now, &mut self.out);
         self.send(network);
         let Ok(Some(Heard::Flow(outcome))) = arrival.heard else {
-            // Busy, which a Reset has said; or it was left out, or there was no memory: it counts as lost.
+            // Busy, as a Reset has told the peer; or it was left out, or there was no memory: it counts as lost.
             return Some(());
         };
         self.take(&outcome, datagram)
@@ -86,9 +86,9 @@ impl ServerOfMany {
     }
 }
 
-// Does all that there is to do at this time. A frame goes to the peer of the duty, which a real server sends it to.
+// Does all duties of this time. A real server sends the frame to the peer of the duty.
 fn tick(server: &mut ServerOfMany, first: &mut Client, second: &mut Client, now: u64) {
-    // Thirteen times something may be due of each of two peers, and two flows may be given up.
+    // Something may be due thirteen times at each of two flows, and both flows may be given up.
     for _ in 0..28 {
         let Some(duty) = server.server.tick(now, &mut server.out) else {
             return;
@@ -102,7 +102,7 @@ fn tick(server: &mut ServerOfMany, first: &mut Client, second: &mut Client, now:
     }
 }
 
-// All talk until the first client's connection has ended. Returns what the second was told.
+// All talk until the first client's connection has ended. Returns the Reset Code that the second got.
 fn exchange(server: &mut ServerOfMany, first: &mut Client, second: &mut Client) -> Option<u8> {
     first.open()?;
     second.open()?;
