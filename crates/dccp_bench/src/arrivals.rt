@@ -1,5 +1,5 @@
-//! A listener at which as many flows stand as may, to which datagrams of 100,000 peers come: `bench/listener` measures
-//! the time and the memory of it.
+//! A listener with as many flows as its limit allows, to which datagrams of 100,000 peers come:
+//! `bench/listener` measures the time and the memory of it.
 
 use crate::ratios::zero;
 use arrayvec::ArrayVec;

@@ -23,7 +23,7 @@ const WORKED: [&str; 7] = [
     "13899c400700fc3207000000000007d300000000000003ed26030000",
 ];
 
-/// The worked frames. None where no memory was left.
+/// The worked frames. None if no memory was left.
 pub(crate) fn worked(alloc: Global) -> Option<Vec<Vec<u8>>> {
     let mut frames = Vec::new(alloc);
     if add_worked(alloc, &mut frames) {
@@ -49,7 +49,7 @@ fn add_decoded(alloc: Global, text: &str, frames: &mut Vec<Vec<u8>>) -> bool {
     }
 }
 
-// Puts a frame after the others. False where no memory was left.
+// Puts a frame after the others. False if no memory was left.
 fn add(alloc: Global, frame: &Frame, frames: &mut Vec<Vec<u8>>) -> bool {
     let mut bytes = Vec::new(alloc);
     bytes.extend_from_slice(frame.bytes()).is_ok() && frames.push(bytes).is_ok()
@@ -90,7 +90,7 @@ fn full_frame() -> Frame {
     frame
 }
 
-/// The frame of 2,044 bytes, alone. None where no memory was left.
+/// The frame of 2,044 bytes, alone. None if no memory was left.
 pub(crate) fn full(alloc: Global) -> Option<Vec<Vec<u8>>> {
     let mut frames = Vec::new(alloc);
     if add(alloc, &full_frame(), &mut frames) {

@@ -16,7 +16,7 @@ const REACH: u32 = 2048;
 
 const PAYLOAD: [u8; 64] = [0xaa; 64];
 
-// An inbox for so many packets, to which as many came.
+// An inbox for this many packets, to which as many came.
 fn filled(alloc: Global, capacity: u16) -> io::Result<Inbox>
     requires some { 1 ≤ capacity }
     requires few { capacity ≤ 1024 }
@@ -51,7 +51,7 @@ fn writes(inbox: &Inbox, rounds: u32) -> u64 {
     sum
 }
 
-// The first item is taken and another arrives, so many times.
+// The first item is taken and another arrives, this many times.
 fn turns(inbox: &mut Inbox, rounds: u32) -> u64 {
     let mut into = [0; 1024];
     let mut sum = 0u64;
@@ -64,7 +64,7 @@ fn turns(inbox: &mut Inbox, rounds: u32) -> u64 {
     sum
 }
 
-// Times the report of so many drops.
+// Times the report of this many drops.
 fn report(rt: &HostRuntime, inbox: &Inbox, drops: u32, rounds: u32) -> io::Result<()> {
     let start = Instant::now(rt)?;
     let sum = writes(inbox, rounds);
@@ -98,7 +98,7 @@ fn measure_turn(rt: &HostRuntime, capacity: u16, rounds: u32) -> io::Result<()>
     turn(rt, &mut inbox, capacity, rounds)
 }
 
-/// Prints the nanoseconds of so many calls of each.
+/// Prints the nanoseconds of this many calls of each.
 pub(crate) fn all(rt: &HostRuntime, rounds: u32) -> io::Result<()> {
     measure_report(rt, REACH / 4, rounds)?;
     measure_report(rt, REACH, rounds)?;

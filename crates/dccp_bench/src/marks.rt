@@ -102,7 +102,7 @@ fn rounds_of_each(alloc: Global, rounds: u32) -> Result<u64, NoMemory> {
     Ok(marked.wrapping_add(two).wrapping_add(fixed))
 }
 
-/// Prints the sum of what every call answered, over so many rounds of each.
+/// Prints the sum of what every call answered, over this many rounds of each.
 pub(crate) fn all(rt: &HostRuntime, rounds: u32) -> io::Result<()> {
     match rounds_of_each(rt.alloc(), rounds) {
         Ok(sum) => println!(rt; "marks {}", sum),

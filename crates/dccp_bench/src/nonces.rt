@@ -19,7 +19,7 @@ fn unmarked(number: Seq48) -> Arrived {
     Arrived::Nonce(nonce_of(number))
 }
 
-// The window is filled so many times, in order.
+// The window is filled this many times, in order.
 fn fills(received: &mut EcnReceived, rounds: u32) -> u64 {
     let mut sum = 0u64;
     for _ in 0..rounds {
@@ -65,7 +65,7 @@ fn writes(received: &EcnReceived, out: &mut VectorBytes, ack: Seq48, rounds: u32
     sum
 }
 
-// A vector is checked so many times.
+// A vector is checked this many times.
 fn checks(ledger: &NonceLedger, ack: Seq48, bytes: &[u8], rounds: u32) -> u64 {
     let mut sum = 0u64;
     for _ in 0..rounds {
@@ -74,7 +74,7 @@ fn checks(ledger: &NonceLedger, ack: Seq48, bytes: &[u8], rounds: u32) -> u64 {
     sum
 }
 
-// Times so many writes, at one size.
+// Times this many writes, at one size.
 fn time_writes(
     rt: &HostRuntime,
     received: &EcnReceived,
@@ -87,7 +87,7 @@ fn time_writes(
     ended(rt, ("write-ecn", runs), start, u64::from(rounds), sum)
 }
 
-// Times so many checks of what was written, at one size.
+// Times this many checks of what was written, at one size.
 fn time_checks(rt: &HostRuntime, bytes: &[u8], runs: u32, rounds: u32) -> io::Result<()> {
     let ledger = sent_all(runs);
     let start = Instant::now(rt)?;
@@ -117,7 +117,7 @@ fn measure_all(rt: &HostRuntime, received: &mut EcnReceived, rounds: u32) -> io:
     Ok(())
 }
 
-/// Prints the nanoseconds of marking all numbers of a window, and of so many writes and checks at each size.
+/// Prints the nanoseconds of marking all numbers of a window, and of this many writes and checks at each size.
 pub(crate) fn all(rt: &HostRuntime, rounds: u32) -> io::Result<()> {
     let Ok(mut received) = EcnReceived::new(rt.alloc()) else {
         return Err(no_memory());

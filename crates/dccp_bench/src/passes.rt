@@ -128,7 +128,7 @@ fn measure_each(rt: &HostRuntime, name: &str, frames: &[Vec<u8>], rounds: u32) -
     Ok(())
 }
 
-/// Reads packets so many times, in each pass.
+/// Reads packets this many times, in each pass.
 pub(crate) fn all(rt: &HostRuntime, rounds: u32) -> io::Result<()> {
     measure_all(rt, "worked", worked(rt.alloc()), rounds)?;
     measure_all(rt, "full", full(rt.alloc()), rounds)

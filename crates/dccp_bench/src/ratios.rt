@@ -35,7 +35,7 @@ pub(crate) fn zero() -> Seq48 {
     zero
 }
 
-/// The newest of the numbers from 0 on that so many runs and the gaps below them have.
+/// The newest of the numbers from 0 on that this many runs and the gaps below them have.
 pub(crate) fn newest(runs: u32) -> Seq48 {
     zero().add(u64::from(runs) * 2).sub(1)
 }
@@ -99,7 +99,7 @@ fn take(flight: &mut Flight, report: &AckReport<'_>) -> u64 {
     u64::from(news.acked).wrapping_add(u64::from(flight.out()))
 }
 
-// One list takes the report so many times.
+// One list takes the report this many times.
 fn again_and_again(flight: &mut Flight, report: &AckReport<'_>, rounds: u32) -> u64 {
     let mut sum = 0u64;
     for _ in 0..rounds {
@@ -117,7 +117,7 @@ fn each_once(flights: &mut [Flight], report: &AckReport<'_>) -> u64 {
     sum
 }
 
-// The window is filled so many times, in the order that the factor gives.
+// The window is filled this many times, in the order that the factor gives.
 fn fills(received: &mut Received, factor: u32, rounds: u32) -> u64 {
     let mut sum = 0u64;
     for _ in 0..rounds {
@@ -145,7 +145,7 @@ fn time_fills(
     ended(rt, (order.0, WINDOW), start, calls, sum)
 }
 
-// Prints the nanoseconds of marking all numbers of a window, in order and scattered, so many times.
+// Prints the nanoseconds of marking all numbers of a window, in order and scattered, this many times.
 fn time_marks(rt: &HostRuntime, rounds: u32) -> io::Result<()> {
     let Ok(mut received) = Received::new(rt.alloc()) else {
         return Err(no_memory());
@@ -188,7 +188,7 @@ fn time_reports(
     told(rt, ("report", runs), spent, calls, sum)
 }
 
-// Prints the nanoseconds of so many reports of this vector.
+// Prints the nanoseconds of this many reports of this vector.
 fn news(rt: &HostRuntime, runs: u32, vector: &[u8], rounds: u32) -> io::Result<()> {
     if vector.len() > 253 {
         return Err(io::Error::other("more than one option"));
@@ -216,7 +216,7 @@ fn time_writes(
     ended(rt, ("write", runs), start, u64::from(rounds), sum)
 }
 
-// Prints the nanoseconds of so many writes and of so many reports, at one size.
+// Prints the nanoseconds of this many writes and of this many reports, at one size.
 fn measure(rt: &HostRuntime, runs: u32, rounds: u32) -> io::Result<()> {
     let Ok(mut received) = Received::new(rt.alloc()) else {
         return Err(no_memory());
@@ -237,7 +237,7 @@ fn take_report(flight: &mut Flight, received: &Received, ack: Seq48) -> Option<u
     Some(flight.report(&report, None).acked)
 }
 
-// A list whose second entry was lost and whose others are all Reported takes a small vector so many times.
+// A list whose second entry was lost and whose others are all Reported takes a small vector this many times.
 fn time_old_loss(
     rt: &HostRuntime,
     flight: &mut Flight,
@@ -260,7 +260,7 @@ fn lose_one(flight: &mut Flight, received: &mut Received, runs: u32) -> Option<u
     take_report(flight, received, newest(runs))
 }
 
-// Prints the nanoseconds of so many reports to such a list.
+// Prints the nanoseconds of this many reports to such a list.
 fn measure_after_a_loss(rt: &HostRuntime, runs: u32, rounds: u32) -> io::Result<()> {
     let Ok(mut flight) = Flight::new(rt.alloc()) else {
         return Err(no_memory());

@@ -93,7 +93,7 @@ fn time_marks<R: Runs>(rt: &HostRuntime, runs: &mut R, order: Order) -> io::Resu
     Ok((since(rt, start)?, before.wrapping_add(new)))
 }
 
-// Prints what kind of set it is and the order, the nanoseconds of the marks of so many rounds, the marks and the sum.
+// Prints what kind of set it is and the order, the nanoseconds of the marks of this many rounds, the marks and the sum.
 fn measure<R: Runs>(
     rt: &HostRuntime,
     kind: &str,
@@ -124,7 +124,7 @@ fn measure_each<R: Runs>(
     Ok(())
 }
 
-/// Prints the nanoseconds of the marks of each order, so many times, over both kinds.
+/// Prints the nanoseconds of the marks of each order, this many times, over both kinds.
 pub(crate) fn all(rt: &HostRuntime, rounds: u32) -> io::Result<()> {
     let Ok(mut linked) = RunList::new(rt.alloc()) else {
         return Err(no_memory());
