@@ -1,4 +1,4 @@
--- What a listener of C's is made from, and what a tick of it comes to.
+-- What a listener of C's is made from, and the result of its tick.
 use Rattle.std.proofs.Common.{◌≡◌, refl, sym, ap, ◌∙◌, subst, ℕ, ◌≤◌, true, List, [], ◌∷◌, length, Option, Some, arith}
 use Rattle.dccp_endpoint.specs.declared.config.Config.{Config}
 use Rattle.dccp_listener.specs.Standing.{IsListening}

@@ -1,4 +1,4 @@
--- Timers and rules that are told one by one are told as a session tells them.
+-- Timers and rules that are handled one by one are handled as by a session.
 use Rattle.std.proofs.Common.{◌≡◌, refl, sym, ap, ◌∙◌, subst, ℕ, zero, suc, Bool, true, false, if◌then◌else◌, List, [], ◌∷◌, Option, Some, None}
 use Rattle.ccid_two.specs.Kinds.{Both, kinds_control}
 use Rattle.dccp_uses.specs.Alarms.{has_run_out}
@@ -83,7 +83,7 @@ module _ (now : ℕ) where
   still-quiet [] s it quiet = tt
   still-quiet (timer ∷ passed) s it quiet = (other_rests kinds_control now s it timer quiet.0, still-quiet passed s it quiet.1)
 
-  -- a session leaves what is not due alone, and tells what is
+  -- a session leaves what is not due alone, and does what is
   left-alone : (s : TimedState Both) (it : Due) → Quiet it s → once s it ≡ s
   left-alone s it is = ap (λ (x : Bool). (if x then due_told kinds_control now s it else stands_still s).timed) is
 
@@ -134,7 +134,7 @@ module _ (now : ℕ) where
       ∙ later (suc more) s (is, quiet)
       ∙ ap (λ (x : TimedState Both). rung_in_order kinds_control now x (dues rest)) (sym (left-alone s (due.Timer timer) is))
 
-  -- So many ticks as there are left to be looked at, or more, tell each that is due.
+  -- So many ticks as there are left to be looked at, or more, do all that is due.
   all-told : (more : ℕ) (passed rest : List Timer) (s : TimedState Both) → onto passed (dues rest) ≡ every_due → AreQuiet passed s
       → end-ticked (ticks-for rest more) s ≡ rung_in_order kinds_control now s (dues rest)
   all-told more passed [] s all quiet = last-by more passed s all quiet (has_run_out (due_alarm s due.Rules) now) refl

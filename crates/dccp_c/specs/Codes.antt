@@ -1,4 +1,4 @@
--- The numbers by which C and the library name answers, timers, phases and places (own).
+-- The numbers by which C and the library name results, timers, phases and places (own).
 use Rattle.std.specs.Prelude.{ℕ, ◌==◌, Bool, true, false, Option, Some, None, Result, Ok, Err, if◌then◌else◌}
 use Rattle.dccp_states.specs.declared.phase.Phase.{Phase}
 use Rattle.dccp_states.specs.declared.phase.Phase.TheVariants as phases
@@ -22,17 +22,17 @@ use Rattle.feature_lists.specs.declared.wishes.PreferFault.TheVariants as prefer
 use Rattle.feature_machine.specs.declared.stands.Stand.{Stand}
 use Rattle.feature_machine.specs.declared.stands.Stand.TheVariants as stands
 
--- the code of opening: 0, or 3 where the end was not fresh
+-- the code of opening: 0, or 3 if the end was not fresh
 abbrev pub open_code : Result (Unit {0}) OpenFault → ℕ
 open_code (Ok _) = 0
 open_code (Err NotFresh) = 3
 
--- the code of data that have to wait: 23 where no application listens any more, else that of a full window
+-- the code of data that have to wait: 23 if the application no longer listens, otherwise that of a full window
 abbrev pub restraint_code : Restraint → ℕ
 restraint_code restraint.NotListening = 23
 restraint_code restraint.Full = 7
 
--- the code of sending, each refusal its own
+-- the code of sending, one for each refusal
 abbrev pub send_code : Result (Unit {0}) SendRefusal → ℕ
 send_code (Ok _) = 0
 send_code (Err (refusals.Held why)) = restraint_code why
@@ -41,24 +41,24 @@ send_code (Err (refusals.Refused send.TooLong)) = 5
 send_code (Err (refusals.Refused send.NotNegotiated)) = 6
 send_code (Err (refusals.Refused send.WindowFull)) = 7
 
--- the code of a wish for a feature, each refusal its own
+-- the code of a wish for a feature, one for each refusal
 abbrev pub wish_code : Result (Unit {0}) PreferFault → ℕ
 wish_code (Ok _) = 0
 wish_code (Err prefer.NotOpen) = 4
 wish_code (Err prefer.BadList) = 8
 wish_code (Err prefer.NotOurs) = 9
 
--- the code of closing: 0, or 4 in a phase where nothing is to be closed
+-- the code of closing: 0, or 4 in a phase in which there is nothing to close
 abbrev pub close_code : Result (Unit {0}) CloseFault → ℕ
 close_code (Ok _) = 0
 close_code (Err close.NotOpen) = 4
 
--- the code of aborting: 0, or 10 where there is no connection
+-- the code of aborting: 0, or 10 if there is no connection
 abbrev pub abort_code : Result (Unit {0}) AbortFault → ℕ
 abort_code (Ok _) = 0
 abort_code (Err NotLive) = 10
 
--- the code of a timer that has run out: 0, or 12 where it has nothing to do
+-- the code of a timer that has run out: 0, or 12 if it has nothing to do
 abbrev pub timer_code : Bool → ℕ
 timer_code true = 0
 timer_code false = 12
@@ -68,7 +68,7 @@ abbrev pub place_by : Bool → Place
 place_by true = There
 place_by false = Here
 
--- the timer of a number, if there is one
+-- the timer with a number, if there is one
 abbrev pub timer_coded : ℕ → Option Timer
 timer_coded n =
     if n == 0 then Some timers.Request
@@ -91,7 +91,7 @@ phase_code phases.CloseReq = 6
 phase_code phases.Closing = 7
 phase_code phases.TimeWait = 8
 
--- the number of where a negotiation stands
+-- the number of a negotiation's stand
 abbrev pub stand_code : Stand → ℕ
 stand_code stands.Stable = 0
 stand_code stands.Changing = 1

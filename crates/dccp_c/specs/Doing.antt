@@ -1,4 +1,4 @@
--- What C finds once it has called an end (own; the steps are the end's).
+-- What C gets from a call of an end (own; the steps are the end's).
 use Rattle.std.specs.Prelude.{ℕ, Bool, true, false, List, [], ◌∷◌, Option, Some, None, unwrap_or, if◌then◌else◌}
 use Rattle.data_dropped.specs.declared.drops.DropEntry.{DropEntry}
 use Rattle.dccp_server.specs.Due.{never}
@@ -8,16 +8,16 @@ use Rattle.dccp_c.specs.Framing.{FrameFields, handed_of, nothing_handed}
 use Rattle.dccp_c.specs.Keeping.{Inner}
 use Rattle.dccp_c.specs.Stepping.{CDoing, CEnd, CStep, c_told}
 
--- what is due is told, and the answer is true; where nothing is, nothing happens
+-- what is due is done, and the answer is true; if nothing is, nothing happens
 abbrev pub c_tells : ℕ → CEnd → Option Due → CStep Bool
 c_tells now s None = record { after = s; frame = None; answer = false }
 c_tells now s (Some it) = record { after = (c_told it now s).after; frame = (c_told it now s).frame; answer = true }
 
--- the first of the six timers and the rules that is due is told
+-- the first of the six timers and the rules that is due is done
 abbrev pub c_ticks : ℕ → CDoing Bool
 c_ticks now s = c_tells now s (first_due_of s.timed now every_due)
 
--- how long it is until something of an end is due, if anything will be
+-- in how many milliseconds something of an end is due; never if nothing will be
 abbrev pub c_waits : ℕ → Option CEnd → ℕ
 c_waits now None = never
 c_waits now (Some s) = unwrap_or (first_wait_left s.timed now) never
@@ -26,33 +26,32 @@ c_waits now (Some s) = unwrap_or (first_wait_left s.timed now) never
 abbrev pub c_end : Inner → CEnd
 c_end held = record { timed = held.timed; inbox = held.intake; cookie = held.cookie }
 
--- the one that a handle holds, if any
+-- the end that a handle holds, if any
 abbrev pub end_in : Option Inner → Option CEnd
 end_in None = None
 end_in (Some held) = Some (c_end held)
 
--- which of its packets were dropped, as far as that is recorded
+-- the record of its packets that were dropped
 abbrev pub drops_in : Option Inner → List DropEntry
 drops_in None = []
 drops_in (Some held) = held.drops
 
--- The end after a call; where there is none, there is none after it.
+-- The end after a call, if there is one.
 abbrev pub kept_after : {Answer : Type 0} → CDoing Answer → Option CEnd → Option CEnd
 kept_after doing None = None
 kept_after doing (Some s) = Some (doing s).after
 
--- The frame that a call hands out: the step's, or none where there is no end.
+-- The frame that a call hands out: the step's, or none if there is no end.
 abbrev pub frame_after : {Answer : Type 0} → CDoing Answer → Option CEnd → FrameFields
 frame_after doing None = nothing_handed
 frame_after doing (Some s) = handed_of (doing s).frame
 
--- The code of a call: the step's, or 1 where there is no end.
+-- The code of a call: the step's, or 1 if there is no end.
 abbrev pub code_after : {Answer : Type 0} → (Answer → ℕ) → CDoing Answer → Option CEnd → ℕ
 code_after code doing None = 1
 code_after code doing (Some s) = code (doing s).answer
 
--- A call that names a feature or a timer: where there is none of that number, nothing happens, no frame goes out, and the
--- code says so.
+-- A call that names a feature or a timer: if none has that number, nothing happens, no frame goes out, and the code says so.
 abbrev pub end_if_known : {Name Answer : Type 0} → (Name → CDoing Answer) → Option Name → Option CEnd → Option CEnd
 end_if_known doing None held = held
 end_if_known doing (Some name) held = kept_after (doing name) held
@@ -62,7 +61,7 @@ abbrev pub frame_if_known : {Name Answer : Type 0} → (Name → CDoing Answer) 
 frame_if_known doing None held = nothing_handed
 frame_if_known doing (Some name) held = frame_after (doing name) held
 
--- its code, where this one says that there is none of that number
+-- its code; this one says that there is none with that number
 abbrev pub code_if_known : {Name Answer : Type 0} → ℕ → (Answer → ℕ) → (Name → CDoing Answer) → Option Name → Option CEnd → ℕ
 code_if_known unknown code doing None held = unknown
 code_if_known unknown code doing (Some name) held = code_after code (doing name) held

@@ -1,4 +1,4 @@
--- What C is told of the flows of a listener (own).
+-- The events that C gets about the flows of a listener (own).
 use Rattle.std.specs.Prelude.{ℕ, is_some, Option, Some, None, unwrap_or, if◌then◌else◌}
 use Rattle.std.specs.Option.{option_map}
 use Rattle.dccp_listener.specs.Peers.{end_of_peer}
@@ -24,11 +24,11 @@ cause_number causes.Evicted = 3
 cause_number causes.Fault = 4
 cause_number causes.Anew = 5
 
--- a handshake that is complete
+-- the event of a handshake that is complete
 abbrev pub plain_event : PeerAddress → ℕ → EventView
 plain_event peer user = record { size = 48; user = user; first = 0; past = 0; kind = 0; cause = 0; peer = peer; code = 0 }
 
--- the same of another kind
+-- the same for another kind
 abbrev pub event_kind : EventKind → EventView → EventView
 event_kind kinds.Opened plain = plain
 event_kind (kinds.Data first past) plain = record plain { kind = 1; first = first; past = past }
@@ -37,31 +37,31 @@ event_kind (kinds.Dropped code) plain = record plain { kind = 5; code = code }
 event_kind kinds.Room plain = record plain { kind = 2 }
 event_kind (kinds.Ended ending) plain = record plain { kind = 3; cause = cause_number ending.cause; code = unwrap_or ending.code 0 }
 
--- what has happened to a flow, as C finds it
+-- an event of a flow, as C gets it
 abbrev pub event_seen : FlowEvent → EventView
 event_seen event = event_kind event.kind (plain_event (address_of event.peer) event.user)
 
--- what is told next of a listener, if there is one: data that came into an inbox are told so
+-- the next event of a listener, if there is one; data that came into an inbox have their own kind
 abbrev pub next_event_in : Option OwnedServerState → Option FlowEvent
 next_event_in None = None
 next_event_in (Some s) = option_map (event_kept s.arrival) (first_event s.watched.events)
 
--- and what is left once it was
+-- the listener without that event
 abbrev pub event_after : Option WatchedServer → Option WatchedServer
 event_after None = None
 event_after (Some s) = Some (record s { events = events_left s.events })
 
--- the code of asking for it: 1 where there is no listener, 22 where nothing more is to be told
+-- the code of asking for it: 1 if there is no listener, 22 if there are no more events
 abbrev pub event_code : Option WatchedServer → ℕ
 event_code None = 1
 event_code (Some s) = if is_some (first_event s.events) then 0 else 22
 
--- the server once a number was written beside a peer's flow
+-- the server once a number was set for a peer's flow
 abbrev pub user_set_in : ℕ → Option WatchedServer → Peer → Option WatchedServer
 user_set_in user None peer = None
 user_set_in user (Some s) peer = Some (record s { server = record s.server { room = with_user user s.server.room peer } })
 
--- the code of that: 15 where the peer has no flow, 1 where there is no listener
+-- the code of that: 15 if the peer has no flow, 1 if there is no listener
 abbrev pub user_code : Option WatchedServer → Peer → ℕ
 user_code None peer = 1
 user_code (Some s) peer = if is_some (end_of_peer s.server.room.served.listening.flows peer) then 0 else 15

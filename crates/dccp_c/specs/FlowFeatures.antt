@@ -1,4 +1,4 @@
--- What C finds of the features of a listener's flows (own).
+-- What C gets about the features of a listener's flows (own).
 use Rattle.std.specs.Prelude.{◌≡◌, ℕ, List, Option, Some, None}
 use Rattle.std.specs.Option.{option_map}
 use Rattle.dccp_listener.specs.Chain.{Prefers}
@@ -12,18 +12,18 @@ use Rattle.dccp_c.specs.Listening.{OwnedServerState, IsUnserved, Serves, flow_co
 use Rattle.dccp_c.specs.Seeing.{seen_feature}
 use Rattle.dccp_c.specs.declared.readers.FeatureState.{FeatureState}
 
--- What a wish for a feature of a flow comes to: nothing happens where no feature has this number, by 11; else it is a call
--- of the peer's end.
+-- The result of a wish for a feature of a flow: if no feature has this number, nothing happens, and the code is 11; otherwise it is a call of
+-- the peer's end.
 abbrev pub PrefersAt : ℕ → Option OwnedServerState → Option OwnedServerState → Peer → Option Feature → Place → List ℕ → FrameFields → ℕ → Type 0
 PrefersAt now before after peer None place values frame code = IsUnserved before after frame × (code ≡ 11)
 PrefersAt now before after peer (Some feature) place values frame code = Serves now before after peer (Prefers feature place values) frame code
 
--- what the end of a peer holds for a feature, where there is a listener and the peer has an end
+-- what the end of a peer holds for a feature, if there is a listener and the peer has an end
 abbrev pub feature_at_peer : Feature → Place → Option RuledRoom → Peer → Option FeatureState
 feature_at_peer feature place None peer = None
 feature_at_peer feature place (Some s) peer = option_map (seen_feature feature place) (end_of_peer s.room.served.listening.flows peer)
 
--- where the feature has this number
+-- the same, if a feature has this number
 abbrev pub flow_feature : Option Feature → Place → Option RuledRoom → Peer → Option FeatureState
 flow_feature None place held peer = None
 flow_feature (Some feature) place held peer = feature_at_peer feature place held peer

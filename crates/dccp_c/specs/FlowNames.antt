@@ -1,4 +1,4 @@
--- The names under which a listener of C's knows its peers (own).
+-- The names under which a listener in C knows its peers (own).
 use Rattle.std.specs.Prelude.{ℕ, ◌==◌, ◌&&◌, Bool}
 use Rattle.dccp_server.specs.Naming.{stand_in}
 use Rattle.dccp_c.specs.Listening.{address_of}

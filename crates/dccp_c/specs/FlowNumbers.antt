@@ -1,4 +1,4 @@
--- The first numbers of the flows of a listener of C's (own).
+-- The first numbers of the flows of a listener in C (own).
 use Rattle.std.specs.Prelude.{ℕ}
 use Rattle.dccp_server.specs.FirstNumbers.{keyed_number}
 use Rattle.dccp_c.specs.Listening.{peer_named}

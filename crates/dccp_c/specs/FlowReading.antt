@@ -12,12 +12,12 @@ abbrev pub without_first_of : Option OwnedServerState → Peer → Option OwnedS
 without_first_of None peer = None
 without_first_of (Some s) peer = Some (record s { inboxes = tidied (flow_without_first s.inboxes peer) s.watched.server peer })
 
--- what C finds: the number and the length of the peer's first data, where some wait, and their bytes over what stood there
+-- what C gets: the number and the length of the peer's first data, if some wait, and their bytes over what was there
 abbrev pub flow_data_read : Option OwnedServerState → Peer → ReadData → ReadData
 flow_data_read None peer old = old
 flow_data_read (Some s) peer old = read_data_of (flow_first_read s.inboxes peer) (flow_read_over s.inboxes peer old.bytes) old
 
--- the code of reading: 1 where there is no listener, 12 where none of the peer's data wait
+-- the code of reading: 1 if there is no listener, 12 if no data of the peer wait
 abbrev pub flow_read_code : Option OwnedServerState → Peer → ℕ
 flow_read_code None peer = 1
 flow_read_code (Some s) peer = code_of_first (flow_first_read s.inboxes peer)
@@ -27,25 +27,25 @@ abbrev pub flow_held_in : Option OwnedServerState → Peer → ℕ
 flow_held_in None peer = 0
 flow_held_in (Some s) peer = flow_held s.inboxes peer
 
--- the listener once a peer's data are wanted no more
+-- the listener once its owner has stopped reading a peer's data
 abbrev pub with_flow_stop : OwnedServerState → Peer → OwnedServerState
 with_flow_stop s peer = record s { inboxes = flow_stopped (with_place s.inboxes peer) peer }
 
--- the code of that: 12 where flows have no inbox
+-- the code of that: 12 if flows have no inbox
 abbrev pub flow_stop_code : Inboxes → ℕ
 flow_stop_code s = if s.capacity == 0 then 12 else 0
 
--- What it comes to for a peer that has a flow: it is done, or no memory is found for the inbox, and nothing changes.
+-- The result for a peer that has a flow: it is done, or there is no memory for the inbox, and nothing changes.
 abbrev pub StopsFlow : OwnedServerState → Option OwnedServerState → Peer → ℕ → Type 0
 StopsFlow s after peer code =
     ((after ≡ Some (with_flow_stop s peer)) × (code ≡ flow_stop_code s.inboxes)) ⊎ ((after ≡ Some s) × (code ≡ 2))
 
--- and for one that may have none: then nothing changes, by 15
+-- the result for a peer that may have none: then nothing changes, and the code is 15
 abbrev pub StopsFlowIf : OwnedServerState → Option OwnedServerState → Peer → Option FlowEnd → ℕ → Type 0
 StopsFlowIf s after peer None code = (after ≡ Some s) × (code ≡ 15)
 StopsFlowIf s after peer (Some e) code = StopsFlow s after peer code
 
--- What it comes to: nothing where there is no listener, by 1.
+-- The result: if there is no listener, nothing happens, and the code is 1.
 abbrev pub StopsReading : Option OwnedServerState → Option OwnedServerState → Peer → ℕ → Type 0
 StopsReading None after peer code = (after ≡ None) × (code ≡ 1)
 StopsReading (Some s) after peer code = StopsFlowIf s after peer (end_of_peer s.watched.server.room.served.listening.flows peer) code

@@ -1,4 +1,4 @@
--- What C finds of a flow before it opens (own).
+-- What C gets about a flow before it opens (own).
 use Rattle.std.specs.Prelude.{ℕ, Bool, is_some, List, Option, Some, None, if◌then◌else◌}
 use Rattle.dccp_listener.specs.declared.peer.Peer.{Peer}
 use Rattle.dccp_server.specs.Events.{WatchedServer, shut_out}
@@ -6,22 +6,22 @@ use Rattle.dccp_server.specs.Refusals.{flow_asked, refused_frame}
 use Rattle.dccp_c.specs.Framing.{FrameFields, handed_of, nothing_handed}
 use Rattle.dccp_c.specs.Telling.{is_short}
 
--- the Service Code that a datagram asks for, where there is a listener
+-- the Service Code that a datagram asks for, if there is a listener
 abbrev pub asked_in : Option WatchedServer → Peer → List ℕ → Option ℕ
 asked_in None peer bytes = None
 asked_in (Some s) peer bytes = flow_asked s.server.room.served.listening peer bytes
 
--- where it is short enough
+-- the same, if the datagram is short enough
 abbrev pub service_asked : Option WatchedServer → Peer → List ℕ → Option ℕ
 service_asked held peer bytes = if is_short bytes then asked_in held peer bytes else None
 
--- The code of asking for it: 1 where there is no listener, and 13 where it opens no flow.
+-- The code of asking for it: 1 if there is no listener, and 13 if the datagram opens no flow.
 abbrev pub asked_code : Option WatchedServer → Option ℕ → ℕ
 asked_code None asked = 1
 asked_code (Some s) None = 13
 asked_code (Some s) (Some service) = 0
 
--- and 5 where the datagram is too long
+-- the same, with 5 if the datagram is too long
 abbrev pub asks_code : Option WatchedServer → Peer → List ℕ → ℕ
 asks_code held peer bytes = if is_short bytes then asked_code held (asked_in held peer bytes) else 5
 
@@ -30,7 +30,7 @@ abbrev pub refused_in : ℕ → Option WatchedServer → Peer → List ℕ → O
 refused_in now None peer bytes = None
 refused_in now (Some s) peer bytes = Some (shut_out now s peer bytes)
 
--- where that is short enough
+-- the same, if the datagram is short enough
 abbrev pub refused_after : ℕ → Option WatchedServer → Peer → List ℕ → Option WatchedServer
 refused_after now held peer bytes = if is_short bytes then refused_in now held peer bytes else held
 
@@ -39,16 +39,16 @@ abbrev pub refused_reset : ℕ → Option WatchedServer → Peer → List ℕ �
 refused_reset now None peer bytes code = nothing_handed
 refused_reset now (Some s) peer bytes code = handed_of (refused_frame now s.server peer bytes code)
 
--- and nothing where the datagram is too long
+-- the same, with nothing if the datagram is too long
 abbrev pub refused_left : ℕ → Option WatchedServer → Peer → List ℕ → ℕ → FrameFields
 refused_left now held peer bytes code = if is_short bytes then refused_reset now held peer bytes code else nothing_handed
 
--- the code of refusing it, by whether it opens a flow: 13 where it opens none, and 1 where there is no listener
+-- the code of refusing it: 13 if it opens no flow, and 1 if there is no listener
 abbrev pub refused_code : Option WatchedServer → Peer → List ℕ → ℕ
 refused_code None peer bytes = 1
 refused_code (Some s) peer bytes = if is_some (flow_asked s.server.room.served.listening peer bytes) then 0 else 13
 
--- and 5 where it is too long
+-- the same, with 5 if it is too long
 abbrev pub refuses_code : Option WatchedServer → Peer → List ℕ → ℕ
 refuses_code held peer bytes = if is_short bytes then refused_code held peer bytes else 5
 

@@ -1,4 +1,4 @@
--- What a listener of C's is made from (own).
+-- The configuration of a listener in C (own).
 use Rattle.std.specs.Prelude.{◌≡◌, ◌⊎◌, ℕ, nat_lt, ◌==◌, Bool, true, false, not, List, [], ◌∷◌, length, Option, Some, None, Result, Ok, Err, if◌then◌else◌}
 use Rattle.dccp_endpoint.specs.declared.config.Config.{Config}
 use Rattle.dccp_listener.specs.declared.config.ListenConfig.{ListenConfig}
@@ -14,12 +14,12 @@ use Rattle.dccp_server.specs.Rules.{usual_rules}
 use Rattle.dccp_c.specs.declared.making.Settings.{Settings}
 use Rattle.dccp_c.specs.declared.making.Wish.{Wish}
 
--- the Service Codes that it serves: where none are given, that of the settings
+-- the Service Codes that it serves: if none are given, that of the settings
 abbrev pub services_by : Settings → List ℕ → List ℕ
 services_by s [] = s.service ∷ []
 services_by s given = given
 
--- a listener for the services at the own address and port, whose ends wish and offer what this configuration does
+-- a listener for the services at the settings' own address and port, whose ends have the wishes and offers of this configuration
 abbrev pub listening_at : Settings → List ℕ → ℕ → Config → ListenConfig
 listening_at s given most config =
     record {
@@ -30,19 +30,19 @@ listening_at s given most config =
       most = most;
     }
 
--- the same where the configuration was not refused
+-- the same, if the configuration was not refused
 abbrev pub listening_from : Settings → List ℕ → ℕ → Result Config ℕ → Result ListenConfig ℕ
 listening_from s given most (Ok config) = Ok (listening_at s given most config)
 listening_from s given most (Err code) = Err code
 
--- A listener has IPv4, at most 16 Service Codes, each once, and 1 to 1,024 flows at most; else it is refused by 18.
+-- A listener has IPv4, at most 16 Service Codes, each once, and a limit of 1 to 1,024 flows; otherwise it is refused with 18.
 abbrev pub listening_by : Settings → List ℕ → List Wish → ℕ → Result ListenConfig ℕ
 listening_by s given wishes most =
     if s.is_v6 then Err 18 else if most == 0 then Err 18 else if nat_lt 1024 most then Err 18
     else if nat_lt 16 (length given) then Err 18 else if not (is_distinct given) then Err 18
     else listening_from s given most (configured_by (as_server s) wishes)
 
--- the server that was made, which goes by the usual rules, and whose flows are cared for so, where the code says so
+-- the server that was made, if the code says so; it follows the usual rules, and does this for its flows
 abbrev pub founded_from : Bool → Care → Result ListenConfig ℕ → Option OwnedServerState
 founded_from true care (Ok config) =
     Some (record {
@@ -53,11 +53,11 @@ founded_from true care (Ok config) =
 founded_from true care (Err code) = None
 founded_from false care _ = None
 
--- what the handle holds once making was answered by this code
+-- what the handle holds once making has returned this code
 abbrev pub founded_of : ℕ → Care → Result ListenConfig ℕ → Option OwnedServerState
 founded_of code care config = founded_from (code == 0) care config
 
--- The code of making: that of the refusal, or else 0, or 2 where memory is wanting.
+-- The code of making: that of the refusal, otherwise 0, or 2 if there is no memory.
 abbrev pub FoundsCode : Result ListenConfig ℕ → ℕ → Type 0
 FoundsCode (Ok config) code = (code ≡ 0) ⊎ (code ≡ 2)
 FoundsCode (Err refusal) code = code ≡ refusal

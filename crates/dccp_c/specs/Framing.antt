@@ -1,9 +1,9 @@
--- A frame as C finds it: its bytes and its number (own).
+-- A frame as C gets it: its bytes and its number (own).
 use Rattle.std.specs.Prelude.{ℕ, List, [], take, Option, Some, None}
 use Rattle.dccp_packets.specs.Outgoing.{Outgoing}
 use Rattle.dccp_c.specs.declared.frame.Frame.{Frame}
 
--- what C finds in the frame that it gave: the bytes, none where nothing goes out, and the number, then 0
+-- what C gets in the frame that it gave: the bytes and the number; no bytes and 0 if nothing goes out
 pub record FrameFields : Type 0 where
   pub bytes : List ℕ
   pub number : ℕ
@@ -17,6 +17,6 @@ abbrev pub handed_of : Option Outgoing → FrameFields
 handed_of None = nothing_handed
 handed_of (Some sent) = record { bytes = sent.bytes; number = sent.number }
 
--- what C finds in its frame
+-- what C gets in its frame
 abbrev pub handed_in : Frame → FrameFields
 handed_in frame = record { bytes = take frame.length frame.bytes; number = frame.number }

@@ -1,4 +1,4 @@
--- What a handle of C's owns: a box with an end, or nothing (own).
+-- What a handle in C owns: a box with an end, or nothing (own).
 use base.Fml.{Fml, ftrue}
 use base.Stored.{Coded}
 use denote.RawPtr.{Ptr}
@@ -17,7 +17,7 @@ Inner = the_row.Denot
 abbrev pub inner_coded : Coded (Option Inner)
 inner_coded = coded_option the_row.coded
 
--- where there is an end, its box is the handle's
+-- if there is an end, the handle owns its box
 abbrev pub kept_owns : Global → Ptr → Option Inner → Fml
 kept_owns alloc p None = ftrue
 kept_owns alloc p (Some held) = box_owns (ghosts.dealloc_token alloc) the_row p held

@@ -1,4 +1,4 @@
--- What a listener's handle of C's owns: a box with a listener, or nothing (own).
+-- What a handle of a listener in C owns: a box with a listener, or nothing (own).
 use base.Fml.{Fml, ftrue}
 use base.Stored.{Coded}
 use denote.RawPtr.{Ptr}
@@ -17,7 +17,7 @@ InnerListener = the_row.Denot
 abbrev pub inner_listener_coded : Coded (Option InnerListener)
 inner_listener_coded = coded_option the_row.coded
 
--- where there is a listener, its box is the handle's
+-- if there is a listener, the handle owns its box
 abbrev pub listener_owns : Global → Ptr → Option InnerListener → Fml
 listener_owns alloc p None = ftrue
 listener_owns alloc p (Some held) = box_owns (ghosts.dealloc_token alloc) the_row p held

@@ -1,4 +1,4 @@
--- What C finds once it has called a listener (own).
+-- What C gets from a call of a listener (own).
 use Rattle.std.specs.Prelude.{◌≡◌, ◌⊎◌, ℕ, ◌==◌, ◌^◌, nat_lt, Bool, true, false, List, [], length, Option, Some, None, is_some, Result, Ok, Err, if◌then◌else◌, slice_get}
 use Rattle.std.specs.Map.{keys_of}
 use Rattle.std.specs.Option.{option_map}
@@ -53,18 +53,17 @@ use Rattle.dccp_c.specs.Telling.{is_short}
 use Rattle.dccp_c.specs.declared.peer.PeerAddress.{PeerAddress}
 use Rattle.dccp_c.specs.declared.readers.View.{View}
 
--- the server that a handle holds, if any, with what is to be told of it, and without the place for its frame
+-- the server that a handle holds, if any, with its events, and without the place for its frame
 abbrev pub watched_in : Option InnerListener → Option WatchedServer
 watched_in None = None
 watched_in (Some held) = Some held.server
 
--- the same without what is to be told
+-- the same without its events
 abbrev pub served_in : Option InnerListener → Option RuledRoom
 served_in None = None
 served_in (Some held) = Some held.server.server
 
--- a server with what is to be told of it, the data of its flows that wait, and what became of those of the last datagram,
--- if they came into an inbox
+-- a server with its events, the data of its flows that wait, and what became of the data of the last datagram, if they came into an inbox
 pub record OwnedServerState : Type 0 where
   pub watched : WatchedServer
   pub inboxes : Inboxes
@@ -74,7 +73,7 @@ pub record OwnedServerState : Type 0 where
 abbrev pub holding_of : InnerListener → OwnedServerState
 holding_of held = record { watched = held.server; inboxes = held.inboxes; arrival = held.arrival }
 
--- the same of a handle, if it holds one
+-- the same for a handle, if it holds one
 abbrev pub holding_in : Option InnerListener → Option OwnedServerState
 holding_in None = None
 holding_in (Some held) = Some (holding_of held)
@@ -84,24 +83,24 @@ abbrev pub inboxes_in : Option InnerListener → Option Inboxes
 inboxes_in None = None
 inboxes_in (Some held) = Some held.inboxes
 
--- which packets its peers have reported as dropped, as far as that is recorded
+-- the record of the packets that its peers have reported as dropped
 abbrev pub flow_drops_in : Option InnerListener → List FlowDrop
 flow_drops_in None = []
 flow_drops_in (Some held) = held.drops
 
--- what was counted of the reports of a peer, with what is kept of its flow
+-- the number up to which reports of a peer were counted
 abbrev pub counted_of : RuledRoom → Peer → Option ℕ
 counted_of s peer = (upkeep_at s.room.served.pace s.room.served.upkeeps peer).path.reader.counted
 
--- whom C names by an address and a port
+-- the peer that C names by an address and a port
 abbrev pub peer_named : PeerAddress → Peer
 peer_named peer = record { address = peer.address; port = peer.port }
 
--- the same as C finds it
+-- a peer, as C gets it
 abbrev pub address_of : Peer → PeerAddress
 address_of peer = record { address = peer.address; port = peer.port }
 
--- the code of a refused call, as that of an end's own
+-- the code of a refused call, as for a single end
 abbrev pub refusal_code : Refusal → ℕ
 refusal_code refusal.NotFresh = 3
 refusal_code refusal.NotOpen = 4
@@ -112,21 +111,21 @@ refusal_code refusal.BadList = 8
 refusal_code refusal.NotOurs = 9
 refusal_code refusal.NotLive = 10
 
--- the code of what was seen
+-- the code of the answer to a call
 abbrev pub seen_code : Seen → ℕ
 seen_code (seen.Called (Ok _)) = 0
 seen_code (seen.Called (Err fault)) = refusal_code fault
 seen_code (seen.Fired applies) = timer_code applies
 seen_code (seen.Received outcome) = 0
 
--- The code of what a listener told: 14 where it was busy, and 15 where the peer has no flow.
+-- The code of a listener's answer: 14 if it was busy, and 15 if the peer has no flow.
 abbrev pub listen_code : CallTold → ℕ
 listen_code (Stepped None) = 15
 listen_code (Stepped (Some it)) = seen_code it
 listen_code WasBusy = 14
 listen_code HadNoMemory = 2
 
--- what C is told of a datagram; where no end has answered it, what it had stays
+-- what C is told about a datagram; if no end has answered it, what C had stays
 abbrev pub listen_told : CallTold → Told → Told
 listen_told (Stepped (Some (seen.Received outcome))) old = told_outcome outcome
 listen_told _ old = old
@@ -139,11 +138,11 @@ IsUnserved before after frame = (after ≡ before) × (frame ≡ nothing_handed)
 abbrev pub with_room : RuledRoom → Room → RuledRoom
 with_room s room = record s { room = room }
 
--- A peer's flow has led the server to this one: its inbox goes with it, unless data wait there.
+-- A call of a peer's flow has led the server to this one: the flow's inbox goes with it, unless data wait there.
 abbrev pub holds_on : OwnedServerState → Peer → WatchedServer → OwnedServerState
 holds_on s peer after = record s { watched = after; inboxes = tidied s.inboxes after.server peer }
 
--- a frame that goes to a peer, as C finds it: it says what the peer's inbox has to say
+-- a frame that goes to a peer, as C gets it: it says what the peer's inbox has to say
 abbrev pub left_to : OwnedServerState → Peer → Option Outgoing → FrameFields
 left_to s peer frame = handed_of (flow_speaks s.inboxes s.watched.server peer frame)
 
@@ -152,7 +151,7 @@ abbrev pub holds_called : ℕ → OwnedServerState → Peer → FlowCall → Own
 holds_called now s peer call =
     holds_on s peer (called_on s.watched (with_room s.watched.server (room_does now s.watched.server.room peer (Does (Calls call)))) peer (aborted_end causes.Own))
 
--- What a call of a peer's end comes to: it is done, or there is no listener, and the code is 1.
+-- The result of a call of a peer's end: it is done, or there is no listener, and the code is 1.
 abbrev pub Serves : ℕ → Option OwnedServerState → Option OwnedServerState → Peer → FlowCall → FrameFields → ℕ → Type 0
 Serves now None after peer call frame code = IsUnserved None after frame × (code ≡ 1)
 Serves now (Some s) after peer call frame code =
@@ -160,33 +159,33 @@ Serves now (Some s) after peer call frame code =
     × (frame ≡ left_to (holds_called now s peer call) peer (listens s.watched.server.room.served.listening peer (Calls call)).frame)
     × (code ≡ listen_code (listens s.watched.server.room.served.listening peer (Calls call)).told)
 
--- A timer of a peer's end is told where one has this number; else nothing happens, by 16.
+-- A timer of a peer's end fires, if one has this number; otherwise nothing happens, and the code is 16.
 abbrev pub FiresAt : ℕ → Option OwnedServerState → Option OwnedServerState → Peer → Option Timer → FrameFields → ℕ → Type 0
 FiresAt now before after peer None frame code = IsUnserved before after frame × (code ≡ 16)
 FiresAt now before after peer (Some timer) frame code = Serves now before after peer (Fires timer) frame code
 
--- why data to a peer have to wait, where there is a listener and it has a flow
+-- why data to a peer have to wait, if there is a listener and the peer has a flow
 abbrev pub restraint_in : Option RuledRoom → Peer → Option Restraint
 restraint_in None peer = None
 restraint_in (Some s) peer = flow_restraint s.room.served peer
 
--- What sending data to a peer comes to: where they have to wait nothing happens, by the code of that.
+-- The result of sending data to a peer: if they have to wait, nothing happens, and the code says why.
 abbrev pub SendsUnheld : ℕ → Option OwnedServerState → Option OwnedServerState → Peer → List ℕ → FrameFields → ℕ → Option Restraint → Type 0
 SendsUnheld now before after peer payload frame code None = Serves now before after peer (Sends payload) frame code
 SendsUnheld now before after peer payload frame code (Some why) = IsUnserved before after frame × (code ≡ restraint_code why)
 
--- the code of what was told of a datagram: one that was left out was dropped
+-- the code of the result of a datagram; one that was left out counts as dropped
 abbrev pub arrival_code : Option CallTold → ℕ
 arrival_code None = 0
 arrival_code (Some told) = listen_code told
 
--- what C is told of it
+-- what C is told about the datagram
 abbrev pub arrival_told : Option CallTold → Told → Told
 arrival_told None old = told_heard None
 arrival_told (Some told) old = listen_told told old
 
--- What C finds of a datagram that left this frame, and whose data came so: by 2, where no memory was found, no frame, and
--- what it had to be told stays.
+-- What C gets for a datagram that left this frame, and by what became of its data. If there was no memory, the code is 2, there is no frame, and
+-- what C had stays.
 abbrev pub HandsHeard : Result (Option Heard) NoMemory → Option Arrival → Option Outgoing → FrameFields → ℕ → Told → Told → Type 0
 HandsHeard (Ok it) kept frame left code old new =
     (left ≡ handed_of frame) × (code ≡ arrival_code (told_of_arrival (Ok it))) × (new ≡ told_arrival kept (arrival_told (told_of_arrival (Ok it)) old))
@@ -198,12 +197,12 @@ inboxes_begun s after peer =
     begun_fresh s.inboxes peer (is_some (end_of_peer s.watched.server.room.served.listening.flows peer))
     (end_of_peer after.room.served.listening.flows peer)
 
--- Data of a datagram that has led the server to this one came into the peer's inbox, if any did; or no memory for one was
--- found, or no place: then they are in the datagram alone.
+-- The data of a datagram that has led the server to this one came into the peer's inbox, if there were any; or there was no memory or no place
+-- for an inbox, and then they are only in the datagram.
 abbrev pub MayDeliver : Inboxes → RuledRoom → Peer → List ℕ → Option CallTold → FlowDelivery → Type 0
 MayDeliver inboxes after peer bytes told it = (it ≡ flow_delivers inboxes after peer bytes told) ⊎ (it ≡ no_flow_delivery inboxes)
 
--- a datagram has led the server to this one, its data came so, and these flows made room for it, if any did
+-- a datagram has led the server to this one, this became of its data, and these flows made room for it, if any did
 abbrev pub holds_met : WatchedServer → Peer → Option Peer → Option Peer → FlowDelivery → OwnedServerState
 holds_met after peer made_room gone it =
     record {
@@ -212,15 +211,15 @@ holds_met after peer made_room gone it =
       arrival = it.arrival;
     }
 
--- the data of a datagram that has led the server to where it is, of a peer that had a flow before it or none, came in
+-- the data of a datagram came in; it has led the server to where it is, and its peer had a flow before it or not
 abbrev pub HasTakenIn : OwnedServerState → OwnedServerState → Peer → Bool → List ℕ → Option CallTold → Option Peer → Option Peer → Type 0
 HasTakenIn s after peer had bytes told made_room gone =
     (it : FlowDelivery)
     × MayDeliver (begun_fresh s.inboxes peer had (end_of_peer s.watched.server.room.served.listening.flows peer)) s.watched.server peer bytes told it
     × (after ≡ holds_met s.watched peer made_room gone it)
 
--- What a datagram comes to for C where there is a server: it was met in this way, its data came in or not, and its owner
--- and C are told of that.
+-- The result of a datagram for C if there is a server: it was met in this way, its data came in or not, and C and the server's owner are told
+-- about that.
 pub record HearsAtServer (now : ℕ) (s after : OwnedServerState) (peer : Peer) (first : ℕ) (bytes : List ℕ) (left : FrameFields) (evicted : Option Peer) (way : Way)
     (code : ℕ) (old new : Told) : Type 0 where
   pub heard : Result (Option Heard) NoMemory
@@ -238,23 +237,23 @@ pub record HearsAtServer (now : ℕ) (s after : OwnedServerState) (peer : Peer) 
   pub maker : evicted ≡ room_maker made_room gone
   pub handed : HandsHeard heard after.arrival (flow_speaks after.inboxes after.watched.server peer frame) left code old new
 
--- Why a datagram is not heard at all: a first number that is none, by 17, or its length, by 5.
+-- Why a datagram is not heard at all: 17 for a first number that is not below 2^48, or 5 for its length.
 abbrev pub datagram_refusal : ℕ → List ℕ → Option ℕ
 datagram_refusal first bytes = if nat_lt first (2 ^ 48) then (if is_short bytes then None else Some 5) else Some 17
 
--- a datagram that would open a flow is refused by 21, where none is taken
+-- a datagram that would open a flow is refused with 21 if no new flows are taken
 abbrev pub IsShutOut : ℕ → OwnedServerState → OwnedServerState → Peer → List ℕ → FrameFields → ℕ → Told → Told → Type 0
 IsShutOut now s after peer bytes left code old new =
     (after ≡ record s { watched = shut_out now s.watched peer bytes })
     × (left ≡ handed_of (refused_frame now s.watched.server peer bytes (number_of_code codes.ConnectionRefused))) × (code ≡ 21) × (new ≡ old)
 
--- what a datagram comes to at a server that takes new flows, or would not be opened one by it
+-- the result of a datagram at a server that takes new flows, or if it would open none
 abbrev pub HearsIfOpen : ℕ → OwnedServerState → OwnedServerState → Peer → ℕ → List ℕ → Bool → FrameFields → Option Peer → Way → ℕ → Told → Told → Type 0
 HearsIfOpen now s after peer first bytes true left evicted way code old new = IsShutOut now s after peer bytes left code old new
 HearsIfOpen now s after peer first bytes false left evicted way code old new = HearsAtServer now s after peer first bytes left evicted way code old new
 
--- What a datagram comes to: nothing happens where it is refused by that code, or where there is no listener, by 1; else the
--- server hears it, or refuses it, and is there after it.
+-- The result of a datagram: nothing happens if it is refused with that code, or if there is no listener, with 1; otherwise the server hears it
+-- or refuses it.
 abbrev pub HearsDatagram : ℕ → Option OwnedServerState → Option OwnedServerState → Peer → ℕ → List ℕ → Option ℕ → FrameFields → Option Peer → Way → ℕ → Told → Told → Type 0
 HearsDatagram now before after peer first bytes (Some refused) left evicted way code old new =
     (after ≡ before) × (left ≡ nothing_handed) × (code ≡ refused) × (new ≡ old)
@@ -264,7 +263,7 @@ HearsDatagram now (Some s) None peer first bytes None left evicted way code old 
 HearsDatagram now (Some s) (Some after) peer first bytes None left evicted way code old new =
     HearsIfOpen now s after peer first bytes (is_shut_out s.watched peer bytes) left evicted way code old new
 
--- the code of what a rule of a path had a flow do: 19 where it was given up
+-- the code of what a rule of a path made a flow do: 19 if it was given up
 abbrev pub rule_code : Rule → ℕ
 rule_code rules.Nothing = 0
 rule_code rules.GiveUp = 19
@@ -273,47 +272,47 @@ rule_code rules.Probe = 0
 rule_code rules.Ask = 0
 rule_code rules.Ratio = 0
 
--- the code of what there was to do: 12 where there was nothing, 19 where a flow was given up
+-- the code of a duty: 12 if there was none, 19 if a flow was given up
 abbrev pub duty_code : Option Duty → ℕ
 duty_code None = 12
 duty_code (Some (Ring peer timer)) = 0
 duty_code (Some (Follow peer rule)) = rule_code rule
 duty_code (Some (GiveUp peer)) = 19
 
--- how C finds its peer
+-- the peer of a duty, as C gets it
 abbrev pub duty_address : Option Duty → PeerAddress → PeerAddress
 duty_address None old = old
 duty_address (Some duty) old = address_of (duty_peer duty)
 
--- what there was to do has led the server to this one
+-- a duty has led the server to this one
 abbrev pub holds_done : OwnedServerState → WatchedServer → Option Duty → OwnedServerState
 holds_done s after None = record s { watched = after }
 holds_done s after (Some duty) = holds_on s (duty_peer duty) after
 
--- and the frame that went to its peer, as C finds it
+-- the frame that went to its peer, as C gets it
 abbrev pub duty_left : OwnedServerState → Option Duty → Option Outgoing → FrameFields
 duty_left s None frame = handed_of frame
 duty_left s (Some duty) frame = left_to s (duty_peer duty) frame
 
--- the server and what it holds once this was done
+-- the server and what it holds once this duty was done
 abbrev pub holds_ticked : ℕ → OwnedServerState → Option Duty → OwnedServerState
 holds_ticked now s duty =
     holds_done s (ticked_on s.watched (with_room s.watched.server (duty_done now s.watched.server.room duty)) duty) duty
 
--- What a tick comes to where this is to be done: it is done, and its peer named.
+-- The result of a tick with this duty: it is done, and its peer is named.
 abbrev pub DoesDuty : ℕ → OwnedServerState → Option OwnedServerState → Option Duty → FrameFields → PeerAddress → PeerAddress → ℕ → Type 0
 DoesDuty now s after duty left old new code =
     (after ≡ Some (holds_ticked now s duty)) × (left ≡ duty_left (holds_ticked now s duty) duty (duty_frame now s.watched.server.room duty))
     × (new ≡ duty_address duty old) × (code ≡ duty_code duty)
 
--- What a tick comes to: what there is to do first is done, or nothing happens: 1 where there is no listener, 12 where there
--- is nothing to do. It takes no memory.
+-- The result of a tick: the first duty is done, or nothing happens, with 1 if there is no listener, and 12 if there is nothing to do. It takes
+-- no memory.
 abbrev pub Ticks : ℕ → Option OwnedServerState → Option OwnedServerState → FrameFields → PeerAddress → PeerAddress → ℕ → Type 0
 Ticks now None after left old new code = IsUnserved None after left × (new ≡ old) × (code ≡ 1)
 Ticks now (Some s) after left old new code =
     DoesDuty now s after (duty_in now s.watched.server.rules s.watched.server.room) left old new code
 
--- a peer's flow goes, and the data that wait of it
+-- a peer's flow goes, and the data of it that wait
 abbrev pub holds_forgotten : ℕ → OwnedServerState → Peer → OwnedServerState
 holds_forgotten now s peer =
     record s {
@@ -321,20 +320,19 @@ holds_forgotten now s peer =
       inboxes = without_inbox_of s.inboxes peer;
     }
 
--- What forgetting a peer's flow comes to: it goes, and nothing is sent; 15 where there is none, 1 where there is no
--- listener.
+-- The result of forgetting a peer's flow: it goes, and nothing is sent; 15 if there is none, 1 if there is no listener.
 abbrev pub Forgets : ℕ → Option OwnedServerState → Option OwnedServerState → Peer → ℕ → Type 0
 Forgets now None after peer code = (after ≡ None) × (code ≡ 1)
 Forgets now (Some s) after peer code =
     (after ≡ Some (holds_forgotten now s peer))
     × (code ≡ (if is_some (end_of_peer s.watched.server.room.served.listening.flows peer) then 0 else 15))
 
--- how long it is until a timer of a listener runs out or a flow is given up, if any does
+-- in how many milliseconds a timer of a listener runs out or a flow is given up, if any will
 abbrev pub listener_waits : ℕ → Option RuledRoom → ℕ
 listener_waits now None = never
 listener_waits now (Some s) = room_waits now s.rules s.room
 
--- what is read of the end of a peer, where there is a listener and it has one
+-- the view of a peer's end, if there is a listener and the peer has one
 abbrev pub flow_in : Option RuledRoom → Peer → Option View
 flow_in None peer = None
 flow_in (Some s) peer =
@@ -350,18 +348,18 @@ abbrev pub next_peer_in : Option RuledRoom → Peer → Option PeerAddress
 next_peer_in None peer = None
 next_peer_in (Some s) peer = option_map address_of (peer_after peer (keys_of s.room.served.listening.flows))
 
--- the code of reading a flow, or of naming its peer: 1 where there is no listener, 15 where there is no flow
+-- the code of reading a flow, or of naming its peer: 1 if there is no listener, 15 if there is no flow
 abbrev pub flow_code : {Read : Type 0} → Option RuledRoom → Option Read → ℕ
 flow_code None found = 1
 flow_code (Some s) None = 15
 flow_code (Some s) (Some it) = 0
 
--- whose flow made room for the last datagram
+-- the peer whose flow made room for the last datagram
 abbrev pub evicted_in : Option InnerListener → Option Peer
 evicted_in None = None
 evicted_in (Some held) = held.evicted
 
--- in which way the last datagram was met
+-- how the last datagram was met
 abbrev pub way_in : Option InnerListener → Way
 way_in None = way.Plain
 way_in (Some held) = held.way
@@ -374,16 +372,16 @@ way_number way.Unanswered = 2
 way_number way.Reopened = 3
 way_number way.Unopened = 4
 
--- how many flows stand
+-- how many flows there are
 abbrev pub flows_in : Option RuledRoom → ℕ
 flows_in None = 0
 flows_in (Some s) = length s.room.served.listening.flows
 
--- a wait of C's: 2^64 - 1 is for ever
+-- a wait as C says it: 2^64 - 1 means for ever
 abbrev pub wait_of : ℕ → Option ℕ
 wait_of wait = if wait == never then None else Some wait
 
--- a limit of C's: so many a second, and 65,535 is none
+-- a limit as C says it: this many a second, and 65,535 means none
 abbrev pub limit_of : ℕ → Option Limit
 limit_of per_second = if per_second == 65535 then None else Some (record { per_second = per_second; burst = per_second })
 
@@ -405,31 +403,31 @@ rules_of it =
 abbrev pub cookies_of : ℕ → CookieUse
 cookies_of n = if n == 0 then Never else if n == 1 then InACrowd else Always
 
--- the server once it goes by these rules, and uses cookies so
+-- the server once it follows these rules, and uses cookies in this way
 abbrev pub ruled_by : Rules → CookieUse → Option WatchedServer → Option WatchedServer
 ruled_by rules cookies None = None
 ruled_by rules cookies (Some s) = Some (record s { server = record s.server { rules = rules; cookies = cookies } })
 
--- the server once its cookies are written by this key
+-- the server once its cookies are written with this key
 abbrev pub rekeyed_in : List ℕ → ℕ → Option WatchedServer → Option WatchedServer
 rekeyed_in key now None = None
 rekeyed_in key now (Some s) = Some (record s { server = record s.server { keys = Some (rekeyed key now s.server.keys) } })
 
--- what C may know of a peer's flow beside its end, where it has one
+-- what C may know of a peer's flow besides its end
 abbrev pub known_of : Life → FlowLife
 known_of life = record { size = 32; since = life.since; taken = life.taken; user = life.user }
 
--- its life, where there is a flow
+-- its life, if there is a flow
 abbrev pub life_if : Option FlowEnd → Life → Option Life
 life_if None life = None
 life_if (Some e) life = Some life
 
--- the same where there is a server, and the peer a flow
+-- the same, if there is a server and the peer has a flow
 abbrev pub life_in : Option RuledRoom → Peer → Option FlowLife
 life_in None peer = None
 life_in (Some s) peer = option_map known_of (life_if (end_of_peer s.room.served.listening.flows peer) (life_of s.room.lives peer))
 
--- the code of a call that only wants a listener
+-- the code of a call that only needs a listener
 abbrev pub made_code : Option WatchedServer → ℕ
 made_code None = 1
 made_code (Some s) = 0

@@ -1,4 +1,4 @@
--- What an end of C's is made from (own; the configuration is that of an end).
+-- The configuration of an end in C (own; it is that of an end).
 use Rattle.std.specs.Prelude.{◌≡◌, ◌⊎◌, ℕ, ◌^◌, nat_lt, ◌==◌, Bool, true, false, not, ◌||◌, List, [], ◌∷◌, take, Option, Some, None, Result, Ok, Err, if◌then◌else◌, min}
 use Rattle.ccid_two.specs.Kinds.{at_first, kinds_control}
 use Rattle.dccp_endpoint.specs.Configured.{configured}
@@ -40,12 +40,12 @@ role_by s = if s.is_server then Server else Client
 abbrev pub usual_of_settings : Settings → Config
 usual_of_settings s = configured (role_by s) (pseudo_of s) (record { own = s.own_port; peer = s.peer_port }) s.service s.first_number
 
--- with the usual offers or with none
+-- the configuration, with the usual offers or with none
 abbrev pub unless_plain : Bool → Config → Config
 unless_plain true config = record config { lists = without_offers config.lists }
 unless_plain false config = config
 
--- with the wide Sequence Window, unless it is not wished or nothing is offered
+-- the configuration with the wide Sequence Window, unless it is not wished or nothing is offered
 abbrev pub unless_narrow : Bool → Config → Config
 unless_narrow true config = config
 unless_narrow false config = widened config
@@ -63,34 +63,34 @@ pace_by s =
       heeds = not s.without_heed;
     }
 
--- The configuration without wishes; there is none where the first number is not below 2^48.
+-- The configuration without wishes; none if the first number is not below 2^48.
 abbrev pub config_by : Settings → Option Config
 config_by s = if nat_lt s.first_number (2 ^ 48) then Some (unless_narrow (s.is_plain || s.without_wide_window) (unless_plain s.is_plain (usual_of_settings s))) else None
 
--- the wish is offered too, if so wished; one that an end may not offer is refused by 9
+-- the wish is offered too, if the settings say so; one that an end may not offer is refused with 9
 abbrev pub offered_so : Wish → Feature → Place → Config → Result Config ℕ
 offered_so w feature place config =
     if not w.is_offered then Ok config
     else if is_ours feature place then Ok (record config { lists = with_offer config.lists feature place w.is_mandatory })
     else Err 9
 
--- what comes of it where it was not refused
+-- the next result, if it was not refused
 abbrev pub unless_refused : (Config → Result Config ℕ) → Result Config ℕ → Result Config ℕ
 unless_refused next (Ok config) = next config
 unless_refused next (Err code) = Err code
 
--- a wish that an end may have is set; any other is refused by its code
+-- a wish that an end may have is set; any other is refused with its code
 abbrev pub wished_so : Config → Feature → Place → Result Wanted PreferFault → Result Config ℕ
 wished_so config feature place (Ok wanted) = Ok (record config { lists = with_wish config.lists feature place wanted })
 wished_so config feature place (Err fault) = Err (wish_code (Err fault))
 
--- more than eight values are no list
+-- a wish with more than eight values is refused
 abbrev pub wished_list : Config → Wish → Feature → Place → Result Config ℕ
 wished_list config w feature place =
     if nat_lt 8 w.count then Err 8
     else unless_refused (offered_so w feature place) (wished_so config feature place (wish_of feature place (take w.count w.values)))
 
--- a number of no feature is refused by 11
+-- a number that no feature has is refused with 11
 abbrev pub wished_at : Config → Wish → Option Feature → Result Config ℕ
 wished_at config w None = Err 11
 wished_at config w (Some feature) = wished_list config w feature (place_by w.at_peer)
@@ -104,21 +104,20 @@ abbrev pub wished_all : Config → List Wish → Result Config ℕ
 wished_all config [] = Ok config
 wished_all config (w ∷ ws) = unless_refused (λ made. wished_all made ws) (wished config w)
 
--- with all wishes; a first number that is none is refused by 17
+-- the configuration with all wishes; a first number that is not below 2^48 is refused with 17
 abbrev pub wished_from : Option Config → List Wish → Result Config ℕ
 wished_from None wishes = Err 17
 wished_from (Some config) wishes = wished_all config wishes
 
--- The configuration of these settings and wishes, or the code by which they are refused: settings of another size than the
--- library's by 20.
+-- The configuration of these settings and wishes, or the code by which they are refused: settings whose size is not the library's with 20.
 abbrev pub configured_by : Settings → List Wish → Result Config ℕ
 configured_by s wishes = if s.size == 80 then wished_from (config_by s) wishes else Err 20
 
--- how many packets' data wait, as the settings say: 1,024 at most, and with 0 they are handed over within their datagram
+-- how many packets' data may wait, as the settings say: at most 1,024; with 0, data are handed over within their datagram
 abbrev pub most_held_by : Settings → ℕ
 most_held_by s = min s.most_held 1024
 
--- what is done for an end beside its own steps, as the settings say
+-- what is done for an end besides its own steps, as the settings say
 abbrev pub care_by : Settings → Care
 care_by s = record { pace = pace_by s; most_held = most_held_by s }
 
@@ -126,17 +125,17 @@ care_by s = record { pace = pace_by s; most_held = most_held_by s }
 abbrev pub c_begins : Care → Config → CEnd
 c_begins care config = record { timed = timed_begins kinds_control config at_first care.pace; inbox = intake_of care.most_held; cookie = [] }
 
--- The end that was made: a new one where the code says so, else none.
+-- The end that was made: a new one if the code says so, otherwise none.
 abbrev pub made_from : Bool → Care → Result Config ℕ → Option CEnd
 made_from true care (Ok config) = Some (c_begins care config)
 made_from true care (Err code) = None
 made_from false care _ = None
 
--- what the handle holds once making was answered by this code
+-- what the handle holds once making has returned this code
 abbrev pub made_of : ℕ → Care → Result Config ℕ → Option CEnd
 made_of code care config = made_from (code == 0) care config
 
--- The code of making: that of the refusal, or else 0, or 2 where memory is wanting.
+-- The code of making: that of the refusal, otherwise 0, or 2 if there is no memory.
 abbrev pub MakesCode : Result Config ℕ → ℕ → Type 0
 MakesCode (Ok config) code = (code ≡ 0) ⊎ (code ≡ 2)
 MakesCode (Err refusal) code = code ≡ refusal

@@ -1,4 +1,4 @@
--- How C is told of an outcome (own).
+-- How an outcome is told to C (own).
 use Rattle.std.specs.Prelude.{ℕ, [], ◌∷◌, Option, Some, None}
 use Rattle.data_dropped.specs.declared.answers.Arrival.{Arrival}
 use Rattle.data_dropped.specs.declared.answers.Arrival.TheVariants.{Kept}
@@ -30,7 +30,7 @@ cause_code why.BadSync = 11
 abbrev pub told_quiet : Told
 told_quiet = record { kind = 0; cause = 0; first = 0; past = 0; number = 0; code = 0; detail = 0 ∷ 0 ∷ 0 ∷ [] }
 
--- an outcome as C is told of it: what does not belong to its kind is 0
+-- an outcome as it is told to C: fields that do not belong to its kind are 0
 abbrev pub told_outcome : Outcome → Told
 told_outcome (Took None) = told_quiet
 told_outcome (Took (Some place)) = record told_quiet { kind = 1; first = place.0; past = place.1 }
@@ -39,17 +39,17 @@ told_outcome (Synced number) = record told_quiet { kind = 3; number = number }
 told_outcome (WasReset code) = record told_quiet { kind = 4; code = code }
 told_outcome (SentReset code detail) = record told_quiet { kind = 5; code = code; detail = detail }
 
--- data that came into an inbox, or were dropped there with a Drop Code, and any other outcome
+-- what C is told about data that came into an inbox or were dropped there, and about any other outcome
 abbrev pub told_arrival : Option Arrival → Told → Told
 told_arrival None told = told
 told_arrival (Some Kept) told = record told_quiet { kind = 6 }
 told_arrival (Some (arrival.Dropped code)) told = record told_quiet { kind = 7; code = code }
 
--- a datagram that was left out is told as one that was dropped, for the cause 12
+-- what C is told about a datagram; one that was left out counts as dropped, for the cause 12
 abbrev pub told_heard : Option Outcome → Told
 told_heard None = record told_quiet { kind = 2; cause = 12 }
 told_heard (Some outcome) = told_outcome outcome
 
--- what became of a datagram and of its data
+-- what C is told about a datagram and its data
 abbrev pub told_reading : Reading → Told
 told_reading reading = told_arrival reading.arrival (told_heard reading.heard)

@@ -10,37 +10,37 @@ abbrev pub without_first_read : Option CEnd → Option CEnd
 without_first_read None = None
 without_first_read (Some s) = Some (record s { inbox = without_first s.inbox })
 
--- what C finds: the number and the length of the first data, where some wait, and their bytes over what stood there
+-- what C gets: the number and the length of the first data, if some wait, and their bytes over what was there
 abbrev pub read_data_of : Option (ℕ × ℕ) → List ℕ → ReadData → ReadData
 read_data_of None bytes old = record old { bytes = bytes }
 read_data_of (Some first) bytes old = record { length = first.1; number = first.0; bytes = bytes }
 
--- where there is an end
+-- the same, if there is an end
 abbrev pub data_read : Option CEnd → ReadData → ReadData
 data_read None old = old
 data_read (Some s) old = read_data_of (first_read s.inbox) (read_over s.inbox old.bytes) old
 
--- 0 where data were read, 12 where none wait
+-- 0 if data were read, 12 if none wait
 abbrev pub code_of_first : Option (ℕ × ℕ) → ℕ
 code_of_first None = 12
 code_of_first (Some first) = 0
 
--- 1 where there is no end
+-- the same, with 1 if there is no end
 abbrev pub read_code : Option CEnd → ℕ
 read_code None = 1
 read_code (Some s) = code_of_first (first_read s.inbox)
 
--- the end once its application listens no more
+-- the end once its application has stopped listening
 abbrev pub with_stop : Option CEnd → Option CEnd
 with_stop None = None
 with_stop (Some s) = Some (record s { inbox = without_listener s.inbox })
 
--- 0 where it has an inbox, else 12
+-- 0 if it has an inbox, otherwise 12
 abbrev pub code_of_inbox : Option InboxState → ℕ
 code_of_inbox None = 12
 code_of_inbox (Some held) = 0
 
--- 1 where there is no end
+-- the same, with 1 if there is no end
 abbrev pub stop_code : Option CEnd → ℕ
 stop_code None = 1
 stop_code (Some s) = code_of_inbox s.inbox

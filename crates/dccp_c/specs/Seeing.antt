@@ -1,4 +1,4 @@
--- What C may read of an end (own).
+-- What C may read about an end (own).
 use Rattle.std.specs.Prelude.{ℕ, Bool, true, false, Option, Some, None}
 use Rattle.ccid_two.specs.Kinds.{Both, kinds_control}
 use Rattle.dccp_endpoint.specs.Controlled.{End, in_flight_of, window_of}
@@ -35,11 +35,11 @@ seen e =
       service = e.state.config.service;
     }
 
--- the same, where its window is no more than what its sender is allowed for the sake of the application that reads its data
+-- the same, with a window that is at most the allowance from the application that reads its data
 abbrev pub seen_within : Option Allowance → End Both → View
 seen_within it e = record (seen e) { window = window_within it (window_of kinds_control e.congestion) }
 
--- what it holds for a feature, and where the negotiation of it stands
+-- what it holds for a feature, and the stand of its negotiation
 abbrev pub seen_feature : Feature → Place → End Both → FeatureState
 seen_feature feature place e = record { value = (held_of e.state feature place).value; stand = stand_code (held_of e.state feature place).stand }
 
@@ -48,41 +48,41 @@ abbrev pub trip_seen : Option RoundTrip → ℕ → RoundTripView
 trip_seen None timeout = record { size = 24; timeout = timeout; smoothed = 0; variance = 0 }
 trip_seen (Some trip) timeout = record { size = 24; timeout = timeout; smoothed = trip.smoothed; variance = trip.variance }
 
--- of an end with its timers
+-- the same for an end with its timers
 abbrev pub seen_path : TimedState Both → RoundTripView
 seen_path s = trip_seen s.path.round_trip (starting_wait_by (path_waits s.path) s.alarms timers.Rto)
 
--- the same where there is an end
+-- the same, if there is an end
 abbrev pub path_after : Option CEnd → RoundTripView → RoundTripView
 path_after None old = old
 path_after (Some s) old = seen_path s.timed
 
--- what C finds of an end, where there is one
+-- what C gets about an end, if there is one
 abbrev pub view_after : Option CEnd → View → View
 view_after None old = old
 view_after (Some s) old = seen_within s.timed.path.reader.allowance s.timed.end
 
--- What C finds after a reading: what was read, or what stood there where there is no end.
+-- What C gets from a reading: what was read, or what was there before if there is no end.
 abbrev pub seen_after : {Seen : Type 0} → (End Both → Seen) → Option CEnd → Seen → Seen
 seen_after see None old = old
 seen_after see (Some s) old = see s.timed.end
 
--- What C finds where its struct has the library's size, and else what stood there.
+-- What C gets if its struct has the library's size, and otherwise what was there before.
 abbrev pub if_sized : {Read : Type 0} → Bool → Read → Read → Read
 if_sized true read old = read
 if_sized false read old = old
 
--- the code of reading into a struct: 20 where it has another size than the library's
+-- the code of reading into a struct: 20 if its size is not the library's
 abbrev pub sized_code : Bool → ℕ → ℕ
 sized_code true code = code
 sized_code false code = 20
 
--- the code of a reading: 1 where there is no end
+-- the code of a reading: 1 if there is no end
 abbrev pub look_code : Option CEnd → ℕ
 look_code None = 1
 look_code (Some s) = 0
 
--- A feature of a number that is none is answered by 11, and nothing is read.
+-- If no feature has the number, the code is 11, and nothing is read.
 abbrev pub feature_after : Option Feature → Place → Option CEnd → FeatureState → FeatureState
 feature_after None place held old = old
 feature_after (Some feature) place held old = seen_after (seen_feature feature place) held old

@@ -18,21 +18,21 @@ use Rattle.feature_lists.specs.declared.features.Feature.{Feature}
 use Rattle.feature_lists.specs.declared.features.Place.{Place}
 use Rattle.feature_lists.specs.declared.wishes.PreferFault.{PreferFault}
 
--- an end of C's is a session's, with CCID 2 or the fixed window
+-- an end in C is that of a session, with CCID 2 or the fixed window
 abbrev pub CEnd : Type 0
 CEnd = HoldingState Both
 
--- it after a call, the frame that goes out, if any, and the answer
+-- the end after a call, the frame that goes out, if any, and the answer
 pub record CStep (Answer : Type 0) : Type 0 where
   pub after : CEnd
   pub frame : Option Outgoing
   pub answer : Answer
 
--- what a call does to it, by its answer
+-- what a call does to an end, by the type of its answer
 abbrev pub CDoing : Type 0 → Type 0
 CDoing Answer = CEnd → CStep Answer
 
--- what a call that may be refused does to it
+-- what a call that may be refused does to an end
 abbrev pub CCall : Type 0 → Type 0
 CCall Fault = CDoing (Result (Unit {0}) Fault)
 
@@ -40,7 +40,7 @@ CCall Fault = CDoing (Result (Unit {0}) Fault)
 abbrev pub done : {Answer : Type 0} → TimedState Both → Option InboxState → List ℕ → Option Outgoing → Answer → CStep Answer
 done s inbox cookie frame answer = record { after = record { timed = s; inbox = inbox; cookie = cookie }; frame = frame; answer = answer }
 
--- what a session's step is for C
+-- a session's step, as C has it
 abbrev pub c_step : {Answer : Type 0} → HoldingStep Both Answer → CStep Answer
 c_step step = record { after = step.holding; frame = step.frame; answer = step.answer }
 
@@ -48,7 +48,7 @@ c_step step = record { after = step.holding; frame = step.frame; answer = step.a
 abbrev pub c_opens : ℕ → CCall OpenFault
 c_opens now s = c_step (steps_beside s (timed_opens kinds_control now s.timed))
 
--- data go out in PARTOPEN and OPEN, where the window has room (section 8.1.5) and the application that reads them leaves some
+-- data go out in PARTOPEN and OPEN, if the window has room (section 8.1.5) and the application that reads them leaves some
 abbrev pub c_sends : List ℕ → ℕ → CCall SendRefusal
 c_sends payload now s = c_step (steps_beside s (timed_sends kinds_control now s.timed payload))
 
@@ -60,7 +60,7 @@ c_prefers feature place values now s = c_step (steps_beside s (timed_prefers kin
 abbrev pub c_fires : Timer → ℕ → CDoing Bool
 c_fires timer now s = c_step (steps_beside s (timed_fires kinds_control now s.timed timer))
 
--- the end is told what is due
+-- the end does what is due
 abbrev pub c_told : Due → ℕ → CDoing Bool
 c_told it now s = c_step (steps_beside s (due_told kinds_control now s.timed it))
 
@@ -76,6 +76,6 @@ c_aborts now s = c_step (steps_beside s (timed_aborts kinds_control now s.timed)
 abbrev pub c_receives : List ℕ → ℕ → CDoing Reading
 c_receives bytes now s = c_step (holds_heard s bytes (timed_takes kinds_control now s.timed bytes))
 
--- what is recorded of drops once an end that was the one is the other, with a datagram
+-- the record of drops once a datagram has led the first end to the second
 abbrev pub record_heard : List ℕ → TimedState Both → TimedState Both → List DropEntry → List DropEntry
 record_heard bytes before after drops = record_after drop_recorded before.path.reader.counted after.path.reader.counted bytes drops

@@ -1,4 +1,4 @@
--- Timers and rules that are told one by one (own).
+-- Timers and rules that are handled one by one (own).
 use Rattle.std.specs.Prelude.{◌≡◌, ℕ, zero, suc, false}
 use Rattle.ccid_two.specs.Kinds.{kinds_control}
 use Rattle.dccp_uses.specs.Sessions.{rings_each_due}
@@ -6,7 +6,7 @@ use Rattle.dccp_uses.specs.Timed.{every_due}
 use Rattle.dccp_c.specs.Doing.{c_ticks}
 use Rattle.dccp_c.specs.Stepping.{CEnd}
 
--- an end after so many ticks at one time
+-- an end after this many ticks at one time
 abbrev pub ticked : ℕ → ℕ → CEnd → CEnd
 ticked now zero s = s
 ticked now (suc n) s = ticked now n (c_ticks now s).after

@@ -28,9 +28,9 @@ use crate::{FeatureState, RoundTripView, Settings, View, Wish};
 use dccp_endpoint::{Config, MOST_FRAME_BYTES};
 use std::alloc::Global;
 
-/// Makes an end, in place of what the handle held, which is freed first. Refused with OTHER_SIZE where the settings begin
-/// with another size, NO_NUMBER where the first number is none, as `Config::set` refuses a wish, with NO_FEATURE where a
-/// wish names none, and with NO_MEMORY; then it holds nothing.
+/// Makes an end, in place of what the handle held, which is freed first. Refused with OTHER_SIZE if the settings begin
+/// with another size, with NO_NUMBER if the first number is not below 2^48, as `Config::set` refuses a wish, with
+/// NO_FEATURE if a wish names no feature, and with NO_MEMORY. Then the handle holds nothing.
 #[unsafe(no_mangle)]
 pub extern "C" fn dccp_make(
     end: &mut End,
@@ -55,9 +55,9 @@ pub extern "C" fn dccp_make(
     }
 }
 
-/// Makes a server's end of the first datagram of a peer, in place of what the handle held, which is freed first.
-/// Refused as `dccp_make` is, and with TOO_LONG; NO_CONNECTION where the datagram opens none, and the frame answers it.
-/// Then it holds nothing.
+/// Makes a server's end from the first datagram of a peer, in place of what the handle held, which is freed first.
+/// Refused as `dccp_make` is, and with TOO_LONG. NO_CONNECTION if the datagram opens none; then the frame answers it.
+/// In all these cases the handle holds nothing.
 #[unsafe(no_mangle)]
 pub extern "C" fn dccp_accept(
     end: &mut End,
@@ -129,7 +129,7 @@ pub extern "C" fn dccp_free(end: &mut End, alloc: Global)
     end.clear(alloc);
 }
 
-/// `Session::open` at `now`, in milliseconds as in each call. Answers DONE, NOT_MADE or NOT_FRESH.
+/// `Session::open` at `now`, in milliseconds as in each call. Returns DONE, NOT_MADE or NOT_FRESH.
 #[unsafe(no_mangle)]
 pub extern "C" fn dccp_open(end: &mut End, alloc: Global, now: u64, frame: &mut Frame) -> u32
     ensures end { end_in end.new.kept.value ≡ kept_after (c_opens now) (end_in end.old.kept.value) }
@@ -147,7 +147,7 @@ pub extern "C" fn dccp_open(end: &mut End, alloc: Global, now: u64, frame: &mut 
     open_code(&answer)
 }
 
-/// `Session::send`. Answers DONE, NOT_MADE, NOT_LISTENING, NOT_OPEN, TOO_LONG, NOT_NEGOTIATED or WINDOW_FULL.
+/// `Session::send`. Returns DONE, NOT_MADE, NOT_LISTENING, NOT_OPEN, TOO_LONG, NOT_NEGOTIATED or WINDOW_FULL.
 #[unsafe(no_mangle)]
 pub extern "C" fn dccp_send(
     end: &mut End,
@@ -171,7 +171,7 @@ pub extern "C" fn dccp_send(
     send_code(&answer)
 }
 
-/// `Session::close`. Answers DONE, NOT_MADE or NOT_OPEN.
+/// `Session::close`. Returns DONE, NOT_MADE or NOT_OPEN.
 #[unsafe(no_mangle)]
 pub extern "C" fn dccp_close(end: &mut End, alloc: Global, now: u64, frame: &mut Frame) -> u32
     ensures end { end_in end.new.kept.value ≡ kept_after (c_closes now) (end_in end.old.kept.value) }
@@ -189,7 +189,7 @@ pub extern "C" fn dccp_close(end: &mut End, alloc: Global, now: u64, frame: &mut
     close_code(&answer)
 }
 
-/// `Session::abort`. Answers DONE, NOT_MADE or NOT_LIVE.
+/// `Session::abort`. Returns DONE, NOT_MADE or NOT_LIVE.
 #[unsafe(no_mangle)]
 pub extern "C" fn dccp_abort(end: &mut End, alloc: Global, now: u64, frame: &mut Frame) -> u32
     ensures end { end_in end.new.kept.value ≡ kept_after (c_aborts now) (end_in end.old.kept.value) }
@@ -207,7 +207,7 @@ pub extern "C" fn dccp_abort(end: &mut End, alloc: Global, now: u64, frame: &mut
     abort_code(&answer)
 }
 
-/// `Session::prefer`, for the feature of this number at the peer or here. NO_FEATURE where there is none of this number.
+/// `Session::prefer`, for the feature with this number at the peer or here. NO_FEATURE if no feature has this number.
 #[unsafe(no_mangle)]
 pub extern "C" fn dccp_prefer(
     end: &mut End,
@@ -236,8 +236,8 @@ pub extern "C" fn dccp_prefer(
     wish_code(&answer)
 }
 
-/// A timer of this number has run out, which the caller keeps. NO_TIMER where there is none of this number, and NOTHING_DUE
-/// where it has nothing to do.
+/// The timer with this number, which the caller keeps, has run out. NO_TIMER if no timer has this number, and
+/// NOTHING_DUE if it has nothing to do.
 #[unsafe(no_mangle)]
 pub extern "C" fn dccp_timer(
     end: &mut End,
@@ -264,7 +264,8 @@ pub extern "C" fn dccp_timer(
     timer_code(applies)
 }
 
-/// Tells the first timer that has run out, or else what the rules of the path have to do. NOTHING_DUE where nothing is.
+/// Fires the first timer that has run out, or else does what the rules of the path ask for. NOTHING_DUE if nothing is
+/// due.
 #[unsafe(no_mangle)]
 pub extern "C" fn dccp_tick(end: &mut End, alloc: Global, now: u64, frame: &mut Frame) -> u32
     ensures end { end_in end.new.kept.value ≡ kept_after (c_ticks now) (end_in end.old.kept.value) }
@@ -286,7 +287,7 @@ pub extern "C" fn dccp_tick(end: &mut End, alloc: Global, now: u64, frame: &mut 
     DONE
 }
 
-/// How many milliseconds it is until `dccp_tick` has something to do; 2^64 - 1 where no timer runs.
+/// In how many milliseconds `dccp_tick` has something to do; 2^64 - 1 if no timer runs.
 #[unsafe(no_mangle)]
 pub extern "C" fn dccp_until_first(end: &mut End, alloc: Global, now: u64) -> u64
     ensures end { end.new.kept.value ≡ end.old.kept.value }
@@ -300,7 +301,7 @@ pub extern "C" fn dccp_until_first(end: &mut End, alloc: Global, now: u64) -> u6
     left.unwrap_or(u64::MAX)
 }
 
-/// `Session::arrived`, which tells the outcome. A datagram of more than 2,044 bytes is answered by TOO_LONG, and
+/// `Session::arrived`, which returns the outcome. A datagram of more than 2,044 bytes is refused with TOO_LONG, and
 /// changes nothing.
 #[unsafe(no_mangle)]
 pub extern "C" fn dccp_receive(
@@ -330,7 +331,7 @@ pub extern "C" fn dccp_receive(
     DONE
 }
 
-/// The numbers of an end, its phase and its window. Answers DONE, OTHER_SIZE or NOT_MADE.
+/// The numbers of an end, its phase and its window. Returns DONE, OTHER_SIZE or NOT_MADE.
 #[unsafe(no_mangle)]
 pub extern "C" fn dccp_look(end: &mut End, alloc: Global, view: &mut View) -> u32
     ensures end { end.new.kept.value ≡ end.old.kept.value }
@@ -348,7 +349,7 @@ pub extern "C" fn dccp_look(end: &mut End, alloc: Global, view: &mut View) -> u3
     DONE
 }
 
-/// What an end has measured of its path. Answers DONE, OTHER_SIZE or NOT_MADE.
+/// What an end has measured of its path. Returns DONE, OTHER_SIZE or NOT_MADE.
 #[unsafe(no_mangle)]
 pub extern "C" fn dccp_look_path(end: &mut End, alloc: Global, trip: &mut RoundTripView) -> u32
     ensures end { end.new.kept.value ≡ end.old.kept.value }
@@ -366,7 +367,7 @@ pub extern "C" fn dccp_look_path(end: &mut End, alloc: Global, trip: &mut RoundT
     DONE
 }
 
-/// What an end holds for the feature of this number at the peer or here. NO_FEATURE where there is none of this number.
+/// What an end holds for the feature with this number at the peer or here. NO_FEATURE if no feature has this number.
 #[unsafe(no_mangle)]
 pub extern "C" fn dccp_feature(
     end: &mut End,

@@ -1,4 +1,4 @@
-//! The codes that the calls answer, and the numbers by which C names a feature, a timer and a phase.
+//! The codes that the calls return, and the numbers by which C names a feature, a timer and a phase.
 ghost use Rattle.std.specs.Prelude.{◌≡◌};
 ghost use Rattle.feature_lists.specs.Features.{feature_numbered};
 ghost use Rattle.dccp_c.specs.Codes.{abort_code, close_code, open_code, phase_code, place_by, restraint_code, send_code, stand_code, timer_coded, timer_code, wish_code};
@@ -8,19 +8,19 @@ use dccp_endpoint::{
 };
 use dccp_uses::{Restraint, SendRefusal};
 
-/// It was done.
+/// The call was done.
 pub const DONE: u32 = 0;
 
 /// There is no end or listener: it was not made, or was freed.
 pub const NOT_MADE: u32 = 1;
 
-/// No memory was to be had.
+/// There was no memory.
 pub const NO_MEMORY: u32 = 2;
 
 /// The end is a server's, or was opened before.
 pub const NOT_FRESH: u32 = 3;
 
-/// The connection is in no phase for it.
+/// The connection is in a phase in which the call is not allowed.
 pub const NOT_OPEN: u32 = 4;
 
 /// The data or the datagram are too long.
@@ -29,13 +29,13 @@ pub const TOO_LONG: u32 = 5;
 /// The peer sends no Ack Vectors yet.
 pub const NOT_NEGOTIATED: u32 = 6;
 
-/// As many data packets are in flight as may be.
+/// As many data packets are in flight as the window allows.
 pub const WINDOW_FULL: u32 = 7;
 
-/// The values are none, too many, twice the same, or not permitted.
+/// There are no values or too many, two are equal, or one is not permitted.
 pub const BAD_LIST: u32 = 8;
 
-/// The feature is the peer's alone to set.
+/// Only the peer may set the feature.
 pub const NOT_OURS: u32 = 9;
 
 /// There is no connection to abort.
@@ -50,7 +50,7 @@ pub const NOTHING_DUE: u32 = 12;
 /// The datagram opens no connection.
 pub const NO_CONNECTION: u32 = 13;
 
-/// A listener has as many flows as it may, and the datagram would open one more.
+/// A listener has as many flows as its limit allows, and the datagram would open one more.
 pub const BUSY: u32 = 14;
 
 /// The peer has no flow.
@@ -62,22 +62,22 @@ pub const NO_TIMER: u32 = 16;
 /// The number of a first packet is not below 2^48.
 pub const NO_NUMBER: u32 = 17;
 
-/// No listener is of IPv6, or of so many flows.
+/// A listener cannot be of IPv6, or have this many flows or these Service Codes.
 pub const NO_SUCH_LISTENER: u32 = 18;
 
 /// A tick has given a flow up.
 pub const GAVE_UP: u32 = 19;
 
-/// A struct begins with another size than the library's: that of another header.
+/// A struct begins with a size that is not the library's, but that of another header.
 pub const OTHER_SIZE: u32 = 20;
 
 /// The listener takes no new flows, and the datagram would open one.
 pub const REFUSED: u32 = 21;
 
-/// The last call has done nothing more that is to be told.
+/// The last call has no further event.
 pub const NO_EVENT: u32 = 22;
 
-/// No application listens any more at the peer: no further data will reach one.
+/// The peer's application no longer listens: no further data will reach it.
 pub const NOT_LISTENING: u32 = 23;
 
 pub(crate) fn open_code(answer: &Result<(), OpenFault>) -> u32

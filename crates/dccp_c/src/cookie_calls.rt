@@ -1,4 +1,4 @@
-//! The functions by which a server of C's that has an end for each peer answers Requests without one, by Init Cookies.
+//! The functions by which a server in C that has an end for each peer answers Requests without an end, by Init Cookies.
 ghost use Rattle.std.specs.Prelude.{◌≡◌, ◌≤◌, length};
 ghost use Rattle.init_cookies.specs.Openings.{request_bytes};
 ghost use Rattle.dccp_c.specs.Accepting.{as_server, first_heard};
@@ -25,11 +25,11 @@ use std::alloc::Global;
 #[repr(C)]
 #[derive(Clone, Copy)]
 pub struct KeyPair {
-    /// That by which they are written.
+    /// The key with which they are written.
     pub key: Key,
-    /// The one before it, whose cookies stay good for their two minutes.
+    /// The key before it, whose cookies stay valid for their two minutes.
     pub before: Key,
-    /// Since when they are written by the first.
+    /// Since when they are written with the first.
     pub since: u64,
 }
 
@@ -120,7 +120,7 @@ fn greet(
     hear_request(&mut held, keys, route, opening, now, frame)
 }
 
-// By what is asked for.
+// The same by what the datagram asks for.
 fn greet_asked(
     alloc: Global,
     config: Config,
@@ -144,10 +144,10 @@ fn greet_asked(
     }
 }
 
-/// Answers a Request by a Response with an Init Cookie, without an end that stays: `dccp_recall` gives the Request back once
-/// the cookie comes. Answers DONE, NO_CONNECTION where the datagram is no Request that the server of these settings takes,
-/// which the frame answers, if anything does; TOO_LONG for a datagram, or options that no cookie holds; NO_MEMORY, or a code
-/// of `dccp_make`.
+/// Answers a Request by a Response with an Init Cookie, without an end that stays: `dccp_recall` gives the Request back
+/// once the cookie comes. Returns DONE; NO_CONNECTION if the datagram is no Request that the server of these settings
+/// takes, and then the frame has the answer, if there is one; TOO_LONG for a datagram that is too long, or for options
+/// that are too long for a cookie; NO_MEMORY; or a code of `dccp_make`.
 #[unsafe(no_mangle)]
 pub extern "C" fn dccp_greet(
     alloc: Global,
@@ -173,7 +173,7 @@ pub extern "C" fn dccp_greet(
     greet_asked(alloc, config, &care, &keys, &route, asking, now, frame)
 }
 
-// What a datagram brings back.
+// The opening that a datagram brings back, if it brings one.
 fn opening_brought(
     keys: &CookieKeys,
     settings: &Settings,
@@ -208,9 +208,9 @@ fn hand_request(route: &Route, opening: &Option<FirstRequest>, request: &mut Fra
     }
 }
 
-/// The Request for which the Init Cookie of a datagram was given, where the datagram brings a good one back to the server of
-/// these settings; and the number that was the first of its answer, with which an end is to be made of it. Answers DONE,
-/// OTHER_SIZE, TOO_LONG, or NO_CONNECTION where it brings none.
+/// Leaves the Request for which the Init Cookie of a datagram was given, if the datagram brings a valid one back to the
+/// server of these settings, and the first number of its answer. Make an end with this number, and let it hear the
+/// Request. Returns DONE, OTHER_SIZE, TOO_LONG, or NO_CONNECTION if the datagram brings no valid cookie.
 #[unsafe(no_mangle)]
 pub extern "C" fn dccp_recall(
     settings: &Settings,

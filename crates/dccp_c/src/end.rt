@@ -7,7 +7,8 @@ use crate::kept::{EndBox, Parts};
 use std::alloc::Global;
 use std::mem;
 
-/// An end of C's, or none: `{NULL, false}` is none. C gives it to one call at a time, and never changes it.
+/// A handle of C with an end, or with none: `{NULL, false}` is none. C passes it to one call at a time, and never
+/// changes it.
 #[repr(C)]
 pub struct End {
     /// The box with the end, or none.

@@ -1,4 +1,4 @@
-//! What became of the data that an end has sent, and how long the next may be.
+//! What became of the data that an end has sent, and how long the next data may be.
 ghost use Rattle.std.specs.Prelude.{◌≡◌, ◌≤◌, ◌+◌, ◌↔◌, ◌⊎◌, ℕ, None, Some};
 ghost use Rattle.ack_vectors.specs.Vector.{numbers_between};
 ghost use Rattle.ccid_two.specs.Kinds.{kinds_control};
@@ -16,7 +16,7 @@ use dccp_options::MOST_OPTION_BYTES;
 use dccp_uses::{ClientCookie, DropRecord};
 use std::alloc::Global;
 
-/// Nothing is known of data under this number: none were sent, or no more is known of them.
+/// Nothing is known about data under this number: none were sent, or they are no longer remembered.
 pub const FATE_UNKNOWN: u32 = 0;
 
 /// They are in flight.
@@ -25,17 +25,17 @@ pub const FATE_IN_FLIGHT: u32 = 1;
 /// The peer has reported them.
 pub const FATE_DELIVERED: u32 = 2;
 
-/// They are taken for lost.
+/// They are counted as lost.
 pub const FATE_LOST: u32 = 3;
 
-/// They came, and the peer has reported that it dropped them, with the Drop Code 0. The other codes follow: 11 is Drop Code
+/// They came, and the peer has reported that it dropped them, with Drop Code 0. The other codes follow: 11 is Drop Code
 /// 7 (RFC 4340, section 11.7).
 pub const FATE_DROPPED: u32 = 4;
 
 // The header of a DataAck with a long number (RFC 4340, section 5.1).
 const LONGEST_HEADER: usize = 24;
 
-// Of data that have come, by the code with which they were dropped, if they were.
+// The fate of data that have come, by the code with which they were dropped, if they were.
 fn fate_by(code: Option<u8>) -> u32
     ensures delivered { (result ≡ 2) ↔ (code ≡ None) }
     ensures dropped { (c : ℕ) → (result ≡ 4 + c) ↔ (code ≡ Some c) }
@@ -47,7 +47,7 @@ fn fate_by(code: Option<u8>) -> u32
     }
 }
 
-/// What became of data under this number, where this code is recorded for it, if one is.
+/// What became of data under this number, by the code that is recorded for it, if one is.
 pub(crate) fn fate_in(end: &Endpoint<Kinds>, number: Seq48, code: Option<u8>) -> u32
     ensures { IsFate (λ standing. Has (kinds_control.flight end.now.congestion) number standing) code result }
 {
@@ -62,7 +62,7 @@ pub(crate) fn fate_in(end: &Endpoint<Kinds>, number: Seq48, code: Option<u8>) ->
     }
 }
 
-// The same of a number that may be none of a packet, by this record.
+// The same by this record, for a number that may not be a packet's.
 fn fate_of(end: &Endpoint<Kinds>, drops: &DropRecord, number: u64) -> u32
     ensures { IsFate (StandSo (Some end.now) number) (drop_code drops.now number) result }
 {
@@ -73,7 +73,7 @@ fn fate_of(end: &Endpoint<Kinds>, drops: &DropRecord, number: u64) -> u32
 }
 
 /// What became of the data that were sent under this number: FATE_DELIVERED, FATE_DROPPED and more, FATE_LOST,
-/// FATE_IN_FLIGHT or FATE_UNKNOWN, which is that of each number where there is no end.
+/// FATE_IN_FLIGHT or FATE_UNKNOWN, which is also returned if there is no end.
 #[unsafe(no_mangle)]
 pub extern "C" fn dccp_fate_of(end: &mut End, alloc: Global, number: u64) -> u32
     ensures end { end.new.kept.value ≡ end.old.kept.value }
@@ -87,7 +87,7 @@ pub extern "C" fn dccp_fate_of(end: &mut End, alloc: Global, number: u64) -> u32
     fate
 }
 
-// The numbers from the floor up to the greatest that was received, of which an Ack Vector tells.
+// The numbers from the floor up to the greatest that was received, which an Ack Vector reports.
 fn numbers_told(end: &Endpoint<Kinds>) -> u64
     ensures { result ≡ numbers_between (floor_of end.now.state) end.now.state.marks.gsr }
 {
@@ -116,7 +116,7 @@ fn most_beside_data(end: &Endpoint<Kinds>) -> usize
     }
 }
 
-/// The longest data of an end whose packet surely has no more than so many bytes now.
+/// The longest data of an end whose packet certainly has at most `most` bytes now.
 pub(crate) fn longest_in(end: &Endpoint<Kinds>, most: usize) -> usize
     ensures { result ≡ longest_in most (Some end.now) }
 {
@@ -124,7 +124,7 @@ pub(crate) fn longest_in(end: &Endpoint<Kinds>, most: usize) -> usize
         .min(MOST_DATA_BYTES)
 }
 
-// How many bytes the cookie adds to a frame, at most.
+// The most bytes that the cookie adds to a frame.
 fn most_returned(phase: Phase, cookie: &ClientCookie) -> usize
     ensures { result ≡ most_returned phase cookie.now }
 {
@@ -135,7 +135,7 @@ fn most_returned(phase: Phase, cookie: &ClientCookie) -> usize
     }
 }
 
-// What is left beside what its inbox may say and its cookie.
+// How many bytes are left besides its cookie and what its inbox may say.
 fn left_beside(held: &OwnedEnd, most: usize) -> usize
     ensures { result ≡ left_beside most (Some (c_end held.now)) }
 {
@@ -144,7 +144,7 @@ fn left_beside(held: &OwnedEnd, most: usize) -> usize
         .saturating_sub(most_returned(held.timed.end().phase(), &held.cookie))
 }
 
-/// The longest data, up to 1,024 bytes, whose packet surely has no more than so many bytes now; 0 where there is no end.
+/// The longest data, up to 1,024 bytes, whose packet certainly has at most `most` bytes now; 0 if there is no end.
 #[unsafe(no_mangle)]
 pub extern "C" fn dccp_longest_data(end: &mut End, alloc: Global, most: usize) -> usize
     ensures end { end.new.kept.value ≡ end.old.kept.value }

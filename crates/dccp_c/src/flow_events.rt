@@ -1,4 +1,4 @@
-//! What C is told of the flows of a listener, and the number that it may write beside each.
+//! The events that C gets about the flows of a listener, and the number that it may set for each flow.
 ghost use Rattle.std.specs.Prelude.{◌≡◌, ◌==◌, unwrap_or};
 ghost use Rattle.std.specs.Option.{option_map};
 ghost use Rattle.dccp_c.specs.FlowEvents.{cause_number, event_after, event_code, event_kind, event_seen, next_event_in, plain_event, user_code, user_set_in};
@@ -13,13 +13,13 @@ use crate::{ListenerHandle, PeerAddress};
 use dccp_server::{EndCause, EndReason, EventKind, FlowEvent, event_kept};
 use std::alloc::Global;
 
-/// What has happened to a flow, as C may read it; what does not belong to its kind is 0.
+/// An event of a flow, as C may read it. Fields that do not belong to its kind are 0.
 #[repr(C)]
 #[derive(Clone, Copy)]
 pub struct EventView {
     /// How many bytes this struct has, as its caller knows it.
     pub size: usize,
-    /// The number that the owner has written beside the flow.
+    /// The number that the owner has set for the flow.
     pub user: u64,
     /// The place of the first byte of its data in the datagram.
     pub first: usize,
@@ -29,10 +29,10 @@ pub struct EventView {
     pub kind: u32,
     /// Why it has ended.
     pub cause: u32,
-    /// Whose it is.
+    /// The peer of the flow.
     pub peer: PeerAddress,
-    /// The Reset Code by which it has ended; 0 where none went or came. Or the Drop Code of the data (RFC 4340, section
-    /// 11.7).
+    /// The Reset Code by which it has ended, or 0 if no Reset was sent or received. For data, their Drop Code (RFC
+    /// 4340, section 11.7).
     pub code: u8,
 }
 
@@ -49,7 +49,7 @@ fn cause_number(cause: EndCause) -> u32
     }
 }
 
-// A handshake that is complete.
+// The event of a handshake that is complete.
 fn plain_event(peer: PeerAddress, user: u64) -> EventView
     ensures { result ≡ plain_event peer user }
 {
@@ -98,7 +98,7 @@ fn event_seen(event: &FlowEvent) -> EventView
     event_kind(event.kind, plain_event(address_of(event.peer), event.user))
 }
 
-/// `EventServer::next_event`. Answers DONE, OTHER_SIZE, NOT_MADE, or NO_EVENT where nothing more is to be told.
+/// `EventServer::next_event`. Returns DONE, OTHER_SIZE, NOT_MADE, or NO_EVENT if there are no more events.
 #[unsafe(no_mangle)]
 pub extern "C" fn dccp_listener_event(
     listener: &mut ListenerHandle,
@@ -128,7 +128,8 @@ pub extern "C" fn dccp_listener_event(
     }
 }
 
-/// Writes a number beside a peer's flow, which events carry and which goes with it. Answers DONE, NOT_MADE or NO_FLOW.
+/// Sets a number for a peer's flow, which its events carry, and which is dropped with it. Returns DONE, NOT_MADE or
+/// NO_FLOW.
 #[unsafe(no_mangle)]
 pub extern "C" fn dccp_listener_set_user(
     listener: &mut ListenerHandle,

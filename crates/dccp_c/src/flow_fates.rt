@@ -1,4 +1,4 @@
-//! What became of the data of a listener's flow, how long the next may be, and what was measured of its path.
+//! What became of the data of a listener's flow, how long the next data may be, and what was measured of its path.
 ghost use Rattle.std.specs.Prelude.{◌≡◌, ◌==◌, Some, unwrap_or};
 ghost use Rattle.std.specs.Option.{option_map};
 ghost use Rattle.dccp_listener.specs.Peers.{end_of_peer};
@@ -41,8 +41,8 @@ fn flow_fate(server: &Server, drops: &FlowDropRecord, peer: Peer, number: u64) -
     }
 }
 
-/// What became of the data that were sent to a peer under this number, as `dccp_fate_of`: FATE_UNKNOWN too where there is
-/// no listener, or the peer has no flow.
+/// What became of the data that were sent to a peer under this number, as `dccp_fate_of` says; FATE_UNKNOWN also if
+/// there is no listener, or the peer has no flow.
 #[unsafe(no_mangle)]
 pub extern "C" fn dccp_listener_fate_of(
     listener: &mut ListenerHandle,
@@ -75,8 +75,8 @@ fn flow_longest(server: &Server, peer: Peer, most: usize) -> usize
     }
 }
 
-/// The longest data to a peer whose packet surely has no more than so many bytes now, as `dccp_longest_data`; 0 too where
-/// there is no listener, or the peer has no flow.
+/// The longest data to a peer whose packet certainly has at most `most` bytes now, as `dccp_longest_data` says; 0 also
+/// if there is no listener, or the peer has no flow.
 #[unsafe(no_mangle)]
 pub extern "C" fn dccp_listener_longest_data(
     listener: &mut ListenerHandle,
@@ -113,7 +113,7 @@ fn path_of(server: &Server, peer: Peer) -> Option<RoundTripView>
     }
 }
 
-/// What was measured of the path to a peer. Answers DONE, OTHER_SIZE, NOT_MADE or NO_FLOW.
+/// What was measured of the path to a peer. Returns DONE, OTHER_SIZE, NOT_MADE or NO_FLOW.
 #[unsafe(no_mangle)]
 pub extern "C" fn dccp_listener_look_path(
     listener: &mut ListenerHandle,

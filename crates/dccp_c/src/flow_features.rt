@@ -20,8 +20,8 @@ use dccp_listener::Peer;
 use dccp_server::Server;
 use std::alloc::Global;
 
-/// `Server::ask` with `UserCall::Prefer`, for the feature of this number at the peer or here. Answers DONE, NOT_MADE,
-/// NO_FLOW, NOT_OPEN, BAD_LIST, NOT_OURS, or NO_FEATURE where there is none of this number; then nothing changes.
+/// `Server::ask` with `UserCall::Prefer`, for the feature with this number at the peer or here. Returns DONE, NOT_MADE,
+/// NO_FLOW, NOT_OPEN, BAD_LIST, NOT_OURS, or NO_FEATURE if no feature has this number; then nothing changes.
 #[unsafe(no_mangle)]
 pub extern "C" fn dccp_listener_prefer(
     listener: &mut ListenerHandle,
@@ -56,8 +56,8 @@ fn feature_at(server: &Server, peer: Peer, feature: Feature, place: Place) -> Op
     }
 }
 
-/// What a peer's end holds for the feature of this number at the peer or here. Answers DONE, NOT_MADE, NO_FLOW, or
-/// NO_FEATURE where there is none of this number.
+/// What a peer's end holds for the feature with this number at the peer or here. Returns DONE, NOT_MADE, NO_FLOW, or
+/// NO_FEATURE if no feature has this number.
 #[unsafe(no_mangle)]
 pub extern "C" fn dccp_listener_feature(
     listener: &mut ListenerHandle,

@@ -17,8 +17,9 @@ fn name_by(listener: &Settings, path: &Settings, turn: u16) -> PeerAddress
     address_of(stand_in(own, &pseudo_of(path), path.peer_port, turn))
 }
 
-/// The name under which a listener of these settings knows the peer of a path: of IPv6, or of addresses and a port on which
-/// both have agreed. Each turn has another. Answers DONE, or OTHER_SIZE for settings of another size.
+/// The name under which a listener of these settings knows the peer of a path: one of IPv6, or of addresses and a port
+/// on which both ends have agreed. Each turn gives another name. Returns DONE, or OTHER_SIZE for settings of another
+/// size.
 #[unsafe(no_mangle)]
 pub extern "C" fn dccp_listener_name(
     listener: &Settings,

@@ -10,7 +10,7 @@ use crate::sizes::SETTINGS_BYTES;
 use crate::{PeerAddress, Settings};
 use dccp_server::keyed_number;
 
-/// What a first number is drawn from: 32 bytes that nobody can guess.
+/// The key from which a first number is drawn: 32 bytes that nobody can guess.
 #[repr(C)]
 #[derive(Clone, Copy)]
 pub struct Key {
@@ -25,8 +25,8 @@ fn number_by(listener: &Settings, key: &Key, peer: &PeerAddress, now: u64) -> u6
     keyed_number(&key.bytes, own, listener.own_port, peer_named(peer), now).get()
 }
 
-/// The first number of a flow of this peer that begins now, at a listener of these settings, drawn from a key (RFC 4340,
-/// section 7.2; own). Answers DONE, or OTHER_SIZE for settings of another size.
+/// The first number of a flow of this peer that begins now, at a listener of these settings, drawn from a key (RFC
+/// 4340, section 7.2; own). Returns DONE, or OTHER_SIZE for settings of another size.
 #[unsafe(no_mangle)]
 pub extern "C" fn dccp_listener_number(
     listener: &Settings,

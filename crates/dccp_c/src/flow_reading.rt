@@ -14,7 +14,7 @@ use dccp_endpoint::{NoMemory, Seq48};
 use dccp_listener::Peer;
 use std::alloc::Global;
 
-// The first data of a peer; an inbox of a flow that is over goes with the last.
+// Takes the first data of a peer. An inbox of a flow that is over goes with its last data.
 fn read(serving: &mut OwnedServer, peer: Peer, into: &mut [u8; 2032]) -> Option<(Seq48, usize)>
     ensures rest { Some (holding_of serving.new) ≡ without_first_of (Some (holding_of serving.old)) peer }
     ensures answer { result ≡ flow_first_read serving.old.inboxes peer }
@@ -25,8 +25,8 @@ fn read(serving: &mut OwnedServer, peer: Peer, into: &mut [u8; 2032]) -> Option<
     first
 }
 
-/// Takes the data of a peer that have waited longest, also where its flow is over. Answers DONE, NOT_MADE, or NOTHING_DUE
-/// where none wait; then what `data` had stays.
+/// Takes the data of a peer that have waited longest, even if its flow is over. Returns DONE, NOT_MADE, or NOTHING_DUE
+/// if none wait; then `data` is unchanged.
 #[unsafe(no_mangle)]
 pub extern "C" fn dccp_listener_read(
     listener: &mut ListenerHandle,
@@ -53,7 +53,7 @@ pub extern "C" fn dccp_listener_read(
     }
 }
 
-// The data of a peer that has a flow are wanted no more.
+// The owner stops reading the data of a peer that has a flow.
 fn stop(serving: &mut OwnedServer, peer: Peer) -> u32
     ensures { StopsFlow (holding_of serving.old) (Some (holding_of serving.new)) peer result }
 {
@@ -64,7 +64,7 @@ fn stop(serving: &mut OwnedServer, peer: Peer) -> u32
     }
 }
 
-// The same of one that may have none.
+// The same for a peer that may have none.
 fn stop_if(serving: &mut OwnedServer, peer: Peer) -> u32
     ensures { StopsFlowIf (holding_of serving.old) (Some (holding_of serving.new)) peer (end_of_peer serving.old.server.server.room.served.listening.flows peer) result }
 {
@@ -74,8 +74,9 @@ fn stop_if(serving: &mut OwnedServer, peer: Peer) -> u32
     stop(serving, peer)
 }
 
-/// A peer's data are wanted no more: those that arrive from now on are dropped, and the peer is told so (RFC 4340, section
-/// 11.7). Answers DONE, NOT_MADE, NO_FLOW, NO_MEMORY where its inbox finds none, or NOTHING_DUE where flows have no inbox.
+/// The owner stops reading a peer's data: those that arrive from now on are dropped, and this is reported to the peer
+/// (RFC 4340, section 11.7). Returns DONE, NOT_MADE, NO_FLOW, NO_MEMORY if there is none for its inbox, or NOTHING_DUE
+/// if flows have no inbox.
 #[unsafe(no_mangle)]
 pub extern "C" fn dccp_listener_stop_reading(
     listener: &mut ListenerHandle,
@@ -92,7 +93,7 @@ pub extern "C" fn dccp_listener_stop_reading(
     code
 }
 
-/// How many packets' data of a peer wait; 0 where there is no listener.
+/// How many packets' data of a peer wait; 0 if there is no listener.
 #[unsafe(no_mangle)]
 pub extern "C" fn dccp_listener_held(
     listener: &mut ListenerHandle,

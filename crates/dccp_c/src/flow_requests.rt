@@ -24,8 +24,8 @@ fn asks(server: &Server, peer: Peer, datagram: &[u8]) -> Option<u32>
     server.asks(peer, datagram)
 }
 
-/// The Service Code of the flow that a datagram of a peer would open, so that C may ask itself whether it wants it.
-/// Answers DONE, TOO_LONG, NOT_MADE, or NO_CONNECTION where it opens none. Nothing changes.
+/// The Service Code of the flow that a datagram of a peer would open, so that C may decide whether to accept it.
+/// Returns DONE, TOO_LONG, NOT_MADE, or NO_CONNECTION if it opens none. Nothing changes.
 #[unsafe(no_mangle)]
 pub extern "C" fn dccp_listener_asks(
     listener: &mut ListenerHandle,
@@ -74,8 +74,8 @@ fn refuse(serving: &mut OwnedServer, peer: Peer, datagram: &[u8], code: u8, now:
         .refuse(peer, datagram, code, now, &mut serving.out)
 }
 
-/// `EventServer::refuse`. Answers DONE, TOO_LONG, NOT_MADE, or NO_CONNECTION where the datagram opens no flow; then nothing
-/// is left.
+/// `EventServer::refuse`. Returns DONE, TOO_LONG, NOT_MADE, or NO_CONNECTION if the datagram opens no flow; then no
+/// frame is left.
 #[unsafe(no_mangle)]
 pub extern "C" fn dccp_listener_refuse(
     listener: &mut ListenerHandle,
@@ -104,7 +104,7 @@ pub extern "C" fn dccp_listener_refuse(
     opening_code(opens)
 }
 
-/// Takes no new flows from now on, or takes them again; those that stand go on. Answers DONE or NOT_MADE.
+/// Takes no new flows from now on, or takes them again; present flows go on. Returns DONE or NOT_MADE.
 #[unsafe(no_mangle)]
 pub extern "C" fn dccp_listener_shut(
     listener: &mut ListenerHandle,

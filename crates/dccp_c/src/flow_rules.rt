@@ -1,4 +1,4 @@
-//! The rules that C gives a listener, and what it may know of a flow beside its end.
+//! The rules that C gives a listener, and what it may know of a flow besides its end.
 ghost use Rattle.std.specs.Prelude.{◌≡◌};
 ghost use Rattle.dccp_c.specs.Listening.{cookies_of, known_of, limit_of, rules_of, wait_of};
 
@@ -6,7 +6,7 @@ use crate::sizes::FLOW_LIFE_BYTES;
 use dccp_server::{CookieUse, Life, Rules};
 use path_rules::Limit;
 
-/// By which rules a listener makes room and gives flows up. Waits are in milliseconds; 2^64 - 1 is for ever.
+/// The rules by which a listener makes room and gives flows up. Waits are in milliseconds; 2^64 - 1 means for ever.
 #[repr(C)]
 #[derive(Clone, Copy)]
 pub struct FlowRules {
@@ -14,35 +14,35 @@ pub struct FlowRules {
     pub size: usize,
     /// How long a flow may be in RESPOND.
     pub respond: u64,
-    /// The same in a crowd: where more flows are in RESPOND than places are free.
+    /// The same in a crowd: while more flows are in RESPOND than places are free.
     pub crowded: u64,
     /// How long a flow may be in CLOSEREQ and in CLOSING.
     pub closing: u64,
     /// How long a flow in OPEN may take no packet.
     pub idle: u64,
-    /// How many answers go to peers without a flow in a second; 65,535 is as many as there are.
+    /// How many answers go to peers without a flow in a second; 65,535 means no limit.
     pub answers: u16,
-    /// How many of them are Resets to packets that belong to no connection; 65,535 is as many as there are.
+    /// How many of them are Resets to packets that belong to no connection; 65,535 means no limit.
     pub resets: u16,
     /// Whether a Request at a full table ends a flow that may leave.
     pub makes_room: bool,
-    /// Whether a peer that begins anew from its port ends its old flow.
+    /// Whether a peer that connects again from its port ends its old flow.
     pub ends_old_flows: bool,
-    /// When Requests are answered with Init Cookies, where there is a key: 0 never, 1 in a crowd, else always.
+    /// When Requests are answered with Init Cookies, if there is a key: 0 never, 1 in a crowd, any other number always.
     pub cookies: u8,
 }
 
-/// What C may know of a flow beside its end. Times are those of its calls.
+/// What C may know of a flow besides its end. Times are those of its calls.
 #[repr(C)]
 #[derive(Clone, Copy)]
 pub struct FlowLife {
     /// How many bytes this struct has, as its caller knows it.
     pub size: usize,
-    /// Since when its connection stands where it does.
+    /// Since when its connection is in its phase.
     pub since: u64,
     /// When its end last took a packet.
     pub taken: u64,
-    /// The number that the owner has written beside it.
+    /// The number that the owner has set for it.
     pub user: u64,
 }
 

@@ -1,4 +1,4 @@
-//! What C makes a listener from.
+//! The configuration from which C makes a listener.
 ghost use Rattle.std.specs.Prelude.{◌≡◌, ◌≤◌, IfOk, length, true};
 ghost use Rattle.feature_lists.specs.Lists.{is_distinct};
 ghost use Rattle.dccp_c.specs.Founding.{listening_at, listening_by, services_by};
@@ -39,7 +39,7 @@ fn serves_at(settings: &Settings, given: &[u32], most: u16, config: &Config) -> 
     }
 }
 
-// The same, of which it is known that a listener may be made from it.
+// The configuration of a listener, if its settings were accepted.
 fn listening_at(settings: &Settings, given: &[u32], most: u16, config: &Config) -> ListenConfig
     requires short { length given.now ≤ 16 }
     requires distinct { is_distinct given.now ≡ true }
@@ -51,7 +51,7 @@ fn listening_at(settings: &Settings, given: &[u32], most: u16, config: &Config) 
     serves_at(settings, given, most, config)
 }
 
-// Each Service Code stands once.
+// Whether each Service Code is there only once.
 fn is_distinct(given: &[u32]) -> bool
     ensures { result ≡ is_distinct given.now }
 {
@@ -65,8 +65,8 @@ fn is_distinct(given: &[u32]) -> bool
     true
 }
 
-/// What a listener of these settings and wishes is made from, for these Service Codes and so many flows at most, or the
-/// code by which it is refused.
+/// The configuration of a listener of these settings and wishes, for these Service Codes and at most `most` flows, or
+/// the code by which it is refused.
 pub(crate) fn listening_by(
     settings: &Settings,
     given: &[u32],

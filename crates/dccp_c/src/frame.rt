@@ -4,8 +4,8 @@ ghost use Rattle.dccp_c.specs.Framing.{handed_in, handed_of, nothing_handed};
 
 use dccp_endpoint::{MOST_FRAME_BYTES, Outbox};
 
-/// The frame that a call leaves for the peer: its first `length` bytes, at most 2,044, and its sequence number; none
-/// where `length` is 0, and then the number is 0.
+/// The frame that a call leaves for the peer: its first `length` bytes, at most 2,044, and its sequence number. If
+/// `length` is 0, there is no frame, and the number is 0.
 #[repr(C)]
 #[derive(Drop)]
 pub struct Frame {
@@ -13,7 +13,7 @@ pub struct Frame {
     pub length: usize,
     /// Its sequence number, in full (RFC 4340, section 7.6).
     pub number: u64,
-    /// The bytes; what comes after the length says nothing.
+    /// The bytes. Those after the length have no meaning.
     pub bytes: [u8; MOST_FRAME_BYTES],
 }
 
@@ -36,7 +36,7 @@ impl Frame {
         self.bytes[..bytes.len()].copy_from_slice(bytes);
     }
 
-    /// Leaves the bytes of the frame that is in the Outbox and its number, none where none does.
+    /// Leaves the bytes and the number of the frame in the Outbox, or no frame if there is none.
     pub fn fill(&mut self, out: &Outbox)
         ensures { handed_in self.new ≡ handed_of out.now }
     {

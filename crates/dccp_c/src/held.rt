@@ -1,12 +1,12 @@
-//! What an end of C's is: the end with its timers, where its data go, the place where it leaves its frame, and
-//! what was dropped of its own.
+//! An end of C: the end with its timers, where its data go, the place where it leaves its frame, and which of the data
+//! that it sent were dropped.
 use ccid_two::Kinds;
 use data_dropped::Intake;
 use dccp_endpoint::Outbox;
 use dccp_uses::{ClientCookie, DropRecord, TimedEnd};
 
 /// An end with its timers, where its data go, the place where each of its calls leaves its frame, and a record of what
-/// was dropped of its own.
+/// was dropped of the data that it sent.
 #[derive(Drop)]
 pub struct OwnedEnd {
     /// The end with its timers.

@@ -1,4 +1,4 @@
-//! A box that C holds, or none, as a pointer that says nothing of what it points to.
+//! A box that C holds, or none, as a pointer that says nothing about its target.
 ghost use Rattle.std.specs.Prelude.{◌≡◌, ◌≢◌, Some, None, Option};
 ghost use Rattle.dccp_c.specs.Keeping.{Inner, inner_coded, kept_owns};
 
@@ -16,7 +16,7 @@ pub struct Opaque {
     nothing: u8,
 }
 
-/// A box with an end, or none, which only contracts tell apart.
+/// A box with an end, or none, which only contracts distinguish.
 #[repr(C)]
 #[derive(Drop)]
 pub struct EndBox {

@@ -1,4 +1,4 @@
-//! A box with a listener that C holds, or none, as a pointer that says nothing of what it points to.
+//! A box with a listener that C holds, or none, as a pointer that says nothing about its target.
 ghost use Rattle.std.specs.Prelude.{◌≡◌, ◌≢◌, Some, None, Option};
 ghost use Rattle.dccp_c.specs.KeepingListener.{InnerListener, inner_listener_coded, listener_owns};
 
@@ -7,7 +7,7 @@ use crate::serving::OwnedServer;
 use std::alloc::Global;
 use std::marker::Model;
 
-/// A box with a listener, or none, which only contracts tell apart.
+/// A box with a listener, or none, which only contracts distinguish.
 #[repr(C)]
 #[derive(Drop)]
 pub struct ListenerBox {

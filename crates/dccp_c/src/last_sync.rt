@@ -1,4 +1,4 @@
-//! How C learns that the client of an end begins anew.
+//! How C learns that the client of an end connects again.
 ghost use Rattle.std.specs.Prelude.{◌≡◌};
 ghost use Rattle.dccp_uses.specs.Anew.{refuses_sync};
 ghost use Rattle.dccp_c.specs.LastSyncs.{client_began_anew, sync_kept, sync_noted, was_left_out, was_synced};
@@ -29,7 +29,7 @@ fn was_left_out(told: &Told) -> bool
     told.kind == 2 && told.cause == 12
 }
 
-// Whether a datagram refuses it.
+// Whether a datagram refuses this Sync.
 fn is_refused(last: &LastSync, datagram: &[u8]) -> bool
     ensures { result ≡ refuses_sync (sync_kept last.now) datagram.now }
 {
@@ -54,8 +54,8 @@ fn note(last: &mut LastSync, datagram: &[u8], told: &Told, frame: &Frame)
     }
 }
 
-/// Whether the client of a server's end has begun anew from its port, by what `dccp_receive` has left of its datagram, and what
-/// its owner keeps of the end's last Sync, which this call brings up to date.
+/// Whether the client of a server's end has connected again from its port, by what `dccp_receive` has said about its
+/// datagram, and by the end's last Sync, which its owner keeps. This call updates the last Sync.
 #[unsafe(no_mangle)]
 pub extern "C" fn dccp_begins_anew(
     last: &mut LastSync,

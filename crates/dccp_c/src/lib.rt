@@ -1,17 +1,18 @@
-//! DCCP for programs in C (own; the ends are RFC 4340's): a static library, whose functions `include/dccp.h` declares,
-//! over `Endpoint<Kinds>` with the timers of a session, and over `EventServer`, a listener with those of its flows.
+//! DCCP for programs in C (own; the ends are those of RFC 4340): a static library, whose functions `include/dccp.h`
+//! declares, over `Endpoint<Kinds>` with the timers of a session, and over `EventServer`, a listener with those of its
+//! flows.
 //!
-//! C holds an [`End`] or a [`ListenerHandle`], which points to an end or a listener with its timers and the
-//! place where it leaves its frame. Each function does one step and answers by a code of [`codes`](crate::codes); its
-//! contract is that step: of an end the step of `Session`, and of a listener what dccp_server has for it. None requires anything of its caller but what the types say: pointers to what
-//! they name, `bool`s that are 0 or 1, and one call at a time for a handle. What may be wrong in a value is answered by
-//! a code, and a handle that holds nothing by `NOT_MADE`.
+//! C holds an [`End`] or a [`ListenerHandle`], which points to an end or a listener with its timers and the place where
+//! it leaves its frame. Each function does one step and returns a code of [`codes`](crate::codes). Its contract is that
+//! step: for an end a step of `Session`, and for a listener one of dccp_server. None requires anything of its caller
+//! except what the types say: pointers to what they name, `bool`s that are 0 or 1, and one call at a time for a handle.
+//! A wrong value is answered with a code, and a handle that holds nothing with `NOT_MADE`.
 //!
-//! A static library of one's own is made in the same way: a line with `staticlib` in `crates.txt`, `rt lib` in its
-//! folder, which leaves an archive in `out/`, and exports as those of `calls`. Numbers, `bool`s, slices (in C a pointer
-//! and a length) and structs with `#[repr(C)]` cross. An end or a listener does not, nor does a `Box` of one: a struct
-//! owns the box by ghost data (`EndBox`, `ListenerBox`), and its proof is in part written by hand. For a
-//! parameter `alloc: Global` C passes nothing.
+//! Another static library is made in the same way: a line with `staticlib` in `crates.txt`, `rt lib` in its folder,
+//! which leaves an archive in `out/`, and exports as those of `calls`. Numbers, `bool`s, slices (in C a pointer and a
+//! length) and structs with `#[repr(C)]` cross. An end or a listener does not, nor does a `Box` of one: a struct owns
+//! the box by ghost data (`EndBox`, `ListenerBox`), and its proof is in part written by hand. For a parameter
+//! `alloc: Global` C passes nothing.
 #![tactic(auto)]
 
 mod calls;

@@ -8,7 +8,8 @@ use crate::serving::OwnedServer;
 use std::alloc::Global;
 use std::mem;
 
-/// A listener of C's, or none: `{NULL, false}` is none. C gives it to one call at a time, and never changes it.
+/// A handle of C with a listener, or with none: `{NULL, false}` is none. C passes it to one call at a time, and never
+/// changes it.
 #[repr(C)]
 pub struct ListenerHandle {
     pub(crate) kept: ListenerBox,

@@ -1,4 +1,4 @@
-//! The functions of a listener that C calls: each does one deed of a peer with the listener that its handle holds.
+//! The functions of a listener that C calls: each does one thing with the listener that its handle holds.
 ghost use Rattle.std.specs.Prelude.{◌≡◌, ◌==◌, ◌≢◌, ◌≤◌, IfOk, None, Ok, Some, OnErr, OnOk, false, if◌then◌else◌, is_some, length, true, unwrap_or};
 ghost use Rattle.dccp_listener.specs.Calls.{seen_if};
 ghost use Rattle.dccp_listener.specs.Chain.{Calls, Sends, Closes, Aborts, asked};
@@ -82,7 +82,7 @@ fn call_code(answer: &Result<Seen, NoFlow>) -> u32
     }
 }
 
-// Tells C of a datagram that was heard.
+// Tells C what became of a datagram that was heard.
 fn tell_heard(heard: &Heard, told: &mut Told) -> u32
     ensures told { told.new ≡ listen_told (told_of (Ok heard.now)) told.old }
     ensures code { result ≡ listen_code (told_of (Ok heard.now)) }
@@ -96,7 +96,7 @@ fn tell_heard(heard: &Heard, told: &mut Told) -> u32
     }
 }
 
-// The same of one that may have been left out.
+// The same for a datagram that may have been left out.
 fn tell_arrival(heard: Option<Heard>, told: &mut Told) -> u32
     ensures told { told.new ≡ arrival_told (told_of_arrival (Ok heard)) told.old }
     ensures code { result ≡ arrival_code (told_of_arrival (Ok heard)) }
@@ -140,7 +140,7 @@ fn next_address(server: &Server, peer: Peer) -> Option<PeerAddress>
     }
 }
 
-// A peer that was found is named in this place.
+// Writes the peer that was found into this place.
 fn name_peer(found: Option<PeerAddress>, peer: &mut PeerAddress) -> u32
     ensures peer { peer.new ≡ unwrap_or found peer.old }
     ensures code { result ≡ (if is_some found then 0 else 15) }
@@ -154,10 +154,10 @@ fn name_peer(found: Option<PeerAddress>, peer: &mut PeerAddress) -> u32
     }
 }
 
-/// Makes a listener, in place of what the handle held, which is freed first. It serves the own address and port of the
-/// settings, by IPv4, and these Service Codes, or where none are given that of the settings; at most `most` flows are at
-/// a time, 1 to 1,024. Refused as `dccp_make` is, and with NO_SUCH_LISTENER for IPv6, for another `most`, and for over 16
-/// Service Codes or one twice; then it holds nothing.
+/// Makes a listener, in place of what the handle held, which is freed first. It serves the settings' own address and
+/// port, by IPv4, and these Service Codes, or if none are given, that of the settings. It has at most `most` flows at a
+/// time, 1 to 1,024. Refused as `dccp_make` is, and with NO_SUCH_LISTENER for IPv6, for another `most`, and for more
+/// than 16 Service Codes or two equal ones. Then the handle holds nothing.
 #[unsafe(no_mangle)]
 pub extern "C" fn dccp_listener_make(
     listener: &mut ListenerHandle,
@@ -251,7 +251,7 @@ fn hear(
     Ok(meeting)
 }
 
-// The data of a datagram come into the peer's inbox, unless no memory for it is to be had.
+// The data of a datagram come into the peer's inbox, unless there is no memory for it.
 fn settle(
     serving: &mut OwnedServer,
     peer: Peer,
@@ -272,8 +272,8 @@ fn settle(
     };
 }
 
-// The same of a datagram that was heard, of a peer that had a flow before it or none; and the frame for the peer says what
-// its inbox has to say.
+// The same for a datagram that was heard; `had` says whether its peer had a flow before. What the peer's inbox has to
+// say is added to the frame for the peer.
 fn take_in(serving: &mut OwnedServer, peer: Peer, had: bool, datagram: &[u8], meeting: &Meeting)
     ensures taken { HasTakenIn (holding_of serving.old) (holding_of serving.new) peer had datagram.now (told_of_arrival meeting.now.arrival.heard) meeting.now.made_room meeting.now.arrival.evicted }
     ensures sent { serving.new.out ≡ flow_speaks serving.new.inboxes serving.new.server.server peer serving.old.out }
@@ -291,7 +291,7 @@ fn take_in(serving: &mut OwnedServer, peer: Peer, had: bool, datagram: &[u8], me
     serving.inboxes.speak(server, peer, &mut serving.out);
 }
 
-// What C finds of a datagram, and of its data: the frame, what it is told and the code.
+// What C gets for a datagram and its data: the frame, what became of it, and the code.
 fn hand(
     heard: &Result<Option<Heard>, NoMemory>,
     kept: Option<data_dropped::Arrival>,
@@ -347,7 +347,7 @@ fn serve(
     }
 }
 
-// The same, where what is kept of the peer is searched once.
+// The same, with one search for what is kept of the peer.
 fn attend(
     serving: &mut OwnedServer,
     peer: Peer,
@@ -364,9 +364,10 @@ fn attend(
     serve(serving, peer, iss, datagram, now, frame, told)
 }
 
-/// `EventServer::arrive`. BUSY where it answers Busy, REFUSED where it is shut and the datagram would open a flow. NO_NUMBER where the first number is
-/// none and TOO_LONG where the datagram is; then nothing changes, nor with NOT_MADE. With NO_MEMORY nothing changes but
-/// that a flow may have made room. C is told of the datagram where the answer is DONE alone.
+/// `EventServer::arrive`. BUSY if it answers Busy, and REFUSED if no new flows are taken and the datagram would open
+/// one. NO_NUMBER if the first number is not below 2^48, and TOO_LONG if the datagram is too long; then nothing
+/// changes, nor with NOT_MADE. With NO_MEMORY nothing changes, except that a flow may have made room. C is told what
+/// became of the datagram only if the code is DONE.
 #[unsafe(no_mangle)]
 pub extern "C" fn dccp_listener_arrive(
     listener: &mut ListenerHandle,
@@ -403,7 +404,7 @@ pub extern "C" fn dccp_listener_arrive(
     code
 }
 
-/// Whose flow made room for the last datagram. Answers DONE, NOT_MADE, or NO_FLOW where none did.
+/// The peer whose flow made room for the last datagram. Returns DONE, NOT_MADE, or NO_FLOW if none did.
 #[unsafe(no_mangle)]
 pub extern "C" fn dccp_listener_evicted(
     listener: &mut ListenerHandle,
@@ -428,8 +429,9 @@ pub extern "C" fn dccp_listener_evicted(
     }
 }
 
-/// In which way the last datagram was met: 0 plainly, 1 it was a Request and was answered with an Init Cookie, without a
-/// flow; 2 it was one and was left out; 3 its Init Cookie opened its flow; 4 it had a good one, but no flow could be opened.
+/// How the last datagram was met. 0: it was served as usual. 1: it was a Request, and was answered with an Init Cookie,
+/// without a flow. 2: it was a Request, and was left out. 3: its Init Cookie opened its flow. 4: it had a valid Init
+/// Cookie, but no flow could be opened.
 #[unsafe(no_mangle)]
 pub extern "C" fn dccp_listener_way(listener: &mut ListenerHandle, alloc: Global) -> u32
     ensures listener { listener.new.kept.value ≡ listener.old.kept.value }
@@ -455,7 +457,7 @@ fn way_number(way: Way) -> u32
     }
 }
 
-/// How many flows stand; 0 where there is no listener.
+/// How many flows there are; 0 if there is no listener.
 #[unsafe(no_mangle)]
 pub extern "C" fn dccp_listener_flows(listener: &mut ListenerHandle, alloc: Global) -> u16
     ensures listener { listener.new.kept.value ≡ listener.old.kept.value }
@@ -469,8 +471,8 @@ pub extern "C" fn dccp_listener_flows(listener: &mut ListenerHandle, alloc: Glob
     flows
 }
 
-// A peer's flow has done something: its inbox goes with it, unless data wait there, and its frame says what that has to
-// say.
+// A peer's flow has done something. Its inbox goes with it, unless data wait there. What the inbox has to say is added
+// to its frame.
 fn go_on(serving: &mut OwnedServer, peer: Peer)
     ensures after { holding_of serving.new ≡ holds_on (holding_of serving.old) peer serving.old.server }
     ensures sent { serving.new.out ≡ flow_speaks serving.new.inboxes serving.new.server.server peer serving.old.out }
@@ -513,7 +515,7 @@ pub(crate) fn call(
     call_code(&answer)
 }
 
-// Why data to a peer have to wait for the sake of the application that reads them, if they have to.
+// Why data to a peer have to wait for the application that reads them, or None if they need not.
 fn held_back(listener: &mut ListenerHandle, alloc: Global, peer: Peer) -> Option<Restraint>
     ensures listener { listener.new.kept.value ≡ listener.old.kept.value }
     ensures why { result ≡ restraint_in (served_in listener.old.kept.value) peer }
@@ -526,7 +528,7 @@ fn held_back(listener: &mut ListenerHandle, alloc: Global, peer: Peer) -> Option
     why
 }
 
-/// `Server::ask` with `UserCall::Send`, unless `Server::restraint` holds the data back. Answers DONE, NOT_MADE,
+/// `Server::ask` with `UserCall::Send`, unless `Server::restraint` holds the data back. Returns DONE, NOT_MADE,
 /// NOT_LISTENING, NO_FLOW, NOT_OPEN, TOO_LONG, NOT_NEGOTIATED or WINDOW_FULL.
 #[unsafe(no_mangle)]
 pub extern "C" fn dccp_listener_send(
@@ -553,7 +555,7 @@ pub extern "C" fn dccp_listener_send(
     )
 }
 
-/// `Server::ask` with `UserCall::Close`. Answers DONE, NOT_MADE, NO_FLOW or NOT_OPEN.
+/// `Server::ask` with `UserCall::Close`. Returns DONE, NOT_MADE, NO_FLOW or NOT_OPEN.
 #[unsafe(no_mangle)]
 pub extern "C" fn dccp_listener_close(
     listener: &mut ListenerHandle,
@@ -574,7 +576,7 @@ pub extern "C" fn dccp_listener_close(
     )
 }
 
-/// `Server::ask` with `UserCall::Abort`. Answers DONE, NOT_MADE, NO_FLOW or NOT_LIVE.
+/// `Server::ask` with `UserCall::Abort`. Returns DONE, NOT_MADE, NO_FLOW or NOT_LIVE.
 #[unsafe(no_mangle)]
 pub extern "C" fn dccp_listener_abort(
     listener: &mut ListenerHandle,
@@ -595,8 +597,8 @@ pub extern "C" fn dccp_listener_abort(
     )
 }
 
-/// `Server::ask` with `UserCall::Timer`, for the timer of this number: for an owner that keeps the timers of a flow itself.
-/// Answers DONE, NOT_MADE, NO_FLOW, NOTHING_DUE, or NO_TIMER where there is none of this number; then nothing changes.
+/// `Server::ask` with `UserCall::Timer`, for the timer with this number: for an owner that keeps the timers of a flow
+/// itself. Returns DONE, NOT_MADE, NO_FLOW, NOTHING_DUE, or NO_TIMER if no timer has this number; then nothing changes.
 #[unsafe(no_mangle)]
 pub extern "C" fn dccp_listener_timer(
     listener: &mut ListenerHandle,
@@ -645,7 +647,7 @@ fn duty_address(duty: Option<Duty>, old: PeerAddress) -> PeerAddress
     }
 }
 
-// The flow of which there was something to do goes on.
+// The flow of a duty goes on, if there was one.
 fn go_on_if(serving: &mut OwnedServer, duty: Option<Duty>)
     ensures after { holding_of serving.new ≡ holds_done (holding_of serving.old) serving.old.server duty }
     ensures sent { handed_of serving.new.out ≡ duty_left (holding_of serving.new) duty serving.old.out }
@@ -666,9 +668,9 @@ fn do_duty(serving: &mut OwnedServer, now: u64) -> Option<Duty>
     duty
 }
 
-/// Does what is due of a flow: tells it a timer, or follows a rule of its path; or, where nothing is, gives up a flow that
-/// has stood or been silent for too long, by aborting it. C is told whose it is. Answers DONE, GAVE_UP, NOT_MADE, or NOTHING_DUE where
-/// there is nothing to do.
+/// Does what is due at a flow: fires a timer, or follows a rule of its path. If nothing is due, gives up a flow that
+/// has been in its phase or silent for too long, by aborting it. C gets the peer. Returns DONE, GAVE_UP, NOT_MADE, or
+/// NOTHING_DUE if there is nothing to do.
 #[unsafe(no_mangle)]
 pub extern "C" fn dccp_listener_tick(
     listener: &mut ListenerHandle,
@@ -690,7 +692,7 @@ pub extern "C" fn dccp_listener_tick(
     duty_code(duty)
 }
 
-/// How many milliseconds it is until `dccp_listener_tick` has something to do; 2^64 - 1 where no timer runs.
+/// In how many milliseconds `dccp_listener_tick` has something to do; 2^64 - 1 if no timer runs.
 #[unsafe(no_mangle)]
 pub extern "C" fn dccp_listener_until_first(
     listener: &mut ListenerHandle,
@@ -708,7 +710,7 @@ pub extern "C" fn dccp_listener_until_first(
     left
 }
 
-/// The numbers of a peer's end, its phase and its window. Answers DONE, OTHER_SIZE, NOT_MADE or NO_FLOW.
+/// The numbers of a peer's end, its phase and its window. Returns DONE, OTHER_SIZE, NOT_MADE or NO_FLOW.
 #[unsafe(no_mangle)]
 pub extern "C" fn dccp_listener_look(
     listener: &mut ListenerHandle,
@@ -737,7 +739,7 @@ pub extern "C" fn dccp_listener_look(
     }
 }
 
-/// The first peer that has a flow, in the order of their addresses and ports. Answers DONE, NOT_MADE, or NO_FLOW where
+/// The first peer that has a flow, in the order of their addresses and ports. Returns DONE, NOT_MADE, or NO_FLOW if
 /// none has one; then `peer` is unchanged.
 #[unsafe(no_mangle)]
 pub extern "C" fn dccp_listener_first_peer(
@@ -757,7 +759,7 @@ pub extern "C" fn dccp_listener_first_peer(
     name_peer(found, peer)
 }
 
-/// In the place of a peer, with a flow or without, the first one after it that has a flow. Answers DONE, NOT_MADE, or
+/// Replaces a peer, with or without a flow, by the first one after it that has a flow. Returns DONE, NOT_MADE, or
 /// NO_FLOW after the last; then `peer` is unchanged.
 #[unsafe(no_mangle)]
 pub extern "C" fn dccp_listener_next_peer(
@@ -784,7 +786,7 @@ pub(crate) fn had_code(had: bool) -> u32
     if had { DONE } else { NO_FLOW }
 }
 
-// A server forgets a peer's flow, and the data that wait of it.
+// A server forgets a peer's flow, and the data of it that wait.
 fn let_go(serving: &mut OwnedServer, peer: Peer, now: u64)
     ensures { holding_of serving.new ≡ holds_forgotten now (holding_of serving.old) peer }
 {
@@ -799,7 +801,8 @@ pub(crate) fn has_flow(server: &Server, peer: Peer) -> bool
     server.has_flow(peer)
 }
 
-/// A peer's flow goes at once, whatever its phase, with the data that wait of it, and nothing is sent. Answers DONE, NOT_MADE or NO_FLOW.
+/// A peer's flow goes at once, whatever its phase, with the data of it that wait, and nothing is sent. Returns DONE,
+/// NOT_MADE or NO_FLOW.
 #[unsafe(no_mangle)]
 pub extern "C" fn dccp_listener_forget(
     listener: &mut ListenerHandle,
@@ -819,7 +822,7 @@ pub extern "C" fn dccp_listener_forget(
     had_code(had)
 }
 
-/// The listener goes by these rules from now on. Answers DONE, OTHER_SIZE or NOT_MADE.
+/// The listener follows these rules from now on. Returns DONE, OTHER_SIZE or NOT_MADE.
 #[unsafe(no_mangle)]
 pub extern "C" fn dccp_listener_rules(
     listener: &mut ListenerHandle,
@@ -842,8 +845,8 @@ pub extern "C" fn dccp_listener_rules(
     DONE
 }
 
-/// The listener's Init Cookies are written by this key from now on; those of the key before it stay good for their two
-/// minutes. Without a key none is given. Answers DONE or NOT_MADE.
+/// The listener's Init Cookies are written with this key from now on; those of the key before it stay valid for their
+/// two minutes. Without a key none is given. Returns DONE or NOT_MADE.
 #[unsafe(no_mangle)]
 pub extern "C" fn dccp_listener_rekey(
     listener: &mut ListenerHandle,
@@ -872,8 +875,8 @@ fn life_of(server: &Server, peer: Peer) -> Option<FlowLife>
     }
 }
 
-/// Since when a peer's flow stands where it does, and when it last took a packet. Answers DONE, OTHER_SIZE, NOT_MADE or
-/// NO_FLOW.
+/// Since when a peer's flow has been in its phase, and when it last took a packet. Returns DONE, OTHER_SIZE, NOT_MADE
+/// or NO_FLOW.
 #[unsafe(no_mangle)]
 pub extern "C" fn dccp_listener_life(
     listener: &mut ListenerHandle,

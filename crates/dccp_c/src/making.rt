@@ -1,4 +1,4 @@
-//! What C makes an end from.
+//! The settings from which C makes an end.
 ghost use Rattle.std.specs.Prelude.{◌≡◌, ◌≤◌};
 ghost use Rattle.feature_lists.specs.Wishes.{wish_of};
 ghost use Rattle.dccp_c.specs.Accepting.{as_server};
@@ -11,7 +11,7 @@ use crate::sizes::SETTINGS_BYTES;
 use dccp_endpoint::{Config, Feature, Place, Ports, Pseudo, Seq48};
 use dccp_uses::{Pace, widened};
 
-/// Whose end it is, and between which addresses and ports.
+/// The settings of an end: its role, its addresses and ports, and which rules it follows.
 #[repr(C)]
 #[derive(Clone, Copy)]
 pub struct Settings {
@@ -27,47 +27,47 @@ pub struct Settings {
     pub service: u32,
     /// Its own port.
     pub own_port: u16,
-    /// That of its peer.
+    /// The peer's port.
     pub peer_port: u16,
-    /// Whether it is a server's end, else a client's.
+    /// Whether it is a server's end; otherwise it is a client's.
     pub is_server: bool,
-    /// Whether the addresses are of IPv6, else of IPv4.
+    /// Whether the addresses are of IPv6; otherwise they are of IPv4.
     pub is_v6: bool,
-    /// Whether it offers no feature but those among the wishes, else the usual ones too.
+    /// Whether it offers only features among the wishes; otherwise it offers the usual ones too.
     pub is_plain: bool,
-    /// Whether it keeps the Sequence Window of 100, else it asks for 10,000, where it makes offers.
+    /// Whether it keeps the Sequence Window of 100; otherwise it asks for 10,000, if it makes offers.
     pub without_wide_window: bool,
-    /// Whether the timers wait as long as where nothing is known of the path, else by the round trip.
+    /// Whether the timers wait as if nothing were known of the path; otherwise their waits depend on the round trip.
     pub without_round_trip: bool,
-    /// Whether Acks wait for 200 milliseconds and up to 64 seconds, else for 50 and up to 20 seconds, and not where data
-    /// show a hole.
+    /// Whether Acks wait for 200 milliseconds and up to 64 seconds; otherwise they wait for 50 and up to 20 seconds,
+    /// and not at all if data show a hole.
     pub without_soon_acks: bool,
-    /// Whether the Ack Ratio of its data stays, else it follows the window.
+    /// Whether the Ack Ratio of its data stays; otherwise it follows the window.
     pub without_ack_ratio: bool,
-    /// Whether what is in flight is taken for lost at once, else the peer is asked before where the window is large.
+    /// Whether what is in flight is counted as lost at once; otherwise the peer is asked first if the window is large.
     pub without_probes: bool,
-    /// Whether each datagram is heard that would be answered by a Sync, else a few of them.
+    /// Whether all datagrams that would be answered by a Sync are heard; otherwise only a few are.
     pub without_limits: bool,
-    /// Whether the end waits for a silent peer for ever, else some minutes.
+    /// Whether the end waits for a silent peer for ever; otherwise it waits some minutes.
     pub without_giving_up: bool,
-    /// Whether data go out whatever the peer reports of the application that reads them, else they wait where it is slow,
-    /// where its buffer is full and where none listens.
+    /// Whether data go out whatever the peer reports about the application that reads them; otherwise they wait if it
+    /// is slow, if its buffer is full, or if it no longer listens.
     pub without_heed: bool,
-    /// How many packets' data wait until they are read, 1,024 at most: more counts as 1,024. With 0 they are handed over
-    /// within their datagram.
+    /// How many packets' data may wait until they are read: at most 1,024, and more counts as 1,024. With 0, data are
+    /// handed over within their datagram.
     pub most_held: usize,
 }
 
-/// What is done for an end beside its own steps.
+/// What is done for an end besides its own steps.
 #[derive(Clone, Copy)]
 pub struct Care {
     /// The rules of its path.
     pub pace: Pace,
-    /// How many packets' data wait.
+    /// How many packets' data may wait.
     pub most_held: u16,
 }
 
-/// What an end wishes for a feature from the start on.
+/// An end's wish for a feature when the connection starts.
 #[repr(C)]
 #[derive(Clone, Copy)]
 pub struct Wish {
@@ -77,7 +77,7 @@ pub struct Wish {
     pub count: usize,
     /// The feature's number, 1 to 9.
     pub feature: u32,
-    /// Whether the feature is the peer's, else the end's own.
+    /// Whether the feature is the peer's; otherwise it is the end's own.
     pub at_peer: bool,
     /// Whether the end asks for it by itself.
     pub is_offered: bool,
@@ -107,7 +107,7 @@ pub(crate) fn pseudo_of(settings: &Settings) -> Pseudo
     }
 }
 
-// The configuration without wishes, or None where the first number is none.
+// The configuration without wishes, or None if the first number is not below 2^48.
 fn settled(settings: &Settings) -> Option<Config>
     ensures { result ≡ config_by settings.now }
 {
@@ -149,7 +149,7 @@ pub(crate) fn pace_by(settings: &Settings) -> Pace
     }
 }
 
-// How many packets' data wait.
+// How many packets' data may wait.
 fn most_held_by(settings: &Settings) -> u16
     ensures value { result ≡ most_held_by settings.now }
     ensures few { result ≤ 1024 }
@@ -157,7 +157,7 @@ fn most_held_by(settings: &Settings) -> u16
     settings.most_held.min(1024) as u16
 }
 
-/// What is done for an end of these settings beside its own steps.
+/// What is done for an end of these settings besides its own steps.
 pub(crate) fn care_by(settings: &Settings) -> Care
     ensures value { result ≡ care_by settings.now }
     ensures few { result.most_held ≤ 1024 }
@@ -168,7 +168,7 @@ pub(crate) fn care_by(settings: &Settings) -> Care
     }
 }
 
-// The configuration with this offered, if it is.
+// The configuration, with this wish offered if it is to be.
 fn offered(config: Config, wish: &Wish, feature: Feature, place: Place) -> Result<Config, u32>
     ensures { result ≡ offered_so wish.now feature place config }
 {
@@ -226,7 +226,7 @@ fn wished_all(config: Config, wishes: &[Wish]) -> Result<Config, u32>
     Ok(config)
 }
 
-/// The settings of a server, whatever they say of that.
+/// These settings, as those of a server.
 pub(crate) fn as_server(settings: &Settings) -> Settings
     ensures { result ≡ as_server settings.now }
 {

@@ -4,7 +4,7 @@ ghost use Rattle.dccp_c.specs.Listening.{address_of, peer_named};
 
 use dccp_listener::Peer;
 
-/// Whom a datagram came from, or a frame goes to.
+/// The peer from which a datagram came, or to which a frame goes.
 #[repr(C)]
 #[derive(Clone, Copy)]
 pub struct PeerAddress {

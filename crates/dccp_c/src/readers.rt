@@ -27,10 +27,10 @@ pub struct View {
     pub gsr: u64,
     /// How many packets were taken.
     pub marked: u64,
-    /// Where the connection stands.
+    /// The phase of the connection.
     pub phase: u32,
-    /// How many data packets may be in flight: by the congestion control, and by what the application that reads them
-    /// leaves of that.
+    /// How many data packets may be in flight, as far as the congestion control and the application that reads them
+    /// allow.
     pub window: u32,
     /// How many data packets are in flight.
     pub in_flight: u32,
@@ -44,7 +44,7 @@ pub struct View {
 pub struct RoundTripView {
     /// How many bytes this struct has, as its caller knows it.
     pub size: usize,
-    /// How long a report is waited for, in milliseconds.
+    /// How long the sender waits for a report, in milliseconds.
     pub timeout: u64,
     /// The round trip, in microseconds; 0 before a sample.
     pub smoothed: u32,
@@ -58,11 +58,11 @@ pub struct RoundTripView {
 pub struct FeatureState {
     /// The value that holds.
     pub value: u64,
-    /// Where its negotiation stands.
+    /// The stand of its negotiation.
     pub stand: u32,
 }
 
-// An end by itself.
+// The view of an end by itself.
 fn seen_alone(end: &Endpoint<Kinds>) -> View
     ensures { result ≡ seen end.now }
 {
@@ -82,7 +82,7 @@ fn seen_alone(end: &Endpoint<Kinds>) -> View
     }
 }
 
-/// An end whose sender is allowed this for the sake of the application that reads its data.
+/// The view of an end whose sender has this allowance from the application that reads its data.
 pub(crate) fn seen(end: &Endpoint<Kinds>, allowance: Option<Allowance>) -> View
     ensures { result ≡ seen_within allowance end.now }
 {

@@ -7,7 +7,7 @@ use crate::codes::{DONE, NOT_MADE, NOTHING_DUE};
 use crate::end::End;
 use std::alloc::Global;
 
-/// Data as C reads them: the packet that brought them had this number, and they are the first `length` bytes.
+/// Data as C reads them: the first `length` bytes, and the number of the packet that brought them.
 #[repr(C)]
 #[derive(Drop)]
 pub struct ReadData {
@@ -15,12 +15,12 @@ pub struct ReadData {
     pub length: usize,
     /// The sequence number of their packet.
     pub number: u64,
-    /// The bytes; what comes after the length says nothing.
+    /// The bytes. Those after the length have no meaning.
     pub bytes: [u8; 2032],
 }
 
-/// Takes the data that have waited longest in the inbox. Answers DONE, NOT_MADE, or NOTHING_DUE where none wait; then
-/// what `data` had stays.
+/// Takes the data that have waited longest in the inbox. Returns DONE, NOT_MADE, or NOTHING_DUE if none wait; then
+/// `data` is unchanged.
 #[unsafe(no_mangle)]
 pub extern "C" fn dccp_read(end: &mut End, alloc: Global, data: &mut ReadData) -> u32
     ensures end { end_in end.new.kept.value ≡ without_first_read (end_in end.old.kept.value) }
@@ -42,8 +42,8 @@ pub extern "C" fn dccp_read(end: &mut End, alloc: Global, data: &mut ReadData) -
     code
 }
 
-/// The application listens no more: data that arrive from now on are dropped, and the peer is told so (RFC 4340, section
-/// 11.7). Answers DONE, NOT_MADE, or NOTHING_DUE where the end has no inbox.
+/// The application stops listening: data that arrive from now on are dropped, and this is reported to the peer (RFC
+/// 4340, section 11.7). Returns DONE, NOT_MADE, or NOTHING_DUE if the end has no inbox.
 #[unsafe(no_mangle)]
 pub extern "C" fn dccp_stop_reading(end: &mut End, alloc: Global) -> u32
     ensures end { end_in end.new.kept.value ≡ with_stop (end_in end.old.kept.value) }
@@ -57,7 +57,7 @@ pub extern "C" fn dccp_stop_reading(end: &mut End, alloc: Global) -> u32
     if has_inbox { DONE } else { NOTHING_DUE }
 }
 
-/// How many packets' data wait; 0 where there is no end.
+/// How many packets' data wait; 0 if there is no end.
 #[unsafe(no_mangle)]
 pub extern "C" fn dccp_held(end: &mut End, alloc: Global) -> usize
     ensures end { end.new.kept.value ≡ end.old.kept.value }

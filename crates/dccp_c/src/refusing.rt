@@ -30,9 +30,9 @@ fn answering_by(settings: &Settings) -> Result<Config, u32>
     Ok(Config::server(pseudo, ports, settings.service, iss))
 }
 
-/// Turns the first datagram of a peer away, without an end: a Request that the usual server of these settings would take
-/// up is answered by a Reset with this code (DONE), and all else as that server answers it (NO_CONNECTION). Refused with
-/// OTHER_SIZE, NO_NUMBER and TOO_LONG, and then no frame is left.
+/// Turns the first datagram of a peer away, without an end. A Request that the usual server of these settings would
+/// accept is answered by a Reset with this code (DONE), and all else as that server answers it (NO_CONNECTION). Refused
+/// with OTHER_SIZE, NO_NUMBER and TOO_LONG; then no frame is left.
 #[unsafe(no_mangle)]
 pub extern "C" fn dccp_refuse(
     settings: &Settings,

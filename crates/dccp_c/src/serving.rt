@@ -1,4 +1,4 @@
-//! What a listener of C's is: the server, and the place where it leaves its frame.
+//! A listener of C: the server, and the place where it leaves its frame.
 use data_dropped::Arrival;
 use dccp_endpoint::Outbox;
 use dccp_listener::Peer;
@@ -11,9 +11,9 @@ pub struct OwnedServer {
     pub server: EventServer,
     /// The frame that the last call has left, if any.
     pub out: Outbox,
-    /// Whose flow made room for the last datagram.
+    /// The peer whose flow made room for the last datagram.
     pub evicted: Option<Peer>,
-    /// In which way the last datagram was met.
+    /// How the last datagram was met.
     pub way: Way,
     /// Which packets its peers have reported as dropped.
     pub drops: FlowDropRecord,

@@ -1,4 +1,4 @@
-//! What each call does to an end of C's: one step of it, after which its timers go on.
+//! What each call does to an end of C: one step of it, after which its timers go on.
 ghost use Rattle.std.specs.Prelude.{◌≡◌, ◌≤◌, [], IfOk, length};
 ghost use Rattle.ccid_two.specs.Kinds.{at_first, kinds_control};
 ghost use Rattle.dccp_uses.specs.Session.{is_listening};
@@ -21,7 +21,7 @@ use dccp_uses::{
 };
 use std::alloc::Global;
 
-/// A new end, for which no timer runs. NoMemory where no memory is to be had.
+/// A new end, for which no timer runs. NoMemory if there is no memory.
 pub(crate) fn new_end(alloc: Global, config: Config, care: &Care) -> Result<Box<OwnedEnd>, NoMemory>
     requires { care.now.most_held ≤ 1024 }
     ensures end { IfOk result (λ held. c_end held.value ≡ c_begins care.now config) }
@@ -63,7 +63,7 @@ fn boxed(alloc: Global, timed: TimedEnd<Kinds>, intake: Intake) -> Result<Box<Ow
     }
 }
 
-// The frame that the end has left says what its inbox has to say, and returns the cookie.
+// Adds what the inbox has to say, and the cookie, to the frame that the end has left.
 fn speak(held: &mut OwnedEnd)
     ensures frame { held.new.out ≡ holding_frame (c_end held.old) held.old.out }
     ensures timed { held.new.timed ≡ held.old.timed }
@@ -76,7 +76,7 @@ fn speak(held: &mut OwnedEnd)
 }
 
 /// `Session::open` at `now`, in milliseconds as in each call, whose frame stays here. A refused call changes nothing
-/// and leaves no frame. NotFresh where the end is a server's, or was opened before.
+/// and leaves no frame. NotFresh if the end is a server's, or was opened before.
 pub(crate) fn open(held: &mut OwnedEnd, now: u64) -> Result<(), OpenFault>
     ensures step { done held.new.timed held.new.intake held.new.cookie held.new.out result ≡ c_opens now (c_end held.old) }
     ensures drops { held.new.drops ≡ held.old.drops }
@@ -86,7 +86,8 @@ pub(crate) fn open(held: &mut OwnedEnd, now: u64) -> Result<(), OpenFault>
     answer
 }
 
-/// `Session::send`. Held where the application that reads the data leaves no room; else Refused as `Endpoint::send_soon`.
+/// `Session::send`. Held if the data have to wait for the application that reads them; otherwise refused as
+/// `Endpoint::send_soon` is.
 pub(crate) fn send(held: &mut OwnedEnd, payload: &[u8], now: u64) -> Result<(), SendRefusal>
     ensures step { done held.new.timed held.new.intake held.new.cookie held.new.out result ≡ c_sends payload.now now (c_end held.old) }
     ensures drops { held.new.drops ≡ held.old.drops }
@@ -96,7 +97,7 @@ pub(crate) fn send(held: &mut OwnedEnd, payload: &[u8], now: u64) -> Result<(), 
     answer
 }
 
-/// `Session::prefer`. NotOpen, BadList and NotOurs as of `Endpoint::prefer`.
+/// `Session::prefer`. NotOpen, BadList and NotOurs come as from `Endpoint::prefer`.
 pub(crate) fn prefer(
     held: &mut OwnedEnd,
     feature: Feature,
@@ -114,7 +115,7 @@ pub(crate) fn prefer(
     answer
 }
 
-/// This timer has run out. False where it has nothing to do.
+/// This timer has run out. False if it has nothing to do.
 pub(crate) fn fire(held: &mut OwnedEnd, timer: Timer, now: u64) -> bool
     ensures step { done held.new.timed held.new.intake held.new.cookie held.new.out result ≡ c_fires timer now (c_end held.old) }
     ensures drops { held.new.drops ≡ held.old.drops }
@@ -124,7 +125,7 @@ pub(crate) fn fire(held: &mut OwnedEnd, timer: Timer, now: u64) -> bool
     answer
 }
 
-/// This is due. False where the end has nothing to do.
+/// Does what is due. False if the end has nothing to do.
 pub(crate) fn tell_due(held: &mut OwnedEnd, due: Due, now: u64) -> bool
     ensures step { done held.new.timed held.new.intake held.new.cookie held.new.out result ≡ c_told due now (c_end held.old) }
     ensures drops { held.new.drops ≡ held.old.drops }
@@ -144,7 +145,7 @@ pub(crate) fn close(held: &mut OwnedEnd, now: u64) -> Result<(), CloseFault>
     answer
 }
 
-/// `Session::abort`. NotLive where there is no connection.
+/// `Session::abort`. NotLive if there is no connection.
 pub(crate) fn abort(held: &mut OwnedEnd, now: u64) -> Result<(), AbortFault>
     ensures step { done held.new.timed held.new.intake held.new.cookie held.new.out result ≡ c_aborts now (c_end held.old) }
     ensures drops { held.new.drops ≡ held.old.drops }
@@ -154,7 +155,7 @@ pub(crate) fn abort(held: &mut OwnedEnd, now: u64) -> Result<(), AbortFault>
     answer
 }
 
-/// A datagram of at most 2,044 bytes has arrived. What it is the first to report as dropped is recorded.
+/// A datagram of at most 2,044 bytes has arrived. The drops that it is the first to report are recorded.
 pub(crate) fn receive(held: &mut OwnedEnd, datagram: &[u8], now: u64) -> Reading
     requires { length datagram.now ≤ 2044 }
     ensures step { done held.new.timed held.new.intake held.new.cookie held.new.out result ≡ c_receives datagram.now now (c_end held.old) }
@@ -171,7 +172,7 @@ pub(crate) fn receive(held: &mut OwnedEnd, datagram: &[u8], now: u64) -> Reading
     Reading { heard, arrival }
 }
 
-/// Whether it waits for a Request still.
+/// Whether it still waits for a Request.
 pub(crate) fn is_listening(held: &OwnedEnd) -> bool
     ensures { result ≡ is_listening held.now.timed.end.state.phase }
 {

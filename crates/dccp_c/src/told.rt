@@ -7,7 +7,7 @@ use data_dropped::Arrival;
 use dccp_endpoint::{Malformed, Outcome, SumFault, Why};
 use dccp_uses::Reading;
 
-/// What became of a datagram; what does not belong to its kind is 0.
+/// What became of a datagram. Fields that do not belong to its kind are 0.
 #[repr(C)]
 #[derive(Clone, Copy)]
 pub struct Told {
@@ -105,7 +105,7 @@ pub fn tell(outcome: &Outcome, told: &mut Told)
     *told = told_of(outcome);
 }
 
-// Of a datagram that was heard, or left out.
+// What C is told about a datagram that was heard, or left out.
 fn told_heard(outcome: Option<Outcome>) -> Told
     ensures { result ≡ told_heard outcome }
 {
@@ -119,7 +119,7 @@ fn told_heard(outcome: Option<Outcome>) -> Told
     }
 }
 
-// Of data that came into an inbox, or of any other outcome.
+// What C is told about data that came into an inbox, or about any other outcome.
 fn told_arrival(arrival: Option<Arrival>, told: Told) -> Told
     ensures { result ≡ told_arrival arrival told }
 {
@@ -141,7 +141,7 @@ pub fn tell_heard(outcome: Option<Outcome>, told: &mut Told)
     *told = told_heard(outcome);
 }
 
-/// Tells C of data that came into an inbox, in place of what it was told of their datagram.
+/// Tells C about data that came into an inbox, in place of what it was told about their datagram.
 pub fn tell_kept(arrival: Option<Arrival>, told: &mut Told)
     ensures { told.new ≡ told_arrival arrival told.old }
 {

@@ -1,7 +1,7 @@
 //! What a program that links the library compares with its header (own).
 ghost use Rattle.std.specs.Prelude.{◌≡◌};
 
-/// The number of the border, which rises with every change of a function, a struct or a number that crosses it.
+/// The number of the interface, which rises with every change of a function, a struct or a number in it.
 #[unsafe(no_mangle)]
 pub extern "C" fn dccp_abi() -> u32
     ensures { result ≡ 5 }

@@ -1,15 +1,15 @@
-//! A `Box` with its fields in sight.
+//! A `Box` with visible fields.
 ghost use Rattle.std.specs.Prelude.{◌≡◌};
 ghost use Rattle.std.specs.Box.Ownership.{box_owns};
 
 use std::alloc::Allocator;
 use std::marker::Model;
 
-/// A box taken apart, which owns what the box does. A handle of one's own keeps its pointer.
+/// A box taken apart, which owns what the box does. A handle can keep its pointer.
 pub struct Parts<T, A: Allocator> {
-    /// Where its value lies.
+    /// The place of its value.
     pub ptr: *mut T,
-    /// What it was allocated by.
+    /// Its allocator.
     pub alloc: A,
     /// The value.
     pub ghost value: { T },
