@@ -1,13 +1,14 @@
 -- Tickets of one class stand together, and the classes rise.
-use Rattle.std.proofs.Common.{◌≡◌, refl, sym, ap, ◌∙◌, subst, ℕ, zero, suc, ◌-◌, ◌≤◌, ◌<◌, ◌==◌, nat_le, nat_lt, Bool, true, false, cond, if◌then◌else◌, List, [], ◌∷◌, length, get_or, slice_get, inl, inr, Option, Some, None, Ordering, Less, Equal, Greater, nat_cmp, arith}
+use Rattle.std.proofs.Common.{◌≡◌, refl, sym, ap, ◌∙◌, subst, ℕ, zero, suc, ◌+◌, ◌-◌, ◌≤◌, ◌<◌, ◌==◌, nat_lt, Bool, true, false, cond, if◌then◌else◌, List, [], ◌∷◌, length, get_or, slice_get, inl, inr, Option, Some, None, Ordering, Less, Equal, Greater, nat_cmp, arith}
 use Rattle.std.proofs.lemmas.Bool.{cases_lt}
 use Rattle.std.proofs.lemmas.Bool.Decides.{nat_tests}
 use Rattle.std.proofs.lemmas.Cmp.{ranked}
+use Rattle.std.proofs.lemmas.List.{get_or_default}
 use Rattle.std.specs.List.{filter}
-use Rattle.std.specs.List.Sorted.{IsPartitionPoint, IsPartitionedBy}
+use Rattle.std.specs.List.Sorted.{IsPartitionedBy}
 use Rattle.std.specs.Ordering.{ordering_then}
 use Rattle.dccp_listener.specs.Peers.{peer_cmp}
-use Rattle.dccp_server.specs.Queues.{AreTicketsInOrder, count_in, first_in, of_class, ticket_cmp}
+use Rattle.dccp_server.specs.Queues.{AreTicketsInOrder, BeginsAt, count_in, first_in, of_class, ticket_cmp}
 use Rattle.dccp_server.specs.declared.queue.Ticket.{Ticket}
 use Rattle.dccp_server.proofs.Ordered.{less_at}
 
@@ -29,8 +30,18 @@ module _ (queue : List Ticket) (ordered : AreTicketsInOrder queue) where
   pub parted_below : (class : ℕ) → IsPartitionedBy (λ (it : Ticket). nat_lt it.class class) queue
   parted_below class i j d le lt is = grind (arith, nat_tests, rise i j d le lt, is)
 
-  pub parted_upto : (class : ℕ) → IsPartitionedBy (λ (it : Ticket). nat_le it.class class) queue
-  parted_upto class i j d le lt is = grind (arith, nat_tests, rise i j d le lt, is)
+  -- the classes from this on begin with the first ticket, or after the last one
+  pub begins_first : (class : ℕ) (d : Ticket) → class ≤ (get_or queue 0 d).class → BeginsAt class queue 0
+  begins_first class d le = (
+    (λ k e from lt. absurd (omega (arith, lt))),
+    (λ k e from lt. grind (arith, nat_tests, le, rise 0 k e (omega arith) lt, get_or_default queue 0 d e (omega (arith, lt)))),
+  )
+
+  pub begins_past : (class : ℕ) (d : Ticket) → (get_or queue (length queue - 1) d).class < class → BeginsAt class queue (length queue)
+  begins_past class d less = (
+    (λ k e from lt. grind (arith, nat_tests, less, rise k (length queue - 1) e (omega (arith, lt)) (omega (arith, lt)), get_or_default queue (length queue - 1) d e (omega (arith, lt)))),
+    (λ k e from lt. absurd (omega (arith, from, lt))),
+  )
 
 -- the ticket at a place, if it is of a class
 abbrev pub if_of_class : ℕ → Option Ticket → Option Ticket
@@ -46,9 +57,6 @@ none-above : (class : ℕ) (queue : List Ticket) → ((k : ℕ) (d : Ticket) →
 none-above class [] above = refl
 none-above class (one ∷ rest) above =
     none-by class one rest (one.class == class) refl (above 0 one (omega arith)) (none-above class rest (λ k d lt. above (suc k) d (omega (arith, lt))))
-
-abbrev pub IsFront : ℕ → List Ticket → ℕ → Type 0
-IsFront class queue i = IsPartitionPoint (λ (it : Ticket). nat_lt it.class class ≡ true) (λ (it : Ticket). nat_lt it.class class ≡ false) queue i
 
 head-by : (class : ℕ) (one : Ticket) (rest : List Ticket) (here : Bool) → (one.class == class) ≡ here → nat_lt one.class class ≡ false
     → ((k : ℕ) (d : Ticket) → k < length rest → one.class ≤ (get_or rest k d).class)
@@ -66,7 +74,7 @@ skip-by class one rest true is before = absurd (grind (arith, nat_tests, is, bef
 skip-by class one rest false is before = refl
 
 pub first_here : (class : ℕ) (queue : List Ticket) (i : ℕ) → ((i j : ℕ) (d : Ticket) → i ≤ j → j < length queue → (get_or queue i d).class ≤ (get_or queue j d).class)
-    → IsFront class queue i → first_in class queue ≡ if_of_class class (slice_get queue i)
+    → BeginsAt class queue i → first_in class queue ≡ if_of_class class (slice_get queue i)
 first_here class [] zero rises parted = refl
 first_here class [] (suc i) rises parted = refl
 first_here class (one ∷ rest) zero rises parted =
@@ -80,11 +88,8 @@ first_here class (one ∷ rest) (suc i) rises parted =
     )
 
 -- the ticket at the front of a class
-pub first_at : (class : ℕ) (queue : List Ticket) (i : ℕ) → AreTicketsInOrder queue → IsFront class queue i → first_in class queue ≡ if_of_class class (slice_get queue i)
+pub first_at : (class : ℕ) (queue : List Ticket) (i : ℕ) → AreTicketsInOrder queue → BeginsAt class queue i → first_in class queue ≡ if_of_class class (slice_get queue i)
 first_at class queue i ordered parted = first_here class queue i (rise queue ordered) parted
-
-abbrev pub IsBack : ℕ → List Ticket → ℕ → Type 0
-IsBack class queue j = IsPartitionPoint (λ (it : Ticket). nat_le it.class class ≡ true) (λ (it : Ticket). nat_le it.class class ≡ false) queue j
 
 count-by : (class n : ℕ) (one : Ticket) (rest : List Ticket) (here wanted : Bool) → (one.class == class) ≡ here → here ≡ wanted → count_in class rest ≡ n
     → length (cond here (one ∷ filter (λ it. it.class == class) rest) (filter (λ it. it.class == class) rest)) ≡ cond wanted (suc n) n
@@ -94,7 +99,7 @@ count-by class n one rest true false is same later = cc same
 count-by class n one rest false true is same later = cc same
 
 -- how many are between the front of a class and its back
-pub count_between : (class : ℕ) (queue : List Ticket) (i j : ℕ) → j ≤ length queue → IsFront class queue i → IsBack class queue j → count_in class queue ≡ j - i
+pub count_between : (class : ℕ) (queue : List Ticket) (i j : ℕ) → j ≤ length queue → BeginsAt class queue i → BeginsAt (class + 1) queue j → count_in class queue ≡ j - i
 count_between class [] i j within front back = omega (arith, within)
 count_between class (one ∷ rest) zero zero within front back =
     count-by class 0 one rest (one.class == class) false refl (grind (arith, nat_tests, back.1 0 one (omega arith) (omega arith)))

@@ -16,6 +16,7 @@ pub mod Reopening
 mod Rows
 mod RowsOfEvents
 mod RowsRooms
+mod Shifting
 mod Soonest
 pub mod StandIns
 pub mod Telling

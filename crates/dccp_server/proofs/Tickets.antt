@@ -249,7 +249,3 @@ has_room moment kept queue room is some = omega (arith, ap (λ (q : List Ticket)
 pub stays_ordered : {V : Type 0} (moment : V → Option (ℕ × ℕ)) (kept : List (Peer × V)) (queue : List Ticket) (room : ℕ) → IsQueued moment kept queue room
     → AreTicketsInOrder queue
 stays_ordered moment kept queue room is = subst AreTicketsInOrder (sym is.is_queue) (queue_ordered moment kept)
-
-pub few_unqueued : (moment : Option (ℕ × ℕ)) (peer : Peer) (queue : List Ticket) → length (unqueued moment peer queue) ≤ length queue
-few_unqueued None peer queue = omega arith
-few_unqueued (Some moment) peer queue = few_left (λ other. not (is_at (ticket_cmp (ticket moment peer)) other)) queue

@@ -1,10 +1,10 @@
 -- The tickets of peers: the order in which something is due for what is kept of them (own).
-use Rattle.std.specs.Prelude.{◌≡◌, ◌≤◌, ◌<◌, ◌==◌, ℕ, not, List, [], ◌∷◌, Option, Some, None, T, length, if◌then◌else◌}
+use Rattle.std.specs.Prelude.{◌≡◌, ◌≤◌, ◌<◌, ◌==◌, ◌-◌, nat_lt, ℕ, true, false, not, List, [], ◌∷◌, Option, Some, None, T, length, if◌then◌else◌}
 use Rattle.std.specs.BTreeMap.{is_at}
 use Rattle.std.specs.BTreeSet.{insert_key}
 use Rattle.std.specs.FinMap.Entries.{is_sorted}
-use Rattle.std.specs.List.{filter}
-use Rattle.std.specs.List.Sorted.{IsStrictlySortedBy}
+use Rattle.std.specs.List.{filter, insert, remove}
+use Rattle.std.specs.List.Sorted.{IsPartitionPoint, IsStrictlySortedBy}
 use Rattle.std.specs.Map.{keys_of}
 use Rattle.std.specs.Ordering.{nat_cmp, ordering_then}
 use Rattle.std.specs.declared.cmp.Ordering.{Ordering}
@@ -28,6 +28,10 @@ queued (Some moment) peer queue = insert_key ticket_cmp queue (ticket moment pee
 -- all tickets except this one
 abbrev pub without : Ticket → List Ticket → List Ticket
 without it queue = filter (λ other. not (is_at (ticket_cmp it) other)) queue
+
+-- the ticket at one place goes, and another gets a place, which is counted while the first is there
+abbrev pub shifted : List Ticket → ℕ → ℕ → Ticket → List Ticket
+shifted queue at place it = insert (remove queue at) (if nat_lt at place then place - 1 else place) it
 
 -- the queue without the ticket of a peer
 abbrev pub unqueued : Option (ℕ × ℕ) → Peer → List Ticket → List Ticket
@@ -53,7 +57,11 @@ abbrev pub first_in : ℕ → List Ticket → Option Ticket
 first_in class [] = None
 first_in class (one ∷ rest) = if one.class == class then Some one else first_in class rest
 
--- how many tickets of a class there are
+-- the place before which all tickets are of lower classes, and from which on none is
+abbrev pub BeginsAt : ℕ → List Ticket → ℕ → Type 0
+BeginsAt class queue i = IsPartitionPoint (λ (it : Ticket). nat_lt it.class class ≡ true) (λ (it : Ticket). nat_lt it.class class ≡ false) queue i
+
+-- how many there are of a class
 abbrev pub count_in : ℕ → List Ticket → ℕ
 count_in class queue = length (filter (λ it. it.class == class) queue)
 

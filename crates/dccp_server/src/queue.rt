@@ -8,7 +8,7 @@ ghost use Rattle.dccp_listener.proofs.OnePeer.{peers_total};
 ghost use Rattle.std.specs.Cmp.Lexicographic.{slice_cmp};
 ghost use Rattle.std.specs.Cmp.Rules.{comparing};
 ghost use Rattle.std.specs.Ordering.{as_partial_cmp, nat_cmp, on, then_cmp};
-ghost use Rattle.dccp_server.specs.Queues.{AreTicketsInOrder, count_in, first_in, of_class, queued, ticket_cmp, unqueued, without};
+ghost use Rattle.dccp_server.specs.Queues.{AreTicketsInOrder, BeginsAt, count_in, first_in, of_class, queued, shifted, ticket, ticket_cmp, unqueued, without};
 
 use dccp_listener::Peer;
 use std::cmp::Ordering;
@@ -74,25 +74,38 @@ fn take(tickets: &mut Vec<Ticket>, ticket: Ticket)
     }
 }
 
-fn unqueue(tickets: &mut Vec<Ticket>, peer: Peer, was: Option<(u8, u64)>)
-    requires { AreTicketsInOrder tickets.old.items }
-    ensures taken { tickets.new.items ≡ unqueued was peer tickets.old.items }
-    ensures room { vec_capacity tickets.old ≤ vec_capacity tickets.new }
+// The ticket at one place goes, and another gets a place: only the tickets between both move.
+fn shift(tickets: &mut Vec<Ticket>, at: usize, place: usize, ticket: Ticket)
+    requires there { at < length tickets.old.items }
+    requires within { place ≤ length tickets.old.items }
+    ensures shifted { tickets.new.items ≡ shifted tickets.old.items at place ticket }
+    ensures room { vec_capacity tickets.new ≡ vec_capacity tickets.old }
 {
-    if let Some((class, time)) = was {
-        take(tickets, Ticket { class, time, peer });
+    if at < place {
+        let last = place - 1;
+        tickets.copy_within(at + 1..place, at);
+        tickets[last] = ticket;
+    } else {
+        tickets.copy_within(place..at, place + 1);
+        tickets[place] = ticket;
     }
 }
 
-fn enqueue(tickets: &mut Vec<Ticket>, peer: Peer, next: Option<(u8, u64)>)
+// A ticket goes, if it is there, and another gets its place, unless it is there.
+fn replace(tickets: &mut Vec<Ticket>, from: Ticket, to: Ticket)
     requires order { AreTicketsInOrder tickets.old.items }
     requires room { length tickets.old.items < vec_capacity tickets.old }
-    ensures put { tickets.new.items ≡ queued next peer tickets.old.items }
+    ensures replaced { tickets.new.items ≡ insert_key ticket_cmp (without from tickets.old.items) to }
     ensures room { vec_capacity tickets.old ≤ vec_capacity tickets.new }
 {
-    if let Some((class, time)) = next {
-        put(tickets, Ticket { class, time, peer });
+    if let Ok(at) = tickets.binary_search(&from) {
+        if let Err(place) = tickets.binary_search(&to) {
+            shift(tickets, at, place, to);
+            return;
+        }
     }
+    take(tickets, from);
+    put(tickets, to);
 }
 
 /// Whether two moments are equal, so that a ticket need not move.
@@ -118,8 +131,21 @@ pub(crate) fn requeue(
     ensures moved { tickets.new.items ≡ queued next peer (unqueued was peer tickets.old.items) }
     ensures room { vec_capacity tickets.old ≤ vec_capacity tickets.new }
 {
-    unqueue(tickets, peer, was);
-    enqueue(tickets, peer, next);
+    match (was, next) {
+        (Some(from), Some(to)) => {
+            replace(tickets, ticket_at(from, peer), ticket_at(to, peer));
+        }
+        (Some(from), None) => take(tickets, ticket_at(from, peer)),
+        (None, Some(to)) => put(tickets, ticket_at(to, peer)),
+        (None, None) => {}
+    }
+}
+
+fn ticket_at(moment: (u8, u64), peer: Peer) -> Ticket
+    ensures { result ≡ ticket moment peer }
+{
+    let (class, time) = moment;
+    Ticket { class, time, peer }
 }
 
 fn of_class(ticket: &Ticket, class: u8) -> Option<Ticket>
@@ -131,12 +157,31 @@ fn of_class(ticket: &Ticket, class: u8) -> Option<Ticket>
     None
 }
 
+// How many tickets come before those of a class. Most often all are of one, which both ends of the queue tell.
+fn front(tickets: &[Ticket], class: u16) -> usize
+    requires { AreTicketsInOrder tickets.now }
+    ensures begins { BeginsAt class tickets.now result }
+    ensures within { result ≤ length tickets.now }
+{
+    let count = tickets.len();
+    if count == 0 {
+        return 0;
+    }
+    if class <= tickets[0].class as u16 {
+        return 0;
+    }
+    if (tickets[count - 1].class as u16) < class {
+        return count;
+    }
+    tickets.partition_point(|ticket| (ticket.class as u16) < class)
+}
+
 /// The first ticket of a class.
 pub(crate) fn first_in(tickets: &[Ticket], class: u8) -> Option<Ticket>
     requires { AreTicketsInOrder tickets.now }
     ensures { result ≡ first_in class tickets.now }
 {
-    let at = tickets.partition_point(|ticket| ticket.class < class);
+    let at = front(tickets, class as u16);
     match tickets.get(at) {
         Some(ticket) => of_class(ticket, class),
         None => None,
@@ -148,7 +193,7 @@ pub(crate) fn count_in(tickets: &[Ticket], class: u8) -> usize
     requires { AreTicketsInOrder tickets.now }
     ensures { result ≡ count_in class tickets.now }
 {
-    let first = tickets.partition_point(|ticket| ticket.class < class);
-    let past = tickets.partition_point(|ticket| ticket.class <= class);
-    past.saturating_sub(first)
+    let class = class as u16;
+    let first = front(tickets, class);
+    front(tickets, class + 1).saturating_sub(first)
 }
