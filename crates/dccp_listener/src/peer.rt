@@ -20,6 +20,7 @@ pub struct Peer {
 }
 
 // An address and a port as one number, which is in the order of peers.
+#[inline(always)]
 fn number_of(address: [u8; 4], port: u16) -> u64
     ensures value { result ≡ from_be_bytes w32 address * 65536 + port }
     ensures digits { AreDigits address port }
@@ -27,6 +28,7 @@ fn number_of(address: [u8; 4], port: u16) -> u64
     u32::from_be_bytes(address) as u64 * 65_536 + port as u64
 }
 
+#[inline(always)]
 fn order(one: Peer, other: Peer) -> Ordering
     ensures { result ≡ then_cmp (on (λ p. p.address) (slice_cmp nat_cmp)) (on (λ p. p.port) nat_cmp) one other }
 {
@@ -44,6 +46,7 @@ impl Ord for Peer {
 
     ghost matches_eq = { Prim.search (comparing, rules) };
 
+    #[inline(always)]
     fn cmp(&self, other: &Peer) -> Ordering {
         order(*self, *other)
     }
